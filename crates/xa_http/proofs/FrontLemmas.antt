@@ -1,0 +1,141 @@
+-- What stands at the front of a stream, from what the parser says of the window.
+use Rattle.std.proofs.Common.{◌≡◌, ℕ, ◌+◌, ◌*◌, ◌<◌, ◌≤◌, List, [], ◌∷◌, ◌++◌, length, take, drop, map, refl, sym, ap, ◌∙◌, arith, rules, inl, inr, Ok, Err, length-append, append_assoc}
+use Rattle.std.specs.Prelude.{flat_map, ◌≢◌}
+use Rattle.std.proofs.lemmas.List.{take-append-drop, drop-drop, length-take, length-take-le, length-drop}
+use Rattle.std.proofs.lemmas.Simd.{map-map}
+use Rattle.std.proofs.Math.Seq.{drop-append_seam}
+use Rattle.httparse.specs.Grammar.{LineEnd, crlf, lf, print_end, print_field, print_section, print_blank, print_version, RequestHead, print_request, ReadsRequest, NeverHasRequest}
+use Rattle.httparse.specs.Grammar as grammar
+use Rattle.httparse.specs.Spans.{RequestExceeds, IsRequestOf, span_bytes, header_bytes, name_and_value}
+use Rattle.httparse.specs.declared.Error.{Error}
+use Rattle.httparse.specs.declared.Error.TheVariants.{HeaderName, HeaderValue, NewLine, Status, Token, TooManyHeaders, Version}
+use Rattle.httparse.specs.declared.spans.HeaderSpan.{HeaderSpan}
+use Rattle.httparse.specs.declared.spans.RequestSpans.{RequestSpans}
+use Rattle.httparse.proofs.GrammarLemmas.{ReadsRequest-append}
+use Rattle.xa_http.specs.declared.message.Field.{Field}
+use Rattle.xa_http.specs.declared.message.Message.{Message}
+use Rattle.xa_http.specs.declared.front.Cause.{Cause}
+use Rattle.xa_http.specs.declared.front.Front.TheVariants.{Whole, More, Refused}
+use Rattle.xa_http.specs.declared.limits.TheConstants.{MAX_HEAD_BYTES}
+use Rattle.xa_http.specs.Length.{body_length}
+use Rattle.xa_http.specs.Messages.{window, message_of, fields_of, BeginsWithHead, BeginsWithMessage, IsUnfinished, IsRefused}
+use Rattle.xa_http.specs.Front.{field_at, IsFront, IsHeadOf}
+
+-- a line end has a byte at least
+end_fits : (e : LineEnd) → 1 ≤ length (print_end e)
+end_fits crlf = omega arith
+end_fits lf = omega arith
+
+-- each field line has a colon and a line end
+fields_fit : (fs : List grammar.Field) → 2 * length fs ≤ length (flat_map print_field fs)
+fields_fit [] = omega arith
+fields_fit (f ∷ fs) =
+    let e : length (print_field f ++ flat_map print_field fs)
+    ≡ length f.name + (1 + length f.raw) + length (print_end f.end) + length (flat_map print_field fs)
+    = simp length-append (omega arith) in
+    omega (arith, fields_fit fs, end_fits f.end, e)
+
+-- so a head has two bytes a field at least
+pub head_fits : (h : RequestHead) → 2 * length h.fields ≤ length (print_request h)
+unfolding print_request
+head_fits h =
+    let before = print_blank h.blank ++ h.method ++ 32 ∷ h.target ++ 32 ∷ print_version h.minor ++ print_end h.line_end in
+    let e : length (before ++ (flat_map print_field h.fields ++ print_end h.last))
+    ≡ length before + (length (flat_map print_field h.fields) + length (print_end h.last))
+    = simp length-append in
+    omega (arith, fields_fit h.fields, e)
+
+-- so no window holds a head of more fields than the room
+pub too_many : (held : List ℕ) (room : ℕ) → 8192 ≤ room → RequestExceeds room (window held) → ⊥
+unfolding window
+too_many held room fits exceeds =
+    let front = exceeds.0 in
+    let rest = exceeds.1 in
+    let h = exceeds.3 in
+    let whole : take 16384 held ≡ front ++ rest = exceeds.2 in
+    let read : front ++ print_end lf ≡ print_request h ++ [] = exceeds.4.1 in
+    omega (arith, fits, head_fits h, exceeds.5, length-take 16384 held, simp length-append at (ap length whole), simp length-append at (ap length read))
+
+-- so an error of the parser in that room says that no head begins like that
+pub refused_head : (held : List ℕ) (room : ℕ) (e : Error) → 8192 ≤ room → (e ≢ TooManyHeaders → NeverHasRequest (window held))
+    → (e ≡ TooManyHeaders → RequestExceeds room (window held)) → NeverHasRequest (window held)
+refused_head held room HeaderName fits never exceeds = never (λ e. cc)
+refused_head held room HeaderValue fits never exceeds = never (λ e. cc)
+refused_head held room NewLine fits never exceeds = never (λ e. cc)
+refused_head held room Status fits never exceeds = never (λ e. cc)
+refused_head held room Token fits never exceeds = never (λ e. cc)
+refused_head held room TooManyHeaders fits never exceeds = absurd (too_many held room fits (exceeds refl))
+refused_head held room Version fits never exceeds = never (λ e. cc)
+
+-- the field line of a name and a value
+field_from : List ℕ × List ℕ → Field
+field_from p = record { name = p.0; value = p.1 }
+
+-- the message whose parts the parser's spans cover is the head
+pub head_read : (bytes : List ℕ) (headers : List HeaderSpan) (spans : RequestSpans) (method target body : List ℕ) (fields : List Field)
+    → IsRequestOf bytes headers spans → method ≡ span_bytes bytes spans.method → target ≡ span_bytes bytes spans.path
+    → fields ≡ map (field_at bytes) (take spans.headers headers) → body ≡ []
+    → IsHeadOf bytes (record { method = method; target = target; fields = fields; body = body }) spans.len
+unfolding field_from
+head_read bytes headers spans method target body fields found m t f e =
+    let h = found.0 in
+    let at = found.1 in
+    let covered : map (header_bytes bytes) (take spans.headers headers) ≡ map name_and_value h.fields = at.fields in
+    let a : method ≡ h.method = m ∙ at.method in
+    let b : target ≡ h.target = t ∙ at.path in
+    let c : fields ≡ fields_of h
+    = f ∙ sym (map-map field_from (header_bytes bytes) (take spans.headers headers))
+    ∙ ap (map field_from) covered ∙ map-map field_from name_and_value h.fields in
+    (h, at.reads, at.len, λ i. record { method = a i; target = b i; fields = c i; body = e i })
+
+-- a head that begins the window begins the bytes held
+pub begins : (held : List ℕ) (h : RequestHead) (len : ℕ) → ReadsRequest (window held) h (drop len (window held))
+    → len ≡ length (print_request h) → BeginsWithHead held h (drop len held)
+unfolding window
+begins held h len reads is =
+    let front = take 16384 held in
+    let rest = drop len front ++ drop 16384 held in
+    let split : front ++ drop 16384 held ≡ held = take-append-drop 16384 held in
+    let read : front ≡ print_request h ++ drop len front = reads.1 in
+    let whole : held ≡ print_request h ++ rest
+    = sym split ∙ ap (λ (x : List ℕ). x ++ drop 16384 held) read ∙ append_assoc (print_request h) (drop len front) (drop 16384 held) in
+    let after : drop len held ≡ rest = ap (λ (x : List ℕ). drop len x) whole ∙ ap (λ (k : ℕ). drop k (print_request h ++ rest)) is ∙ drop-append_seam (print_request h) rest in
+    let same : held ≡ print_request h ++ drop len held = whole ∙ ap (λ (x : List ℕ). print_request h ++ x) (sym after) in
+    ((reads.0, same), omega (arith, length-take 16384 held, simp length-append at (ap length read)))
+
+-- the head is whole, and bytes of its body are wanted
+pub body_open : (held : List ℕ) (head : Message) (len n : ℕ) → IsHeadOf (window held) head len
+    → body_length head.fields ≡ Ok n → length (drop len held) < n → IsUnfinished held
+unfolding IsUnfinished
+body_open held head len n found announced short =
+    let h = found.0 in
+    inr (h, drop len held, n, begins held h len found.1 found.2, ap (λ (m : Message). body_length m.fields) (sym found.3) ∙ announced, short)
+
+-- the head is whole, and what it announces is refused
+pub head_refused : (held : List ℕ) (head : Message) (len : ℕ) (cause : Cause) → IsHeadOf (window held) head len
+    → body_length head.fields ≡ Err cause → IsRefused held cause
+unfolding IsRefused
+head_refused held head len cause found announced =
+    let h = found.0 in
+    inr (h, drop len held, begins held h len found.1 found.2, ap (λ (m : Message). body_length m.fields) (sym found.3) ∙ announced)
+
+-- the head and its body are whole
+pub whole : (held body : List ℕ) (head : Message) (len n : ℕ) → IsHeadOf (window held) head len
+    → len ≤ length held → body_length head.fields ≡ Ok n → n ≤ length (drop len held) → body ≡ take n (drop len held)
+    → IsFront held (Whole (record head { body = body }) (len + n))
+unfolding BeginsWithMessage
+whole held body head len n found within announced enough is =
+    let h = found.0 in
+    let b = begins held h len found.1 found.2 in
+    let after = drop len held in
+    let count : length body ≡ n = ap length is ∙ length-take-le n after enough in
+    let split : after ≡ body ++ drop (len + n) held
+    = sym (take-append-drop n after) ∙ ap (λ (x : List ℕ). x ++ drop n after) (sym is) ∙ ap (λ (x : List ℕ). body ++ x) (drop-drop n len held) in (
+      omega (arith, within, enough, length-drop len held),
+      (
+        h,
+        ((b.0.0, b.0.1 ∙ ap (λ (x : List ℕ). print_request h ++ x) split), b.1),
+        ap (λ (m : Message). body_length m.fields) (sym found.3) ∙ announced ∙ ap (λ (k : ℕ). Ok k) (sym count),
+        ap (λ (m : Message). record m { body = body }) found.3,
+      ),
+    )

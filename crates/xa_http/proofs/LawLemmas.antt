@@ -1,0 +1,136 @@
+-- However a stream is cut into pieces, the messages at its front are the same.
+use Rattle.std.proofs.Common.{◌≡◌, ℕ, ◌+◌, ◌-◌, ◌<◌, ◌≤◌, true, false, List, [], ◌∷◌, ◌++◌, length, take, drop, refl, sym, ap, ◌∙◌, arith, inl, inr, Ok, Err, length-append, append_assoc, zero, suc, ◌⊎◌}
+use Rattle.std.proofs.lemmas.Bool.{false≢true}
+use Rattle.std.proofs.lemmas.List.{take-append-le, append-nil, append_cancel_left}
+use Rattle.std.proofs.Math.Seq.{take-append_seam, take-append-add, drop-append_seam}
+use Rattle.httparse.specs.Grammar.{RequestHead, print_request, ReadsRequest, HasNoRequest, NeverHasRequest}
+use Rattle.httparse.proofs.GrammarLemmas.{ReadsRequest-append, request_unique}
+use Rattle.xa_http.specs.declared.message.Message.{Message}
+use Rattle.xa_http.specs.declared.front.Cause.{Cause}
+use Rattle.xa_http.specs.declared.front.Cause.TheVariants.{BadHead, HeadTooLarge, TransferCoding, BadLength, BodyTooLarge}
+use Rattle.xa_http.specs.declared.session.Next.{Next}
+use Rattle.xa_http.specs.declared.session.Next.TheVariants as next
+use Rattle.xa_http.specs.Length.{body_length}
+use Rattle.xa_http.specs.Stream.{Stream}
+use Rattle.xa_http.specs.Messages.{window, message_of, fields_of, BeginsWithHead, BeginsWithMessage, IsHeadOpen, IsBodyOpen, IsUnfinished, IsOpeningRefused, IsHeadRefused, IsRefused, IsNext}
+use Rattle.xa_http.specs.Laws.{KeepsMessages, KeepsRefusals, AnswersMessages}
+
+-- the front of more bytes begins with the front of those
+front_of_more : (n : ℕ) (held more : List ℕ) → (rest : List ℕ) × (take n (held ++ more) ≡ take n held ++ rest)
+front_of_more zero held more = ([], refl)
+front_of_more (suc n) [] more = (take (suc n) more, refl)
+front_of_more (suc n) (x ∷ xs) more = let r = front_of_more n xs more in (r.0, ap (λ (l : List ℕ). x ∷ l) r.1)
+
+-- two splits of one list at one place are the same
+same_split : (a b r q : List ℕ) → length a ≡ length b → a ++ r ≡ b ++ q → (a ≡ b) × (r ≡ q)
+same_split a b r q l e =
+    let front : a ≡ b = sym (take-append_seam a r) ∙ ap (λ (k : ℕ). take k (a ++ r)) l ∙ ap (λ (x : List ℕ). take (length b) x) e ∙ take-append_seam b q in
+    (front, append_cancel_left b r q (ap (λ (x : List ℕ). x ++ r) (sym front) ∙ e))
+
+-- a head at the front stays there
+head_kept : (held more : List ℕ) (h : RequestHead) (after : List ℕ) → BeginsWithHead held h after → BeginsWithHead (held ++ more) h (after ++ more)
+head_kept held more h after b = (ReadsRequest-append held h after more b.0, b.1)
+
+-- a head at the front is whole in the window
+head_in_window : (held : List ℕ) (h : RequestHead) (after : List ℕ) → BeginsWithHead held h after
+    → (tail : List ℕ) × ReadsRequest (window held) h tail
+unfolding window
+head_in_window held h after b =
+    let printed = print_request h in
+    let left = 16384 - length printed in
+    let sum : 16384 ≡ length printed + left = omega (arith, b.1) in (
+      take left after,
+      (b.0.0, ap (λ (x : List ℕ). take 16384 x) b.0.1 ∙ ap (λ (k : ℕ). take k (printed ++ after)) sum ∙ take-append-add printed after left),
+    )
+
+-- so it is no opened one
+head_not_open : (held : List ℕ) (h : RequestHead) (after : List ℕ) → BeginsWithHead held h after → HasNoRequest (window held) → ⊥
+head_not_open held h after b none = let w = head_in_window held h after b in none h w.0 w.1
+
+-- and no refused one
+head_not_never : (held : List ℕ) (h : RequestHead) (after : List ℕ) → BeginsWithHead held h after → NeverHasRequest (window held) → ⊥
+head_not_never held h after b never =
+    let w = head_in_window held h after b in
+    never [] h (w.0 ++ []) (ReadsRequest-append (window held) h w.0 [] w.1)
+
+-- the window of at least as many bytes as it has stays
+window_full : (held more : List ℕ) → 16384 ≤ length held → window (held ++ more) ≡ window held
+unfolding window
+window_full held more full = take-append-le 16384 held more full
+
+-- bytes that follow change no certainty
+never_kept : (held more : List ℕ) → NeverHasRequest (window held) → NeverHasRequest (window (held ++ more))
+unfolding window
+never_kept held more never = λ m h rest reads.
+    let r = front_of_more 16384 held more in
+    let same : take 16384 (held ++ more) ++ m ≡ take 16384 held ++ (r.0 ++ m)
+    = ap (λ (x : List ℕ). x ++ m) r.1 ∙ append_assoc (take 16384 held) r.0 m in
+    never (r.0 ++ m) h rest (reads.0, sym same ∙ reads.1)
+
+pub keeps_messages : KeepsMessages
+unfolding BeginsWithMessage
+keeps_messages held more message rest begins =
+    let h = begins.0 in
+    let b = head_kept held more h (message.body ++ rest) begins.1 in
+    (h, ((b.0.0, b.0.1 ∙ ap (λ (x : List ℕ). print_request h ++ x) (append_assoc message.body rest more)), b.1), begins.2, begins.3)
+
+opening_kept : (held more : List ℕ) (cause : Cause) → IsOpeningRefused held cause → IsOpeningRefused (held ++ more) cause
+opening_kept held more BadHead never = never_kept held more never
+opening_kept held more HeadTooLarge opened =
+    let same = window_full held more opened.1 in
+    ((rw same opened.0.0, rw same opened.0.1), omega (arith, opened.1, length-append held more))
+opening_kept held more TransferCoding none = absurd none
+opening_kept held more BadLength none = absurd none
+opening_kept held more BodyTooLarge none = absurd none
+
+pub keeps_refusals : KeepsRefusals
+unfolding IsRefused
+keeps_refusals held more cause (inl opening) = inl (opening_kept held more cause opening)
+keeps_refusals held more cause (inr head) = inr (head.0, head.1 ++ more, head_kept held more head.0 head.1 head.2, head.3)
+
+opening_not_whole : (held : List ℕ) (cause : Cause) (h : RequestHead) (after : List ℕ) → BeginsWithHead held h after → IsOpeningRefused held cause → ⊥
+opening_not_whole held BadHead h after b never = head_not_never held h after b never
+opening_not_whole held HeadTooLarge h after b opened = head_not_open held h after b opened.0.0
+opening_not_whole held TransferCoding h after b none = none
+opening_not_whole held BadLength h after b none = none
+opening_not_whole held BodyTooLarge h after b none = none
+
+-- the same head has the same bytes after it
+same_head : (held : List ℕ) (h k : RequestHead) (after other : List ℕ) → BeginsWithHead held h after → BeginsWithHead held k other
+    → (h ≡ k) × (after ≡ other)
+same_head held h k after other b d = request_unique held h k after other b.0 d.0
+
+same_message : (held : List ℕ) (m n : Message) (r q : List ℕ) → BeginsWithMessage held m r → BeginsWithMessage held n q → (m ≡ n) × (r ≡ q)
+unfolding BeginsWithMessage
+same_message held m n r q x y =
+    let s = same_head held x.0 y.0 (m.body ++ r) (n.body ++ q) x.1 y.1 in
+    let lengths : Ok (length m.body) ≡ Ok (length n.body) = sym x.2 ∙ ap (λ (h : RequestHead). body_length (fields_of h)) s.0 ∙ y.2 in
+    let l : length m.body ≡ length n.body = cc in
+    let split = same_split m.body n.body r q l s.1 in
+    (x.3 ∙ ap (λ (h : RequestHead). message_of h m.body) s.0 ∙ ap (λ (b : List ℕ). message_of y.0 b) split.0 ∙ sym y.3, split.1)
+
+whole_not_unfinished : (held : List ℕ) (m : Message) (r : List ℕ) → BeginsWithMessage held m r → IsUnfinished held → ⊥
+unfolding BeginsWithMessage IsUnfinished
+whole_not_unfinished held m r x (inl opened) = head_not_open held x.0 (m.body ++ r) x.1 opened.0.0
+whole_not_unfinished held m r x (inr opened) =
+    let s = same_head held x.0 opened.0 (m.body ++ r) opened.1 x.1 opened.3 in
+    let lengths : Ok (length m.body) ≡ Ok opened.2 = sym x.2 ∙ ap (λ (h : RequestHead). body_length (fields_of h)) s.0 ∙ opened.4 in
+    let l : length m.body ≡ opened.2 = cc in
+    omega (arith, l, opened.5, ap length s.1, length-append m.body r)
+
+whole_not_refused : (held : List ℕ) (m : Message) (r : List ℕ) (cause : Cause) → BeginsWithMessage held m r → IsRefused held cause → ⊥
+unfolding BeginsWithMessage IsRefused
+whole_not_refused held m r cause x (inl opening) = opening_not_whole held cause x.0 (m.body ++ r) x.1 opening
+whole_not_refused held m r cause x (inr head) =
+    let s = same_head held x.0 head.0 (m.body ++ r) head.1 x.1 head.2 in
+    let both : Ok (length m.body) ≡ Err cause = sym x.2 ∙ ap (λ (h : RequestHead). body_length (fields_of h)) s.0 ∙ head.3 in
+    cc
+
+pub answers_messages : AnswersMessages
+answers_messages held message rest (next.Message other) after begins is =
+    let s = same_message held message other rest after.held begins is.1 in
+    (ap (λ (m : Message). next.Message m) (sym s.0), λ i. record { held = sym s.1 i; ended = is.2 i })
+answers_messages held message rest next.More after begins is = absurd (whole_not_unfinished held message rest begins is.1)
+answers_messages held message rest (next.Fault f) after begins is =
+    absurd (whole_not_refused held message rest is.1.0 begins is.1.1)
+answers_messages held message rest next.Ended after begins is = absurd (false≢true is.0)

@@ -1,0 +1,4 @@
+pub mod NumberLemmas
+pub mod FrontLemmas
+pub mod RouteLemmas
+pub mod LawLemmas

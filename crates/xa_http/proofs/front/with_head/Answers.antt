@@ -1,0 +1,6 @@
+use Rattle.std.proofs.Common.{sym, ◌∙◌}
+use Rattle.xa_http.proofs.FrontLemmas.{head_refused}
+use Rattle.xa_http.proofs.front.with_head.Goals as goal
+
+pub returns-in-Err : goal.returns-in-Err
+returns-in-Err c = let h = c.in-Err.ensures in let k = c.as_slice.ensures in head_refused _ _ _ _ c.requires.head (cc (h, k))

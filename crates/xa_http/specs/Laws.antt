@@ -1,0 +1,25 @@
+-- Laws of the messages of a stream: however it is cut into pieces, the messages at its front are the same.
+use Rattle.std.specs.Prelude.{◌≡◌, ℕ, true, false, List, ◌++◌}
+use Rattle.xa_http.specs.declared.message.Message.{Message}
+use Rattle.xa_http.specs.declared.front.Cause.{Cause}
+use Rattle.xa_http.specs.declared.session.Next.{Next}
+use Rattle.xa_http.specs.declared.session.Next.TheVariants as next
+use Rattle.xa_http.specs.Stream.{Stream}
+use Rattle.xa_http.specs.Messages.{BeginsWithMessage, IsRefused, IsNext}
+
+-- bytes that follow leave the message at the front as it was
+abbrev pub KeepsMessages : Type 0
+KeepsMessages =
+    (held more : List ℕ) (message : Message) (rest : List ℕ)
+    → BeginsWithMessage held message rest → BeginsWithMessage (held ++ more) message (rest ++ more)
+
+-- and a refusal
+abbrev pub KeepsRefusals : Type 0
+KeepsRefusals = (held more : List ℕ) (cause : Cause) → IsRefused held cause → IsRefused (held ++ more) cause
+
+-- where a message stands at the front, it is the only answer, and what follows it stays
+abbrev pub AnswersMessages : Type 0
+AnswersMessages =
+    (held : List ℕ) (message : Message) (rest : List ℕ) (answer : Next) (after : Stream)
+    → BeginsWithMessage held message rest → IsNext (record { held = held; ended = false }) answer after
+    → (answer ≡ next.Message message) × (after ≡ record { held = rest; ended = false })

@@ -1,0 +1,8 @@
+pub mod Stream
+pub mod Length
+pub mod Zeros
+pub mod Messages
+pub mod Front
+pub mod Routes
+pub mod Reply
+pub mod Laws

@@ -1,0 +1,141 @@
+ghost use Rattle.std.specs.Prelude.{◌≡◌, ◌+◌, ◌∷◌, [], ◌==◌, ◌&&◌, IsTrue, MatchOption, min};
+ghost use Rattle.std.specs.Char.{is_ascii_digit};
+ghost use Rattle.std.specs.List.{list_all, list_any};
+ghost use Rattle.xa_http.specs.Length.{is_named, values_of, is_number, number, writes_same, within_limit, agreed_length, body_length};
+ghost use Rattle.xa_http.specs.Zeros.{skip_zeros};
+
+use crate::front::Cause;
+use crate::limits::{MAX_BODY_BYTES, MAX_FIELDS};
+use crate::message::Field;
+
+/// The length of the body after a head of those fields.
+#[tactic(auto, unfolding(crate::specs::Length::body_length))]
+pub fn body_length(fields: &[Field]) -> Result<usize, Cause>
+    ensures { result ≡ body_length fields.now }
+{
+    if fields.len() > MAX_FIELDS {
+        return Err(Cause::HeadTooLarge);
+    }
+    if has_field(fields, "Transfer-Encoding") {
+        return Err(Cause::TransferCoding);
+    }
+    agreed_length(fields, "Content-Length")
+}
+
+/// Whether the field has that name.
+fn is_named(field: &Field, name: &str) -> bool
+    ensures { result ≡ is_named name.now field.now }
+{
+    field.name.as_slice().eq_ignore_ascii_case(name.as_bytes())
+}
+
+/// Whether a field has that name.
+fn has_field(fields: &[Field], name: &str) -> bool
+    ensures { result ≡ list_any (is_named name.now) fields.now }
+{
+    for field in fields {
+        if is_named(field, name) {
+            return true;
+        }
+    }
+    false
+}
+
+/// The length on which the fields of that name agree.
+#[tactic(auto, unfolding(crate::specs::Length::agreed_length))]
+fn agreed_length(fields: &[Field], name: &str) -> Result<usize, Cause>
+    ensures { result ≡ agreed_length (values_of name.now fields.now) }
+{
+    let Some((first, others)) = first_value(fields, name) else {
+        return Ok(0);
+    };
+    if is_number(first) && all_write_same(others, name, first) {
+        within_limit(first)
+    } else {
+        Err(Cause::BadLength)
+    }
+}
+
+/// The value of the first field of that name, and the fields after it.
+fn first_value<'a>(fields: &'a [Field], name: &str) -> Option<(&'a [u8], &'a [Field])>
+    ensures { MatchOption result (values_of name.now fields.now ≡ []) (λ found. values_of name.now fields.now ≡ found.0.now ∷ values_of name.now found.1.now) }
+{
+    for (i, field) in fields.iter().enumerate() {
+        if is_named(field, name) {
+            return Some((field.value.as_slice(), &fields[i + 1..]));
+        }
+    }
+    None
+}
+
+/// Whether each field of that name writes the number that the digits do.
+fn all_write_same(fields: &[Field], name: &str, digits: &[u8]) -> bool
+    requires { IsTrue (is_number digits.now) }
+    ensures { result ≡ list_all (writes_same digits.now) (values_of name.now fields.now) }
+{
+    for field in fields {
+        if is_named(field, name) && !writes_same(field.value.as_slice(), digits) {
+            return false;
+        }
+    }
+    true
+}
+
+/// Whether the text is digits alone, and writes the number that the digits do.
+#[tactic(auto, using(crate::proofs::NumberLemmas::same_number))]
+fn writes_same(text: &[u8], digits: &[u8]) -> bool
+    requires { IsTrue (is_number digits.now) }
+    ensures { result ≡ writes_same digits.now text.now }
+{
+    is_number(text) && without_zeros(text) == without_zeros(digits)
+}
+
+/// Whether the text is one digit or more, and nothing else.
+fn is_number(text: &[u8]) -> bool
+    ensures { result ≡ is_number text.now }
+{
+    !text.is_empty() && all_digits(text)
+}
+
+/// Whether each byte is a digit.
+fn all_digits(text: &[u8]) -> bool
+    ensures { result ≡ list_all is_ascii_digit text.now }
+{
+    text.iter().all(|byte| byte.is_ascii_digit())
+}
+
+/// The digits from the first that is no zero.
+fn without_zeros(digits: &[u8]) -> &[u8]
+    ensures { result.now ≡ skip_zeros digits.now }
+{
+    for (i, digit) in digits.iter().enumerate() {
+        if *digit != b'0' {
+            return &digits[i..];
+        }
+    }
+    &[]
+}
+
+/// The number that the digits write, if a body may be so long.
+fn within_limit(digits: &[u8]) -> Result<usize, Cause>
+    ensures { result ≡ within_limit (number digits.now) }
+{
+    let length = capped_number(digits);
+    if length <= MAX_BODY_BYTES {
+        Ok(length)
+    } else {
+        Err(Cause::BodyTooLarge)
+    }
+}
+
+/// The number that the digits write, or the first that is too large for a body.
+#[tactic(auto, using(crate::proofs::NumberLemmas::capped_after), unfolding(crate::specs::Length::number))]
+fn capped_number(digits: &[u8]) -> usize
+    ensures { result ≡ min (number digits.now) (MAX_BODY_BYTES + 1) }
+{
+    let mut number = 0usize;
+    for digit in digits {
+        number = (10 * number + usize::from(digit.saturating_sub(b'0'))).min(MAX_BODY_BYTES + 1);
+    }
+    number
+}

@@ -1,0 +1,123 @@
+ghost use Rattle.std.specs.Prelude.{◌≡◌, ◌++◌, IfOk, OnOk};
+ghost use Rattle.xa_http.specs.Reply.{phrase, status_line, field_line, media_text, methods_text, extra_lines, http_bytes};
+
+use http::StatusCode;
+use std::alloc::{AllocError, Global};
+
+/// The media type of a reply's body.
+#[derive(Clone, Copy, Debug, PartialEq, Eq)]
+pub enum Media {
+    /// `application/json`
+    Json,
+    /// `application/xacml+json` (JSON Profile of XACML 3.0, section 1.5)
+    XacmlJson,
+}
+
+/// The methods that are served at a path.
+#[derive(Clone, Copy, Debug, PartialEq, Eq)]
+pub enum Methods {
+    /// `POST` alone
+    Post,
+}
+
+/// The field that a reply has beside `Content-Type` and `Content-Length`.
+#[derive(Clone, Copy, Debug, PartialEq, Eq)]
+pub enum Extra {
+    /// None.
+    Nothing,
+    /// `WWW-Authenticate: Bearer`, of a 401 (RFC 9110, section 11.6.1).
+    Challenge,
+    /// `Allow`, of a 405 (RFC 9110, section 10.2.1).
+    Allow(Methods),
+}
+
+impl Media {
+    /// The name of the media type.
+    fn name(self) -> &'static str
+        ensures { result.now ≡ media_text self }
+    {
+        match self {
+            Media::Json => "application/json",
+            Media::XacmlJson => "application/xacml+json",
+        }
+    }
+}
+
+impl Methods {
+    /// The methods in the order of the alphabet, joined by a comma and a space.
+    fn names(self) -> &'static str
+        ensures { result.now ≡ methods_text self }
+    {
+        match self {
+            Methods::Post => "POST",
+        }
+    }
+}
+
+/// So many bytes hold any head of a reply.
+const HEAD_ROOM: usize = 256;
+
+/// The bytes of a reply.
+#[tactic(auto, unfolding(crate::specs::Reply::http_bytes))]
+pub fn reply(
+    alloc: Global,
+    status: StatusCode,
+    media: Media,
+    extra: Extra,
+    body: &[u8],
+) -> Result<Vec<u8>, AllocError>
+    ensures { IfOk result (λ bytes. bytes.items ≡ http_bytes status media extra body.now) }
+{
+    let mut bytes = Vec::with_capacity(alloc, body.len().saturating_add(HEAD_ROOM))?;
+    push_status_line(&mut bytes, status)?;
+    push_field_line(&mut bytes, "Content-Type", media.name())?;
+    let length = body.len().to_string(alloc)?;
+    push_field_line(&mut bytes, "Content-Length", length.as_str())?;
+    push_extra_lines(&mut bytes, extra)?;
+    bytes.extend_from_slice(b"\r\n")?;
+    bytes.extend_from_slice(body)?;
+    Ok(bytes)
+}
+
+/// Adds the status line.
+#[tactic(auto, unfolding(crate::specs::Reply::status_line))]
+fn push_status_line(bytes: &mut Vec<u8>, status: StatusCode) -> Result<(), AllocError>
+    ensures { OnOk result (bytes.new.items ≡ bytes.old.items ++ status_line status) }
+{
+    bytes.extend_from_slice(b"HTTP/1.1 ")?;
+    bytes.extend_from_slice(status.as_str().as_bytes())?;
+    bytes.extend_from_slice(b" ")?;
+    bytes.extend_from_slice(phrase(status).as_bytes())?;
+    bytes.extend_from_slice(b"\r\n")
+}
+
+/// The phrase of the status code.
+#[tactic(auto, unfolding(crate::specs::Reply::phrase))]
+fn phrase(status: StatusCode) -> &'static str
+    ensures { result.now ≡ phrase status }
+{
+    status.canonical_reason().unwrap_or("")
+}
+
+/// Adds a field line.
+#[tactic(auto, unfolding(crate::specs::Reply::field_line))]
+fn push_field_line(bytes: &mut Vec<u8>, name: &str, value: &str) -> Result<(), AllocError>
+    ensures { OnOk result (bytes.new.items ≡ bytes.old.items ++ field_line name.now value.now) }
+{
+    bytes.extend_from_slice(name.as_bytes())?;
+    bytes.extend_from_slice(b": ")?;
+    bytes.extend_from_slice(value.as_bytes())?;
+    bytes.extend_from_slice(b"\r\n")
+}
+
+/// Adds the further field line.
+#[tactic(auto, unfolding(crate::specs::Reply::extra_lines))]
+fn push_extra_lines(bytes: &mut Vec<u8>, extra: Extra) -> Result<(), AllocError>
+    ensures { OnOk result (bytes.new.items ≡ bytes.old.items ++ extra_lines extra) }
+{
+    match extra {
+        Extra::Nothing => Ok(()),
+        Extra::Challenge => push_field_line(bytes, "WWW-Authenticate", "Bearer"),
+        Extra::Allow(methods) => push_field_line(bytes, "Allow", methods.names()),
+    }
+}

@@ -1,0 +1,3 @@
+pub mod CombiningLemmas
+pub mod EvaluationLemmas
+pub mod TargetLemmas

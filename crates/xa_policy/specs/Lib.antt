@@ -1,0 +1,5 @@
+pub mod Combining
+pub mod Evaluation
+pub mod Rule
+pub mod Status
+pub mod Target

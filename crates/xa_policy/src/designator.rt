@@ -1,0 +1,11 @@
+use xa_value::Text;
+
+/// An attribute designator (XACML 3.0, section 5.29). The data type is string for now, and there is no issuer:
+/// neither has a field yet.
+#[derive(Debug, Drop, PartialEq, Eq)]
+pub struct Designator {
+    pub category: Text,
+    pub attribute_id: Text,
+    /// Whether an empty bag is a fault, `missing-attribute`.
+    pub must_be_present: bool,
+}

@@ -1,0 +1,9 @@
+use crate::decision::Decision;
+use crate::status::Status;
+
+/// A decision with its status (XACML 3.0, section 5.48).
+#[derive(Clone, Copy, Debug, PartialEq, Eq)]
+pub struct Evaluated {
+    pub decision: Decision,
+    pub status: Status,
+}

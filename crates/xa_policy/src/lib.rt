@@ -1,0 +1,30 @@
+//! Policies, and what they decide: XACML 3.0, sections 7.6 to 7.14 and appendix C.
+#![tactic(auto)]
+
+mod combining;
+mod decision;
+mod designator;
+mod evaluated;
+mod evaluation;
+mod lookup;
+mod match_;
+mod matching;
+mod policy;
+mod rule;
+mod status;
+mod target;
+
+pub use combining::{Alg, combine};
+pub use decision::{Decision, Effect};
+pub use designator::Designator;
+pub use evaluated::Evaluated;
+pub use evaluation::evaluate;
+pub use lookup::Lookup;
+pub use match_::Match;
+pub use policy::Policy;
+pub use rule::Rule;
+pub use status::Status;
+pub use target::{AllOf, AnyOf, Target};
+
+#[cfg(test)]
+mod tests;

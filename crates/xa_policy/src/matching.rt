@@ -1,0 +1,38 @@
+ghost use Rattle.std.specs.Prelude.{◌≡◌, [], ◌∷◌};
+ghost use Rattle.xa_policy.specs.Target.{all_match, some_match};
+
+use crate::status::Status;
+
+/// What a target or a part of it comes to (XACML 3.0, sections 7.6 and 7.7). Of a single match the standard
+/// calls the first two True and False.
+#[derive(Clone, Copy, Debug, PartialEq, Eq)]
+pub enum Matching {
+    Match,
+    NoMatch,
+    /// With the status of the first fault.
+    Indeterminate(Status),
+}
+
+impl Matching {
+    /// Whether both match.
+    pub(crate) fn and(self, next: Matching) -> Matching
+        ensures { result ≡ all_match (self ∷ next ∷ []) }
+    {
+        match (self, next) {
+            (Matching::Match, _) => next,
+            (_, Matching::NoMatch) => Matching::NoMatch,
+            _ => self,
+        }
+    }
+
+    /// Whether one of the two matches.
+    pub(crate) fn or(self, next: Matching) -> Matching
+        ensures { result ≡ some_match (self ∷ next ∷ []) }
+    {
+        match (self, next) {
+            (Matching::NoMatch, _) => next,
+            (_, Matching::Match) => Matching::Match,
+            _ => self,
+        }
+    }
+}

@@ -1,0 +1,89 @@
+ghost use Rattle.std.specs.Prelude.{◌≡◌, IfOk};
+ghost use Rattle.xa_policy.specs.Target.{all_of_value, any_of_value, target_value};
+
+use crate::lookup::Lookup;
+use crate::match_::Match;
+use crate::matching::Matching;
+use std::alloc::{AllocError, Global};
+use xa_value::Items;
+
+/// Matches that must all be true (XACML 3.0, section 5.8).
+#[derive(Debug, Drop, PartialEq, Eq)]
+pub struct AllOf {
+    pub matches: Items<Match>,
+}
+
+/// Conjunctions of which one must match (XACML 3.0, section 5.7).
+#[derive(Debug, Drop, PartialEq, Eq)]
+pub struct AnyOf {
+    pub all_of: Items<AllOf>,
+}
+
+/// To what a rule applies (XACML 3.0, section 5.6). An empty target matches everything.
+#[derive(Debug, Drop, PartialEq, Eq)]
+pub struct Target {
+    pub any_of: Items<AnyOf>,
+}
+
+impl AllOf {
+    /// Whether all matches are true. The first that is not settles it.
+    #[tactic(auto, using(crate::proofs::TargetLemmas::all_match_joined, crate::proofs::TargetLemmas::all_match_single))]
+    pub(crate) fn matching<L: Lookup>(
+        &self,
+        alloc: Global,
+        lookup: &L,
+    ) -> Result<Matching, AllocError>
+        ensures { IfOk result (λ m. m ≡ all_of_value (L.bag_of lookup.now) self.now) }
+    {
+        let mut so_far = Matching::Match;
+        for child in self.matches.as_slice() {
+            so_far = so_far.and(child.matching(alloc, lookup)?);
+            if so_far == Matching::NoMatch {
+                return Ok(Matching::NoMatch);
+            }
+        }
+        Ok(so_far)
+    }
+}
+
+impl AnyOf {
+    /// Whether one of the conjunctions matches. The first that does settles it.
+    #[tactic(auto, using(crate::proofs::TargetLemmas::some_match_joined, crate::proofs::TargetLemmas::some_match_single))]
+    pub(crate) fn matching<L: Lookup>(
+        &self,
+        alloc: Global,
+        lookup: &L,
+    ) -> Result<Matching, AllocError>
+        ensures { IfOk result (λ m. m ≡ any_of_value (L.bag_of lookup.now) self.now) }
+    {
+        let mut so_far = Matching::NoMatch;
+        for child in self.all_of.as_slice() {
+            so_far = so_far.or(child.matching(alloc, lookup)?);
+            if so_far == Matching::Match {
+                return Ok(Matching::Match);
+            }
+        }
+        Ok(so_far)
+    }
+}
+
+impl Target {
+    /// Whether every part of the target matches. The first that does not settles it.
+    #[tactic(auto, using(crate::proofs::TargetLemmas::all_match_joined, crate::proofs::TargetLemmas::all_match_single))]
+    pub(crate) fn matching<L: Lookup>(
+        &self,
+        alloc: Global,
+        lookup: &L,
+    ) -> Result<Matching, AllocError>
+        ensures { IfOk result (λ m. m ≡ target_value (L.bag_of lookup.now) self.now) }
+    {
+        let mut so_far = Matching::Match;
+        for child in self.any_of.as_slice() {
+            so_far = so_far.and(child.matching(alloc, lookup)?);
+            if so_far == Matching::NoMatch {
+                return Ok(Matching::NoMatch);
+            }
+        }
+        Ok(so_far)
+    }
+}

@@ -1,0 +1,94 @@
+-- The headline, from what serving does with one message after another.
+use Rattle.std.proofs.Common.{◌≡◌, ◌≢◌, ℕ, List, [], ◌∷◌, Option, Some, None, refl, ap, sym, ◌∙◌, subst}
+use Rattle.std.specs.Prelude.{Bool, true, false, map, bytes_eq}
+use Rattle.std.proofs.lemmas.Bool.Decides.{not_from_Decides}
+use Rattle.std.proofs.lemmas.Slice.Eq.{bytes_eq-Decides}
+use Rattle.xa_server.specs.declared.replies.Reply.{Reply}
+use Rattle.xa_server.specs.declared.replies.Reply.TheVariants.{Sent, Refused}
+use Rattle.xa_server.specs.Alone.{Event, is_owner, is_own, own, alone, state_after}
+use Rattle.xa_server.specs.Isolation.{AllSent, IsAlone, IsIsolated, TwoWorldsAgree, answered, sent, replies_to}
+use Rattle.xa_server.specs.Machine.{step}
+use Rattle.xa_server.specs.Owner.{owner}
+use Rattle.xa_server.specs.Served.{IsRun, IsSent, IsServed, state}
+use Rattle.xa_server.specs.World.{World}
+
+-- a message of another goes before a run that is the domain's alone
+passed_over : (domain : List ℕ) (old mid new : World) (event : Event) (bytes : List ℕ) (events : List Event) (replies : List Reply)
+    → is_own domain event ≡ false → state domain mid ≡ state domain old → mid.operator ≡ old.operator
+    → IsAlone mid new events replies domain → IsAlone old new (event ∷ events) (Sent bytes ∷ replies) domain
+passed_over domain old mid new event bytes events replies other same operator rest = record {
+  told = rw (other, ← same, ← operator) rest.told;
+  left = rw (other, ← same, ← operator) rest.left;
+}
+
+-- a message of the domain goes before
+goes_before : (domain : List ℕ) (old mid new : World) (event : Event) (bytes : List ℕ) (events : List Event) (replies : List Reply)
+    → is_own domain event ≡ true → bytes ≡ (step old.operator (state domain old) event.1 event.0).0
+    → state domain mid ≡ (step old.operator (state domain old) event.1 event.0).1 → mid.operator ≡ old.operator
+    → IsAlone mid new events replies domain → IsAlone old new (event ∷ events) (Sent bytes ∷ replies) domain
+goes_before domain old mid new event bytes events replies owns reply next operator rest =
+    let told : replies_to domain events replies ≡ map Sent (alone old.operator (step old.operator (state domain old) event.1 event.0).1 (own domain events)) =
+    rest.told ∙ ap (λ op. map Sent (alone op (state domain mid) (own domain events))) operator
+    ∙ ap (λ s. map Sent (alone old.operator s (own domain events))) next in
+    let left : state domain new ≡ state_after old.operator (step old.operator (state domain old) event.1 event.0).1 (own domain events) =
+    rest.left ∙ ap (λ op. state_after op (state domain mid) (own domain events)) operator
+    ∙ ap (λ s. state_after old.operator s (own domain events)) next in
+    record {
+      told = rw owns (ap (λ b. Sent b ∷ replies_to domain events replies) reply ∙ ap (λ rs. Sent (step old.operator (state domain old) event.1 event.0).0 ∷ rs) told);
+      left = rw owns left;
+    }
+
+-- one answered message, by its owner
+by_owner : (domain : List ℕ) (old mid new : World) (event : Event) (bytes : List ℕ) (events : List Event) (replies : List Reply)
+    (named : Option (List ℕ)) → owner event.1 ≡ named → IsSent old mid event.0 event.1 bytes named
+    → IsAlone mid new events replies domain → IsAlone old new (event ∷ events) (Sent bytes ∷ replies) domain
+by_owner domain old mid new event bytes events replies None e step' rest =
+    passed_over domain old mid new event bytes events replies (ap (is_owner domain) e) (ap (state domain) step'.same) (ap (λ (w : World). w.operator) step'.same) rest
+by_owner domain old mid new event bytes events replies (Some name) e step' rest = by_name (bytes_eq name domain) refl where
+  by_name : (b : Bool) → bytes_eq name domain ≡ b → IsAlone old new (event ∷ events) (Sent bytes ∷ replies) domain
+  by_name true t =
+      let same : name ≡ domain = (bytes_eq-Decides name domain).0 t in
+      goes_before domain old mid new event bytes events replies (ap (is_owner domain) e ∙ t) (rw same at step'.reply) (rw same at step'.next) step'.operator rest
+  by_name false t =
+      let apart : domain ≢ name = λ same. not_from_Decides (bytes_eq name domain) (bytes_eq-Decides name domain) t (sym same) in
+      passed_over domain old mid new event bytes events replies (ap (is_owner domain) e ∙ t) (step'.others domain apart) step'.operator rest
+
+-- the headline beside refusals, from a run
+pub isolated : (domain : List ℕ) (old new : World) (events : List Event) (replies : List Reply)
+    → IsRun old events replies new → IsAlone old new (answered events replies) (sent replies) domain
+isolated domain old new [] [] run = record { told = refl; left = ap (state domain) run }
+isolated domain old new (event ∷ events) (Sent bytes ∷ replies) run =
+    by_owner domain old run.0 new event bytes (answered events replies) (sent replies) (owner event.1) refl run.1
+    (isolated domain run.0 new events replies run.2)
+isolated domain old new (event ∷ events) (Refused cause ∷ replies) run =
+    subst (λ (w : World). IsAlone w new (answered events replies) (sent replies) domain) run.1 (isolated domain run.0 new events replies run.2)
+isolated domain old new [] (reply ∷ replies) run = elim run [ ]
+isolated domain old new (event ∷ events) [] run = elim run [ ]
+
+-- where nothing was refused, every message was answered
+pub all_answered : (old new : World) (events : List Event) (replies : List Reply) → IsRun old events replies new → AllSent replies → answered events replies ≡ events
+all_answered old new [] [] run all = refl
+all_answered old new (event ∷ events) (Sent bytes ∷ replies) run all = ap (λ es. event ∷ es) (all_answered run.0 new events replies run.2 all)
+all_answered old new (event ∷ events) (Refused cause ∷ replies) run all = elim all [ ]
+all_answered old new [] (reply ∷ replies) run all = elim run [ ]
+all_answered old new (event ∷ events) [] run all = elim run [ ]
+
+pub all_sent : (replies : List Reply) → AllSent replies → sent replies ≡ replies
+all_sent [] all = refl
+all_sent (Sent bytes ∷ replies) all = ap (λ rs. Sent bytes ∷ rs) (all_sent replies all)
+all_sent (Refused cause ∷ replies) all = elim all [ ]
+
+-- the headline, from a run
+pub headline : (old new : World) (events : List Event) (replies : List Reply) → IsRun old events replies new → IsIsolated old new events replies
+headline old new events replies run = λ all domain.
+    subst (λ es. IsAlone old new es replies domain) (all_answered old new events replies run all)
+    (subst (λ rs. IsAlone old new (answered events replies) rs domain) (all_sent replies all) (isolated domain old new events replies run))
+
+-- one operator, one state and the same messages have one machine's replies
+pub two_worlds : TwoWorldsAgree
+two_worlds first first_after second second_after first_events second_events first_replies second_replies domain one all_one other all_other agree =
+    (one all_one domain).told
+    ∙ ap (λ op. map Sent (alone op (state domain first) (own domain first_events))) agree.operator
+    ∙ ap (λ s. map Sent (alone second.operator s (own domain first_events))) agree.state
+    ∙ ap (λ es. map Sent (alone second.operator (state domain second) es)) agree.messages
+    ∙ sym (other all_other domain).told

@@ -1,0 +1,33 @@
+-- The machine of one domain, used by that domain alone.
+use Rattle.std.specs.Prelude.{ℕ, ℤ, Bool, false, List, [], ◌∷◌, filter, Option, Some, None, bytes_eq}
+use Rattle.xa_http.specs.declared.message.Message.{Message}
+use Rattle.xa_server.specs.DomainState.{DomainState}
+use Rattle.xa_server.specs.Machine.{step}
+use Rattle.xa_server.specs.Owner.{owner}
+
+-- a message, after the moment at which it is answered
+abbrev pub Event : Type 0
+Event = ℤ × Message
+
+-- the message is the domain's
+abbrev pub is_owner : List ℕ → Option (List ℕ) → Bool
+is_owner domain None = false
+is_owner domain (Some name) = bytes_eq name domain
+
+abbrev pub is_own : List ℕ → Event → Bool
+is_own domain event = is_owner domain (owner event.1)
+
+-- the domain's own messages with their moments, in order
+abbrev pub own : List ℕ → List Event → List Event
+own domain events = filter (is_own domain) events
+
+-- the replies of its machine to those messages, from that state
+abbrev pub alone : List ℕ → Option DomainState → List Event → List (List ℕ)
+alone operator state [] = []
+alone operator state (event ∷ events) =
+    let next = step operator state event.1 event.0 in next.0 ∷ alone operator next.1 events
+
+-- the state that they leave
+abbrev pub state_after : List ℕ → Option DomainState → List Event → Option DomainState
+state_after operator state [] = state
+state_after operator state (event ∷ events) = state_after operator (step operator state event.1 event.0).1 events

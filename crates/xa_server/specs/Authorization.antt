@@ -1,0 +1,39 @@
+-- The token that a message shows (RFC 9110, section 11.6.2; RFC 6750, section 2.1).
+use Rattle.std.specs.Prelude.{ℕ, ◌==◌, ◌&&◌, Bool, List, [], ◌∷◌, length, take, drop, nat_le, Option, Some, None, option_and_then, if◌then◌else◌, codes}
+use Rattle.std.specs.List.{list_all}
+use Rattle.std.specs.Str.{str_eq_ignore_ascii_case}
+use Rattle.xa_http.specs.declared.message.Field.{Field}
+use Rattle.xa_http.specs.Length.{values_of}
+
+-- the text from its first byte that is no space
+abbrev pub after_spaces : List ℕ → List ℕ
+after_spaces [] = []
+after_spaces (c ∷ cs) = if c == 32 then after_spaces cs else c ∷ cs
+
+-- a visible ASCII character
+abbrev pub is_visible : ℕ → Bool
+is_visible c = nat_le 33 c && nat_le c 126
+
+-- a token: 8 to 64 visible ASCII characters
+unfoldable pub is_token : List ℕ → Bool
+is_token text = nat_le 8 (length text) && nat_le (length text) 64 && list_all is_visible text
+
+-- what follows the scheme `Bearer`, written in any case, and at least one space
+unfoldable pub credentials_of : List ℕ → Option (List ℕ)
+credentials_of value =
+    if str_eq_ignore_ascii_case (take 7 value) (codes "Bearer ") then Some (after_spaces (drop 7 value)) else None
+
+-- the one of a list of one
+abbrev pub the_only : {X : Type 0} → List X → Option X
+the_only [] = None
+the_only (x ∷ []) = Some x
+the_only (x ∷ _ ∷ _) = None
+
+-- the text itself, if it is a token
+abbrev pub token_if : List ℕ → Option (List ℕ)
+token_if text = if is_token text then Some text else None
+
+-- the token that these fields show: that of the one Authorization field
+unfoldable pub token_in : List Field → Option (List ℕ)
+token_in fields =
+    option_and_then token_if (option_and_then credentials_of (the_only (values_of (codes "Authorization") fields)))

@@ -1,0 +1,63 @@
+-- The headline: whatever the other domains do, each domain's replies are those of its own machine, used by it alone.
+use Rattle.std.specs.Prelude.{◌≡◌, ℕ, List, [], ◌∷◌, map, if◌then◌else◌}
+use Rattle.xa_server.specs.declared.replies.Reply.{Reply}
+use Rattle.xa_server.specs.declared.replies.Reply.TheVariants.{Sent, Refused}
+use Rattle.xa_server.specs.Alone.{Event, is_own, own, alone, state_after}
+use Rattle.xa_server.specs.Served.{state}
+use Rattle.xa_server.specs.World.{World}
+
+-- no message was refused
+abbrev pub AllSent : List Reply → Type 0
+AllSent [] = Unit {0}
+AllSent (Sent _ ∷ replies) = AllSent replies
+AllSent (Refused _ ∷ replies) = ⊥
+
+-- the replies at the places of the domain's own messages, in order
+abbrev pub replies_to : List ℕ → List Event → List Reply → List Reply
+replies_to domain [] replies = []
+replies_to domain (event ∷ events) [] = []
+replies_to domain (event ∷ events) (reply ∷ replies) =
+    if is_own domain event then reply ∷ replies_to domain events replies else replies_to domain events replies
+
+-- the domain was told what its own machine, used by it alone, tells it, and is left in the state in which that leaves it
+pub record IsAlone (old new : World) (events : List Event) (replies : List Reply) (domain : List ℕ) : Type 0 where
+  pub told : replies_to domain events replies ≡ map Sent (alone old.operator (state domain old) (own domain events))
+  pub left : state domain new ≡ state_after old.operator (state domain old) (own domain events)
+
+-- the headline, of a run of which no message was refused
+abbrev pub IsIsolated : World → World → List Event → List Reply → Type 0
+IsIsolated old new events replies = AllSent replies → (domain : List ℕ) → IsAlone old new events replies domain
+
+-- the messages that were not refused
+abbrev pub answered : List Event → List Reply → List Event
+answered [] replies = []
+answered (event ∷ events) [] = []
+answered (event ∷ events) (Sent _ ∷ replies) = event ∷ answered events replies
+answered (event ∷ events) (Refused _ ∷ replies) = answered events replies
+
+-- the replies that were not refused
+abbrev pub sent : List Reply → List Reply
+sent [] = []
+sent (Sent bytes ∷ replies) = Sent bytes ∷ sent replies
+sent (Refused _ ∷ replies) = sent replies
+
+-- with refusals: as if the refused messages had never come
+abbrev pub IsIsolatedBesideRefusals : World → World → List Event → List Reply → Type 0
+IsIsolatedBesideRefusals old new events replies =
+    (domain : List ℕ) → IsAlone old new (answered events replies) (sent replies) domain
+
+-- two runs: one operator, one state of the domain as they begin, and its own messages the same
+pub record AgreeOn (domain : List ℕ) (first second : World) (first_events second_events : List Event) : Type 0 where
+  pub operator : first.operator ≡ second.operator
+  pub state : state domain first ≡ state domain second
+  pub messages : own domain first_events ≡ own domain second_events
+
+-- the consequence, in two worlds: however the other domains differ, equal messages get equal replies
+abbrev pub TwoWorldsAgree : Type 0
+TwoWorldsAgree =
+    (first first_after second second_after : World) (first_events second_events : List Event)
+    (first_replies second_replies : List Reply) (domain : List ℕ)
+    → IsIsolated first first_after first_events first_replies → AllSent first_replies
+    → IsIsolated second second_after second_events second_replies → AllSent second_replies
+    → AgreeOn domain first second first_events second_events
+    → replies_to domain first_events first_replies ≡ replies_to domain second_events second_replies

@@ -1,0 +1,15 @@
+pub mod Owner
+pub mod Authorization
+pub mod Tokens
+pub mod Request
+pub mod Bags
+pub mod Response
+pub mod ErrorCode
+pub mod Given
+pub mod DomainState
+pub mod Machine
+pub mod Alone
+pub mod World
+pub mod Served
+pub mod Replies
+pub mod Isolation

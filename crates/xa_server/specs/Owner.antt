@@ -1,0 +1,31 @@
+-- Whose a message is: the domain that its path names.
+use Rattle.std.specs.Prelude.{ℕ, ◌==◌, ◌||◌, ◌&&◌, Bool, true, false, List, [], ◌∷◌, length, nat_le, Option, Some, None, if◌then◌else◌}
+use Rattle.std.specs.List.{list_all}
+use Rattle.std.specs.Char.{is_ascii_digit, is_ascii_lowercase}
+use Rattle.xa_http.specs.declared.message.Message.{Message}
+use Rattle.xa_http.specs.Routes.{Place, decisions, place_of}
+
+-- a small letter or a digit
+abbrev pub begins_name : ℕ → Bool
+begins_name c = is_ascii_lowercase c || is_ascii_digit c
+
+-- a small letter, a digit or a dash
+abbrev pub continues_name : ℕ → Bool
+continues_name c = begins_name c || (c == 45)
+
+-- a domain name: up to 32 small letters, digits and dashes, of which the first is no dash
+unfoldable pub is_domain_name : List ℕ → Bool
+is_domain_name [] = false
+is_domain_name (c ∷ cs) = nat_le (length cs) 31 && begins_name c && list_all continues_name cs
+
+-- the part of the path that stands for a domain
+abbrev pub domain_part : Place → List ℕ
+domain_part (decisions part) = part
+
+abbrev pub named_by : Option Place → Option (List ℕ)
+named_by None = None
+named_by (Some place) = if is_domain_name (domain_part place) then Some (domain_part place) else None
+
+-- the domain that the message's path names, whether or not it exists
+unfoldable pub owner : Message → Option (List ℕ)
+owner message = named_by (place_of message.target)

@@ -1,0 +1,100 @@
+//! The token that a message shows.
+ghost use Rattle.std.specs.Prelude.{◌≡◌, codes, option_map, option_and_then};
+ghost use Rattle.std.specs.List.{list_all};
+ghost use Rattle.xa_http.specs.Length.{is_named, values_of};
+ghost use Rattle.xa_server.specs.Authorization.{after_spaces, is_visible, is_token, credentials_of, token_if, the_only, token_in};
+
+use xa_http::Field;
+
+/// The scheme, and the first of the spaces after it.
+const SCHEME: &[u8] = b"Bearer ";
+
+/// A token has at least this many bytes.
+const MIN_TOKEN_BYTES: usize = 8;
+
+/// A token has at most this many bytes.
+const MAX_TOKEN_BYTES: usize = 64;
+
+/// The text from its first byte that is no space.
+fn after_spaces(text: &[u8]) -> &[u8]
+    ensures { result.now ≡ after_spaces text.now }
+{
+    let mut rest = text;
+    while let [b' ', others @ ..] = rest {
+        rest = others;
+    }
+    rest
+}
+
+fn all_visible(text: &[u8]) -> bool
+    ensures { result ≡ list_all is_visible text.now }
+{
+    text.iter().all(|c| 33 <= *c && *c <= 126)
+}
+
+/// Whether it has the shape of a token: 8 to 64 visible ASCII characters.
+#[tactic(auto, unfolding(crate::specs::Authorization::is_token))]
+pub fn is_token(text: &[u8]) -> bool
+    ensures { result ≡ is_token text.now }
+{
+    if text.len() < MIN_TOKEN_BYTES || MAX_TOKEN_BYTES < text.len() {
+        return false;
+    }
+    all_visible(text)
+}
+
+/// What follows the scheme `Bearer` (RFC 6750, section 2.1), written in any case, and at least one space.
+#[tactic(auto, unfolding(crate::specs::Authorization::credentials_of))]
+fn credentials_of(value: &[u8]) -> Option<&[u8]>
+    ensures { option_map (λ text. text.now) result ≡ credentials_of value.now }
+{
+    if value.len() < SCHEME.len() {
+        return None;
+    }
+    let (scheme, rest) = value.split_at(SCHEME.len());
+    if scheme.eq_ignore_ascii_case(SCHEME) {
+        Some(after_spaces(rest))
+    } else {
+        None
+    }
+}
+
+/// Whether it is an Authorization field; names compare without letter case (RFC 9110, section 5.1).
+fn is_authorization(field: &Field) -> bool
+    ensures { result ≡ is_named (codes "Authorization") field.now }
+{
+    field.name.as_slice().eq_ignore_ascii_case(b"Authorization")
+}
+
+/// The value of the one Authorization field.
+fn authorization_of(fields: &[Field]) -> Option<&[u8]>
+    ensures { option_map (λ value. value.now) result ≡ the_only (values_of (codes "Authorization") fields.now) }
+{
+    let mut found: Option<&[u8]> = None;
+    for field in fields {
+        if is_authorization(field) {
+            if found.is_some() {
+                return None;
+            }
+            found = Some(field.value.as_slice());
+        }
+    }
+    found
+}
+
+/// The text itself, if it is a token.
+fn token_if(text: &[u8]) -> Option<&[u8]>
+    ensures { option_map (λ token. token.now) result ≡ token_if text.now }
+{
+    if is_token(text) { Some(text) } else { None }
+}
+
+/// The token that the fields of a message show (RFC 9110, section 11.6.2).
+#[tactic(auto, unfolding(crate::specs::Authorization::token_in))]
+pub(crate) fn token_in(fields: &[Field]) -> Option<&[u8]>
+    ensures { option_map (λ token. token.now) result ≡ token_in fields.now }
+{
+    let value = authorization_of(fields)?;
+    let text = credentials_of(value)?;
+    token_if(text)
+}

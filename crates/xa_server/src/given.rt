@@ -1,0 +1,70 @@
+//! The domains that a server is given when it is made.
+ghost use Rattle.std.specs.Prelude.{◌≡◌, IsTrue};
+ghost use Rattle.std.specs.List.{list_all, list_any};
+ghost use Rattle.xa_server.specs.Given.{all_apart, all_named, has_name};
+ghost use Rattle.xa_server.specs.DomainState.{domain_of, state_of};
+ghost use Rattle.std.specs.Prelude.{option_map};
+
+use crate::owner::is_domain_name;
+use crate::token::Token;
+use thiserror::Error;
+use xa_policy::Policy;
+use xa_value::{Items, Text};
+
+/// A domain: its name, the digests of its tokens with their roles, and its policy.
+#[derive(Debug, Drop)]
+pub struct Given {
+    pub name: Text,
+    pub tokens: Items<Token>,
+    pub policy: Policy,
+}
+
+/// Why no server can be made of some domains.
+#[derive(Clone, Copy, Debug, PartialEq, Eq, Error)]
+pub enum GivenError {
+    /// A name isn't up to 32 small letters, digits and dashes, of which the first is no dash.
+    #[error("a name is no domain's")]
+    BadDomain,
+    /// All names are domains', and two domains have one.
+    #[error("two domains have one name")]
+    Twice,
+}
+
+pub(crate) fn all_named(domains: &[Given]) -> bool
+    ensures { result ≡ all_named domains.now }
+{
+    domains
+        .iter()
+        .all(|given| is_domain_name(given.name.as_bytes()))
+}
+
+fn has_name(name: &[u8], domains: &[Given]) -> bool
+    ensures { result ≡ has_name name.now domains.now }
+{
+    domains.iter().any(|given| given.name.as_bytes() == name)
+}
+
+pub(crate) fn all_apart(domains: &[Given]) -> bool
+    ensures { result ≡ all_apart domains.now }
+{
+    let mut rest = domains;
+    while let [given, others @ ..] = rest {
+        if has_name(given.name.as_bytes(), others) {
+            return false;
+        }
+        rest = others;
+    }
+    true
+}
+
+/// The domain of that name.
+pub(crate) fn domain_of<'a>(name: &[u8], domains: &'a [Given]) -> Option<&'a Given>
+    ensures { option_map (λ given. given.now) result ≡ domain_of name.now domains.now }
+{
+    for given in domains {
+        if given.name.as_bytes() == name {
+            return Some(given);
+        }
+    }
+    None
+}

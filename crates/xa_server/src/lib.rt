@@ -1,0 +1,21 @@
+//! The decision server.
+#![tactic(auto)]
+
+mod authorization;
+mod error_code;
+mod given;
+mod machine;
+mod owner;
+mod replies;
+mod request;
+mod response;
+mod server;
+mod token;
+
+pub use authorization::is_token;
+pub use error_code::ErrorCode;
+pub use given::{Given, GivenError};
+pub use owner::is_domain_name;
+pub use replies::{Refusal, Reply};
+pub use server::{Server, two_worlds_agree};
+pub use token::{Digest, Role, Token};

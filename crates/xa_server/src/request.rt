@@ -1,0 +1,296 @@
+//! The request of a decision, read from its JSON.
+ghost use Rattle.std.specs.Prelude.{◌≡◌, ◌≢◌, ◌≤◌, Some, Ok, Err, option_map, option_and_then, MatchResult, IfOk};
+ghost use Rattle.serde_json.specs.Find.{as_str, as_array};
+ghost use Rattle.serde_json.specs.View.{view, items_view};
+ghost use Rattle.xa_server.specs.Request.{Gives, name_of, at, is_object_of, closed, text_of, attribute_of, attributes_in, category_of, categories_of, request_in, json, request_of, values_of, present};
+ghost use Rattle.xa_server.specs.Bags.{attributes_of};
+ghost use Rattle.xa_server.specs.declared.request.RequestError.TheVariants.{Memory};
+
+use serde_json::Value as Json;
+use std::alloc::{AllocError, AllocFailed, Global};
+use thiserror::Error;
+use xa_policy::{Designator, Lookup};
+use xa_value::{Items, Text, Value};
+
+/// The members that the reader knows, by their names.
+#[derive(Clone, Copy, Debug, PartialEq, Eq)]
+enum Member {
+    Request,
+    AccessSubject,
+    Resource,
+    Action,
+    Attribute,
+    AttributeId,
+    Value,
+}
+
+impl Member {
+    #[tactic(auto, unfolding(crate::specs::Request::name_of))]
+    fn name(self) -> &'static str
+        ensures { result.now ≡ name_of self }
+    {
+        match self {
+            Member::Request => "Request",
+            Member::AccessSubject => "AccessSubject",
+            Member::Resource => "Resource",
+            Member::Action => "Action",
+            Member::Attribute => "Attribute",
+            Member::AttributeId => "AttributeId",
+            Member::Value => "Value",
+        }
+    }
+}
+
+/// Why a body is no request.
+#[derive(Debug, Drop, Error)]
+pub(crate) enum RequestError {
+    #[error("the body is not JSON")]
+    NotJson,
+    #[error("the body is not a request of the JSON Profile")]
+    NotProfile,
+    #[error("out of memory")]
+    Memory,
+}
+
+impl From<AllocError> for RequestError {
+    ghost from_gives = { λ _ e. e ≡ Memory };
+
+    fn from(_: AllocError) -> RequestError {
+        RequestError::Memory
+    }
+}
+
+/// One attribute of a request: its id and its value.
+#[derive(Debug, Drop)]
+pub(crate) struct Attribute {
+    id: Text,
+    value: Value,
+}
+
+/// The attributes of a request by their categories.
+#[derive(Debug, Drop)]
+pub(crate) struct Request {
+    access_subject: Items<Attribute>,
+    resource: Items<Attribute>,
+    action: Items<Attribute>,
+}
+
+fn member_at(value: &Json, name: Member) -> Option<&Json>
+    ensures { option_map (λ v. view v.now) result ≡ at name (view value.now) }
+{
+    value.get(name.name())
+}
+
+/// Whether it is an object of exactly so many members.
+#[tactic(auto, using(crate::proofs::RequestLemmas::count_of_members_view))]
+fn is_object_of(value: &Json, count: usize) -> bool
+    ensures { result ≡ is_object_of count (view value.now) }
+{
+    match value.as_object() {
+        Some(members) => members.len() == count,
+        None => false,
+    }
+}
+
+/// Nothing, of an object of exactly so many members.
+fn closed(value: &Json, count: usize) -> Result<(), RequestError>
+    ensures { result ≡ closed count (view value.now) }
+{
+    if is_object_of(value, count) {
+        Ok(())
+    } else {
+        Err(RequestError::NotProfile)
+    }
+}
+
+fn text_at(value: &Json, name: Member) -> Option<&str>
+    ensures { option_map (λ text. text.now) result ≡ option_and_then as_str (at name (view value.now)) }
+{
+    match member_at(value, name) {
+        Some(member) => member.as_str(),
+        None => None,
+    }
+}
+
+/// A copy of the member of that name, a text.
+#[tactic(auto, unfolding(crate::specs::Request::text_of))]
+fn text_of(alloc: Global, value: &Json, name: Member) -> Result<Text, RequestError>
+    ensures { Gives result (text_of name (view value.now)) }
+{
+    match text_at(value, name) {
+        Some(text) => Ok(Text::new(alloc, text)?),
+        None => Err(RequestError::NotProfile),
+    }
+}
+
+#[tactic(auto, unfolding(crate::specs::Request::attribute_of))]
+fn attribute_of(alloc: Global, value: &Json) -> Result<Attribute, RequestError>
+    ensures { Gives result (attribute_of (view value.now)) }
+{
+    closed(value, 2)?;
+    let id = text_of(alloc, value, Member::AttributeId)?;
+    let text = text_of(alloc, value, Member::Value)?;
+    Ok(Attribute {
+        id,
+        value: Value::String(text),
+    })
+}
+
+fn attributes_in(alloc: Global, values: &[Json]) -> Result<Items<Attribute>, RequestError>
+    ensures { Gives result (attributes_in (items_view values.now)) }
+{
+    let mut attributes = Items::new(alloc);
+    for value in values {
+        attributes.push(attribute_of(alloc, value)?)?;
+    }
+    Ok(attributes)
+}
+
+fn array_at(value: &Json, name: Member) -> Option<&Vec<Json>>
+    ensures { option_map (λ v. items_view v.now.items) result ≡ option_and_then as_array (at name (view value.now)) }
+{
+    match member_at(value, name) {
+        Some(member) => member.as_array(),
+        None => None,
+    }
+}
+
+/// The attributes of a category that is there.
+#[tactic(auto, unfolding(crate::specs::Request::category_of))]
+fn listed(alloc: Global, value: &Json) -> Result<Items<Attribute>, RequestError>
+    ensures { Gives result (category_of (Some (view value.now))) }
+{
+    closed(value, 1)?;
+    match array_at(value, Member::Attribute) {
+        Some(values) => attributes_in(alloc, values),
+        None => Err(RequestError::NotProfile),
+    }
+}
+
+#[tactic(auto, unfolding(crate::specs::Request::category_of))]
+fn category_of(alloc: Global, value: Option<&Json>) -> Result<Items<Attribute>, RequestError>
+    ensures { Gives result (category_of (option_map (λ v. view v.now) value.entry)) }
+{
+    match value {
+        Some(value) => listed(alloc, value),
+        None => Ok(Items::new(alloc)),
+    }
+}
+
+/// 1 where the member is there.
+fn present(value: &Json, name: Member) -> usize
+    ensures counted { result ≡ present (at name (view value.now)) }
+    ensures small { result ≤ 1 }
+{
+    match member_at(value, name) {
+        Some(_) => 1,
+        None => 0,
+    }
+}
+
+/// The attributes of the three categories, where there are no other members.
+#[tactic(auto, unfolding(crate::specs::Request::categories_of))]
+fn categories_of(alloc: Global, value: &Json) -> Result<Request, RequestError>
+    ensures { Gives result (categories_of (view value.now)) }
+{
+    let known = present(value, Member::AccessSubject)
+        + present(value, Member::Resource)
+        + present(value, Member::Action);
+    closed(value, known)?;
+    let access_subject = category_of(alloc, member_at(value, Member::AccessSubject))?;
+    let resource = category_of(alloc, member_at(value, Member::Resource))?;
+    let action = category_of(alloc, member_at(value, Member::Action))?;
+    Ok(Request {
+        access_subject,
+        resource,
+        action,
+    })
+}
+
+#[tactic(auto, unfolding(crate::specs::Request::request_in))]
+fn request_in(alloc: Global, value: &Json) -> Result<Request, RequestError>
+    ensures { Gives result (request_in (view value.now)) }
+{
+    closed(value, 1)?;
+    match member_at(value, Member::Request) {
+        Some(request) => categories_of(alloc, request),
+        None => Err(RequestError::NotProfile),
+    }
+}
+
+/// The JSON of a body.
+#[tactic(auto, unfolding(crate::specs::Request::json))]
+fn json(alloc: Global, body: &[u8]) -> Result<Json, RequestError>
+    ensures { MatchResult result (λ v. json body.now ≡ Ok (view v)) (λ e. e ≢ Memory → json body.now ≡ Err e) }
+{
+    match Json::from_slice(alloc, body) {
+        Ok(value) => Ok(value),
+        Err(error) if error.is_memory() => Err(RequestError::Memory),
+        Err(_) => Err(RequestError::NotJson),
+    }
+}
+
+impl Request {
+    /// The request that a body is (JSON Profile of XACML 3.0, section 4).
+    #[tactic(auto, unfolding(crate::specs::Request::request_of))]
+    pub(crate) fn read(alloc: Global, body: &[u8]) -> Result<Request, RequestError>
+        ensures { Gives result (request_of body.now) }
+    {
+        let value = json(alloc, body)?;
+        request_in(alloc, &value)
+    }
+}
+
+/// The category of the one who asks (XACML 3.0, appendix B.2).
+const ACCESS_SUBJECT: &str = "urn:oasis:names:tc:xacml:1.0:subject-category:access-subject";
+
+/// The category of what is asked for (XACML 3.0, appendix B.3).
+const RESOURCE: &str = "urn:oasis:names:tc:xacml:3.0:attribute-category:resource";
+
+/// The category of what is to be done (XACML 3.0, appendix B.3).
+const ACTION: &str = "urn:oasis:names:tc:xacml:3.0:attribute-category:action";
+
+impl Request {
+    #[tactic(auto, unfolding(crate::specs::Bags::access_subject, crate::specs::Bags::resource, crate::specs::Bags::action))]
+    fn attributes_of(&self, category: &str) -> &[Attribute]
+        ensures { result.now ≡ attributes_of self.now category.now }
+    {
+        if category == ACCESS_SUBJECT {
+            return self.access_subject.as_slice();
+        }
+        if category == RESOURCE {
+            return self.resource.as_slice();
+        }
+        if category == ACTION {
+            return self.action.as_slice();
+        }
+        &[]
+    }
+}
+
+fn values_of(alloc: Global, id: &str, attributes: &[Attribute]) -> Result<Items<Value>, AllocError>
+    ensures { IfOk result (λ values. values ≡ values_of id.now attributes.now) }
+{
+    let mut values = Items::new(alloc);
+    for attribute in attributes {
+        if attribute.id.as_str() == id {
+            values.push(attribute.value.clone()?)?;
+        }
+    }
+    Ok(values)
+}
+
+impl Lookup for Request {
+    ghost use Rattle.xa_server.specs.Bags.{bag_of};
+
+    ghost bag_of = { bag_of };
+
+    #[tactic(auto, unfolding(crate::specs::Bags::bag_of))]
+    fn bag(&self, alloc: Global, designator: &Designator) -> Result<Items<Value>, AllocError> {
+        values_of(
+            alloc,
+            designator.attribute_id.as_str(),
+            self.attributes_of(designator.category.as_str()),
+        )
+    }
+}

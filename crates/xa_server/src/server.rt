@@ -1,0 +1,90 @@
+//! The server: its domains, one message after another.
+ghost use Rattle.std.specs.Prelude.{◌≡◌, Ok, Err, IfOk, OnErr, MatchResult};
+ghost use Rattle.xa_server.specs.Given.{accepted};
+ghost use Rattle.xa_server.specs.Isolation.{TwoWorldsAgree};
+
+use crate::given::{Given, GivenError, all_apart, all_named};
+use crate::machine::reply_to;
+use crate::replies::{Refusal, Reply};
+use crate::token::Digest;
+use std::alloc::{AllocError, Global};
+use std::marker::Model;
+use xa_http::Message;
+use xa_value::{Items, Moment};
+
+/// A server over the domains that it was given.
+#[derive(Debug, Drop)]
+pub struct Server {
+    operator: Digest,
+    domains: Items<Given>,
+}
+
+impl Model for Server {
+    ghost use Rattle.xa_server.specs.World.{World};
+
+    ghost Value = { World };
+
+    ghost view = { λ s. record { operator = s.operator; domains = s.domains } };
+}
+
+impl Server {
+    ghost use Rattle.xa_server.specs.Isolation.{IsIsolated, IsIsolatedBesideRefusals};
+    ghost use Rattle.xa_server.specs.Served.{IsRun, IsServed};
+
+    /// A server over these domains, with the digest of the operator's token. Each name has to be a domain's, and none may
+    /// stand twice.
+    #[tactic(auto, unfolding(crate::specs::Given::accepted))]
+    pub fn given(domains: Vec<Given>, operator: Digest) -> Result<Server, GivenError>
+        ensures { MatchResult result (λ server. (accepted domains.items ≡ Ok server.domains) × (server.operator ≡ operator))
+            (λ error. accepted domains.items ≡ Err error) }
+    {
+        if !all_named(&domains) {
+            return Err(GivenError::BadDomain);
+        }
+        if !all_apart(&domains) {
+            return Err(GivenError::Twice);
+        }
+        Ok(Server {
+            operator,
+            domains: Items::from_vec(domains),
+        })
+    }
+
+    /// Answers one message: by the machine of the domain that its path names, and no other domain's state moves.
+    pub fn serve(&mut self, alloc: Global, moment: Moment, message: &Message) -> Reply
+        ensures { IsServed self.old self.new moment message.now result }
+    {
+        let Ok(bytes) = reply_to(alloc, self.domains.as_slice(), moment, message) else {
+            return Reply::Refused(Refusal::Memory);
+        };
+        Reply::Sent(Items::from_vec(bytes))
+    }
+
+    /// Answers the messages one after another, each at its moment. Whatever the other domains do, each domain's replies
+    /// are those of its own machine, used by it alone; with refusals, as if the refused messages had never come. Room for
+    /// all replies is taken first, and without it nothing is answered.
+    pub fn run(
+        &mut self,
+        alloc: Global,
+        events: &[(Moment, Message)],
+    ) -> Result<Vec<Reply>, AllocError>
+        ensures headline { IfOk result (λ replies. IsIsolated self.old self.new events.now replies.items) }
+        ensures beside_refusals { IfOk result (λ replies. IsIsolatedBesideRefusals self.old self.new events.now replies.items) }
+        ensures run { IfOk result (λ replies. IsRun self.old events.now replies.items self.new) }
+        ensures err { OnErr result (self.new ≡ self.old) }
+    {
+        let mut replies = Vec::with_capacity(alloc, events.len())?;
+        for event in events {
+            let reply = self.serve(alloc, event.0, &event.1);
+            replies.push(reply).unwrap();
+        }
+        Ok(replies)
+    }
+}
+
+/// The headline in two worlds: two runs with one operator, one beginning state of a domain and the same messages of its
+/// own give it the same replies, however the other domains differ.
+#[tactic(auto, using(crate::proofs::IsolationLemmas::two_worlds))]
+pub fn two_worlds_agree()
+    ensures { TwoWorldsAgree }
+{}
