@@ -9,9 +9,10 @@ use Rattle.xa_http.specs.Routes.{Place, decisions, place_of, route_at, route_of}
 use Rattle.std.specs.declared.alloc.Global.{Global}
 use Rattle.xa_server.specs.declared.error_code.ErrorCode.{ErrorCode}
 use Rattle.xa_server.specs.declared.error_code.ErrorCode.TheVariants.{Unauthorized}
+use Rattle.xa_server.specs.declared.token.Role.{Role}
 use Rattle.xa_server.specs.declared.given.Given.{Given}
 use Rattle.xa_server.specs.DomainState.{DomainState, nameless, state_of, domain_of}
-use Rattle.xa_server.specs.Machine.{admitted, answer, routed}
+use Rattle.xa_server.specs.Machine.{answer, performed, role_shown, routed}
 use Rattle.xa_server.specs.Owner.{owner, named_by, is_domain_name}
 use Rattle.xa_server.specs.Served.{GivesAnswer, GivesReply, domain_at, state_for}
 
@@ -41,24 +42,35 @@ from_reply : (state : DomainState) (result : Result (Vec ℕ Global) ErrorCode) 
 from_reply state (Ok bytes) expected h = (state, refl, h)
 from_reply state (Err code) expected h = h
 
--- the answer of a routed message is that of its route
-routed_answer : (message : Message) (moment : ℤ) (state : Option DomainState) (route : Route) → routed (route_of message) ≡ Ok route
-    → answer state message moment ≡ admitted route state message moment
+-- the answer to a routed message of a domain that is there, one of whose tokens it shows
+let_in : (message : Message) (moment : ℤ) (state : DomainState) (route : Route) (role : Role)
+    → routed (route_of message) ≡ Ok route → role_shown state.tokens message ≡ Some role
+    → answer (Some state) message moment ≡ performed route state message moment
 unfolding answer
-routed_answer message moment state route e = rw e refl
+let_in message moment state route role routes shows = rw (routes, shows) refl
 
--- a routed message to a domain that is there
-pub answer_there : (result : Result (Vec ℕ Global) ErrorCode) (message : Message) (moment : ℤ) (domains : List Given) (route : Route) (given : Given)
+pub answer_there : (result : Result (Vec ℕ Global) ErrorCode) (message : Message) (moment : ℤ) (domains : List Given) (route : Route) (given : Given) (role : Role)
     → routed (route_of message) ≡ Ok route → option_map nameless (domain_at route domains) ≡ Some (nameless given)
-    → GivesReply (nameless given) result (admitted route (Some (nameless given)) message moment)
+    → role_shown given.tokens message ≡ Some role
+    → GivesReply (nameless given) result (performed route (nameless given) message moment)
     → GivesAnswer (state_for (owner message) domains) result (answer (state_for (owner message) domains) message moment)
-answer_there result message moment domains route given e there h =
-    rw (state_for_routed message route domains e, there, routed_answer message moment (Some (nameless given)) route e) (from_reply (nameless given) result (admitted route (Some (nameless given)) message moment) h)
+answer_there result message moment domains route given role routes there shows h =
+    rw (state_for_routed message route domains routes, there, let_in message moment (nameless given) route role routes shows)
+    (from_reply (nameless given) result (performed route (nameless given) message moment) h)
 
 -- a routed message to a domain that is absent
 pub answer_absent : (message : Message) (moment : ℤ) (domains : List Given) (route : Route)
     → routed (route_of message) ≡ Ok route → domain_at route domains ≡ None
     → answer (state_for (owner message) domains) message moment ≡ Err Unauthorized
-unfolding admitted
-answer_absent message moment domains route e absent =
-    rw (state_for_routed message route domains e, absent, routed_answer message moment None route e) refl
+unfolding answer
+answer_absent message moment domains route routes absent =
+    rw (state_for_routed message route domains routes, absent, routes) refl
+
+-- a routed message that shows no token of its domain
+pub answer_unknown : (message : Message) (moment : ℤ) (domains : List Given) (route : Route) (given : Given)
+    → routed (route_of message) ≡ Ok route → option_map nameless (domain_at route domains) ≡ Some (nameless given)
+    → role_shown given.tokens message ≡ None
+    → answer (state_for (owner message) domains) message moment ≡ Err Unauthorized
+unfolding answer
+answer_unknown message moment domains route given routes there unknown =
+    rw (state_for_routed message route domains routes, there, routes, unknown) refl

@@ -21,6 +21,8 @@ use Rattle.xa_server.specs.declared.error_code.ErrorCode.TheVariants.{NoRoute, B
 use Rattle.xa_server.specs.declared.request.Request.{Request}
 use Rattle.xa_server.specs.declared.request.RequestError.{RequestError}
 use Rattle.xa_server.specs.declared.request.RequestError.TheVariants as request
+use Rattle.xa_server.specs.declared.token.Role.{Role}
+use Rattle.xa_server.specs.declared.token.Token.{Token}
 use Rattle.xa_server.specs.Authorization.{token_in}
 use Rattle.xa_server.specs.Bags.{bag_of}
 use Rattle.xa_server.specs.DomainState.{DomainState}
@@ -57,18 +59,18 @@ performed (Decide _) domain message moment = do
   evaluated ← decided domain.policy (request_of message.body)
   Ok (decision_reply evaluated, domain)
 
--- 401 where the domain is absent, no token is shown, or it is none of the domain's
-unfoldable pub admitted : Route → Option DomainState → Message → ℤ → Result (List ℕ × DomainState) ErrorCode
-admitted route state message moment = do
-  domain ← or_refuse Unauthorized state
-  role ← or_refuse Unauthorized (option_and_then (λ token. role_of (sha256 token) domain.tokens) (token_in message.fields))
-  performed route domain message moment
+-- the role of the token that the message shows, if it is one of these
+abbrev pub role_shown : List Token → Message → Option Role
+role_shown tokens message = option_and_then (λ token. role_of (sha256 token) tokens) (token_in message.fields)
 
--- the order of answers: the first question that is not passed refuses
+-- the order of answers: the first question that is not passed refuses. 404 and 405; 401 where the domain is absent, and
+-- where no token of its is shown; then what the route itself refuses
 unfoldable pub answer : Option DomainState → Message → ℤ → Result (List ℕ × DomainState) ErrorCode
 answer state message moment = do
   route ← routed (route_of message)
-  admitted route state message moment
+  domain ← or_refuse Unauthorized state
+  role ← or_refuse Unauthorized (role_shown domain.tokens message)
+  performed route domain message moment
 
 -- the reply and the state after it; a refusal leaves the state
 abbrev pub replied : Option DomainState → Result (List ℕ × DomainState) ErrorCode → List ℕ × Option DomainState

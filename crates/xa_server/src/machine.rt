@@ -3,7 +3,7 @@ ghost use Rattle.std.specs.Prelude.{◌≡◌, ℕ, List, Some, IfOk, option_map
 ghost use Rattle.xa_http.specs.Routes.{route_of};
 ghost use Rattle.xa_server.specs.DomainState.{nameless};
 ghost use Rattle.xa_server.specs.ErrorCode.{Gives};
-ghost use Rattle.xa_server.specs.Machine.{admitted, answer, decided, decision_reply, performed, routed, step};
+ghost use Rattle.xa_server.specs.Machine.{answer, decided, decision_reply, performed, role_shown, routed, step};
 ghost use Rattle.sha2.specs.Sha256.{sha256};
 ghost use Rattle.xa_server.specs.Authorization.{token_in};
 ghost use Rattle.xa_server.specs.Tokens.{role_of};
@@ -101,35 +101,18 @@ fn domain_at<'a>(route: &Route, domains: &'a [Given]) -> Option<&'a Given>
     }
 }
 
-/// The role of the token that the fields show in a domain.
-fn role_in(tokens: &[Token], fields: &[Field]) -> Option<Role>
-    ensures { result ≡ option_and_then (λ token. role_of (sha256 token) tokens.now) (token_in fields.now) }
+/// The role of the token that the message shows, if it is one of these.
+fn role_shown(tokens: &[Token], message: &Message) -> Option<Role>
+    ensures { result ≡ role_shown tokens.now message.now }
 {
-    match token_in(fields) {
+    match token_in(message.fields.as_slice()) {
         Some(token) => role_of(tokens, Digest::of(token)),
         None => None,
     }
 }
 
-/// What a message of that route is answered.
-#[tactic(auto, unfolding(crate::specs::Machine::admitted))]
-fn admitted(
-    alloc: Global,
-    route: &Route,
-    domain: &Given,
-    moment: Moment,
-    message: &Message,
-) -> Result<Vec<u8>, ErrorCode>
-    ensures { GivesReply (nameless domain.now) result (admitted route.now (Some (nameless domain.now)) message.now moment) }
-{
-    match role_in(domain.tokens.as_slice(), message.fields.as_slice()) {
-        Some(_) => performed(alloc, route, domain, moment, message),
-        None => Err(ErrorCode::Unauthorized),
-    }
-}
-
-/// What a message is answered: first whether it has a route, then whether it is let in.
-#[tactic(auto, unfolding(crate::specs::Machine::answer), using(crate::proofs::MachineLemmas::state_for_routed))]
+/// What a message is answered, by the first question that it doesn't pass.
+#[tactic(auto, unfolding(crate::specs::Machine::answer))]
 fn answer(
     alloc: Global,
     domains: &[Given],
@@ -139,10 +122,13 @@ fn answer(
     ensures { GivesAnswer (state_for (owner message.now) domains.now) result (answer (state_for (owner message.now) domains.now) message.now moment) }
 {
     let route = routed(alloc, message)?;
-    match domain_at(&route, domains) {
-        Some(domain) => admitted(alloc, &route, domain, moment, message),
-        None => Err(ErrorCode::Unauthorized),
-    }
+    let Some(domain) = domain_at(&route, domains) else {
+        return Err(ErrorCode::Unauthorized);
+    };
+    let Some(_) = role_shown(domain.tokens.as_slice(), message) else {
+        return Err(ErrorCode::Unauthorized);
+    };
+    performed(alloc, &route, domain, moment, message)
 }
 
 /// The bytes of the reply to a message, by the machine of the domain that its path names.
