@@ -1,5 +1,5 @@
 -- What stands at the front of a stream, from what the parser says of the window.
-use Rattle.std.proofs.Common.{◌≡◌, ℕ, ◌+◌, ◌*◌, ◌<◌, ◌≤◌, List, [], ◌∷◌, ◌++◌, length, take, drop, map, refl, sym, ap, ◌∙◌, arith, rules, inl, inr, Ok, Err, length-append, append_assoc}
+use Rattle.std.proofs.Common.{◌≡◌, ℕ, ◌+◌, ◌*◌, ◌<◌, ◌≤◌, List, [], ◌∷◌, ◌++◌, length, take, drop, map, refl, sym, ap, ◌∙◌, arith, inr, Ok, Err, length-append, append_assoc}
 use Rattle.std.specs.Prelude.{flat_map, ◌≢◌}
 use Rattle.std.proofs.lemmas.List.{take-append-drop, drop-drop, length-take, length-take-le, length-drop}
 use Rattle.std.proofs.lemmas.Simd.{map-map}
@@ -11,14 +11,12 @@ use Rattle.httparse.specs.declared.Error.{Error}
 use Rattle.httparse.specs.declared.Error.TheVariants.{HeaderName, HeaderValue, NewLine, Status, Token, TooManyHeaders, Version}
 use Rattle.httparse.specs.declared.spans.HeaderSpan.{HeaderSpan}
 use Rattle.httparse.specs.declared.spans.RequestSpans.{RequestSpans}
-use Rattle.httparse.proofs.GrammarLemmas.{ReadsRequest-append}
 use Rattle.xa_http.specs.declared.message.Field.{Field}
 use Rattle.xa_http.specs.declared.message.Message.{Message}
 use Rattle.xa_http.specs.declared.front.Cause.{Cause}
-use Rattle.xa_http.specs.declared.front.Front.TheVariants.{Whole, More, Refused}
-use Rattle.xa_http.specs.declared.limits.TheConstants.{MAX_HEAD_BYTES}
+use Rattle.xa_http.specs.declared.front.Front.TheVariants.{Whole}
 use Rattle.xa_http.specs.Length.{body_length}
-use Rattle.xa_http.specs.Messages.{window, message_of, fields_of, BeginsWithHead, BeginsWithMessage, IsUnfinished, IsRefused}
+use Rattle.xa_http.specs.Messages.{window, fields_of, BeginsWithHead, BeginsWithMessage, IsUnfinished, IsRefused}
 use Rattle.xa_http.specs.Front.{field_at, IsFront, IsHeadOf}
 
 -- a line end has a byte at least

@@ -1,18 +1,16 @@
 -- However a stream is cut into pieces, the messages at its front are the same.
-use Rattle.std.proofs.Common.{◌≡◌, ℕ, ◌+◌, ◌-◌, ◌<◌, ◌≤◌, true, false, List, [], ◌∷◌, ◌++◌, length, take, drop, refl, sym, ap, ◌∙◌, arith, inl, inr, Ok, Err, length-append, append_assoc, zero, suc, ◌⊎◌}
+use Rattle.std.proofs.Common.{◌≡◌, ℕ, ◌+◌, ◌-◌, ◌≤◌, List, [], ◌∷◌, ◌++◌, length, take, refl, sym, ap, ◌∙◌, arith, inl, inr, Ok, Err, length-append, append_assoc, zero, suc}
 use Rattle.std.proofs.lemmas.Bool.{false≢true}
-use Rattle.std.proofs.lemmas.List.{take-append-le, append-nil, append_cancel_left}
-use Rattle.std.proofs.Math.Seq.{take-append_seam, take-append-add, drop-append_seam}
+use Rattle.std.proofs.lemmas.List.{take-append-le, append_cancel_left}
+use Rattle.std.proofs.Math.Seq.{take-append_seam, take-append-add}
 use Rattle.httparse.specs.Grammar.{RequestHead, print_request, ReadsRequest, HasNoRequest, NeverHasRequest}
 use Rattle.httparse.proofs.GrammarLemmas.{ReadsRequest-append, request_unique}
 use Rattle.xa_http.specs.declared.message.Message.{Message}
 use Rattle.xa_http.specs.declared.front.Cause.{Cause}
 use Rattle.xa_http.specs.declared.front.Cause.TheVariants.{BadHead, HeadTooLarge, TransferCoding, BadLength, BodyTooLarge}
-use Rattle.xa_http.specs.declared.session.Next.{Next}
 use Rattle.xa_http.specs.declared.session.Next.TheVariants as next
 use Rattle.xa_http.specs.Length.{body_length}
-use Rattle.xa_http.specs.Stream.{Stream}
-use Rattle.xa_http.specs.Messages.{window, message_of, fields_of, BeginsWithHead, BeginsWithMessage, IsHeadOpen, IsBodyOpen, IsUnfinished, IsOpeningRefused, IsHeadRefused, IsRefused, IsNext}
+use Rattle.xa_http.specs.Messages.{window, message_of, fields_of, BeginsWithHead, BeginsWithMessage, IsUnfinished, IsOpeningRefused, IsRefused}
 use Rattle.xa_http.specs.Laws.{KeepsMessages, KeepsRefusals, AnswersMessages}
 
 -- the front of more bytes begins with the front of those

@@ -1,12 +1,12 @@
 -- Digits and the numbers that they write.
-use Rattle.std.proofs.Common.{◌≡◌, ℕ, ◌+◌, ◌*◌, ◌-◌, ◌≤◌, Bool, true, false, cond, ◌&&◌, List, [], ◌∷◌, length, min, refl, sym, ap, ◌∙◌, suc, zero, arith, rules, eqb, ◌<◌, get_or, drop, drop-cons, add-one, ◌⊎◌, inl, inr}
+use Rattle.std.proofs.Common.{◌≡◌, ℕ, ◌+◌, ◌*◌, ◌-◌, ◌≤◌, Bool, true, false, cond, List, [], ◌∷◌, length, min, refl, sym, ap, ◌∙◌, suc, zero, arith, eqb, ◌<◌, get_or, drop, drop-cons, add-one, ◌⊎◌, inl, inr}
 use Rattle.std.specs.List.{list_all}
 use Rattle.std.specs.Char.{is_ascii_digit}
 use Rattle.std.specs.Str.{bytes_eq}
 use Rattle.std.proofs.lemmas.Bool.Decides.{nat_tests, same_from_decides, Decides-eqb}
 use Rattle.std.proofs.lemmas.Bool.{false≢true}
 use Rattle.std.proofs.lemmas.Slice.Eq.{bytes_eq-Decides}
-use Rattle.xa_http.specs.Length.{is_number, number_after, number, writes_same}
+use Rattle.xa_http.specs.Length.{is_number, number_after, number}
 use Rattle.xa_http.specs.Zeros.{skip_zeros}
 
 -- two numbers that are the same up to the bound stay so after further digits

@@ -1,5 +1,5 @@
 -- Laws of the messages of a stream: however it is cut into pieces, the messages at its front are the same.
-use Rattle.std.specs.Prelude.{◌≡◌, ℕ, true, false, List, ◌++◌}
+use Rattle.std.specs.Prelude.{◌≡◌, ℕ, false, List, ◌++◌}
 use Rattle.xa_http.specs.declared.message.Message.{Message}
 use Rattle.xa_http.specs.declared.front.Cause.{Cause}
 use Rattle.xa_http.specs.declared.session.Next.{Next}

@@ -13,7 +13,7 @@ use httparse::spans::{HeaderSpan, parse_request};
 use std::alloc::{AllocError, Global};
 use xa_value::Items;
 
-/// So many field lines don't fit into a head: each has three bytes at least.
+/// The offsets of so many field lines are read. More don't fit into a head: each has a colon and a line end.
 pub const HEADER_ROOM: usize = 8_192;
 
 /// Why the bytes at the front of a stream are refused.

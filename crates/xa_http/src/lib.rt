@@ -14,7 +14,6 @@ mod session;
 #[cfg(test)]
 mod tests;
 
-pub use front::Cause;
 pub use laws::pieces_make_no_difference;
 pub use limits::{MAX_BODY_BYTES, MAX_FIELDS, MAX_HEAD_BYTES};
 pub use message::{Field, Message};

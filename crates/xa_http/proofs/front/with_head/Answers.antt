@@ -1,4 +1,3 @@
-use Rattle.std.proofs.Common.{sym, ◌∙◌}
 use Rattle.xa_http.proofs.FrontLemmas.{head_refused}
 use Rattle.xa_http.proofs.front.with_head.Goals as goal
 

@@ -1,0 +1,68 @@
+//! How the program ends.
+ghost use Rattle.std.specs.Prelude.{◌≡◌};
+
+use std::alloc::{AllocError, AllocFailed};
+use std::{fmt, io};
+
+/// How the program ends, which its status tells.
+#[derive(Clone, Copy, Debug, PartialEq, Eq)]
+pub enum Exit {
+    /// All was answered.
+    Done,
+    /// Standard input or output failed.
+    Failed,
+    /// The command line isn't `pdpd replay` and a token.
+    Usage,
+    /// The transcript is malformed or cut. The replies of the entries before are written.
+    Malformed,
+    /// There was no memory.
+    Memory,
+}
+
+impl Exit {
+    /// The status with which the program ends.
+    pub fn status(self) -> u8 {
+        match self {
+            Exit::Done => 0,
+            Exit::Failed => 1,
+            Exit::Usage => 2,
+            Exit::Malformed => 3,
+            Exit::Memory => 6,
+        }
+    }
+}
+
+impl fmt::Display for Exit {
+    fn fmt<W: fmt::Write>(&self, f: &mut fmt::Formatter<W>) -> fmt::Result {
+        let text = match self {
+            Exit::Done => "pdpd: done",
+            Exit::Failed => "pdpd: standard input or output failed",
+            Exit::Usage => "pdpd: usage: pdpd replay OPERATOR-TOKEN (8 to 64 visible ASCII characters)",
+            Exit::Malformed => "pdpd: the transcript is malformed or cut",
+            Exit::Memory => "pdpd: out of memory",
+        };
+        f.write_str(text)
+    }
+}
+
+impl From<AllocError> for Exit {
+    fn from(_: AllocError) -> Exit {
+        Exit::Memory
+    }
+}
+
+impl<T: Drop> From<AllocFailed<T>> for Exit {
+    fn from(_: AllocFailed<T>) -> Exit {
+        Exit::Memory
+    }
+}
+
+impl From<io::Error> for Exit {
+    fn from(error: io::Error) -> Exit {
+        if error.kind() == io::ErrorKind::OutOfMemory {
+            Exit::Memory
+        } else {
+            Exit::Failed
+        }
+    }
+}

@@ -1,0 +1,39 @@
+//! The one domain that the program starts with.
+use std::alloc::{AllocError, Global};
+use xa_policy::{Alg, Effect, Policy, Rule, Target};
+use xa_server::{Digest, Given, Role, Token};
+use xa_value::{Items, Text};
+
+/// A token that may ask the domain for decisions.
+const ASK_TOKEN: &[u8] = b"acme-token-1";
+
+/// A policy of one rule, which permits everything.
+fn permit_all(alloc: Global) -> Result<Policy, AllocError> {
+    let mut rules = Items::new(alloc);
+    rules.push(Rule {
+        effect: Effect::Permit,
+        target: Target {
+            any_of: Items::new(alloc),
+        },
+    })?;
+    Ok(Policy {
+        id: Text::new(alloc, "urn:p")?,
+        version: Text::new(alloc, "1.0")?,
+        algorithm: Alg::DenyOverrides,
+        rules,
+    })
+}
+
+/// The domain `acme`: one token that may ask, and a policy that permits everything.
+pub fn acme(alloc: Global) -> Result<Given, AllocError> {
+    let mut tokens = Items::new(alloc);
+    tokens.push(Token {
+        digest: Digest::of(ASK_TOKEN),
+        role: Role::Ask,
+    })?;
+    Ok(Given {
+        name: Text::new(alloc, "acme")?,
+        tokens,
+        policy: permit_all(alloc)?,
+    })
+}

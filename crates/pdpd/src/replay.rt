@@ -1,0 +1,152 @@
+//! Answers the messages of a transcript.
+use crate::exit::Exit;
+use crate::first_domain::acme;
+use crate::transcript::{CONNECTIONS, Heading, Transcript};
+use std::alloc::Global;
+use std::io::{BufWriter, Read, Write};
+use std::mem;
+use xa_http::{Message, Next, Session};
+use xa_server::{Digest, ErrorCode, Server, is_token};
+use xa_value::Moment;
+
+/// How many bytes of replies are held before they are written.
+const BUFFER_BYTES: usize = 65_536;
+
+/// One of the 64 connections.
+enum Connection {
+    /// It isn't open.
+    Closed,
+    /// Its stream goes on.
+    Open(Session),
+    /// It is open, and its stream has ended by a fault: its further entries are passed over.
+    Ended,
+}
+
+/// What the program holds between entries.
+struct Replay<W: Write + Drop> {
+    alloc: Global,
+    server: Server,
+    connections: Vec<Connection>,
+    writer: BufWriter<W>,
+}
+
+impl<W: Write + Drop> Replay<W> {
+    /// Over the one domain that the program starts with, with all connections closed.
+    fn new(alloc: Global, writer: W, token: &str) -> Result<Replay<W>, Exit> {
+        let mut domains = Vec::new(alloc);
+        domains.push(acme(alloc)?)?;
+        let Ok(server) = Server::given(domains, Digest::of(token.as_bytes())) else {
+            return Err(Exit::Usage);
+        };
+        let mut connections = Vec::with_capacity(alloc, CONNECTIONS)?;
+        for _ in 0..CONNECTIONS {
+            connections.push(Connection::Closed)?;
+        }
+        Ok(Replay {
+            alloc,
+            server,
+            connections,
+            writer: BufWriter::with_capacity(alloc, BUFFER_BYTES, writer)?,
+        })
+    }
+
+    /// Hands the bytes of an entry to its connection, and answers the messages that are whole then.
+    fn entry(&mut self, heading: Heading, bytes: &[u8]) -> Result<(), Exit> {
+        let Some(connection) = self.connections.get_mut(heading.connection) else {
+            return Err(Exit::Malformed);
+        };
+        let was = mem::replace(connection, Connection::Closed);
+        let is = match was {
+            _ if bytes.is_empty() => Connection::Closed,
+            Connection::Closed => self.stream(heading, Session::new(self.alloc), bytes)?,
+            Connection::Open(session) => self.stream(heading, session, bytes)?,
+            Connection::Ended => Connection::Ended,
+        };
+        if let Some(connection) = self.connections.get_mut(heading.connection) {
+            *connection = is;
+        }
+        Ok(())
+    }
+
+    /// Feeds the session, and answers its whole messages, and the fault where it ends by one.
+    fn stream(&mut self, heading: Heading, session: Session, bytes: &[u8]) -> Result<Connection, Exit> {
+        let mut session = session;
+        session.feed(bytes)?;
+        let mut messages = Vec::new(self.alloc);
+        let ended = take_messages(&mut session, heading.moment, &mut messages)?;
+        let replies = self.server.run(self.alloc, &messages)?;
+        for reply in &replies {
+            self.write(heading.connection, reply.bytes())?;
+        }
+        if ended {
+            let reply = ErrorCode::BadHead.reply(self.alloc)?;
+            self.write(heading.connection, &reply)?;
+            return Ok(Connection::Ended);
+        }
+        Ok(Connection::Open(session))
+    }
+
+    /// Writes a reply: the connection and the count of its bytes, and the bytes.
+    fn write(&mut self, connection: usize, bytes: &[u8]) -> Result<(), Exit> {
+        let count = bytes.len();
+        writeln!(self.writer, "{connection} {count}")?;
+        self.writer.write_all(bytes)?;
+        self.writer.write_all(b"\n")?;
+        Ok(())
+    }
+}
+
+/// Takes the whole messages off a stream, each with the moment. Whether the stream ends by a fault.
+fn take_messages(
+    session: &mut Session,
+    moment: Moment,
+    messages: &mut Vec<(Moment, Message)>,
+) -> Result<bool, Exit> {
+    for _ in 0..u64::MAX {
+        match session.next()? {
+            Next::Message(message) => messages.push((moment, message))?,
+            Next::More | Next::Ended => return Ok(false),
+            Next::Fault(_) => return Ok(true),
+        }
+    }
+    Ok(false)
+}
+
+/// Answers the entries of a transcript, one after another.
+fn answer_all<R: Read, W: Write + Drop>(
+    alloc: Global,
+    reader: &mut R,
+    replay: &mut Replay<W>,
+) -> Result<(), Exit> {
+    let mut transcript = Transcript::new(alloc, reader)?;
+    let mut bytes = Vec::new(alloc);
+    for _ in 0..u64::MAX {
+        let Some(heading) = transcript.heading()? else {
+            break;
+        };
+        transcript.entry(heading.count, &mut bytes)?;
+        replay.entry(heading, &bytes)?;
+    }
+    Ok(())
+}
+
+/// Answers the messages of a transcript: each whole message of an entry at the entry's moment, each reply written as a
+/// line of its connection and the count of its bytes, and the bytes. `token` is the operator's. What was answered is
+/// written, however it ends.
+pub fn replay<R: Read, W: Write + Drop>(alloc: Global, reader: &mut R, writer: W, token: &str) -> Exit {
+    if !is_token(token.as_bytes()) {
+        return Exit::Usage;
+    }
+    let mut replay = match Replay::new(alloc, writer, token) {
+        Ok(replay) => replay,
+        Err(exit) => return exit,
+    };
+    let exit = match answer_all(alloc, reader, &mut replay) {
+        Ok(()) => Exit::Done,
+        Err(exit) => exit,
+    };
+    match replay.writer.flush() {
+        Ok(()) => exit,
+        Err(error) => Exit::from(error),
+    }
+}

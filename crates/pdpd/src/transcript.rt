@@ -1,0 +1,172 @@
+//! Transcripts: entries of a line `CONNECTION MOMENT COUNT`, so many bytes, and a line feed.
+ghost use Rattle.std.specs.Prelude.{◌≤◌, ◌×◌, vec_len};
+
+use crate::exit::Exit;
+use std::alloc::Global;
+use std::io::{self, Read};
+use std::str;
+use xa_value::Moment;
+
+/// How many connections a transcript may hold at once.
+pub const CONNECTIONS: usize = 64;
+
+/// The most bytes of an entry.
+const MAX_ENTRY_BYTES: usize = 1_048_576;
+
+/// The most bytes of an entry's line, without its line feed.
+const MAX_LINE_BYTES: usize = 64;
+
+/// How many bytes are read at once.
+const PIECE_BYTES: usize = 65_536;
+
+/// How often the transcript is read before that counts as a failed read.
+const MAX_READS: u32 = 1_000_000_000;
+
+/// What the line of an entry says.
+#[derive(Clone, Copy, Debug)]
+pub struct Heading {
+    /// The connection, below 64.
+    pub connection: usize,
+    /// The moment at which the entry's messages are answered.
+    pub moment: Moment,
+    /// How many bytes follow.
+    pub count: usize,
+}
+
+/// What is read of a transcript, a piece at a time.
+pub struct Transcript<'a, R> {
+    reader: &'a mut R,
+    piece: Vec<u8>,
+    start: usize,
+    end: usize,
+    reads: u32,
+    ghost held: { (start ≤ end) × (end ≤ vec_len piece) },
+}
+
+impl<'a, R: Read> Transcript<'a, R> {
+    /// A transcript of which nothing is read yet.
+    pub fn new(alloc: Global, reader: &'a mut R) -> Result<Transcript<'a, R>, Exit> {
+        Ok(Transcript {
+            reader,
+            piece: vec![in alloc; 0; PIECE_BYTES]?,
+            start: 0,
+            end: 0,
+            reads: MAX_READS,
+        })
+    }
+
+    /// Reads the next piece, once all of the last is taken. It is empty at the transcript's end.
+    fn refill(&mut self) -> Result<(), Exit> {
+        for _ in 0..MAX_READS {
+            if self.reads == 0 {
+                return Err(Exit::Failed);
+            }
+            self.reads -= 1;
+            match self.reader.read(&mut self.piece) {
+                Ok(count) => {
+                    self.start = 0;
+                    self.end = count;
+                    return Ok(());
+                }
+                Err(error) if error.kind() == io::ErrorKind::Interrupted => {}
+                Err(error) => return Err(Exit::from(error)),
+            }
+        }
+        Err(Exit::Failed)
+    }
+
+    /// The bytes that were read and not taken; none only at the transcript's end.
+    fn held(&mut self) -> Result<&[u8], Exit> {
+        if self.start == self.end {
+            self.refill()?;
+        }
+        Ok(&self.piece[self.start..self.end])
+    }
+    /// The next byte, if the transcript goes on.
+    fn next_byte(&mut self) -> Result<Option<u8>, Exit> {
+        let Some(byte) = self.held()?.first().copied() else {
+            return Ok(None);
+        };
+        self.take(1);
+        Ok(Some(byte))
+    }
+
+    /// Takes so many of the bytes that are held.
+    fn take(&mut self, count: usize) {
+        let left = self.end - self.start;
+        self.start += count.min(left);
+    }
+
+    /// The line of the next entry, if there is one.
+    pub fn heading(&mut self) -> Result<Option<Heading>, Exit> {
+        let mut line = [0; MAX_LINE_BYTES];
+        for len in 0..=MAX_LINE_BYTES {
+            match self.next_byte()? {
+                None if len == 0 => return Ok(None),
+                None => return Err(Exit::Malformed),
+                Some(b'\n') => return heading_of(&line[..len]).map(Some).ok_or(Exit::Malformed),
+                Some(byte) => match line.get_mut(len) {
+                    Some(place) => *place = byte,
+                    None => return Err(Exit::Malformed),
+                },
+            }
+        }
+        Err(Exit::Malformed)
+    }
+
+    /// The bytes of an entry, in place of those of the last, and the line feed after them.
+    pub fn entry(&mut self, count: usize, bytes: &mut Vec<u8>) -> Result<(), Exit> {
+        bytes.clear();
+        for _ in 0..count {
+            let wanted = count.saturating_sub(bytes.len());
+            if wanted == 0 {
+                break;
+            }
+            let held = self.held()?;
+            if held.is_empty() {
+                return Err(Exit::Malformed);
+            }
+            let taken = wanted.min(held.len());
+            bytes.extend_from_slice(&held[..taken])?;
+            self.take(taken);
+        }
+        match self.next_byte()? {
+            Some(b'\n') => Ok(()),
+            _ => Err(Exit::Malformed),
+        }
+    }
+}
+
+/// The number that plain digits write.
+fn number(digits: &[u8]) -> Option<u64> {
+    if !digits.iter().all(|digit| digit.is_ascii_digit()) {
+        return None;
+    }
+    str::from_utf8(digits).ok()?.parse().ok()
+}
+
+/// The moment that plain digits write, after a `-` where it lies before 1970.
+fn moment(text: &[u8]) -> Option<Moment> {
+    let (digits, before) = match text {
+        [b'-', digits @ ..] => (digits, true),
+        digits => (digits, false),
+    };
+    let seconds = i64::try_from(number(digits)?).ok()?;
+    Moment::new(if before { -seconds } else { seconds })
+}
+
+/// What a line of `CONNECTION MOMENT COUNT` says.
+fn heading_of(line: &[u8]) -> Option<Heading> {
+    let mut parts = line.split(|byte| *byte == b' ');
+    let connection = usize::try_from(number(parts.next()?)?).ok()?;
+    let moment = moment(parts.next()?)?;
+    let count = usize::try_from(number(parts.next()?)?).ok()?;
+    if parts.next().is_some() || CONNECTIONS <= connection || MAX_ENTRY_BYTES < count {
+        return None;
+    }
+    Some(Heading {
+        connection,
+        moment,
+        count,
+    })
+}
