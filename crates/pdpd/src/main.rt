@@ -7,8 +7,8 @@ mod replay;
 mod transcript;
 
 use exit::Exit;
+use std::env::{self, Env};
 use std::process::ExitCode;
-use std::{env, io};
 
 /// The operator's token, of a command line `pdpd replay OPERATOR-TOKEN`.
 fn token_argument<R: Env + Alloc>(rt: &R) -> Option<String<R::A>> {

@@ -13,6 +13,7 @@ use xa_value::Moment;
 const BUFFER_BYTES: usize = 65_536;
 
 /// One of the 64 connections.
+#[derive(Drop)]
 enum Connection {
     /// It isn't open.
     Closed,
@@ -23,16 +24,17 @@ enum Connection {
 }
 
 /// What the program holds between entries.
-struct Replay<W: Write + Drop> {
+#[derive(Drop)]
+struct Replayer<W: Write + Drop> {
     alloc: Global,
     server: Server,
     connections: Vec<Connection>,
     writer: BufWriter<W>,
 }
 
-impl<W: Write + Drop> Replay<W> {
+impl<W: Write + Drop> Replayer<W> {
     /// Over the one domain that the program starts with, with all connections closed.
-    fn new(alloc: Global, writer: W, token: &str) -> Result<Replay<W>, Exit> {
+    fn new(alloc: Global, writer: W, token: &str) -> Result<Replayer<W>, Exit> {
         let mut domains = Vec::new(alloc);
         domains.push(acme(alloc)?)?;
         let Ok(server) = Server::given(domains, Digest::of(token.as_bytes())) else {
@@ -42,7 +44,7 @@ impl<W: Write + Drop> Replay<W> {
         for _ in 0..CONNECTIONS {
             connections.push(Connection::Closed)?;
         }
-        Ok(Replay {
+        Ok(Replayer {
             alloc,
             server,
             connections,
@@ -52,20 +54,42 @@ impl<W: Write + Drop> Replay<W> {
 
     /// Hands the bytes of an entry to its connection, and answers the messages that are whole then.
     fn entry(&mut self, heading: Heading, bytes: &[u8]) -> Result<(), Exit> {
-        let Some(connection) = self.connections.get_mut(heading.connection) else {
-            return Err(Exit::Malformed);
-        };
-        let was = mem::replace(connection, Connection::Closed);
-        let is = match was {
-            _ if bytes.is_empty() => Connection::Closed,
-            Connection::Closed => self.stream(heading, Session::new(self.alloc), bytes)?,
-            Connection::Open(session) => self.stream(heading, session, bytes)?,
-            Connection::Ended => Connection::Ended,
-        };
-        if let Some(connection) = self.connections.get_mut(heading.connection) {
+        let place = heading.connection;
+        let was = self.take(place);
+        let is = self.went_on(was, heading, bytes)?;
+        self.put(place, is);
+        Ok(())
+    }
+
+    /// Takes a connection out, which leaves it closed.
+    fn take(&mut self, place: usize) -> Connection {
+        match self.connections.get_mut(place) {
+            Some(connection) => mem::replace(connection, Connection::Closed),
+            None => Connection::Closed,
+        }
+    }
+
+    fn put(&mut self, place: usize, is: Connection) {
+        if let Some(connection) = self.connections.get_mut(place) {
             *connection = is;
         }
-        Ok(())
+    }
+
+    /// What a connection is after the bytes of an entry. It is opened where it isn't open, and none close it.
+    fn went_on(
+        &mut self,
+        was: Connection,
+        heading: Heading,
+        bytes: &[u8],
+    ) -> Result<Connection, Exit> {
+        if bytes.is_empty() {
+            return Ok(Connection::Closed);
+        }
+        match was {
+            Connection::Closed => self.stream(heading, Session::new(self.alloc), bytes),
+            Connection::Open(session) => self.stream(heading, session, bytes),
+            Connection::Ended => Ok(Connection::Ended),
+        }
     }
 
     /// Feeds the session, and answers its whole messages, and the fault where it ends by one.
@@ -116,7 +140,7 @@ fn take_messages(
 fn answer_all<R: Read, W: Write + Drop>(
     alloc: Global,
     reader: &mut R,
-    replay: &mut Replay<W>,
+    replayer: &mut Replayer<W>,
 ) -> Result<(), Exit> {
     let mut transcript = Transcript::new(alloc, reader)?;
     let mut bytes = Vec::new(alloc);
@@ -125,7 +149,7 @@ fn answer_all<R: Read, W: Write + Drop>(
             break;
         };
         transcript.entry(heading.count, &mut bytes)?;
-        replay.entry(heading, &bytes)?;
+        replayer.entry(heading, &bytes)?;
     }
     Ok(())
 }
@@ -137,15 +161,15 @@ pub fn replay<R: Read, W: Write + Drop>(alloc: Global, reader: &mut R, writer: W
     if !is_token(token.as_bytes()) {
         return Exit::Usage;
     }
-    let mut replay = match Replay::new(alloc, writer, token) {
-        Ok(replay) => replay,
+    let mut replayer = match Replayer::new(alloc, writer, token) {
+        Ok(replayer) => replayer,
         Err(exit) => return exit,
     };
-    let exit = match answer_all(alloc, reader, &mut replay) {
+    let exit = match answer_all(alloc, reader, &mut replayer) {
         Ok(()) => Exit::Done,
         Err(exit) => exit,
     };
-    match replay.writer.flush() {
+    match replayer.writer.flush() {
         Ok(()) => exit,
         Err(error) => Exit::from(error),
     }

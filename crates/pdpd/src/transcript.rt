@@ -1,5 +1,5 @@
 //! Transcripts: entries of a line `CONNECTION MOMENT COUNT`, so many bytes, and a line feed.
-ghost use Rattle.std.specs.Prelude.{◌≤◌, ◌×◌, vec_len};
+ghost use Rattle.std.specs.Prelude.{◌<◌, ◌≤◌, IsTrue, IfOk, vec_len};
 
 use crate::exit::Exit;
 use std::alloc::Global;
@@ -34,6 +34,7 @@ pub struct Heading {
 }
 
 /// What is read of a transcript, a piece at a time.
+#[derive(Drop)]
 pub struct Transcript<'a, R> {
     reader: &'a mut R,
     piece: Vec<u8>,
@@ -75,26 +76,35 @@ impl<'a, R: Read> Transcript<'a, R> {
         Err(Exit::Failed)
     }
 
-    /// The bytes that were read and not taken; none only at the transcript's end.
-    fn held(&mut self) -> Result<&[u8], Exit> {
+    /// Reads on where all that was read is taken. Whether the transcript goes on.
+    fn goes_on(&mut self) -> Result<bool, Exit>
+        ensures { IfOk result (λ more. IsTrue more → self.new.start < self.new.end) }
+    {
         if self.start == self.end {
             self.refill()?;
         }
-        Ok(&self.piece[self.start..self.end])
+        Ok(self.start < self.end)
     }
+
     /// The next byte, if the transcript goes on.
     fn next_byte(&mut self) -> Result<Option<u8>, Exit> {
-        let Some(byte) = self.held()?.first().copied() else {
+        if !self.goes_on()? {
             return Ok(None);
-        };
-        self.take(1);
+        }
+        let byte = self.piece[self.start];
+        self.start += 1;
         Ok(Some(byte))
     }
 
-    /// Takes so many of the bytes that are held.
-    fn take(&mut self, count: usize) {
-        let left = self.end - self.start;
-        self.start += count.min(left);
+    /// Moves at most so many bytes of the transcript to the end of `bytes`. Whether it goes on.
+    fn take(&mut self, most: usize, bytes: &mut Vec<u8>) -> Result<bool, Exit> {
+        if !self.goes_on()? {
+            return Ok(false);
+        }
+        let taken = most.min(self.end - self.start);
+        bytes.extend_from_slice(&self.piece[self.start..self.start + taken])?;
+        self.start += taken;
+        Ok(true)
     }
 
     /// The line of the next entry, if there is one.
@@ -122,13 +132,9 @@ impl<'a, R: Read> Transcript<'a, R> {
             if wanted == 0 {
                 break;
             }
-            let held = self.held()?;
-            if held.is_empty() {
+            if !self.take(wanted, bytes)? {
                 return Err(Exit::Malformed);
             }
-            let taken = wanted.min(held.len());
-            bytes.extend_from_slice(&held[..taken])?;
-            self.take(taken);
         }
         match self.next_byte()? {
             Some(b'\n') => Ok(()),

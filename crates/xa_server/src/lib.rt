@@ -10,6 +10,8 @@ mod replies;
 mod request;
 mod response;
 mod server;
+#[cfg(test)]
+mod tests;
 mod token;
 
 pub use authorization::is_token;
