@@ -37,7 +37,8 @@ impl fmt::Display for Exit {
         let text = match self {
             Exit::Done => "pdpd: done",
             Exit::Failed => "pdpd: standard input or output failed",
-            Exit::Usage => "pdpd: usage: pdpd replay OPERATOR-TOKEN (8 to 64 visible ASCII characters)",
+            Exit::Usage =>
+                "pdpd: usage: pdpd replay OPERATOR-TOKEN (8 to 64 visible ASCII characters)",
             Exit::Malformed => "pdpd: the transcript is malformed or cut",
             Exit::Memory => "pdpd: out of memory",
         };

@@ -23,7 +23,12 @@ fn token_argument<R: Env + Alloc>(rt: &R) -> Option<String<R::A>> {
 
 fn main(rt: HostRuntime) -> ExitCode {
     let exit = match token_argument(&rt) {
-        Some(token) => replay::replay(rt.alloc(), &mut rt.stdin(), &mut rt.stdout(), token.as_str()),
+        Some(token) => replay::replay(
+            rt.alloc(),
+            &mut rt.stdin(),
+            &mut rt.stdout(),
+            token.as_str(),
+        ),
         None => Exit::Usage,
     };
     if exit != Exit::Done {

@@ -93,7 +93,12 @@ impl<W: Write + Drop> Replayer<W> {
     }
 
     /// Feeds the session, and answers its whole messages, and the fault where it ends by one.
-    fn stream(&mut self, heading: Heading, session: Session, bytes: &[u8]) -> Result<Connection, Exit> {
+    fn stream(
+        &mut self,
+        heading: Heading,
+        session: Session,
+        bytes: &[u8],
+    ) -> Result<Connection, Exit> {
         let mut session = session;
         session.feed(bytes)?;
         let mut messages = Vec::new(self.alloc);
@@ -157,7 +162,12 @@ fn answer_all<R: Read, W: Write + Drop>(
 /// Answers the messages of a transcript: each whole message of an entry at the entry's moment, each reply written as a
 /// line of its connection and the count of its bytes, and the bytes. `token` is the operator's. What was answered is
 /// written, however it ends.
-pub fn replay<R: Read, W: Write + Drop>(alloc: Global, reader: &mut R, writer: W, token: &str) -> Exit {
+pub fn replay<R: Read, W: Write + Drop>(
+    alloc: Global,
+    reader: &mut R,
+    writer: W,
+    token: &str,
+) -> Exit {
     if !is_token(token.as_bytes()) {
         return Exit::Usage;
     }

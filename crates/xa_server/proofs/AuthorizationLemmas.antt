@@ -1,5 +1,5 @@
 -- One more field of a message.
-use Rattle.std.proofs.Common.{◌≡◌, ℕ, suc, ◌+◌, ◌<◌, List, [], ◌∷◌, length, get_or, drop, refl, sym, ap, ◌∙◌, add-one, drop-cons}
+use Rattle.std.proofs.Common.{◌≡◌, ℕ, suc, ◌+◌, ◌<◌, List, ◌∷◌, length, get_or, drop, refl, sym, ap, ◌∙◌, add-one, drop-cons}
 use Rattle.std.specs.Prelude.{Bool, true, false, map, filter, if◌then◌else◌}
 use Rattle.xa_http.specs.declared.message.Field.{Field}
 use Rattle.xa_http.specs.Length.{is_named, values_of}

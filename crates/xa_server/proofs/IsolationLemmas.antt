@@ -9,7 +9,7 @@ use Rattle.xa_server.specs.Alone.{Event, is_owner, is_own, own, alone, state_aft
 use Rattle.xa_server.specs.Isolation.{AllSent, IsAlone, IsIsolated, TwoWorldsAgree, answered, sent, replies_to}
 use Rattle.xa_server.specs.Machine.{step}
 use Rattle.xa_server.specs.Owner.{owner}
-use Rattle.xa_server.specs.Served.{IsRun, IsSent, IsServed, state}
+use Rattle.xa_server.specs.Served.{IsRun, IsSent, state}
 use Rattle.xa_server.specs.World.{World}
 
 -- a message of another goes before a run that is the domain's alone

@@ -1,5 +1,5 @@
 -- The domain of a routed message is its owner.
-use Rattle.std.proofs.Common.{◌≡◌, ℕ, ℤ, List, Option, Some, None, Result, Ok, Err, refl, ap, sym, ◌∙◌}
+use Rattle.std.proofs.Common.{◌≡◌, ℕ, ℤ, List, Option, Some, None, Result, Ok, Err, refl}
 use Rattle.std.specs.Prelude.{Vec, Bool, true, false, option_map, bytes_eq, if◌then◌else◌, codes}
 use Rattle.xa_http.specs.declared.message.Message.{Message}
 use Rattle.xa_http.specs.declared.route.Route.{Route}

@@ -1,5 +1,5 @@
 -- The bytes of the fixed reply.
-use Rattle.std.proofs.Common.{◌≡◌, ℕ, List, refl, codes}
+use Rattle.std.proofs.Common.{◌≡◌, refl, codes}
 use Rattle.std.specs.Fmt.{digits}
 use Rattle.xa_http.specs.Reply.{http_bytes, status_line, field_line, phrase, extra_lines}
 use Rattle.xa_server.specs.declared.error_code.ErrorCode.TheVariants.{Unavailable}

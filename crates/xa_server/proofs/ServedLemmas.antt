@@ -4,7 +4,6 @@ use Rattle.xa_http.specs.declared.message.Message.{Message}
 use Rattle.xa_server.specs.Alone.{Event}
 use Rattle.xa_server.specs.declared.replies.Reply.{Reply}
 use Rattle.xa_server.specs.declared.given.Given.{Given}
-use Rattle.xa_server.specs.DomainState.{DomainState}
 use Rattle.xa_server.specs.Machine.{step, general}
 use Rattle.xa_server.specs.Owner.{owner}
 use Rattle.xa_server.specs.Served.{IsRun, IsSent, IsServed, state_for}

@@ -1,5 +1,5 @@
 -- The domains that a server is given: each name is a domain's, and none stands twice.
-use Rattle.std.specs.Prelude.{◌≡◌, ℕ, Bool, true, ◌&&◌, not, List, [], ◌∷◌, Result, Ok, Err, if◌then◌else◌, bytes_eq}
+use Rattle.std.specs.Prelude.{ℕ, Bool, true, ◌&&◌, not, List, [], ◌∷◌, Result, Ok, Err, if◌then◌else◌, bytes_eq}
 use Rattle.std.specs.List.{list_all, list_any}
 use Rattle.xa_server.specs.declared.given.Given.{Given}
 use Rattle.xa_server.specs.declared.given.GivenError.{GivenError}

@@ -1,5 +1,5 @@
 -- What serving does to a world: one message, and one after another.
-use Rattle.std.specs.Prelude.{◌≡◌, ◌≢◌, ℕ, ℤ, List, [], ◌∷◌, Option, Some, None, Result, Ok, Err, Vec, IsTrue, if◌then◌else◌, map}
+use Rattle.std.specs.Prelude.{◌≡◌, ◌≢◌, ℕ, ℤ, List, [], ◌∷◌, Option, Some, None, Result, Ok, Err, Vec, if◌then◌else◌}
 use Rattle.std.specs.declared.alloc.Global.{Global}
 use Rattle.xa_http.specs.declared.message.Message.{Message}
 use Rattle.xa_http.specs.declared.route.Route.{Route}
