@@ -4,6 +4,8 @@
 mod exit;
 mod first_domain;
 mod replay;
+#[cfg(test)]
+mod tests;
 mod transcript;
 
 use exit::Exit;

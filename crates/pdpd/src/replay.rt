@@ -37,7 +37,7 @@ impl<W: Write + Drop> Replayer<W> {
     fn new(alloc: Global, writer: W, token: &str) -> Result<Replayer<W>, Exit> {
         let mut domains = Vec::new(alloc);
         domains.push(acme(alloc)?)?;
-        let Ok(server) = Server::given(domains, Digest::of(token.as_bytes())) else {
+        let Ok(server) = Server::given(alloc, domains, Digest::of(token.as_bytes())) else {
             return Err(Exit::Usage);
         };
         let mut connections = Vec::with_capacity(alloc, CONNECTIONS)?;
@@ -103,7 +103,7 @@ impl<W: Write + Drop> Replayer<W> {
         session.feed(bytes)?;
         let mut messages = Vec::new(self.alloc);
         let ended = take_messages(&mut session, heading.moment, &mut messages)?;
-        let replies = self.server.run(self.alloc, &messages)?;
+        let replies = self.server.run(&messages)?;
         for reply in &replies {
             self.write(heading.connection, reply.bytes())?;
         }

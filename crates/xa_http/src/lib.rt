@@ -9,6 +9,7 @@ mod limits;
 mod message;
 mod replies;
 mod route;
+/// The route of a message: its function, apart from the type of that name.
 pub mod routes;
 mod session;
 #[cfg(test)]

@@ -9,7 +9,7 @@ use std::alloc::{AllocError, Global};
 pub enum Media {
     /// `application/json`
     Json,
-    /// `application/xacml+json` (JSON Profile of XACML 3.0, section 1.5)
+    /// `application/xacml+json` (JSON Profile of XACML 3.0, sections 6 and 7)
     XacmlJson,
 }
 

@@ -64,7 +64,8 @@ impl Session {
         }
     }
 
-    /// Takes the next piece of the stream. Without memory nothing is taken.
+    /// Takes the next piece of the stream, also of a session that has ended, which never answers it. Without memory
+    /// nothing is taken.
     pub fn feed(&mut self, piece: &[u8]) -> Result<(), AllocError>
         ensures ok { OnOk result (self.new ≡ record self.old { held = self.old.held ++ piece.now }) }
         ensures err { OnErr result (self.new ≡ self.old) }

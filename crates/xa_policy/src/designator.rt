@@ -4,7 +4,9 @@ use xa_value::Text;
 /// neither has a field yet.
 #[derive(Debug, Drop, PartialEq, Eq)]
 pub struct Designator {
+    /// The category's URI.
     pub category: Text,
+    /// The attribute's id.
     pub attribute_id: Text,
     /// Whether an empty bag is a fault, `missing-attribute`.
     pub must_be_present: bool,

@@ -4,6 +4,8 @@ use crate::status::Status;
 /// A decision with its status (XACML 3.0, section 5.48).
 #[derive(Clone, Copy, Debug, PartialEq, Eq)]
 pub struct Evaluated {
+    /// The decision.
     pub decision: Decision,
+    /// Why, where the decision is Indeterminate; else `Ok`.
     pub status: Status,
 }

@@ -1,4 +1,4 @@
-//! Policies, and what they decide: XACML 3.0, sections 7.6 to 7.14 and appendix C.
+//! Policies, and what they decide (XACML 3.0, sections 7.6, 7.7 and 7.10 to 7.12, appendix C.2).
 #![tactic(auto)]
 
 mod combining;

@@ -11,7 +11,9 @@ use xa_value::Value;
 /// A match (XACML 3.0, section 5.9): whether some value of the designator's bag equals the literal, by string-equal.
 #[derive(Debug, Drop, PartialEq, Eq)]
 pub struct Match {
+    /// The literal that some value of the bag has to equal.
     pub value: Value,
+    /// The attribute whose values are compared.
     pub designator: Designator,
 }
 

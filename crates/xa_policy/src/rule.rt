@@ -12,7 +12,9 @@ use std::alloc::{AllocError, Global};
 /// A rule (XACML 3.0, section 5.21), without conditions for now.
 #[derive(Debug, Drop, PartialEq, Eq)]
 pub struct Rule {
+    /// What the rule gives where it applies.
     pub effect: Effect,
+    /// To what the rule applies.
     pub target: Target,
 }
 

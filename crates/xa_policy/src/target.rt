@@ -10,18 +10,21 @@ use xa_value::Items;
 /// Matches that must all be true (XACML 3.0, section 5.8).
 #[derive(Debug, Drop, PartialEq, Eq)]
 pub struct AllOf {
+    /// The matches, in order.
     pub matches: Items<Match>,
 }
 
 /// Conjunctions of which one must match (XACML 3.0, section 5.7).
 #[derive(Debug, Drop, PartialEq, Eq)]
 pub struct AnyOf {
+    /// The alternatives, in order.
     pub all_of: Items<AllOf>,
 }
 
 /// To what a rule applies (XACML 3.0, section 5.6). An empty target matches everything.
 #[derive(Debug, Drop, PartialEq, Eq)]
 pub struct Target {
+    /// The conditions, in order; without one it matches everything.
     pub any_of: Items<AnyOf>,
 }
 

@@ -9,7 +9,7 @@ use Rattle.xa_server.specs.Alone.{Event, is_owner, is_own, own, alone, state_aft
 use Rattle.xa_server.specs.Isolation.{AllSent, IsAlone, IsIsolated, TwoWorldsAgree, answered, sent, replies_to}
 use Rattle.xa_server.specs.Machine.{step}
 use Rattle.xa_server.specs.Owner.{owner}
-use Rattle.xa_server.specs.Served.{IsRun, IsSent, state}
+use Rattle.xa_server.specs.Served.{IsRun, IsSent, IsUnmoved, state}
 use Rattle.xa_server.specs.World.{World}
 
 -- a message of another goes before a run that is the domain's alone
@@ -19,6 +19,14 @@ passed_over : (domain : List ℕ) (old mid new : World) (event : Event) (bytes :
 passed_over domain old mid new event bytes events replies other same operator rest = record {
   told = rw (other, ← same, ← operator) rest.told;
   left = rw (other, ← same, ← operator) rest.left;
+}
+
+-- a refusal goes before
+unmoved : (domain : List ℕ) (old mid new : World) (events : List Event) (replies : List Reply)
+    → IsUnmoved old mid → IsAlone mid new events replies domain → IsAlone old new events replies domain
+unmoved domain old mid new events replies same rest = record {
+  told = rw (← same.states domain, ← same.operator) rest.told;
+  left = rw (← same.states domain, ← same.operator) rest.left;
 }
 
 -- a message of the domain goes before
@@ -43,7 +51,7 @@ by_owner : (domain : List ℕ) (old mid new : World) (event : Event) (bytes : Li
     (named : Option (List ℕ)) → owner event.1 ≡ named → IsSent old mid event.0 event.1 bytes named
     → IsAlone mid new events replies domain → IsAlone old new (event ∷ events) (Sent bytes ∷ replies) domain
 by_owner domain old mid new event bytes events replies None e step' rest =
-    passed_over domain old mid new event bytes events replies (ap (is_owner domain) e) (ap (state domain) step'.same) (ap (λ (w : World). w.operator) step'.same) rest
+    passed_over domain old mid new event bytes events replies (ap (is_owner domain) e) (step'.same.states domain) step'.same.operator rest
 by_owner domain old mid new event bytes events replies (Some name) e step' rest = by_name (bytes_eq name domain) refl where
   by_name : (b : Bool) → bytes_eq name domain ≡ b → IsAlone old new (event ∷ events) (Sent bytes ∷ replies) domain
   by_name true t =
@@ -61,7 +69,7 @@ isolated domain old new (event ∷ events) (Sent bytes ∷ replies) run =
     by_owner domain old run.0 new event bytes (answered events replies) (sent replies) (owner event.1) refl run.1
     (isolated domain run.0 new events replies run.2)
 isolated domain old new (event ∷ events) (Refused cause ∷ replies) run =
-    subst (λ (w : World). IsAlone w new (answered events replies) (sent replies) domain) run.1 (isolated domain run.0 new events replies run.2)
+    unmoved domain old run.0 new (answered events replies) (sent replies) run.1 (isolated domain run.0 new events replies run.2)
 isolated domain old new [] (reply ∷ replies) run = elim run [ ]
 isolated domain old new (event ∷ events) [] run = elim run [ ]
 
@@ -87,8 +95,16 @@ headline old new events replies run = λ all domain.
 -- one operator, one state and the same messages have one machine's replies
 pub two_worlds : TwoWorldsAgree
 two_worlds first first_after second second_after first_events second_events first_replies second_replies domain one all_one other all_other agree =
-    (one all_one domain).told
-    ∙ ap (λ op. map Sent (alone op (state domain first) (own domain first_events))) agree.operator
-    ∙ ap (λ s. map Sent (alone second.operator s (own domain first_events))) agree.state
-    ∙ ap (λ es. map Sent (alone second.operator (state domain second) es)) agree.messages
-    ∙ sym (other all_other domain).told
+    let here : IsAlone first first_after first_events first_replies domain = headline first first_after first_events first_replies one all_one domain in
+    let there : IsAlone second second_after second_events second_replies domain = headline second second_after second_events second_replies other all_other domain in (
+      here.told
+          ∙ ap (λ op. map Sent (alone op (state domain first) (own domain first_events))) agree.operator
+          ∙ ap (λ s. map Sent (alone second.operator s (own domain first_events))) agree.state
+          ∙ ap (λ es. map Sent (alone second.operator (state domain second) es)) agree.messages
+          ∙ sym there.told,
+      here.left
+          ∙ ap (λ op. state_after op (state domain first) (own domain first_events)) agree.operator
+          ∙ ap (λ s. state_after second.operator s (own domain first_events)) agree.state
+          ∙ ap (λ es. state_after second.operator (state domain second) es) agree.messages
+          ∙ sym there.left,
+    )

@@ -1,16 +1,22 @@
 -- What the request's reader knows of JSON objects and arrays.
-use Rattle.std.proofs.Common.{◌≡◌, ℕ, List, [], ◌∷◌, length, refl, arith}
-use Rattle.std.specs.Prelude.{String}
+use Rattle.std.proofs.Common.{◌≡◌, ℕ, List, [], ◌∷◌, ◌++◌, length, refl, arith}
 use Rattle.std.specs.declared.alloc.Global.{Global}
 use Rattle.serde_json.specs.View.{members_view}
 use Rattle.serde_json.specs.declared.value.Value.{Value}
-use Rattle.std.specs.Prelude.{Bool, true, false, Some, None, Ok, Err, if◌then◌else◌}
+use Rattle.std.specs.Prelude.{Bool, true, false, String, Some, None, Result, Ok, Err, if◌then◌else◌}
 use Rattle.std.specs.Str.{IsUtf8, is_utf8}
 use Rattle.std.proofs.lemmas.Str.{IsUtf8-from_is_utf8, is_utf8-from_IsUtf8}
 use Rattle.serde_json.specs.Data.{Data}
 use Rattle.serde_json.specs.Read.{read}
+use Rattle.xa_server.specs.declared.request.Attribute.{Attribute}
+use Rattle.xa_server.specs.declared.request.RequestError.{RequestError}
 use Rattle.xa_server.specs.declared.request.RequestError.TheVariants.{NotJson}
 use Rattle.xa_server.specs.Request.{count_of, json, or_not_json}
+
+-- the attributes read before, and then the others
+abbrev pub resumed : List Attribute → Result (List Attribute) RequestError → Result (List Attribute) RequestError
+resumed done (Ok others) = Ok (done ++ others)
+resumed done (Err e) = Err e
 
 -- an object has as many members as its map
 pub count_of_members_view : (ms : List (String Global × Value)) → count_of (members_view ms) ≡ length ms

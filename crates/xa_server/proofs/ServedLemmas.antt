@@ -14,7 +14,7 @@ by_owner : (named : Option (List ℕ)) (world : World) (moment : ℤ) (message :
     → (bytes, state_for named world.domains) ≡ step world.operator (state_for named world.domains) message moment
     → IsSent world world moment message bytes named
 unfolding general
-by_owner None world moment message bytes e = record { reply = ap (λ p. p.0) e; same = refl }
+by_owner None world moment message bytes e = record { reply = ap (λ p. p.0) e; same = record { states = λ domain. refl; operator = refl } }
 by_owner (Some domain) world moment message bytes e = record {
   reply = ap (λ p. p.0) e;
   next = ap (λ p. p.1) e;

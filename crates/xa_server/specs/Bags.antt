@@ -6,7 +6,7 @@ use Rattle.xa_server.specs.declared.request.Attribute.{Attribute}
 use Rattle.xa_server.specs.declared.request.Request.{Request}
 use Rattle.xa_server.specs.Request.{values_of}
 
--- the URIs of the categories (XACML 3.0, appendices B.2 and B.3)
+-- the URIs of the categories (XACML 3.0, appendix B.2)
 unfoldable pub access_subject : List ℕ
 access_subject = codes "urn:oasis:names:tc:xacml:1.0:subject-category:access-subject"
 

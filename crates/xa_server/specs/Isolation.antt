@@ -3,7 +3,7 @@ use Rattle.std.specs.Prelude.{◌≡◌, ℕ, List, [], ◌∷◌, map, if◌the
 use Rattle.xa_server.specs.declared.replies.Reply.{Reply}
 use Rattle.xa_server.specs.declared.replies.Reply.TheVariants.{Sent, Refused}
 use Rattle.xa_server.specs.Alone.{Event, is_own, own, alone, state_after}
-use Rattle.xa_server.specs.Served.{state}
+use Rattle.xa_server.specs.Served.{IsRun, state}
 use Rattle.xa_server.specs.World.{World}
 
 -- no message was refused
@@ -52,12 +52,13 @@ pub record AgreeOn (domain : List ℕ) (first second : World) (first_events seco
   pub state : state domain first ≡ state domain second
   pub messages : own domain first_events ≡ own domain second_events
 
--- the consequence, in two worlds: however the other domains differ, equal messages get equal replies
+-- the consequence, in two worlds: however the other domains differ, the domain is told the same and is left in one state
 abbrev pub TwoWorldsAgree : Type 0
 TwoWorldsAgree =
     (first first_after second second_after : World) (first_events second_events : List Event)
     (first_replies second_replies : List Reply) (domain : List ℕ)
-    → IsIsolated first first_after first_events first_replies → AllSent first_replies
-    → IsIsolated second second_after second_events second_replies → AllSent second_replies
+    → IsRun first first_events first_replies first_after → AllSent first_replies
+    → IsRun second second_events second_replies second_after → AllSent second_replies
     → AgreeOn domain first second first_events second_events
-    → replies_to domain first_events first_replies ≡ replies_to domain second_events second_replies
+    → (replies_to domain first_events first_replies ≡ replies_to domain second_events second_replies)
+    × (state domain first_after ≡ state domain second_after)

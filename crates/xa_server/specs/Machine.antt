@@ -63,8 +63,8 @@ performed (Decide _) domain message moment = do
 abbrev pub role_shown : List Token → Message → Option Role
 role_shown tokens message = option_and_then (λ token. role_of (sha256 token) tokens) (token_in message.fields)
 
--- the order of answers: the first question that is not passed refuses. 404 and 405; 401 where the domain is absent, and
--- where no token of its is shown; then what the route itself refuses
+-- the order of answers: the first question that is not passed decides. 404 and 405; 401 where the domain is absent or the
+-- message shows none of its tokens (each role may ask for decisions, so none is forbidden); then what the route itself answers
 unfoldable pub answer : Option DomainState → Message → ℤ → Result (List ℕ × DomainState) ErrorCode
 answer state message moment = do
   route ← routed (route_of message)

@@ -1,6 +1,6 @@
 -- The request of a decision (JSON Profile of XACML 3.0, section 4), as far as it is read today: the
 -- subject, the resource and the action, each one object whose member Attribute lists texts.
-use Rattle.std.specs.Prelude.{◌≡◌, ℕ, ◌+◌, ◌==◌, Bool, false, List, [], ◌∷◌, ◌++◌, map, filter, Option, Some, None, option_and_then, Result, Ok, Err, codes, if◌then◌else◌}
+use Rattle.std.specs.Prelude.{◌≡◌, ℕ, ◌+◌, ◌==◌, Bool, false, List, [], ◌∷◌, map, filter, Option, Some, None, option_and_then, Result, Ok, Err, codes, if◌then◌else◌}
 use Rattle.std.specs.Str.{is_utf8, bytes_eq}
 use Rattle.serde_json.specs.Data.{Data, null, boolean, number, string, array, object, Items, no_items, item, Members, no_members, member}
 use Rattle.serde_json.specs.Read.{read}
@@ -87,11 +87,6 @@ attributes_in (item d ds) = do
   first ← attribute_of d
   others ← attributes_in ds
   Ok (first ∷ others)
-
--- the attributes read before, and then the others
-abbrev pub resumed : List Attribute → Result (List Attribute) RequestError → Result (List Attribute) RequestError
-resumed done (Ok others) = Ok (done ++ others)
-resumed done (Err e) = Err e
 
 -- a category: an object of an array of attributes alone; one that is left out has none
 unfoldable pub category_of : Option Data → Result (List Attribute) RequestError

@@ -45,10 +45,15 @@ pub record IsStep (old new : World) (domain : List ℕ) (moment : ℤ) (message 
   pub others : (other : List ℕ) → other ≢ domain → state other new ≡ state other old
   pub operator : new.operator ≡ old.operator
 
+-- no state has moved
+pub record IsUnmoved (old new : World) : Type 0 where
+  pub states : (domain : List ℕ) → state domain new ≡ state domain old
+  pub operator : new.operator ≡ old.operator
+
 -- a message without an owner was answered, and no state has moved
 pub record IsGeneral (old new : World) (moment : ℤ) (message : Message) (bytes : List ℕ) : Type 0 where
   pub reply : bytes ≡ general old.operator message moment
-  pub same : new ≡ old
+  pub same : IsUnmoved old new
 
 abbrev pub IsSent : World → World → ℤ → Message → List ℕ → Option (List ℕ) → Type 0
 IsSent old new moment message bytes None = IsGeneral old new moment message bytes
@@ -57,7 +62,7 @@ IsSent old new moment message bytes (Some domain) = IsStep old new domain moment
 -- what the server did with a message; a refusal has changed nothing
 abbrev pub IsServed : World → World → ℤ → Message → Reply → Type 0
 IsServed old new moment message (Sent bytes) = IsSent old new moment message bytes (owner message)
-IsServed old new moment message (Refused _) = new ≡ old
+IsServed old new moment message (Refused _) = IsUnmoved old new
 
 -- the server did these things with the messages of these events, one after another
 abbrev pub IsRun : World → List Event → List Reply → World → Type 0

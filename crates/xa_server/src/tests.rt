@@ -114,7 +114,7 @@ fn server(alloc: Global, acme_target: Items<AnyOf>) -> Result<Server, Fail> {
     let mut domains = Vec::new(alloc);
     domains.push(domain(alloc, "acme", "acme-token-1", Role::Ask, permit)?)?;
     domains.push(domain(alloc, "beta", "beta-token-1", Role::Admin, deny)?)?;
-    Ok(Server::given(domains, Digest::of(b"operator-token"))?)
+    Ok(Server::given(alloc, domains, Digest::of(b"operator-token"))?)
 }
 
 fn message(
@@ -172,7 +172,7 @@ fn each_message_has_its_answer(rt: HostRuntime) -> Result<(), Fail> {
     ];
     for (method, target, body, expected) in cases {
         let asked = message(alloc, method, target.as_bytes(), &[ACME_TOKEN], body)?;
-        let reply = server.serve(alloc, moment()?, &asked);
+        let reply = server.serve(moment()?, &asked);
         assert_eq!(rt;
             reply.bytes(),
             expected.as_bytes(),
@@ -186,7 +186,7 @@ fn each_message_has_its_answer(rt: HostRuntime) -> Result<(), Fail> {
         &[ACME_TOKEN],
         NOTHING_ASKED,
     )?;
-    let reply = server.serve(alloc, moment()?, &asked);
+    let reply = server.serve(moment()?, &asked);
     assert_eq!(rt; reply.bytes(), NO_ROUTE.as_bytes());
     Ok(())
 }
@@ -218,7 +218,7 @@ fn a_domain_opens_to_its_own_tokens(rt: HostRuntime) -> Result<(), Fail> {
             &[authorization],
             NOTHING_ASKED,
         )?;
-        let reply = server.serve(alloc, moment()?, &asked);
+        let reply = server.serve(moment()?, &asked);
         assert_eq!(rt;
             reply.bytes(),
             expected.as_bytes(),
@@ -232,10 +232,10 @@ fn a_domain_opens_to_its_own_tokens(rt: HostRuntime) -> Result<(), Fail> {
         &[ACME_TOKEN, ACME_TOKEN],
         NOTHING_ASKED,
     )?;
-    let reply = server.serve(alloc, moment()?, &shown_twice);
+    let reply = server.serve(moment()?, &shown_twice);
     assert_eq!(rt; reply.bytes(), UNAUTHORIZED.as_bytes());
     let not_shown = message(alloc, "POST", ACME.as_bytes(), &[], NOTHING_ASKED)?;
-    let reply = server.serve(alloc, moment()?, &not_shown);
+    let reply = server.serve(moment()?, &not_shown);
     assert_eq!(rt; reply.bytes(), UNAUTHORIZED.as_bytes());
     Ok(())
 }
@@ -251,7 +251,7 @@ fn a_rule_asks_for_alice(rt: HostRuntime) -> Result<(), Fail> {
     for (must_be_present, body, expected) in cases {
         let mut server = server(alloc, is_alice(alloc, must_be_present)?)?;
         let asked = message(alloc, "POST", ACME.as_bytes(), &[ACME_TOKEN], body)?;
-        let reply = server.serve(alloc, moment()?, &asked);
+        let reply = server.serve(moment()?, &asked);
         assert_eq!(rt;
             reply.bytes(),
             expected.as_bytes(),
@@ -280,7 +280,7 @@ fn two_domains_are_answered_in_turn(rt: HostRuntime) -> Result<(), Fail> {
             ))?;
         }
     }
-    let replies = server.run(alloc, &events)?;
+    let replies = server.run(&events)?;
     assert_eq!(rt; replies.len(), 6);
     for (i, reply) in replies.iter().enumerate() {
         let expected = if i % 2 == 0 { PERMIT } else { DENY };
@@ -315,7 +315,7 @@ fn some_domains_make_no_server(rt: HostRuntime) -> Result<(), Fail> {
             let deny = policy(alloc, Effect::Deny, Items::new(alloc))?;
             domains.push(domain(alloc, name, "any-token", Role::Ask, deny)?)?;
         }
-        let error = Server::given(domains, Digest::of(b"operator-token"))
+        let error = Server::given(alloc, domains, Digest::of(b"operator-token"))
             .err()
             .ok_or("a server")?;
         assert_eq!(rt; error, expected, "at {first:?} and {second:?}");

@@ -68,7 +68,9 @@ pub enum Role {
 /// A token of a domain: its digest, and its role there.
 #[derive(Clone, Copy, Debug, PartialEq, Eq)]
 pub struct Token {
+    /// The token's digest.
     pub digest: Digest,
+    /// What it may do.
     pub role: Role,
 }
 

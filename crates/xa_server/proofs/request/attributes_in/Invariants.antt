@@ -1,6 +1,7 @@
 use Rattle.std.proofs.Common.{◌≡◌, drop}
 use Rattle.serde_json.specs.View.{items_view}
-use Rattle.xa_server.specs.Request.{attributes_in, resumed}
+use Rattle.xa_server.specs.Request.{attributes_in}
+use Rattle.xa_server.proofs.RequestLemmas.{resumed}
 use Rattle.xa_server.proofs.request.attributes_in.Given as goal
 
 -- what was read, and then what is left to read
