@@ -1,5 +1,5 @@
 -- However a stream is cut into pieces, the messages at its front are the same.
-use Rattle.std.proofs.Common.{◌≡◌, ℕ, ◌+◌, ◌-◌, ◌≤◌, List, [], ◌∷◌, ◌++◌, length, take, refl, sym, ap, ◌∙◌, arith, inl, inr, Ok, Err, length-append, append_assoc, zero, suc}
+use Rattle.std.proofs.Common.{◌≡◌, ℕ, ◌+◌, ◌-◌, ◌≤◌, List, [], ◌∷◌, ◌++◌, length, take, refl, sym, ap, subst, ◌∙◌, arith, inl, inr, Ok, Err, length-append, append_assoc, zero, suc}
 use Rattle.std.proofs.lemmas.Bool.{false≢true}
 use Rattle.std.proofs.lemmas.List.{take-append-le, append_cancel_left}
 use Rattle.std.proofs.Math.Seq.{take-append_seam, take-append-add}
@@ -10,8 +10,8 @@ use Rattle.xa_http.specs.declared.front.Cause.{Cause}
 use Rattle.xa_http.specs.declared.front.Cause.TheVariants.{BadHead, HeadTooLarge, TransferCoding, BadLength, BodyTooLarge}
 use Rattle.xa_http.specs.declared.session.Next.TheVariants as next
 use Rattle.xa_http.specs.Length.{body_length}
-use Rattle.xa_http.specs.Messages.{window, message_of, fields_of, BeginsWithHead, BeginsWithMessage, IsUnfinished, IsOpeningRefused, IsRefused}
-use Rattle.xa_http.specs.Laws.{KeepsMessages, KeepsRefusals, AnswersMessages}
+use Rattle.xa_http.specs.Messages.{Cuts, window, message_of, fields_of, BeginsWithHead, BeginsWithMessage, IsUnfinished, IsOpeningRefused, IsRefused}
+use Rattle.xa_http.specs.Laws.{KeepsMessages, KeepsRefusals, AnswersMessages, FeedsOn, TakesOn, HasOneCut}
 
 -- the front of more bytes begins with the front of those
 front_of_more : (n : ℕ) (held more : List ℕ) → (rest : List ℕ) × (take n (held ++ more) ≡ take n held ++ rest)
@@ -132,3 +132,24 @@ answers_messages held message rest next.More after begins is = absurd (whole_not
 answers_messages held message rest (next.Fault f) after begins is =
     absurd (whole_not_refused held message rest is.1.0 begins is.1.1)
 answers_messages held message rest next.Ended after begins is = absurd (false≢true is.0)
+
+pub feeds_on : FeedsOn
+feeds_on stream [] held piece cut = ap (λ (bytes : List ℕ). bytes ++ piece) cut
+feeds_on stream (message ∷ taken) held piece cut =
+    (cut.0 ++ piece, keeps_messages stream piece message cut.0 cut.1, feeds_on cut.0 taken held piece cut.2)
+
+pub takes_on : TakesOn
+takes_on stream [] held message rest cut begins =
+    (rest, subst (λ (bytes : List ℕ). BeginsWithMessage bytes message rest) (sym cut) begins, refl)
+takes_on stream (first ∷ taken) held message rest cut begins = (cut.0, cut.1, takes_on cut.0 taken held message rest cut.2 begins)
+
+pub one_cut : HasOneCut
+one_cut stream [] [] rest last a ended b none = (refl, sym a ∙ b)
+one_cut stream [] (n ∷ others) rest last a ended b none =
+    absurd (ended n b.0 (subst (λ (bytes : List ℕ). BeginsWithMessage bytes n b.0) a b.1))
+one_cut stream (m ∷ messages) [] rest last a ended b none =
+    absurd (none m a.0 (subst (λ (bytes : List ℕ). BeginsWithMessage bytes m a.0) b a.1))
+one_cut stream (m ∷ messages) (n ∷ others) rest last a ended b none =
+    let same = same_message stream m n a.0 b.0 a.1 b.1 in
+    let rests = one_cut a.0 messages others rest last a.2 ended (subst (λ (bytes : List ℕ). Cuts bytes others last) (sym same.1) b.2) none in
+    (ap (λ (x : Message). x ∷ messages) same.0 ∙ ap (λ (xs : List Message). n ∷ xs) rests.0, rests.1)

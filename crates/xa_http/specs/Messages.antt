@@ -1,5 +1,5 @@
 -- The messages of a stream (RFC 9112, section 2), and what a session answers when it is asked for the next.
-use Rattle.std.specs.Prelude.{◌≡◌, ℕ, ◌<◌, ◌≤◌, ◌⊎◌, true, false, List, ◌++◌, length, map, take, Ok, Err}
+use Rattle.std.specs.Prelude.{◌≡◌, ℕ, ◌<◌, ◌≤◌, ◌⊎◌, true, false, List, ◌++◌, length, map, take, Ok, Err, [], ◌∷◌}
 use Rattle.httparse.specs.Grammar.{RequestHead, print_request, ReadsRequest, HasNoRequest, NeverHasRequest, MayBecomeRequest, field_value}
 use Rattle.httparse.specs.Grammar as grammar
 use Rattle.xa_http.specs.declared.message.Field.{Field}
@@ -39,6 +39,11 @@ unfoldable pub BeginsWithMessage : List ℕ → Message → List ℕ → Type 0
 BeginsWithMessage held message rest =
     (h : RequestHead) × BeginsWithHead held h (message.body ++ rest)
     × (body_length (fields_of h) ≡ Ok (length message.body)) × (message ≡ message_of h message.body)
+
+-- these messages stand at the front of the bytes, one after another, and rest is what follows them
+abbrev pub Cuts : List ℕ → List Message → List ℕ → Type 0
+Cuts held [] rest = held ≡ rest
+Cuts held (message ∷ messages) rest = (after : List ℕ) × BeginsWithMessage held message after × Cuts after messages rest
 
 -- neither is a head whole in the window, nor is it certain that none begins there
 abbrev pub IsHeadOpen : List ℕ → Type 0

@@ -1,4 +1,4 @@
-ghost use Rattle.xa_http.specs.Laws.{KeepsMessages, KeepsRefusals, AnswersMessages};
+ghost use Rattle.xa_http.specs.Laws.{KeepsMessages, KeepsRefusals, AnswersMessages, FeedsOn, TakesOn, HasOneCut};
 
 /// However a stream is cut into pieces, its messages are the same: the contract says so, and the body does nothing.
 pub fn pieces_make_no_difference()
@@ -8,4 +8,9 @@ pub fn pieces_make_no_difference()
 
     // Where a message stands at the front, a session answers that message and nothing else.
     ensures answers { AnswersMessages }
+
+    // The messages taken so far and what is held are a cut of the stream so far, and a stream has one cut.
+    ensures feeds { FeedsOn }
+    ensures takes { TakesOn }
+    ensures one_cut { HasOneCut }
 {}
