@@ -30,9 +30,10 @@ attribute bag_of designator =
     if is_empty (bag_of designator) && designator.must_be_present then Err status.MissingAttribute
     else Ok (bag_of designator)
 
--- string-equal (A.3.1)
+-- string-equal (A.3.1); a value of another type equals none
 abbrev pub string_equal : Value → Value → Bool
 string_equal (String a) (String b) = pointwise nat_eq a b
+string_equal _ _ = false
 
 -- some value of the bag equals the literal
 abbrev pub some_equal : Value → List Value → Bool

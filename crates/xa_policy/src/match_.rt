@@ -1,5 +1,5 @@
 ghost use Rattle.std.specs.Prelude.{◌≡◌, IfOk};
-ghost use Rattle.xa_policy.specs.Target.{match_value, some_equal};
+ghost use Rattle.xa_policy.specs.Target.{match_value, some_equal, string_equal};
 
 use crate::designator::Designator;
 use crate::lookup::Lookup;
@@ -42,5 +42,15 @@ impl Match {
 fn has_equal(literal: &Value, bag: &[Value]) -> bool
     ensures { result ≡ some_equal literal.now bag.now }
 {
-    bag.iter().any(|value| literal == value)
+    bag.iter().any(|value| string_equal(literal, value))
+}
+
+/// The function string-equal (XACML 3.0, appendix A.3.1). A value of another type equals none.
+fn string_equal(first: &Value, second: &Value) -> bool
+    ensures { result ≡ string_equal first.now second.now }
+{
+    match (first, second) {
+        (Value::String(first), Value::String(second)) => first == second,
+        _ => false,
+    }
 }

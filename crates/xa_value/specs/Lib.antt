@@ -1,2 +1,15 @@
+pub mod Binary
+pub mod Calendar
+pub mod Duration
 pub mod formers
+pub mod Gives
+pub mod Lexical
 pub mod Moment
+pub mod Number
+pub mod Order
+pub mod Printing
+pub mod Reading
+pub mod RoundTrip
+pub mod Time
+pub mod Types
+pub mod Zone

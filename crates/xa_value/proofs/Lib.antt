@@ -1,0 +1,16 @@
+pub mod LexicalLemmas
+pub mod TimeLemmas
+pub mod CalendarLemmas
+pub mod NumberLemmas
+pub mod DurationLemmas
+pub mod OrderLemmas
+pub mod SolidLemmas
+pub mod NumeralLemmas
+pub mod ZoneLemmas
+pub mod NumberReads
+pub mod BinaryReads
+pub mod TimeReads
+pub mod CalendarReads
+pub mod PartReads
+pub mod DurationReads
+pub mod RoundTripLemmas

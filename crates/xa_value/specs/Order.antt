@@ -1,0 +1,86 @@
+-- Equality and order of values (XACML 3.0, core, appendix A.3; XML Schema, part 2, section 3.2.7.4).
+use Rattle.std.specs.Prelude.{◌≡◌, option_map, ℕ, Bool, true, false, ◌&&◌, ◌==◌, if◌then◌else◌, List, [], bytes_eq, ℤ, pos, Option, Some, None}
+use Rattle.std.specs.Ordering.{int_eq, int_cmp, nat_cmp, on, then_cmp, ordering_reverse}
+use Rattle.std.specs.Cmp.Lexicographic.{slice_cmp}
+use Rattle.std.specs.declared.cmp.Ordering.{Ordering}
+use Rattle.std.specs.declared.cmp.Ordering.TheVariants.{Less, Equal}
+use Rattle.xa_value.specs.declared.data_type.DataType.{DataType}
+use Rattle.xa_value.specs.declared.data_type.DataType.TheVariants as type
+use Rattle.xa_value.specs.declared.value.Value.{Value}
+use Rattle.xa_value.specs.declared.value.Value.TheVariants as value
+use Rattle.xa_value.specs.Calendar.{instant, day_number}
+
+-- a value's type
+abbrev pub type_of : Value → DataType
+type_of (value.String text) = type.String
+type_of (value.Boolean b) = type.Boolean
+type_of (value.Integer z) = type.Integer
+type_of (value.Date d) = type.Date
+type_of (value.Time t) = type.Time
+type_of (value.DateTime d) = type.DateTime
+type_of (value.DayTimeDuration z) = type.DayTimeDuration
+type_of (value.YearMonthDuration z) = type.YearMonthDuration
+type_of (value.AnyUri text) = type.AnyUri
+type_of (value.HexBinary bytes) = type.HexBinary
+type_of (value.Base64Binary bytes) = type.Base64Binary
+
+-- the number by which a value compares: of a date the instant of its start, of a time that of the day 0
+unfoldable pub number_of : Value → ℤ
+number_of (value.Boolean b) = if b then pos 1 else pos 0
+number_of (value.Integer z) = z
+number_of (value.Date d) = instant (day_number d.year d.month d.day) 0 d.zone
+number_of (value.Time t) = instant (pos 0) t.nanos t.zone
+number_of (value.DateTime d) = instant (day_number d.year d.month d.day) d.nanos d.zone
+number_of (value.DayTimeDuration z) = z
+number_of (value.YearMonthDuration z) = z
+number_of _ = pos 0
+
+-- the bytes by which a value compares
+unfoldable pub bytes_of : Value → List ℕ
+bytes_of (value.String text) = text
+bytes_of (value.AnyUri text) = text
+bytes_of (value.HexBinary bytes) = bytes
+bytes_of (value.Base64Binary bytes) = bytes
+bytes_of _ = []
+
+-- a type's place in the list of types
+abbrev pub place_of : DataType → ℕ
+place_of type.String = 0
+place_of type.Boolean = 1
+place_of type.Integer = 2
+place_of type.Date = 3
+place_of type.Time = 4
+place_of type.DateTime = 5
+place_of type.DayTimeDuration = 6
+place_of type.YearMonthDuration = 7
+place_of type.AnyUri = 8
+place_of type.HexBinary = 9
+place_of type.Base64Binary = 10
+
+-- the same type, number and bytes
+unfoldable pub same : Value → Value → Bool
+same a b = (place_of (type_of a) == place_of (type_of b)) && int_eq (number_of a) (number_of b) && bytes_eq (bytes_of a) (bytes_of b)
+
+-- strings, integers, dates and times have an order
+abbrev pub is_ordered : DataType → Bool
+is_ordered type.String = true
+is_ordered type.Integer = true
+is_ordered type.Date = true
+is_ordered type.Time = true
+is_ordered type.DateTime = true
+is_ordered _ = false
+
+-- by the number, and then by the bytes
+unfoldable pub compared : Value → Value → Ordering
+compared = then_cmp (on number_of int_cmp) (on bytes_of (slice_cmp nat_cmp))
+
+-- the order of two values of one type that has an order
+unfoldable pub order : Value → Value → Option Ordering
+order a b =
+    if (place_of (type_of a) == place_of (type_of b)) && is_ordered (type_of a) then Some (compared a b) else None
+
+-- `order` orders the values that it compares
+pub record IsOrder : Type 0 where
+  pub equal : (a b : Value) → order a b ≡ Some Equal → same a b ≡ true
+  pub reversed : (a b : Value) → order a b ≡ option_map ordering_reverse (order b a)
+  pub transitive : (a b c : Value) → order a b ≡ Some Less → order b c ≡ Some Less → order a c ≡ Some Less

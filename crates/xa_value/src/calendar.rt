@@ -1,0 +1,263 @@
+ghost use Rattle.std.specs.Prelude.{◌≡◌, ◌≤◌, ◌<◌, ◌≤ℤ◌, unsigned_abs, ◌++◌, OnOk, IsTrue, SomeIff, string_bytes, length, pos, true};
+ghost use Rattle.jiff_core.specs.Date.{IsYmd, epoch_day};
+ghost use Rattle.xa_value.specs.Calendar.{is_day, dated, date_timed, year_of, read_date, read_date_time, day_text, date_text, date_time_text, day_number};
+ghost use Rattle.xa_value.specs.Time.{day_nanos};
+
+use crate::lexical::{has_shape, push_padded, two_digits};
+use crate::read_error::ReadError;
+use crate::time::{DAY, Time, push_clock, read_clock};
+use crate::zone::{Offset, push_zone, read_zone};
+use jiff_core::civil;
+use std::alloc::AllocError;
+use std::marker::Model;
+
+/// A day of the calendar in the years 1 to 9999, with or without a zone.
+#[derive(Clone, Copy, Debug, PartialEq, Eq)]
+pub struct Date {
+    year: u16,
+    month: u8,
+    day: u8,
+    zone: Option<Offset>,
+}
+
+impl Model for Date {
+    ghost use Rattle.std.specs.Prelude.{IsTrue};
+    ghost use Rattle.xa_value.specs.Calendar.{CivilDate, is_day};
+
+    ghost Value = { CivilDate };
+
+    ghost view = { λ d. record { year = d.year; month = d.month; day = d.day; zone = d.zone } };
+
+    ghost invariant = { λ d. IsTrue (is_day d.year d.month d.day) };
+
+    ghost inverse = { λ d. record { year = d.year; month = d.month; day = d.day; zone = d.zone } };
+}
+
+impl Date {
+    /// The day in its zone, where its year is 1 or later.
+    #[tactic(auto, using(crate::proofs::CalendarLemmas::civil_is_day))]
+    pub fn new(day: civil::Date, zone: Option<Offset>) -> Option<Date>
+        ensures { SomeIff result (pos 1 ≤ℤ day.year) record { year = unsigned_abs day.year; month = day.month; day = day.day; zone = zone } }
+    {
+        if day.year < 1 {
+            return None;
+        }
+        Some(Date {
+            year: day.year as u16,
+            month: day.month,
+            day: day.day,
+            zone,
+        })
+    }
+
+    /// The day.
+    #[tactic(auto, using(crate::proofs::CalendarLemmas::day_bounds))]
+    pub fn civil(self) -> civil::Date
+        ensures parts { IsYmd (pos self.year) (pos self.month) (pos self.day) result }
+        ensures number { epoch_day result ≡ day_number self.year self.month self.day }
+        ensures real { IsTrue (is_day self.year self.month self.day) }
+    {
+        civil::Date {
+            year: self.year as i16,
+            month: self.month,
+            day: self.day,
+        }
+    }
+
+    /// The zone as it was written.
+    pub fn zone(self) -> Option<Offset>
+        ensures { result ≡ self.zone }
+    {
+        self.zone
+    }
+}
+
+/// A day of the calendar in the years 1 to 9999 and a time of that day, with or without a zone.
+#[derive(Clone, Copy, Debug, PartialEq, Eq)]
+pub struct DateTime {
+    year: u16,
+    month: u8,
+    day: u8,
+    nanos: u64,
+    zone: Option<Offset>,
+}
+
+impl Model for DateTime {
+    ghost use Rattle.std.specs.Prelude.{IsTrue, ◌<◌};
+    ghost use Rattle.xa_value.specs.Calendar.{CivilDateTime, is_day};
+    ghost use Rattle.xa_value.specs.Time.{day_nanos};
+
+    ghost Value = { CivilDateTime };
+
+    ghost view = { λ d. record { year = d.year; month = d.month; day = d.day; nanos = d.nanos; zone = d.zone } };
+
+    ghost invariant = { λ d. IsTrue (is_day d.year d.month d.day) × (d.nanos < day_nanos) };
+
+    ghost inverse = { λ d. record { year = d.year; month = d.month; day = d.day; nanos = d.nanos; zone = d.zone } };
+}
+
+impl DateTime {
+    /// The day and the nanoseconds since its midnight, where its year is 1 or later and they are less than a day.
+    #[tactic(auto, using(crate::proofs::CalendarLemmas::civil_is_day))]
+    pub fn new(day: civil::Date, nanos: u64, zone: Option<Offset>) -> Option<DateTime>
+        ensures { SomeIff result ((pos 1 ≤ℤ day.year) × (nanos < day_nanos)) record { year = unsigned_abs day.year; month = day.month; day = day.day; nanos = nanos; zone = zone } }
+    {
+        if day.year < 1 || nanos >= DAY {
+            return None;
+        }
+        Some(DateTime {
+            year: day.year as u16,
+            month: day.month,
+            day: day.day,
+            nanos,
+            zone,
+        })
+    }
+
+    /// The day.
+    #[tactic(auto, using(crate::proofs::CalendarLemmas::day_bounds))]
+    pub fn civil(self) -> civil::Date
+        ensures parts { IsYmd (pos self.year) (pos self.month) (pos self.day) result }
+        ensures number { epoch_day result ≡ day_number self.year self.month self.day }
+        ensures real { IsTrue (is_day self.year self.month self.day) }
+    {
+        civil::Date {
+            year: self.year as i16,
+            month: self.month,
+            day: self.day,
+        }
+    }
+
+    /// The nanoseconds since the day's midnight.
+    pub fn nanos(self) -> u64
+        ensures value { result ≡ self.nanos }
+        ensures within { result < day_nanos }
+    {
+        self.nanos
+    }
+
+    /// The zone as it was written.
+    pub fn zone(self) -> Option<Offset>
+        ensures { result ≡ self.zone }
+    {
+        self.zone
+    }
+}
+
+/// Whether the calendar has this day, in the years 1 to 9999.
+#[tactic(auto, unfolding(crate::specs::Calendar::is_day))]
+fn is_day(year: u32, month: u32, day: u32) -> bool
+    ensures { result ≡ is_day year month day }
+{
+    1 <= year
+        && year <= 9999
+        && 1 <= month
+        && month <= 12
+        && 1 <= day
+        && day <= u32::from(civil::days_in_month(year as i16, month as u8))
+}
+
+/// The date, where the calendar has it.
+#[tactic(auto, using(crate::proofs::CalendarLemmas::day_bounds), unfolding(crate::specs::Calendar::dated))]
+fn dated(year: u32, month: u32, day: u32, zone: Option<Offset>) -> Result<Date, ReadError>
+    ensures { result ≡ dated year month day zone }
+{
+    if !is_day(year, month, day) {
+        return Err(ReadError::OutOfRange);
+    }
+    Ok(Date {
+        year: year as u16,
+        month: month as u8,
+        day: day as u8,
+        zone,
+    })
+}
+
+/// The year of four digits that the text begins with.
+fn year_of(text: &[u8]) -> u32
+    requires { 4 ≤ length text.now }
+    ensures { result ≡ year_of text.now }
+{
+    two_digits(text, 0) * 100 + two_digits(text, 2)
+}
+
+/// The date of the text, `YYYY-MM-DD` and a zone.
+#[tactic(auto, unfolding(crate::specs::Calendar::read_date))]
+pub(crate) fn read_date(text: &[u8]) -> Result<Date, ReadError>
+    ensures { result ≡ read_date text.now }
+{
+    if !has_shape(b"9999-99-99", text) {
+        return Err(ReadError::NotThisType);
+    }
+    let zone = read_zone(&text[10..])?;
+    dated(
+        year_of(text),
+        two_digits(text, 5),
+        two_digits(text, 8),
+        zone,
+    )
+}
+
+/// Writes four, two and two digits.
+#[tactic(auto, unfolding(crate::specs::Calendar::day_text))]
+fn push_day(text: &mut String, year: u16, month: u8, day: u8) -> Result<(), AllocError>
+    ensures { OnOk result (string_bytes text.new ≡ string_bytes text.old ++ day_text year month day) }
+{
+    push_padded(text, 4, u32::from(year))?;
+    text.push('-')?;
+    push_padded(text, 2, u32::from(month))?;
+    text.push('-')?;
+    push_padded(text, 2, u32::from(day))
+}
+
+/// Writes the date and its zone.
+pub(crate) fn push_date(text: &mut String, date: Date) -> Result<(), AllocError>
+    ensures { OnOk result (string_bytes text.new ≡ string_bytes text.old ++ date_text date) }
+{
+    push_day(text, date.year, date.month, date.day)?;
+    push_zone(text, date.zone)
+}
+
+/// The date with a time, where the calendar has it.
+#[tactic(auto, using(crate::proofs::CalendarLemmas::day_bounds), unfolding(crate::specs::Calendar::date_timed))]
+fn date_timed(year: u32, month: u32, day: u32, clock: Time) -> Result<DateTime, ReadError>
+    ensures { result ≡ date_timed year month day clock }
+{
+    if !is_day(year, month, day) {
+        return Err(ReadError::OutOfRange);
+    }
+    Ok(DateTime {
+        year: year as u16,
+        month: month as u8,
+        day: day as u8,
+        nanos: clock.nanos(),
+        zone: clock.zone(),
+    })
+}
+
+/// The date and time of the text: a date without a zone, `T`, and a time.
+#[tactic(auto, unfolding(crate::specs::Calendar::read_date_time))]
+pub(crate) fn read_date_time(text: &[u8]) -> Result<DateTime, ReadError>
+    ensures { result ≡ read_date_time text.now }
+{
+    if !has_shape(b"9999-99-99T", text) {
+        return Err(ReadError::NotThisType);
+    }
+    let clock = read_clock(&text[11..])?;
+    date_timed(
+        year_of(text),
+        two_digits(text, 5),
+        two_digits(text, 8),
+        clock,
+    )
+}
+
+/// Writes the date, `T`, the time and the zone.
+pub(crate) fn push_date_time(text: &mut String, moment: DateTime) -> Result<(), AllocError>
+    ensures { OnOk result (string_bytes text.new ≡ string_bytes text.old ++ date_time_text moment) }
+{
+    push_day(text, moment.year, moment.month, moment.day)?;
+    text.push('T')?;
+    push_clock(text, moment.nanos)?;
+    push_zone(text, moment.zone)
+}

@@ -1,0 +1,399 @@
+ghost use Rattle.std.specs.Prelude.{◌≡◌, [], codes, ◌+◌, ◌-◌, ◌*◌, ◌^◌, ◌≤◌, ◌<◌, ◌++◌, min, if◌then◌else◌, pos, neg_ℤ, drop, OnOk, SomeIff, string_bytes, length, true};
+ghost use Rattle.xa_value.specs.Time.{fraction_length, fraction_digits, nanoseconds};
+ghost use Rattle.xa_value.specs.Duration.{part_length, part, after, after_part, seconds_length, seconds_part, seconds_fraction, without_minus, within, most_months, most_nanos, IsMonths, IsNanos, is_years_and_months, months_of, read_year_month, is_clock_part, is_days_and_clock, seconds_of, total_nanos, nanos_of, has_short_fraction, read_day_time, part_text, sign_text, year_month_text, seconds_text, clock_part_text, day_time_text};
+
+use crate::lexical::{begins_with, digit_count, number};
+use crate::read_error::ReadError;
+use crate::time::{DAY, HOUR, MINUTE, SECOND, fraction_length, fraction_nanos, push_fraction};
+use std::alloc::AllocError;
+use std::marker::Model;
+
+/// 10,000 years, in months.
+const MOST_MONTHS: u128 = 120_000;
+
+/// 10,000 years of 365.25 days, in nanoseconds.
+const MOST_NANOS: u128 = 315_576_000_000_000_000_000;
+
+/// A duration in years and months, as months: at most 120,000 to either side.
+#[derive(Clone, Copy, Debug, PartialEq, Eq)]
+pub struct YearMonthDuration {
+    months: i32,
+}
+
+impl Model for YearMonthDuration {
+    ghost use Rattle.std.specs.Prelude.{ℤ};
+    ghost use Rattle.xa_value.specs.Duration.{IsMonths};
+
+    ghost Value = { ℤ };
+
+    ghost view = { λ d. d.months };
+
+    ghost invariant = { λ d. IsMonths d.months };
+
+    ghost inverse = { λ z. record { months = z } };
+}
+
+impl YearMonthDuration {
+    /// The duration of so many months, where they are at most 120,000 to either side.
+    pub fn new(months: i32) -> Option<YearMonthDuration>
+        ensures { SomeIff result (IsMonths months) months }
+    {
+        if -120_000 <= months && months <= 120_000 {
+            Some(YearMonthDuration { months })
+        } else {
+            None
+        }
+    }
+
+    /// The months.
+    pub fn months(self) -> i32
+        ensures value { result ≡ self }
+        ensures within { IsMonths result }
+    {
+        self.months
+    }
+}
+
+/// A duration in days, hours, minutes and seconds, as nanoseconds: at most 315,576,000,000 seconds to either side.
+#[derive(Clone, Copy, Debug, PartialEq, Eq)]
+pub struct DayTimeDuration {
+    nanos: i128,
+}
+
+impl Model for DayTimeDuration {
+    ghost use Rattle.std.specs.Prelude.{ℤ};
+    ghost use Rattle.xa_value.specs.Duration.{IsNanos};
+
+    ghost Value = { ℤ };
+
+    ghost view = { λ d. d.nanos };
+
+    ghost invariant = { λ d. IsNanos d.nanos };
+
+    ghost inverse = { λ z. record { nanos = z } };
+}
+
+impl DayTimeDuration {
+    /// The duration of so many nanoseconds, where they are at most 315,576,000,000 seconds to either side.
+    pub fn new(nanos: i128) -> Option<DayTimeDuration>
+        ensures { SomeIff result (IsNanos nanos) nanos }
+    {
+        if -315_576_000_000_000_000_000 <= nanos && nanos <= 315_576_000_000_000_000_000 {
+            Some(DayTimeDuration { nanos })
+        } else {
+            None
+        }
+    }
+
+    /// The nanoseconds.
+    pub fn nanos(self) -> i128
+        ensures value { result ≡ self }
+        ensures within { IsNanos result }
+    {
+        self.nanos
+    }
+}
+
+/// How many digits stand before the unit, where the text begins with a part of that unit.
+#[tactic(auto, unfolding(crate::specs::Duration::part_length))]
+fn part_length(unit: u8, text: &[u8]) -> usize
+    ensures value { result ≡ part_length unit text.now }
+    ensures within { result ≤ length text.now }
+{
+    let count = digit_count(text);
+    if 0 < count && begins_with(unit, &text[count..]) {
+        count
+    } else {
+        0
+    }
+}
+
+/// The number of that part, or `u64::MAX` where it is larger, and 0 where it is absent.
+fn part(unit: u8, text: &[u8]) -> u64
+    ensures { result ≡ min (part unit text.now) (2 ^ 64 - 1) }
+{
+    number(&text[..part_length(unit, text)])
+}
+
+/// What follows a part of so many characters and its unit, where it is there.
+fn after(count: usize, text: &[u8]) -> &[u8]
+    requires { count ≤ length text.now }
+    ensures { result.now ≡ after count text.now }
+{
+    if count == 0 {
+        return text;
+    }
+    let rest = &text[count..];
+    match rest {
+        [] => rest,
+        [_, others @ ..] => others,
+    }
+}
+
+/// What follows that part.
+fn after_part(unit: u8, text: &[u8]) -> &[u8]
+    ensures { result.now ≡ after_part unit text.now }
+{
+    after(part_length(unit, text), text)
+}
+
+/// The length of seconds with a fraction, where the text begins with them.
+#[tactic(auto, unfolding(crate::specs::Duration::seconds_length))]
+fn seconds_length(text: &[u8]) -> usize
+    ensures value { result ≡ seconds_length text.now }
+    ensures within { result ≤ length text.now }
+{
+    let count = digit_count(text);
+    let fraction = fraction_length(&text[count..]);
+    if 0 < count && fraction != 1 && begins_with(b'S', &text[count + fraction..]) {
+        count + fraction
+    } else {
+        0
+    }
+}
+
+/// The text without a minus.
+#[tactic(auto, unfolding(crate::specs::Duration::without_minus))]
+fn without_minus(text: &[u8]) -> &[u8]
+    ensures { result.now ≡ without_minus text.now }
+{
+    match text {
+        [b'-', rest @ ..] => rest,
+        _ => text,
+    }
+}
+
+/// The text without its first character.
+fn rest_of(text: &[u8]) -> &[u8]
+    ensures { result.now ≡ drop 1 text.now }
+{
+    match text {
+        [] => text,
+        [_, rest @ ..] => rest,
+    }
+}
+
+/// Whether years and months stand after `P`: at least one part, and nothing else.
+#[tactic(auto, unfolding(crate::specs::Duration::is_years_and_months))]
+fn is_years_and_months(text: &[u8]) -> bool
+    ensures { result ≡ is_years_and_months text.now }
+{
+    let [b'P', body @ ..] = text else {
+        return false;
+    };
+    !body.is_empty() && after_part(b'M', after_part(b'Y', body)).is_empty()
+}
+
+/// The duration of so many years and months, where it is in range.
+#[tactic(auto, unfolding(crate::specs::Duration::within))]
+fn months_within(negative: bool, years: u64, months: u64) -> Result<YearMonthDuration, ReadError>
+    ensures { result ≡ within most_months negative (years * 12 + months) }
+{
+    let magnitude = u128::from(years) * 12 + u128::from(months);
+    if magnitude > MOST_MONTHS {
+        return Err(ReadError::OutOfRange);
+    }
+    let months = magnitude as i32;
+    Ok(YearMonthDuration {
+        months: if negative { -months } else { months },
+    })
+}
+
+/// The duration of the text, `-?P(nY)?(nM)?`.
+#[tactic(auto, using(crate::proofs::DurationLemmas::months_capped), unfolding(crate::specs::Duration::read_year_month, crate::specs::Duration::months_of))]
+pub(crate) fn read_year_month(text: &[u8]) -> Result<YearMonthDuration, ReadError>
+    ensures { result ≡ read_year_month text.now }
+{
+    let whole = without_minus(text);
+    if !is_years_and_months(whole) {
+        return Err(ReadError::NotThisType);
+    }
+    let body = rest_of(whole);
+    months_within(
+        begins_with(b'-', text),
+        part(b'Y', body),
+        part(b'M', after_part(b'Y', body)),
+    )
+}
+
+/// Whether hours, minutes and seconds stand after `T`: at least one part, and nothing else.
+#[tactic(auto, unfolding(crate::specs::Duration::is_clock_part))]
+fn is_clock_part(text: &[u8]) -> bool
+    ensures { result ≡ is_clock_part text.now }
+{
+    let [b'T', clock @ ..] = text else {
+        return false;
+    };
+    let rest = after_part(b'M', after_part(b'H', clock));
+    !clock.is_empty() && after(seconds_length(rest), rest).is_empty()
+}
+
+/// Whether days, and what may follow them, stand after `P`: at least one part, and nothing else.
+#[tactic(auto, unfolding(crate::specs::Duration::is_days_and_clock))]
+fn is_days_and_clock(text: &[u8]) -> bool
+    ensures { result ≡ is_days_and_clock text.now }
+{
+    let [b'P', body @ ..] = text else {
+        return false;
+    };
+    let rest = after_part(b'D', body);
+    !body.is_empty() && (rest.is_empty() || is_clock_part(rest))
+}
+
+/// The seconds that follow hours and minutes.
+fn seconds_of(clock: &[u8]) -> &[u8]
+    ensures { result.now ≡ seconds_of clock.now }
+{
+    let rest = after_part(b'M', after_part(b'H', clock));
+    &rest[..seconds_length(rest)]
+}
+
+/// The fraction of seconds, with its point.
+fn seconds_fraction(seconds: &[u8]) -> &[u8]
+    ensures { result.now ≡ seconds_fraction seconds.now }
+{
+    &seconds[digit_count(seconds)..]
+}
+
+/// Whether the fraction has at most nine digits.
+#[tactic(auto, unfolding(crate::specs::Duration::has_short_fraction))]
+fn has_short_fraction(clock: &[u8]) -> bool
+    ensures { result ≡ has_short_fraction clock.now }
+{
+    fraction_length(seconds_fraction(seconds_of(clock))) <= 10
+}
+
+/// The duration of so many days, hours, minutes, seconds and nanoseconds, where it is in range.
+#[tactic(auto, unfolding(crate::specs::Duration::within))]
+fn total_within(
+    negative: bool,
+    days: u64,
+    hours: u64,
+    minutes: u64,
+    seconds: u64,
+    fraction: u64,
+) -> Result<DayTimeDuration, ReadError>
+    ensures { result ≡ within most_nanos negative (total_nanos days hours minutes seconds fraction) }
+{
+    let hours = u128::from(days) * 24 + u128::from(hours);
+    let seconds = (hours * 60 + u128::from(minutes)) * 60 + u128::from(seconds);
+    let magnitude = seconds * u128::from(SECOND) + u128::from(fraction);
+    if magnitude > MOST_NANOS {
+        return Err(ReadError::OutOfRange);
+    }
+    let nanos = magnitude as i128;
+    Ok(DayTimeDuration {
+        nanos: if negative { -nanos } else { nanos },
+    })
+}
+
+/// The duration of so many days and the hours, minutes and seconds of a clock part, where it is in range.
+#[tactic(auto, using(crate::proofs::DurationLemmas::clock_capped), unfolding(crate::specs::Duration::nanos_of, crate::specs::Duration::has_short_fraction))]
+fn nanos_within(negative: bool, days: u64, clock: &[u8]) -> Result<DayTimeDuration, ReadError>
+    requires { has_short_fraction clock.now ≡ true }
+    ensures { result ≡ within most_nanos negative (nanos_of days clock.now) }
+{
+    let seconds = seconds_of(clock);
+    let whole = number(&seconds[..digit_count(seconds)]);
+    let fraction = fraction_nanos(seconds_fraction(seconds));
+    let minutes = part(b'M', after_part(b'H', clock));
+    total_within(negative, days, part(b'H', clock), minutes, whole, fraction)
+}
+
+/// The duration of the text, `-?P(nD)?(T(nH)?(nM)?(n(\.f)?S)?)?`.
+#[tactic(auto, using(crate::proofs::DurationLemmas::days_capped), unfolding(crate::specs::Duration::read_day_time))]
+pub(crate) fn read_day_time(text: &[u8]) -> Result<DayTimeDuration, ReadError>
+    ensures { result ≡ read_day_time text.now }
+{
+    let whole = without_minus(text);
+    if !is_days_and_clock(whole) {
+        return Err(ReadError::NotThisType);
+    }
+    let body = rest_of(whole);
+    let clock = rest_of(after_part(b'D', body));
+    if !has_short_fraction(clock) {
+        return Err(ReadError::OutOfRange);
+    }
+    nanos_within(begins_with(b'-', text), part(b'D', body), clock)
+}
+
+/// Writes a minus for what is below zero.
+fn push_sign(text: &mut String, negative: bool) -> Result<(), AllocError>
+    ensures { OnOk result (string_bytes text.new ≡ string_bytes text.old ++ (if negative then codes "-" else [])) }
+{
+    if negative { text.push('-') } else { Ok(()) }
+}
+
+/// Writes a part with its unit, and nothing where it is zero.
+#[tactic(auto, unfolding(crate::specs::Duration::part_text))]
+fn push_part(text: &mut String, number: u64, unit: char) -> Result<(), AllocError>
+    requires { unit < 128 }
+    ensures { OnOk result (string_bytes text.new ≡ string_bytes text.old ++ part_text number unit) }
+{
+    if number == 0 {
+        return Ok(());
+    }
+    write!(text, "{number}")?;
+    text.push(unit)
+}
+
+/// Writes years and months.
+#[tactic(auto, unfolding(crate::specs::Duration::year_month_text))]
+pub(crate) fn push_year_month(
+    text: &mut String,
+    duration: YearMonthDuration,
+) -> Result<(), AllocError>
+    ensures { OnOk result (string_bytes text.new ≡ string_bytes text.old ++ year_month_text duration) }
+{
+    let months = duration.months().unsigned_abs();
+    if months == 0 {
+        return text.push_str("P0M");
+    }
+    push_sign(text, duration.months() < 0)?;
+    text.push('P')?;
+    push_part(text, u64::from(months / 12), 'Y')?;
+    push_part(text, u64::from(months % 12), 'M')
+}
+
+/// Writes seconds with a fraction, and nothing where they are zero.
+#[tactic(auto, unfolding(crate::specs::Duration::seconds_text))]
+fn push_seconds(text: &mut String, nanos: u64) -> Result<(), AllocError>
+    ensures { OnOk result (string_bytes text.new ≡ string_bytes text.old ++ seconds_text nanos) }
+{
+    if nanos == 0 {
+        return Ok(());
+    }
+    let seconds = nanos / SECOND;
+    write!(text, "{seconds}")?;
+    push_fraction(text, (nanos % SECOND) as u32)?;
+    text.push('S')
+}
+
+/// Writes hours, minutes and seconds after `T`, and nothing where they are zero.
+#[tactic(auto, unfolding(crate::specs::Duration::clock_part_text))]
+fn push_clock_part(text: &mut String, nanos: u64) -> Result<(), AllocError>
+    ensures { OnOk result (string_bytes text.new ≡ string_bytes text.old ++ clock_part_text nanos) }
+{
+    if nanos == 0 {
+        return Ok(());
+    }
+    text.push('T')?;
+    push_part(text, nanos / HOUR, 'H')?;
+    push_part(text, nanos / MINUTE % 60, 'M')?;
+    push_seconds(text, nanos % MINUTE)
+}
+
+/// Writes days, hours, minutes and seconds.
+#[tactic(auto, unfolding(crate::specs::Duration::day_time_text))]
+pub(crate) fn push_day_time(text: &mut String, duration: DayTimeDuration) -> Result<(), AllocError>
+    ensures { OnOk result (string_bytes text.new ≡ string_bytes text.old ++ day_time_text duration) }
+{
+    let nanos = duration.nanos().unsigned_abs();
+    if nanos == 0 {
+        return text.push_str("PT0S");
+    }
+    push_sign(text, duration.nanos() < 0)?;
+    text.push('P')?;
+    push_part(text, (nanos / u128::from(DAY)) as u64, 'D')?;
+    push_clock_part(text, (nanos % u128::from(DAY)) as u64)
+}

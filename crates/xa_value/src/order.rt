@@ -1,0 +1,121 @@
+ghost use Rattle.std.specs.Prelude.{◌≡◌, ◌==◌, ◌^◌, pos, neg_ℤ, ◌+ℤ◌, ◌*ℤ◌};
+ghost use Rattle.std.specs.Cmp.{IsEquivalence};
+ghost use Rattle.jiff_core.specs.Calendar.{IsBetween};
+ghost use Rattle.xa_value.specs.Calendar.{instant};
+ghost use Rattle.xa_value.specs.Zone.{offset_of};
+ghost use Rattle.xa_value.specs.Order.{place_of, type_of, number_of, bytes_of, same, is_ordered, compared, order, IsOrder};
+
+use crate::data_type::DataType;
+use crate::time::{DAY, MINUTE};
+use crate::value::Value;
+use crate::zone::{Offset, offset_of};
+use std::cmp::Ordering;
+
+/// Nanoseconds since 1970-01-01T00:00:00Z.
+fn instant(day: i32, nanos: u64, zone: Option<Offset>) -> i128
+    ensures { result ≡ instant day nanos zone }
+{
+    local_nanos(day, nanos) - offset_nanos(zone)
+}
+
+/// Nanoseconds since the midnight that began 1970, by the zone's clock.
+fn local_nanos(day: i32, nanos: u64) -> i128
+    ensures value { result ≡ day *ℤ pos 86_400_000_000_000 +ℤ pos nanos }
+    ensures within { IsBetween (neg_ℤ (pos (2 ^ 100))) (pos (2 ^ 100)) result }
+{
+    i128::from(day) * i128::from(DAY) + i128::from(nanos)
+}
+
+/// The nanoseconds by which the zone is ahead of UTC.
+fn offset_nanos(zone: Option<Offset>) -> i128
+    ensures value { result ≡ offset_of zone *ℤ pos 60_000_000_000 }
+    ensures within { IsBetween (neg_ℤ (pos (2 ^ 100))) (pos (2 ^ 100)) result }
+{
+    i128::from(offset_of(zone)) * i128::from(MINUTE)
+}
+
+/// Whether the types are the same.
+fn is_same_type(left: DataType, right: DataType) -> bool
+    ensures { result ≡ (place_of left == place_of right) }
+{
+    left == right
+}
+
+/// Whether values of the type have an order.
+fn is_ordered(data_type: DataType) -> bool
+    ensures { result ≡ is_ordered data_type }
+{
+    matches!(
+        data_type,
+        DataType::String | DataType::Integer | DataType::Date | DataType::Time | DataType::DateTime
+    )
+}
+
+impl Value {
+    /// The number by which the value compares.
+    #[tactic(auto, unfolding(crate::specs::Order::number_of))]
+    fn number(&self) -> i128
+        ensures { result ≡ number_of self.now }
+    {
+        match self {
+            Value::Boolean(value) => i128::from(*value),
+            Value::Integer(value) => i128::from(*value),
+            Value::Date(date) => instant(date.civil().to_unix_epoch_day(), 0, date.zone()),
+            Value::Time(time) => instant(0, time.nanos(), time.zone()),
+            Value::DateTime(moment) => instant(
+                moment.civil().to_unix_epoch_day(),
+                moment.nanos(),
+                moment.zone(),
+            ),
+            Value::DayTimeDuration(duration) => duration.nanos(),
+            Value::YearMonthDuration(duration) => i128::from(duration.months()),
+            Value::String(_) | Value::AnyUri(_) | Value::HexBinary(_) | Value::Base64Binary(_) => 0,
+        }
+    }
+
+    /// The bytes by which the value compares.
+    #[tactic(auto, unfolding(crate::specs::Order::bytes_of))]
+    fn bytes(&self) -> &[u8]
+        ensures { result.now ≡ bytes_of self.now }
+    {
+        match self {
+            Value::String(text) | Value::AnyUri(text) => text.as_bytes(),
+            Value::HexBinary(bytes) | Value::Base64Binary(bytes) => bytes.as_slice(),
+            _ => &[],
+        }
+    }
+
+    /// Whether the values are equal: of one type, and of the same instant, number or bytes.
+    #[tactic(auto, unfolding(crate::specs::Order::same))]
+    pub fn same(&self, other: &Value) -> bool
+        ensures value { result ≡ same self.now other.now }
+        ensures law { IsEquivalence same }
+    {
+        is_same_type(self.data_type(), other.data_type())
+            && self.number() == other.number()
+            && self.bytes() == other.bytes()
+    }
+
+    /// The order of two values of one type, where it is integer, string, time, date or dateTime.
+    #[tactic(auto, unfolding(crate::specs::Order::order))]
+    pub fn order(&self, other: &Value) -> Option<Ordering>
+        ensures value { result ≡ order self.now other.now }
+        ensures law { IsOrder }
+    {
+        if is_same_type(self.data_type(), other.data_type()) && is_ordered(self.data_type()) {
+            Some(self.compared(other))
+        } else {
+            None
+        }
+    }
+
+    /// The order by the number, and then by the bytes.
+    #[tactic(auto, unfolding(crate::specs::Order::compared))]
+    fn compared(&self, other: &Value) -> Ordering
+        ensures { result ≡ compared self.now other.now }
+    {
+        self.number()
+            .cmp(&other.number())
+            .then(self.bytes().cmp(other.bytes()))
+    }
+}

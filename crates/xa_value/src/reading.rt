@@ -1,0 +1,36 @@
+ghost use Rattle.xa_value.specs.Gives.{Gives};
+ghost use Rattle.xa_value.specs.Reading.{read};
+
+use crate::binary::{read_base64, read_hex};
+use crate::calendar::{read_date, read_date_time};
+use crate::data_type::DataType;
+use crate::duration::{read_day_time, read_year_month};
+use crate::lexical::{trimmed, trimmed_text};
+use crate::number::{read_boolean, read_integer};
+use crate::read_error::ReadError;
+use crate::text::Text;
+use crate::time::read_clock;
+use crate::value::Value;
+use std::alloc::Global;
+
+impl Value {
+    /// The value that the text stands for under the type. White space at its ends is dropped, but of a string.
+    pub fn read(alloc: Global, data_type: DataType, text: &str) -> Result<Value, ReadError>
+        ensures { Gives result (read data_type text.now) }
+    {
+        let bytes = trimmed(text.as_bytes());
+        match data_type {
+            DataType::String => Ok(Value::String(Text::new(alloc, text)?)),
+            DataType::Boolean => Ok(Value::Boolean(read_boolean(bytes)?)),
+            DataType::Integer => Ok(Value::Integer(read_integer(bytes)?)),
+            DataType::Date => Ok(Value::Date(read_date(bytes)?)),
+            DataType::Time => Ok(Value::Time(read_clock(bytes)?)),
+            DataType::DateTime => Ok(Value::DateTime(read_date_time(bytes)?)),
+            DataType::DayTimeDuration => Ok(Value::DayTimeDuration(read_day_time(bytes)?)),
+            DataType::YearMonthDuration => Ok(Value::YearMonthDuration(read_year_month(bytes)?)),
+            DataType::AnyUri => Ok(Value::AnyUri(Text::new(alloc, trimmed_text(text))?)),
+            DataType::HexBinary => Ok(Value::HexBinary(read_hex(alloc, bytes)?)),
+            DataType::Base64Binary => Ok(Value::Base64Binary(read_base64(alloc, bytes)?)),
+        }
+    }
+}

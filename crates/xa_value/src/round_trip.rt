@@ -1,0 +1,13 @@
+ghost use Rattle.xa_value.specs.RoundTrip.{ReadsBack};
+
+use crate::data_type::DataType;
+use crate::value::Value;
+
+impl Value {
+    /// Law: the value that a text stands for prints as a text that reads as the same value.
+    pub fn reads_back(data_type: DataType, text: &str)
+        ensures { ReadsBack data_type text.now }
+    {
+        let _ = (data_type, text.len());
+    }
+}
