@@ -4,3 +4,4 @@ pub mod MachineLemmas
 pub mod ReplyLemmas
 pub mod RequestLemmas
 pub mod ServedLemmas
+pub mod TotalLemmas

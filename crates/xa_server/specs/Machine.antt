@@ -1,6 +1,6 @@
 -- The machine of one domain. It knows that domain and no other: from the operator's digest, the domain's state, a
 -- message and the moment at which it is answered, it gives the bytes of the reply and the state after it.
-use Rattle.std.specs.Prelude.{ℕ, ℤ, List, Option, Some, None, option_and_then, Result, Ok, Err}
+use Rattle.std.specs.Prelude.{◌≢◌, ℕ, ℤ, List, Option, Some, None, option_and_then, Result, Ok, Err}
 use Rattle.sha2.specs.Sha256.{sha256}
 use Rattle.xa_policy.specs.declared.evaluated.Evaluated.{Evaluated}
 use Rattle.xa_policy.specs.declared.decision.Decision.TheVariants.{IndeterminateDenyPermit}
@@ -31,7 +31,7 @@ use Rattle.xa_server.specs.ErrorCode.{◌>>=◌, or_refuse, error_reply}
 use Rattle.xa_server.specs.Request.{request_of}
 use Rattle.xa_server.specs.Response.{response_body}
 
--- 404 and 405 (no definition gives the last)
+-- 404 and 405 (the last never comes: MachineAnswers)
 abbrev pub routed : Result Route RouteFault → Result Route ErrorCode
 routed (Ok route) = Ok route
 routed (Err fault.NoRoute) = Err NoRoute
@@ -42,7 +42,7 @@ routed (Err fault.Memory) = Err Unavailable
 abbrev pub syntax_error : Evaluated
 syntax_error = record { decision = IndeterminateDenyPermit; status = SyntaxError }
 
--- the decision on a body that was read; 400 where it is no JSON (no definition gives the last)
+-- the decision on a body that was read; 400 where it is no JSON (the last never comes: MachineAnswers)
 abbrev pub decided : Policy → Result Request RequestError → Result Evaluated ErrorCode
 decided policy (Ok asked) = Ok (evaluation (bag_of asked) policy)
 decided policy (Err request.NotProfile) = Ok syntax_error
@@ -71,6 +71,10 @@ answer state message moment = do
   domain ← or_refuse Unauthorized state
   role ← or_refuse Unauthorized (role_shown domain.tokens message)
   performed route domain message moment
+
+-- the machine never answers for want of memory
+abbrev pub MachineAnswers : Type 0
+MachineAnswers = (state : Option DomainState) (message : Message) (moment : ℤ) → answer state message moment ≢ Err Unavailable
 
 -- the reply and the state after it; a refusal leaves the state
 abbrev pub replied : Option DomainState → Result (List ℕ × DomainState) ErrorCode → List ℕ × Option DomainState

@@ -19,5 +19,5 @@ pub use error_code::ErrorCode;
 pub use given::{Given, GivenError};
 pub use owner::is_domain_name;
 pub use replies::{Refusal, Reply};
-pub use server::{Server, two_worlds_agree};
+pub use server::{Server, machine_answers, two_worlds_agree};
 pub use token::{Digest, Role, Token};

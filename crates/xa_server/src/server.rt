@@ -2,6 +2,7 @@
 ghost use Rattle.std.specs.Prelude.{◌≡◌, Ok, Err, IfOk, OnErr, MatchResult};
 ghost use Rattle.xa_server.specs.Given.{accepted};
 ghost use Rattle.xa_server.specs.Isolation.{TwoWorldsAgree};
+ghost use Rattle.xa_server.specs.Machine.{MachineAnswers};
 
 use crate::given::{Given, GivenError, all_apart, all_named};
 use crate::machine::reply_to;
@@ -84,4 +85,9 @@ impl Server {
 /// own give it the same replies, however the other domains differ.
 pub fn two_worlds_agree()
     ensures { TwoWorldsAgree }
+{}
+
+/// Law: the machine answers each message, and never for want of memory; only a server can refuse so.
+pub fn machine_answers()
+    ensures { MachineAnswers }
 {}

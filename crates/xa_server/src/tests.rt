@@ -290,6 +290,7 @@ fn two_domains_are_answered_in_turn(rt: HostRuntime) -> Result<(), Fail> {
         assert_eq!(rt; reply.bytes(), expected.as_bytes(), "at {i}");
     }
     two_worlds_agree();
+    machine_answers();
     Ok(())
 }
 
