@@ -1,0 +1,3 @@
+pub mod BagLemmas
+pub mod SetLemmas
+pub mod JoiningLemmas

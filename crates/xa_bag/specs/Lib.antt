@@ -1,0 +1,6 @@
+pub mod Bag
+pub mod Gives
+pub mod HigherOrder
+pub mod Joining
+pub mod Sets
+pub mod ValueOrBag

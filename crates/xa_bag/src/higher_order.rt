@@ -1,0 +1,260 @@
+//! The higher-order functions (XACML 3.0, core, appendix A.3.12), of any inner function. Each stops at the result that decides.
+ghost use Rattle.std.specs.Prelude.{◌≡◌, [], ◌∷◌, ◌++◌, map, not, IfOk};
+ghost use Rattle.xa_value.specs.Order.{type_of};
+ghost use Rattle.xa_func.specs.declared.signature.Kind.TheVariants as kind;
+ghost use Rattle.xa_func.specs.Signature.{kind_of};
+ghost use Rattle.xa_bag.specs.Gives.{Gives};
+ghost use Rattle.xa_bag.specs.HigherOrder.{is_true, holds, outcome, collected, EachInItsPlace, any_of, all_of, all_of_any, all_of_all, mapped};
+ghost use Rattle.xa_bag.specs.ValueOrBag.{kind_of_each};
+ghost use Rattle.xa_bag.specs.Joining.{verdict, each_from, added, each_with, DropsLast};
+
+use crate::bag::Bag;
+use crate::fault::BagFault;
+use crate::inner::Inner;
+use crate::value_or_bag::ValueOrBag;
+use std::alloc::{AllocError, Global};
+use xa_value::Value;
+
+/// Whether the value is True.
+fn is_true(value: &Value) -> bool
+    ensures { result ≡ is_true value.now }
+{
+    matches!(value, Value::Boolean(true))
+}
+
+/// Whether the function gives True for the arguments.
+fn holds<F: Inner>(
+    alloc: Global,
+    function: &F,
+    arguments: &[Value],
+) -> Result<bool, BagFault<F::Fault>>
+    requires { F.can function.now (map kind_of arguments.now) }
+    ensures { Gives result (holds (F.gives function.now) arguments.now) }
+{
+    let value = function.call(alloc, arguments)?;
+    Ok(is_true(&value))
+}
+
+/// Puts a copy of the value at the end.
+fn push_copy(values: &mut Vec<Value>, value: &Value) -> Result<(), AllocError>
+    ensures { IfOk result (λ _. values.new.items ≡ values.old.items ++ value.now ∷ []) }
+{
+    values.push(value.clone()?)?;
+    Ok(())
+}
+
+/// Takes the last value away.
+fn drop_last(values: &mut Vec<Value>)
+    ensures { DropsLast values.old.items values.new.items }
+{
+    values.pop();
+}
+
+/// Goes over the choices that begin with those chosen, up to the one where the function gives `stop` or a fault.
+fn decided<F: Inner>(
+    alloc: Global,
+    function: &F,
+    stop: bool,
+    chosen: &mut Vec<Value>,
+    arguments: &[ValueOrBag],
+) -> Result<bool, BagFault<F::Fault>>
+    requires { F.can function.now (map kind_of chosen.old.items ++ map kind_of_each arguments.now) }
+    ensures value { Gives result (verdict stop (each_from (holds (F.gives function.now)) chosen.old.items arguments.now)) }
+    ensures kept { IfOk result (λ _. chosen.new.items ≡ chosen.old.items) }
+{
+    let [argument, rest @ ..] = arguments else {
+        return holds(alloc, function, chosen.as_slice());
+    };
+    for value in argument.values() {
+        push_copy(chosen, value)?;
+        let answer = decided(alloc, function, stop, chosen, rest)?;
+        drop_last(chosen);
+        if answer == stop {
+            return Ok(stop);
+        }
+    }
+    Ok(!stop)
+}
+
+/// Puts what the function gives for each of the choices that begin with those chosen, up to the first fault.
+fn collected<F: Inner>(
+    alloc: Global,
+    function: &F,
+    chosen: &mut Vec<Value>,
+    arguments: &[ValueOrBag],
+    results: Bag,
+) -> Result<Bag, BagFault<F::Fault>>
+    requires can { F.can function.now (map kind_of chosen.old.items ++ map kind_of_each arguments.now) }
+    requires of_type { results.data_type ≡ F.result_type function.now }
+    ensures value { Gives result (added results (collected (each_from (λ vs. outcome (F.gives function.now vs)) chosen.old.items arguments.now))) }
+    ensures kept { IfOk result (λ _. chosen.new.items ≡ chosen.old.items) }
+{
+    let [argument, further @ ..] = arguments else {
+        return push_result(alloc, function, chosen.as_slice(), results);
+    };
+    let mut results = results;
+    for value in argument.values() {
+        push_copy(chosen, value)?;
+        results = collected(alloc, function, chosen, further, results)?;
+        drop_last(chosen);
+    }
+    Ok(results)
+}
+
+/// Puts what the function gives for the arguments at the end of the bag.
+fn push_result<F: Inner>(
+    alloc: Global,
+    function: &F,
+    arguments: &[Value],
+    results: Bag,
+) -> Result<Bag, BagFault<F::Fault>>
+    requires can { F.can function.now (map kind_of arguments.now) }
+    requires of_type { results.data_type ≡ F.result_type function.now }
+    ensures { Gives result (added results (collected (outcome (F.gives function.now arguments.now) ∷ []))) }
+{
+    let mut results = results;
+    let given = function.call(alloc, arguments)?;
+    results.push(given)?;
+    Ok(results)
+}
+
+/// For each value of the first bag, whether the function gives True with some value of the second, where `stop` is True,
+/// and with each, where it is False.
+fn each_with<F: Inner>(
+    alloc: Global,
+    function: &F,
+    stop: bool,
+    first: &Bag,
+    second: &Bag,
+) -> Result<bool, BagFault<F::Fault>>
+    requires { F.can function.now (kind.Value first.now.data_type ∷ kind.Value second.now.data_type ∷ []) }
+    ensures { Gives result (each_with stop (F.gives function.now) first.now.values second.now.values) }
+{
+    for value in first.values() {
+        let answer = one_with(alloc, function, stop, value, second)?;
+        if !answer {
+            return Ok(false);
+        }
+    }
+    Ok(true)
+}
+
+/// Goes over the second arguments, up to the one where the function gives `stop` or a fault.
+fn one_with<F: Inner>(
+    alloc: Global,
+    function: &F,
+    stop: bool,
+    value: &Value,
+    second: &Bag,
+) -> Result<bool, BagFault<F::Fault>>
+    requires { F.can function.now (kind_of value.now ∷ kind.Value second.now.data_type ∷ []) }
+    ensures { Gives result (verdict stop (map (λ w. holds (F.gives function.now) (value.now ∷ w ∷ [])) second.now.values)) }
+{
+    for other in second.values() {
+        let found = holds_of_both(alloc, function, value, other)?;
+        if found == stop {
+            return Ok(stop);
+        }
+    }
+    Ok(!stop)
+}
+
+/// Whether the function gives True for the two arguments.
+fn holds_of_both<F: Inner>(
+    alloc: Global,
+    function: &F,
+    value: &Value,
+    other: &Value,
+) -> Result<bool, BagFault<F::Fault>>
+    requires { F.can function.now (kind_of value.now ∷ kind_of other.now ∷ []) }
+    ensures { Gives result (holds (F.gives function.now) (value.now ∷ other.now ∷ [])) }
+{
+    let mut arguments = Vec::new(alloc);
+    push_copy(&mut arguments, value)?;
+    push_copy(&mut arguments, other)?;
+    holds(alloc, function, arguments.as_slice())
+}
+
+/// Any-of: whether the function gives True with some value of the bag in the bag's place, where one argument is a bag.
+#[tactic(auto, using(crate::proofs::JoiningLemmas::each_choice))]
+pub fn any_of<F: Inner>(
+    alloc: Global,
+    function: &F,
+    arguments: &[ValueOrBag],
+) -> Result<bool, BagFault<F::Fault>>
+    requires { F.can function.now (map kind_of_each arguments.now) }
+    ensures value { Gives result (any_of (F.gives function.now) arguments.now) }
+    ensures law { EachInItsPlace }
+{
+    let mut chosen = Vec::new(alloc);
+    decided(alloc, function, true, &mut chosen, arguments)
+}
+
+/// All-of: whether the function gives True with each value of the bag in the bag's place, where one argument is a bag.
+#[tactic(auto, using(crate::proofs::JoiningLemmas::each_choice))]
+pub fn all_of<F: Inner>(
+    alloc: Global,
+    function: &F,
+    arguments: &[ValueOrBag],
+) -> Result<bool, BagFault<F::Fault>>
+    requires { F.can function.now (map kind_of_each arguments.now) }
+    ensures value { Gives result (all_of (F.gives function.now) arguments.now) }
+    ensures law { EachInItsPlace }
+{
+    let mut chosen = Vec::new(alloc);
+    decided(alloc, function, false, &mut chosen, arguments)
+}
+
+/// Any-of-any: whether the function gives True for some choice of a value of each argument, the last argument fastest.
+pub fn any_of_any<F: Inner>(
+    alloc: Global,
+    function: &F,
+    arguments: &[ValueOrBag],
+) -> Result<bool, BagFault<F::Fault>>
+    requires { F.can function.now (map kind_of_each arguments.now) }
+    ensures { Gives result (any_of (F.gives function.now) arguments.now) }
+{
+    any_of(alloc, function, arguments)
+}
+
+/// Map: the bag of what the function gives with each value of the bag in the bag's place, where one argument is a bag.
+#[tactic(auto, using(crate::proofs::JoiningLemmas::each_choice))]
+pub fn map<F: Inner>(
+    alloc: Global,
+    function: &F,
+    arguments: &[ValueOrBag],
+) -> Result<Bag, BagFault<F::Fault>>
+    requires { F.can function.now (map kind_of_each arguments.now) }
+    ensures value { Gives result (mapped (F.result_type function.now) (F.gives function.now) arguments.now) }
+    ensures law { EachInItsPlace }
+{
+    let mut chosen = Vec::new(alloc);
+    let results = Bag::new(alloc, function.result_type());
+    collected(alloc, function, &mut chosen, arguments, results)
+}
+
+/// All-of-any: whether for each value of the first bag the function gives True with some value of the second.
+pub fn all_of_any<F: Inner>(
+    alloc: Global,
+    function: &F,
+    first: &Bag,
+    second: &Bag,
+) -> Result<bool, BagFault<F::Fault>>
+    requires { F.can function.now (kind.Value first.now.data_type ∷ kind.Value second.now.data_type ∷ []) }
+    ensures { Gives result (all_of_any (F.gives function.now) first.now.values second.now.values) }
+{
+    each_with(alloc, function, true, first, second)
+}
+
+/// All-of-all: whether for each value of the first bag the function gives True with each value of the second.
+pub fn all_of_all<F: Inner>(
+    alloc: Global,
+    function: &F,
+    first: &Bag,
+    second: &Bag,
+) -> Result<bool, BagFault<F::Fault>>
+    requires { F.can function.now (kind.Value first.now.data_type ∷ kind.Value second.now.data_type ∷ []) }
+    ensures { Gives result (all_of_all (F.gives function.now) first.now.values second.now.values) }
+{
+    each_with(alloc, function, false, first, second)
+}

@@ -1,0 +1,37 @@
+ghost use Rattle.std.specs.Prelude.{◌≡◌, List, Result, map, IfOk};
+ghost use Rattle.xa_value.specs.declared.data_type.DataType.{DataType};
+ghost use Rattle.xa_value.specs.declared.value.Value.{Value};
+ghost use Rattle.xa_value.specs.Order.{type_of};
+ghost use Rattle.xa_func.specs.declared.signature.Kind.{Kind};
+ghost use Rattle.xa_func.specs.Signature.{kind_of};
+ghost use Rattle.xa_bag.specs.Gives.{Gives};
+ghost use Rattle.xa_bag.specs.HigherOrder.{outcome};
+
+use crate::fault::BagFault;
+use std::alloc::Global;
+use xa_value::{DataType, Value};
+
+/// A function of values, as a higher-order function takes it: any function from arguments to a value of one type, or a fault.
+pub trait Inner {
+    /// Why the function gives no value.
+    type Fault;
+
+    /// The kinds of arguments that the function takes.
+    ghost can: { Self → List Kind → Type 0 };
+
+    /// The type of its values.
+    ghost result_type: { Self → DataType };
+
+    /// What it gives.
+    ghost gives: { Self → List Value → Result Value Self.Fault };
+
+    /// The type of the function's values.
+    fn result_type(&self) -> DataType
+        ensures { result ≡ result_type self.now };
+
+    /// What the function gives for the arguments.
+    fn call(&self, alloc: Global, arguments: &[Value]) -> Result<Value, BagFault<Self::Fault>>
+        requires { can self.now (map kind_of arguments.now) }
+        ensures value { Gives result (outcome (gives self.now arguments.now)) }
+        ensures of_type { IfOk result (λ v. type_of v ≡ result_type self.now) };
+}

@@ -1,0 +1,21 @@
+//! Bags of values, and the bag, set and higher-order functions of XACML 3.0 (core, appendix A.3.10 to A.3.12).
+#![tactic(auto)]
+
+mod bag;
+mod fault;
+mod higher_order;
+mod inner;
+mod sets;
+#[cfg(test)]
+mod tests;
+mod value_or_bag;
+
+pub use bag::Bag;
+pub use fault::BagFault;
+pub use higher_order::{all_of, all_of_all, all_of_any, any_of, any_of_any, map};
+pub use inner::Inner;
+pub use sets::{
+    at_least_one_member_of, bag_of, bag_size, intersection, is_in, one_and_only, set_equals,
+    subset, union,
+};
+pub use value_or_bag::ValueOrBag;

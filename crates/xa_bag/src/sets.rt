@@ -1,0 +1,161 @@
+//! The bag and set functions (XACML 3.0, core, appendix A.3.10 and A.3.11), one definition for all data types.
+ghost use Rattle.std.specs.Prelude.{◌≡◌, ◌++◌, length, pos, IfOk};
+ghost use Rattle.xa_value.specs.Order.{type_of};
+ghost use Rattle.xa_bag.specs.Bag.{bag_of as contents};
+ghost use Rattle.xa_bag.specs.Gives.{Gives};
+ghost use Rattle.xa_bag.specs.Sets.{one_and_only, is_among, at_least_one, subset, set_equals, with_new, with_shared, joined, all_values};
+ghost use Rattle.xa_bag.specs.Sets as sets;
+ghost use Rattle.xa_bag.specs.ValueOrBag.{values_of, type_of_each, EachOf};
+
+use crate::bag::Bag;
+use crate::fault::BagFault;
+use crate::value_or_bag::ValueOrBag;
+use std::alloc::{AllocError, Global};
+use xa_value::{DataType, Value};
+
+/// The value of a bag that has exactly one.
+pub fn one_and_only<F>(bag: &Bag) -> Result<Value, BagFault<F>>
+    ensures { Gives result (one_and_only bag.now.values) }
+{
+    match bag.values() {
+        [value] => Ok(value.clone()?),
+        _ => Err(BagFault::NotOne),
+    }
+}
+
+/// How many values the bag has.
+pub fn bag_size(bag: &Bag) -> i64
+    ensures { result ≡ pos (length bag.now.values) }
+{
+    bag.len() as i64
+}
+
+/// Whether the value is in the bag.
+pub fn is_in(value: &Value, bag: &Bag) -> bool
+    ensures { result ≡ is_among bag.now.values value.now }
+{
+    is_among(bag.values(), value)
+}
+
+/// Whether one of the values is the value.
+fn is_among(values: &[Value], value: &Value) -> bool
+    ensures { result ≡ is_among values.now value.now }
+{
+    values.iter().any(|other| value.same(other))
+}
+
+/// Whether some value of the first bag is in the second.
+pub fn at_least_one_member_of(first: &Bag, second: &Bag) -> bool
+    ensures { result ≡ at_least_one first.now.values second.now.values }
+{
+    let values = second.values();
+    first.values().iter().any(|value| is_among(values, value))
+}
+
+/// Whether every value of the first bag is in the second.
+pub fn subset(first: &Bag, second: &Bag) -> bool
+    ensures { result ≡ subset first.now.values second.now.values }
+{
+    let values = second.values();
+    first.values().iter().all(|value| is_among(values, value))
+}
+
+/// Whether each bag has all values of the other.
+pub fn set_equals(first: &Bag, second: &Bag) -> bool
+    ensures { result ≡ set_equals first.now.values second.now.values }
+{
+    subset(first, second) && subset(second, first)
+}
+
+/// The values of the first bag that are in the second, each once, at its first appearance.
+#[tactic(auto, using(crate::proofs::SetLemmas::joined_more, crate::proofs::SetLemmas::joined_none, crate::proofs::SetLemmas::joined_all))]
+pub fn intersection(alloc: Global, first: &Bag, second: &Bag) -> Result<Bag, AllocError>
+    ensures { IfOk result (λ bag. bag ≡ contents first.now.data_type (sets.intersection first.now.values second.now.values)) }
+{
+    let mut both = Bag::new(alloc, first.data_type());
+    let values = second.values();
+    for value in first.values() {
+        push_shared(&mut both, values, value)?;
+    }
+    Ok(both)
+}
+
+/// The bag of the arguments' values, in order.
+#[tactic(auto, using(crate::proofs::SetLemmas::put_lists, crate::proofs::SetLemmas::put_none))]
+pub fn bag_of(
+    alloc: Global,
+    data_type: DataType,
+    arguments: &[ValueOrBag],
+) -> Result<Bag, AllocError>
+    requires { EachOf data_type arguments.now }
+    ensures { IfOk result (λ bag. bag ≡ contents data_type (all_values arguments.now)) }
+{
+    let mut all = Bag::new(alloc, data_type);
+    for argument in arguments {
+        push_all(&mut all, argument)?;
+    }
+    Ok(all)
+}
+
+/// The values of all arguments, each once, at its first appearance.
+#[tactic(auto, using(crate::proofs::SetLemmas::joined_lists, crate::proofs::SetLemmas::joined_none, crate::proofs::SetLemmas::joined_all))]
+pub fn union(
+    alloc: Global,
+    data_type: DataType,
+    arguments: &[ValueOrBag],
+) -> Result<Bag, AllocError>
+    requires { EachOf data_type arguments.now }
+    ensures { IfOk result (λ bag. bag ≡ contents data_type (sets.union arguments.now)) }
+{
+    let mut all = Bag::new(alloc, data_type);
+    for bag in arguments {
+        push_all_new(&mut all, bag)?;
+    }
+    Ok(all)
+}
+
+/// Puts the argument's values at the end of the bag.
+#[tactic(auto, using(crate::proofs::SetLemmas::put_more, crate::proofs::SetLemmas::put_none))]
+fn push_all(bag: &mut Bag, argument: &ValueOrBag) -> Result<(), AllocError>
+    requires { type_of_each argument.now ≡ bag.old.data_type }
+    ensures { IfOk result (λ _. bag.new ≡ contents bag.old.data_type (bag.old.values ++ values_of argument.now)) }
+{
+    for value in argument.values() {
+        bag.push(value.clone()?)?;
+    }
+    Ok(())
+}
+
+/// Puts the argument's values at the end of the bag, but for those that are there.
+#[tactic(auto, using(crate::proofs::SetLemmas::joined_more, crate::proofs::SetLemmas::joined_none))]
+fn push_all_new(kept: &mut Bag, argument: &ValueOrBag) -> Result<(), AllocError>
+    requires { type_of_each argument.now ≡ kept.old.data_type }
+    ensures { IfOk result (λ _. kept.new ≡ contents kept.old.data_type (joined kept.old.values (values_of argument.now))) }
+{
+    for value in argument.values() {
+        push_new(kept, value)?;
+    }
+    Ok(())
+}
+
+/// Puts the value at the end of the bag, if it is among the others and not yet there.
+fn push_shared(bag: &mut Bag, others: &[Value], value: &Value) -> Result<(), AllocError>
+    requires { type_of value.now ≡ bag.old.data_type }
+    ensures { IfOk result (λ _. bag.new ≡ contents bag.old.data_type (with_shared others.now bag.old.values value.now)) }
+{
+    if is_among(others, value) {
+        push_new(bag, value)?;
+    }
+    Ok(())
+}
+
+/// Puts the value at the end of the bag, unless it is there.
+fn push_new(bag: &mut Bag, value: &Value) -> Result<(), AllocError>
+    requires { type_of value.now ≡ bag.old.data_type }
+    ensures { IfOk result (λ _. bag.new ≡ contents bag.old.data_type (with_new bag.old.values value.now)) }
+{
+    if !is_among(bag.values(), value) {
+        bag.push(value.clone()?)?;
+    }
+    Ok(())
+}

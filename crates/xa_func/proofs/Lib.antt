@@ -1,0 +1,5 @@
+pub mod LogicLemmas
+pub mod DateLemmas
+pub mod NameLemmas
+pub mod TableLemmas
+pub mod TypingLemmas

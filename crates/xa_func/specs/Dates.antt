@@ -1,0 +1,128 @@
+-- Days, times and durations (XACML 3.0, core, appendices A.3.7 and A.3.8; XQuery and XPath functions, section 10.6).
+use Rattle.std.specs.Prelude.{ℕ, zero, suc, ◌+◌, ◌-◌, ◌*◌, min, Bool, ◌&&◌, if◌then◌else◌, ℤ, pos, neg_ℤ, unsigned_abs, nat_le, int_le, ◌+ℤ◌, ◌-ℤ◌, ◌*ℤ◌, Option, Some, None, Result, Ok, Err}
+use Rattle.std.specs.Int.{int_div_euclid, int_rem_euclid}
+use Rattle.std.specs.Option.{option_or}
+use Rattle.jiff_core.specs.Calendar.{days_in_month}
+use Rattle.xa_value.specs.Calendar.{CivilDate, CivilDateTime, day_number}
+use Rattle.xa_value.specs.Time.{ClockTime}
+use Rattle.xa_value.specs.Zone.{offset_of}
+use Rattle.xa_func.specs.declared.func_id.Direction.{Direction}
+use Rattle.xa_func.specs.declared.func_id.Direction.TheVariants.{Add, Subtract}
+use Rattle.xa_func.specs.declared.fault.FuncFault.{FuncFault}
+use Rattle.xa_func.specs.declared.fault.FuncFault.TheVariants.{CalendarRange}
+use Rattle.xa_func.specs.Arguments.{◌>>=◌}
+
+-- a day of the calendar
+pub record Day : Type 0 where
+  pub year : ℕ
+  pub month : ℕ
+  pub day : ℕ
+
+-- a duration that is added, or subtracted
+abbrev pub directed : Direction → ℤ → ℤ
+directed Add duration = duration
+directed Subtract duration = neg_ℤ duration
+
+-- the nanoseconds of a day
+abbrev pub day_length : ℤ
+day_length = pos 86_400_000_000_000
+
+-- months since January of the year 0
+abbrev pub month_number : Day → ℤ
+month_number d = pos (d.year * 12 + (d.month - 1))
+
+-- the year and the month of so many months
+abbrev pub year_at : ℤ → ℤ
+year_at months = int_div_euclid months (pos 12)
+
+abbrev pub month_at : ℤ → ℕ
+month_at months = unsigned_abs (int_rem_euclid months (pos 12)) + 1
+
+-- years 1 to 9999
+abbrev pub is_year : ℤ → Bool
+is_year year = int_le (pos 1) year && int_le year (pos 9999)
+
+-- the same day of the month with that number, or its last day where it is shorter
+unfoldable pub day_in_month : ℕ → ℤ → Result Day FuncFault
+day_in_month day months =
+    if is_year (year_at months)
+    then Ok (record { year = unsigned_abs (year_at months); month = month_at months; day = min day (days_in_month (year_at months) (month_at months)) })
+    else Err CalendarRange
+
+-- the day so many months later
+abbrev pub months_later : Day → ℤ → Result Day FuncFault
+months_later d months = day_in_month d.day (month_number d +ℤ months)
+
+-- the greatest number up to a bound that passes the test
+unfoldable pub greatest : (ℕ → Bool) → ℕ → ℕ
+greatest test zero = zero
+greatest test (suc n) = if test (suc n) then suc n else greatest test n
+
+-- the last year, and the last month of a year, that begins on the day of that number or before it
+unfoldable pub year_of_day : ℤ → ℕ
+year_of_day n = greatest (λ y. int_le (day_number y 1 1) n) 9999
+
+unfoldable pub month_of_day : ℕ → ℤ → ℕ
+month_of_day year n = greatest (λ m. int_le (day_number year m 1) n) 12
+
+-- the day of that number in that month
+abbrev pub day_of_month : ℕ → ℕ → ℤ → Day
+day_of_month year month n = record { year = year; month = month; day = unsigned_abs (n -ℤ day_number year month 1) + 1 }
+
+-- from 0001-01-01 to 9999-12-31
+abbrev pub is_day_number : ℤ → Bool
+is_day_number n = int_le (day_number 1 1 1) n && int_le n (day_number 9999 12 31)
+
+-- the day of that number
+unfoldable pub day_at : ℤ → Result Day FuncFault
+day_at n =
+    if is_day_number n then Ok (day_of_month (year_of_day n) (month_of_day (year_of_day n) n) n)
+    else Err CalendarRange
+
+-- nanoseconds from the midnight that began 1970, as written, without the zone
+abbrev pub nanos_as_written : CivilDateTime → ℤ
+nanos_as_written d = day_number d.year d.month d.day *ℤ day_length +ℤ pos d.nanos
+
+-- the day, and a day with a time, in the zone as it was written
+abbrev pub dated : Option ℤ → Day → CivilDate
+dated zone d = record { year = d.year; month = d.month; day = d.day; zone = zone }
+
+abbrev pub date_timed : ℕ → Option ℤ → Day → CivilDateTime
+date_timed nanos zone d = record { year = d.year; month = d.month; day = d.day; nanos = nanos; zone = zone }
+
+abbrev pub day_of_date : CivilDate → Day
+day_of_date d = record { year = d.year; month = d.month; day = d.day }
+
+abbrev pub day_of_date_time : CivilDateTime → Day
+day_of_date_time d = record { year = d.year; month = d.month; day = d.day }
+
+-- a day some months later
+abbrev pub date_after_months : CivilDate → ℤ → Result CivilDate FuncFault
+date_after_months d months = months_later (day_of_date d) months >>= λ day. Ok (dated d.zone day)
+
+-- a day and time some months later, at the same time of day
+abbrev pub date_time_after_months : CivilDateTime → ℤ → Result CivilDateTime FuncFault
+date_time_after_months d months = months_later (day_of_date_time d) months >>= λ day. Ok (date_timed d.nanos d.zone day)
+
+-- the day and time of so many nanoseconds
+abbrev pub date_time_at : ℤ → Option ℤ → Result CivilDateTime FuncFault
+date_time_at nanos zone =
+    day_at (int_div_euclid nanos day_length) >>= λ day. Ok (date_timed (unsigned_abs (int_rem_euclid nanos day_length)) zone day)
+
+-- a day and time some nanoseconds later, as written
+abbrev pub date_time_after_nanos : CivilDateTime → ℤ → Result CivilDateTime FuncFault
+date_time_after_nanos d nanos = date_time_at (nanos_as_written d +ℤ nanos) d.zone
+
+-- a time's nanoseconds in UTC, where an absent zone is the other one, and without that UTC
+abbrev pub nanos_in_utc : ClockTime → Option ℤ → ℤ
+nanos_in_utc t zone = pos t.nanos -ℤ offset_of (option_or t.zone zone) *ℤ pos 60_000_000_000
+
+-- how long it takes a clock that goes round to come from one time to another
+abbrev pub distance : ℤ → ℤ → ℕ
+distance from to = unsigned_abs (int_rem_euclid (to -ℤ from) day_length)
+
+-- a clock that goes round comes from the start to the time no later than to the end
+unfoldable pub time_in_range : ClockTime → ClockTime → ClockTime → Bool
+time_in_range t start end =
+    let from = nanos_in_utc start t.zone in
+    nat_le (distance from (nanos_in_utc t t.zone)) (distance from (nanos_in_utc end t.zone))

@@ -1,0 +1,12 @@
+pub mod Application
+pub mod Arguments
+pub mod Arithmetic
+pub mod Civil
+pub mod Comparison
+pub mod Conversion
+pub mod Dates
+pub mod Fault
+pub mod Logic
+pub mod Signature
+pub mod Table
+pub mod Text

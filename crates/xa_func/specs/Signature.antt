@@ -1,0 +1,146 @@
+-- What each function takes and gives (XACML 3.0, core, appendix A.3).
+use Rattle.std.specs.Prelude.{◌≡◌, ℕ, ◌≤◌, Bool, nat_le, ◌==◌, if◌then◌else◌, List, [], ◌∷◌, map, length, slice_get, Option, Some}
+use Rattle.xa_value.specs.declared.data_type.DataType.{DataType}
+use Rattle.xa_value.specs.declared.data_type.DataType.TheVariants as type
+use Rattle.xa_value.specs.declared.value.Value.{Value}
+use Rattle.xa_value.specs.Order.{type_of}
+use Rattle.xa_func.specs.declared.func_id.FuncId.{FuncId}
+use Rattle.xa_func.specs.declared.func_id.FuncId.TheVariants as function
+use Rattle.xa_func.specs.declared.func_id.Arithmetic.{Arithmetic}
+use Rattle.xa_func.specs.declared.func_id.Arithmetic.TheVariants as arithmetic
+use Rattle.xa_func.specs.declared.func_id.Logic.{Logic}
+use Rattle.xa_func.specs.declared.func_id.Logic.TheVariants as logic
+use Rattle.xa_func.specs.declared.func_id.TextFunction.{TextFunction}
+use Rattle.xa_func.specs.declared.func_id.TextFunction.TheVariants as text
+use Rattle.xa_func.specs.declared.func_id.Moved.{Moved}
+use Rattle.xa_func.specs.declared.func_id.Moved.TheVariants as moved
+use Rattle.xa_func.specs.declared.func_id.BagFunction.{BagFunction}
+use Rattle.xa_func.specs.declared.func_id.BagFunction.TheVariants as bag
+use Rattle.xa_func.specs.declared.signature.Kind.{Kind}
+use Rattle.xa_func.specs.declared.signature.Kind.TheVariants as kind
+use Rattle.xa_func.specs.declared.signature.Parameters.{Parameters}
+use Rattle.xa_func.specs.declared.signature.Parameters.TheVariants.{One, Two, Three, AtLeast, OneAndMore}
+use Rattle.xa_func.specs.declared.signature.Signature.{Signature}
+use Rattle.xa_func.specs.declared.signature.Signature.TheVariants.{FirstOrder, HigherOrder}
+use Rattle.xa_func.specs.Table.{ordered_type, text_type, printed_type}
+
+-- a function that gives a value of the type
+abbrev pub of_values : Parameters → DataType → Signature
+of_values parameters t = FirstOrder parameters (kind.Value t)
+
+-- a function that gives a boolean
+abbrev pub question : Parameters → Signature
+question parameters = of_values parameters type.Boolean
+
+-- one value of the type, and two
+abbrev pub one : DataType → Parameters
+one t = One (kind.Value t)
+
+abbrev pub pair : DataType → Parameters
+pair t = Two (kind.Value t) (kind.Value t)
+
+-- the functions of integers
+abbrev pub integers : Arithmetic → Parameters
+integers arithmetic.Add = AtLeast 2 (kind.Value type.Integer)
+integers arithmetic.Multiply = AtLeast 2 (kind.Value type.Integer)
+integers arithmetic.Subtract = pair type.Integer
+integers arithmetic.Divide = pair type.Integer
+integers arithmetic.Mod = pair type.Integer
+
+-- the functions of booleans
+abbrev pub booleans : Logic → Parameters
+booleans logic.Or = AtLeast 0 (kind.Value type.Boolean)
+booleans logic.And = AtLeast 0 (kind.Value type.Boolean)
+booleans logic.NOf = OneAndMore (kind.Value type.Integer) (kind.Value type.Boolean)
+booleans logic.Not = one type.Boolean
+
+-- the functions that give a text
+abbrev pub texts : TextFunction → Parameters
+texts text.NormalizeSpace = one type.String
+texts text.Concatenate = AtLeast 2 (kind.Value type.String)
+texts text.Substring = Three (kind.Value type.String) (kind.Value type.Integer) (kind.Value type.Integer)
+
+-- a value of the first type, moved by one of the second
+abbrev pub moving : DataType → DataType → Signature
+moving t duration = of_values (Two (kind.Value t) (kind.Value duration)) t
+
+abbrev pub move_signature : Moved → Signature
+move_signature moved.DateTimeByDayTime = moving type.DateTime type.DayTimeDuration
+move_signature moved.DateTimeByYearMonth = moving type.DateTime type.YearMonthDuration
+move_signature moved.DateByYearMonth = moving type.Date type.YearMonthDuration
+
+-- the functions of bags
+abbrev pub bag_signature : BagFunction → DataType → Signature
+bag_signature bag.OneAndOnly t = FirstOrder (One (kind.Bag t)) (kind.Value t)
+bag_signature bag.BagSize t = FirstOrder (One (kind.Bag t)) (kind.Value type.Integer)
+bag_signature bag.IsIn t = question (Two (kind.Value t) (kind.Bag t))
+bag_signature bag.Bag t = FirstOrder (AtLeast 0 (kind.Value t)) (kind.Bag t)
+bag_signature bag.Intersection t = FirstOrder (Two (kind.Bag t) (kind.Bag t)) (kind.Bag t)
+bag_signature bag.Union t = FirstOrder (AtLeast 2 (kind.Bag t)) (kind.Bag t)
+bag_signature bag.AtLeastOneMemberOf t = question (Two (kind.Bag t) (kind.Bag t))
+bag_signature bag.Subset t = question (Two (kind.Bag t) (kind.Bag t))
+bag_signature bag.SetEquals t = question (Two (kind.Bag t) (kind.Bag t))
+
+-- the table of all functions
+abbrev pub signature_of : FuncId → Signature
+signature_of (function.Equal t) = question (pair t)
+signature_of (function.Compare c t) = question (pair (ordered_type t))
+signature_of (function.Arithmetic f) = of_values (integers f) type.Integer
+signature_of function.IntegerAbs = of_values (one type.Integer) type.Integer
+signature_of (function.Logic f) = question (booleans f)
+signature_of (function.Text f) = of_values (texts f) type.String
+signature_of (function.Part p t) = question (Two (kind.Value type.String) (kind.Value (text_type t)))
+signature_of (function.StringFrom t) = of_values (one (printed_type t)) type.String
+signature_of (function.FromString t) = of_values (one type.String) (printed_type t)
+signature_of (function.Move m d) = move_signature m
+signature_of function.TimeInRange = question (Three (kind.Value type.Time) (kind.Value type.Time) (kind.Value type.Time))
+signature_of (function.Bag f t) = bag_signature f t
+signature_of (function.HigherOrder f) = HigherOrder f
+
+-- the function takes so many arguments
+abbrev pub takes : Parameters → ℕ → Bool
+takes (One k) n = n == 1
+takes (Two k l) n = n == 2
+takes (Three k l m) n = n == 3
+takes (AtLeast least k) n = nat_le least n
+takes (OneAndMore k l) n = nat_le 1 n
+
+-- the kind of the argument at a place
+abbrev pub kind_at : Parameters → ℕ → Option Kind
+kind_at (One k) place = slice_get (k ∷ []) place
+kind_at (Two k l) place = slice_get (k ∷ l ∷ []) place
+kind_at (Three k l m) place = slice_get (k ∷ l ∷ m ∷ []) place
+kind_at (AtLeast least k) place = Some k
+kind_at (OneAndMore k l) place = Some (if place == 0 then k else l)
+
+-- the kind of a value
+abbrev pub kind_of : Value → Kind
+kind_of v = kind.Value (type_of v)
+
+-- every argument is of the kind
+abbrev pub Every : Kind → List Kind → Type 0
+Every k [] = Unit {0}
+Every k (l ∷ ls) = (l ≡ k) × Every k ls
+
+-- arguments of these kinds are what the function takes
+abbrev pub Fits : Parameters → List Kind → Type 0
+Fits (One k) ks = ks ≡ k ∷ []
+Fits (Two k l) ks = ks ≡ k ∷ l ∷ []
+Fits (Three k l m) ks = ks ≡ k ∷ l ∷ m ∷ []
+Fits (AtLeast least k) ks = (least ≤ length ks) × Every k ks
+Fits (OneAndMore k l) [] = ⊥
+Fits (OneAndMore k l) (m ∷ ms) = (m ≡ k) × Every l ms
+
+-- arguments of these kinds are what a function of the signature takes
+abbrev pub AcceptsKinds : Signature → List Kind → Type 0
+AcceptsKinds (FirstOrder parameters k) ks = Fits parameters ks
+AcceptsKinds (HigherOrder f) ks = ⊥
+
+-- the values are arguments that it takes
+abbrev pub Accepts : Signature → List Value → Type 0
+Accepts signature vs = AcceptsKinds signature (map kind_of vs)
+
+-- the value is what a function of the signature gives
+abbrev pub IsResult : Signature → Value → Type 0
+IsResult (FirstOrder parameters k) v = kind_of v ≡ k
+IsResult (HigherOrder f) v = Unit {0}

@@ -1,0 +1,21 @@
+ghost use Rattle.std.specs.Prelude.{◌≡◌, IfOk};
+ghost use Rattle.xa_value.specs.Order.{type_of};
+ghost use Rattle.xa_func.specs.Fault.{Gives};
+ghost use Rattle.xa_func.specs.Conversion.{value_of};
+
+use crate::fault::FuncFault;
+use std::alloc::Global;
+use xa_value::{DataType, ReadError, Value};
+
+/// The value of the type that the text stands for.
+#[tactic(auto, using(crate::proofs::TypingLemmas::read_typed))]
+pub(crate) fn value_of(alloc: Global, data_type: DataType, text: &str) -> Result<Value, FuncFault>
+    ensures value { Gives result (value_of data_type text.now) }
+    ensures typed { IfOk result (λ v. type_of v ≡ data_type) }
+{
+    match Value::read(alloc, data_type, text) {
+        Ok(value) => Ok(value),
+        Err(ReadError::Memory) => Err(FuncFault::Memory),
+        Err(ReadError::NotThisType | ReadError::OutOfRange) => Err(FuncFault::BadText),
+    }
+}

@@ -1,0 +1,26 @@
+//! The functions of XACML 3.0 on values: their names, their signatures and what they give (core, appendix A.3).
+#![tactic(auto)]
+
+mod acceptance;
+mod application;
+mod arguments;
+mod arithmetic;
+mod comparison;
+mod conversion;
+mod dates;
+mod fault;
+mod func_id;
+mod logic;
+mod names;
+mod signature;
+#[cfg(test)]
+mod tests;
+mod text;
+
+pub use acceptance::HasKind;
+pub use fault::{FuncFault, StatusCode};
+pub use func_id::{
+    Arithmetic, BagFunction, Comparison, Direction, FuncId, HigherOrder, Logic, Moved, OrderedType,
+    PrintedType, TextFunction, TextPart, TextType,
+};
+pub use signature::{Kind, Parameters, Signature};

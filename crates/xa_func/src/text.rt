@@ -1,0 +1,114 @@
+ghost use Rattle.std.specs.Prelude.{◌≡◌, ◌<◌, Ok, map, length, chars, encode_utf8_all, string_bytes, IfOk};
+ghost use Rattle.std.specs.List.{concat};
+ghost use Rattle.xa_value.specs.Lexical.{trimmed};
+ghost use Rattle.xa_value.specs.declared.data_type.DataType.TheVariants as data_type;
+ghost use Rattle.xa_func.specs.declared.signature.Kind.TheVariants as kind;
+ghost use Rattle.xa_func.specs.Fault.{Gives};
+ghost use Rattle.xa_func.specs.Signature.{kind_of, Every};
+ghost use Rattle.xa_func.specs.Arguments.{texts};
+ghost use Rattle.xa_func.specs.Text.{contains, has_part, end_of, is_range, substring};
+
+use crate::arguments::string_of;
+use crate::fault::FuncFault;
+use crate::func_id::TextPart;
+use std::alloc::{AllocError, Global};
+use xa_value::{DataType, ReadError, Text, Value};
+
+/// Whether the part stands anywhere in the text.
+fn contains(text: &[u8], part: &[u8]) -> bool
+    ensures { result ≡ contains text.now part.now }
+{
+    let mut rest = text;
+    while let [_, others @ ..] = rest {
+        if rest.starts_with(part) {
+            return true;
+        }
+        rest = others;
+    }
+    rest.starts_with(part)
+}
+
+/// Whether the part stands in the text.
+pub(crate) fn has_part(place: TextPart, text: &[u8], part: &[u8]) -> bool
+    ensures { result ≡ has_part place text.now part.now }
+{
+    match place {
+        TextPart::StartsWith => text.starts_with(part),
+        TextPart::EndsWith => text.ends_with(part),
+        TextPart::Contains => contains(text, part),
+    }
+}
+
+/// The text without white space at its ends: a URI is any text, read so.
+pub(crate) fn normalized(alloc: Global, text: &str) -> Result<Text, FuncFault>
+    ensures { Gives result (Ok (trimmed text.now)) }
+{
+    match Value::read(alloc, DataType::AnyUri, text) {
+        Ok(Value::AnyUri(text)) => Ok(text),
+        Err(ReadError::Memory) => Err(FuncFault::Memory),
+        _ => unreachable!(),
+    }
+}
+
+/// The texts in a row.
+pub(crate) fn concatenated(alloc: Global, arguments: &[Value]) -> Result<Text, FuncFault>
+    requires { Every (kind.Value data_type.String) (map kind_of arguments.now) }
+    ensures { Gives result (Ok (concat (texts arguments.now))) }
+{
+    let mut text = String::new(alloc);
+    for argument in arguments {
+        text.push_str(string_of(argument))?;
+    }
+    Ok(Text::from_string(text))
+}
+
+/// The characters of the text.
+#[tactic(auto, using(std::proofs::lemmas::Str::chars_from_encodes))]
+fn characters(alloc: Global, text: &str) -> Result<Vec<char>, AllocError>
+    ensures { IfOk result (λ v. v.items ≡ chars text.now) }
+{
+    text.chars().collect(alloc)
+}
+
+/// The text of the characters.
+fn written(alloc: Global, characters: &[char]) -> Result<Text, AllocError>
+    ensures { IfOk result (λ t. t ≡ encode_utf8_all characters.now) }
+{
+    let mut text = String::new(alloc);
+    for character in characters {
+        text.push(*character)?;
+    }
+    Ok(Text::from_string(text))
+}
+
+/// The end of a substring, where -1 is that of the text.
+fn end_of(end: i64, count: usize) -> i128
+    ensures { result ≡ end_of end count }
+{
+    if end == -1 {
+        count as i128
+    } else {
+        i128::from(end)
+    }
+}
+
+/// Whether there are such places among the characters, one not after the other.
+fn is_range(begin: i64, end: i128, count: usize) -> bool
+    ensures { result ≡ is_range begin end count }
+{
+    0 <= begin && i128::from(begin) <= end && end <= count as i128
+}
+
+/// The characters from one place up to another.
+#[tactic(auto, unfolding(crate::specs::Text::substring))]
+pub(crate) fn substring(alloc: Global, text: &str, begin: i64, end: i64) -> Result<Text, FuncFault>
+    ensures { Gives result (substring text.now begin end) }
+{
+    let characters = characters(alloc, text)?;
+    let last = end_of(end, characters.len());
+    if !is_range(begin, last, characters.len()) {
+        return Err(FuncFault::Position);
+    }
+    let part = &characters[begin as usize..last as usize];
+    Ok(written(alloc, part)?)
+}
