@@ -1,6 +1,6 @@
 -- A list without doubles, made value by value.
 use Rattle.std.proofs.Common.{◌≡◌, refl, ap, sym, ◌∙◌, Bool, true, false, not, ◌&&◌, ◌||◌, cond, List, [], ◌∷◌, ◌++◌, append_assoc, append-nil, ℕ, suc, ◌+◌, ◌<◌, length, get_or, drop, add-one, drop-cons, subst}
-use Rattle.std.specs.Prelude.{filter, flat_map}
+use Rattle.std.specs.Prelude.{filter}
 use Rattle.std.specs.List.{list_any}
 use Rattle.std.specs.Cmp.{IsEquivalence}
 use Rattle.std.proofs.lemmas.List.Folds.{list_any-append}

@@ -1,6 +1,6 @@
 -- The higher-order functions (XACML 3.0, core, appendix A.3.12), of any function from arguments to a value or a fault.
 -- Each is a list of results, one for each choice of arguments, joined from the first to the last.
-use Rattle.std.specs.Prelude.{◌≡◌, Bool, true, false, List, [], ◌∷◌, ◌++◌, map, flat_map, Result, Ok, Err}
+use Rattle.std.specs.Prelude.{◌≡◌, Bool, false, List, [], ◌∷◌, ◌++◌, map, flat_map, Result, Ok, Err}
 use Rattle.xa_value.specs.declared.data_type.DataType.{DataType}
 use Rattle.xa_value.specs.declared.value.Value.{Value}
 use Rattle.xa_value.specs.declared.value.Value.TheVariants as value

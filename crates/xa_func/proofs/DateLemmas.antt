@@ -1,17 +1,16 @@
 -- The day of a number is the day that has it.
-use Rattle.std.proofs.Common.{◌≡◌, ℕ, zero, suc, ◌+◌, ◌-◌, ◌<◌, ◌≤◌, ◌⊎◌, Bool, true, false, nat_lt, nat_le, if◌then◌else◌, refl, ap, sym, ◌∙◌, arith, ℤ, pos, neg_ℤ, ◌+ℤ◌, ◌-ℤ◌, ◌≤ℤ◌, ◌<ℤ◌, negsuc, unsigned_abs, rules, inl, inr}
-use Rattle.std.specs.Prelude.{int_le, ◌&&◌, Result, Ok, Err}
+use Rattle.std.proofs.Common.{◌≡◌, ℕ, zero, suc, ◌+◌, ◌-◌, ◌<◌, ◌≤◌, Bool, true, false, if◌then◌else◌, refl, sym, arith, ℤ, pos, ◌-ℤ◌, ◌≤ℤ◌, ◌<ℤ◌, negsuc, unsigned_abs, rules, inl, inr}
+use Rattle.std.specs.Prelude.{int_le, Ok, Err}
 use Rattle.std.proofs.lemmas.Bool.{cases_order, and_parts}
 use Rattle.jiff_core.proofs.SignedLemmas.{signed_arith}
-use Rattle.jiff_core.proofs.CalendarLemmas.{days_from_civil-day_count, day_count-lt_year, day_count-lt_month, day_count-day, day_count-day_of_year, day_count_bounds}
-use Rattle.jiff_core.proofs.DateLemmas.{civil, epoch_day_range, days_from_civil-day, days_from_civil-max}
+use Rattle.jiff_core.proofs.CalendarLemmas.{days_from_civil-day_count, day_count-lt_year, day_count-lt_month, day_count-day_of_year, day_count_bounds}
+use Rattle.jiff_core.proofs.DateLemmas.{civil, days_from_civil-day, days_from_civil-max}
 use Rattle.jiff_core.specs.declared.civil.date.Date.{Date}
-use Rattle.jiff_core.specs.Calendar.{days_from_civil, day_count, IsCivilDate, IsEpochDay}
+use Rattle.jiff_core.specs.Calendar.{days_from_civil, IsCivilDate, IsEpochDay}
 use Rattle.jiff_core.specs.Date.{epoch_day}
 use Rattle.xa_value.specs.Calendar.{day_number}
-use Rattle.xa_func.specs.declared.fault.FuncFault.{FuncFault}
 use Rattle.xa_func.specs.declared.fault.FuncFault.TheVariants.{CalendarRange}
-use Rattle.xa_func.specs.Dates.{Day, greatest, day_at, year_of_day, month_of_day, is_day_number, day_of_month}
+use Rattle.xa_func.specs.Dates.{greatest, day_at, year_of_day, month_of_day, is_day_number}
 use Rattle.xa_func.specs.Civil.{day_of}
 
 -- tests of signed numbers

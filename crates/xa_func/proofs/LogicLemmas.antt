@@ -1,8 +1,7 @@
 -- What n-of is, of places that hold booleans.
-use Rattle.std.proofs.Common.{◌≡◌, ℕ, suc, zero, ◌+◌, ◌-◌, ◌<◌, ◌≤◌, Bool, true, false, not, nat_lt, nat_le, ◌==◌, if◌then◌else◌, List, [], ◌∷◌, map, length, refl, ap, sym, ◌∙◌, arith, ℤ, pos, unsigned_abs, rules}
-use Rattle.std.specs.Prelude.{filter_map, Result, Ok, Err, Option, Some, None}
+use Rattle.std.proofs.Common.{◌≡◌, ℕ, suc, zero, ◌+◌, ◌<◌, ◌≤◌, Bool, true, false, nat_lt, nat_le, ◌==◌, List, [], ◌∷◌, map, length, refl, ap, ◌∙◌, arith}
+use Rattle.std.specs.Prelude.{filter_map, Result, Ok, Err, Option}
 use Rattle.std.specs.List.{cons_option}
-use Rattle.std.proofs.lemmas.Grind.{common_steps}
 use Rattle.std.proofs.lemmas.Bool.Decides.{nat_tests}
 use Rattle.xa_value.specs.declared.value.Value.{Value}
 use Rattle.xa_value.specs.declared.value.Value.TheVariants as value
@@ -12,7 +11,7 @@ use Rattle.xa_func.specs.declared.fault.FuncFault.{FuncFault}
 use Rattle.xa_func.specs.declared.fault.FuncFault.TheVariants.{Position}
 use Rattle.xa_func.specs.Signature.{kind_of, Every}
 use Rattle.xa_func.specs.Arguments.{booleans}
-use Rattle.xa_func.specs.Logic.{Place, places, behind, decision, decision_at, n_places, n_among, true_count, given, is_true, first_of}
+use Rattle.xa_func.specs.Logic.{Place, places, behind, decision, decision_at, n_places, n_among, true_count, given, first_of}
 
 -- arguments that are booleans have as many booleans
 pub length_given : (vs : List Value) → Every (kind.Value data_type.Boolean) (map kind_of vs) → length (given (booleans vs)) ≡ length vs

@@ -1,6 +1,6 @@
 -- Each name is that of its function, and of no other: by computing, name by name.
-use Rattle.std.proofs.Common.{◌≡◌, List, [], ◌∷◌, ℕ, Bool, true, false, if◌then◌else◌, refl, sym, ap, ◌∙◌}
-use Rattle.std.specs.Prelude.{Option, Some, None, bytes_eq, find, ◌||◌, ◌&&◌}
+use Rattle.std.proofs.Common.{◌≡◌, List, [], ◌∷◌, ℕ, Bool, true, false, if◌then◌else◌, refl, ap, ◌∙◌}
+use Rattle.std.specs.Prelude.{Some, bytes_eq, find, ◌||◌, ◌&&◌}
 use Rattle.std.proofs.lemmas.Bool.{and_parts}
 use Rattle.std.proofs.lemmas.Slice.Eq.{bytes_eq-Decides}
 use Rattle.xa_value.specs.declared.data_type.DataType.{DataType}

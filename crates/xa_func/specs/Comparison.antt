@@ -1,7 +1,7 @@
 -- Equality and order, of values of any type (XACML 3.0, core, appendices A.3.1 and A.3.6 to A.3.8).
 use Rattle.std.specs.Prelude.{Bool, true, false, Option, Some, None}
 use Rattle.std.specs.declared.cmp.Ordering.{Ordering}
-use Rattle.std.specs.declared.cmp.Ordering.TheVariants.{Less, Equal, Greater}
+use Rattle.std.specs.declared.cmp.Ordering.TheVariants.{Less, Greater}
 use Rattle.xa_value.specs.declared.value.Value.{Value}
 use Rattle.xa_value.specs.Order.{order}
 use Rattle.xa_func.specs.declared.func_id.Comparison.{Comparison}

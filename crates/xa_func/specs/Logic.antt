@@ -1,5 +1,5 @@
 -- Or, and, n-of, by places (XACML 3.0, core, appendix A.3.5), over what was computed at each place.
-use Rattle.std.specs.Prelude.{◌≡◌, ℕ, suc, ◌+◌, Bool, true, false, not, ◌==◌, nat_lt, int_lt, if◌then◌else◌, List, [], ◌∷◌, map, length, find, filter_map, unwrap_or, ℤ, pos, unsigned_abs, Option, Some, None, Result, Ok, Err}
+use Rattle.std.specs.Prelude.{ℕ, suc, ◌+◌, Bool, true, false, not, ◌==◌, nat_lt, int_lt, if◌then◌else◌, List, [], ◌∷◌, map, length, find, filter_map, unwrap_or, ℤ, pos, unsigned_abs, Option, Some, None, Result, Ok, Err}
 use Rattle.xa_value.specs.declared.value.Value.{Value}
 use Rattle.xa_value.specs.declared.value.Value.TheVariants as value
 use Rattle.xa_func.specs.declared.func_id.Logic.{Logic}

@@ -1,5 +1,4 @@
-use Rattle.std.proofs.Common.{rules, ◌≡◌, ◌∙◌, ap, ◌+◌, ◌-◌, [], ◌∷◌, ◌++◌, length, take, drop}
-use Rattle.std.specs.Prelude.{flat_map}
+use Rattle.std.proofs.Common.{rules, ◌∙◌, ap, ◌-◌, [], ◌∷◌, ◌++◌, length, take, drop}
 use Rattle.xa_bag.specs.HigherOrder.{outcome}
 use Rattle.xa_bag.specs.Joining.{each_from}
 use Rattle.xa_bag.proofs.SetLemmas.{walked}

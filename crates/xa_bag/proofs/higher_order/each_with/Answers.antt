@@ -1,4 +1,4 @@
-use Rattle.std.proofs.Common.{◌∙◌, ap, refl, [], ◌∷◌, map, Bool, true, false}
+use Rattle.std.proofs.Common.{◌∙◌, ap, refl, [], ◌∷◌, map, true, false}
 use Rattle.std.specs.Prelude.{Ok}
 use Rattle.xa_bag.specs.HigherOrder.{holds}
 use Rattle.xa_bag.specs.Joining.{verdict}

@@ -1,6 +1,5 @@
-use Rattle.std.proofs.Common.{rules, ◌≡◌, ap, [], ◌∷◌}
+use Rattle.std.proofs.Common.{[], ◌∷◌}
 use Rattle.xa_bag.specs.HigherOrder.{holds}
-use Rattle.xa_func.specs.declared.signature.Kind.TheVariants as kind
 use Rattle.xa_func.specs.Signature.{kind_of}
 use Rattle.xa_bag.proofs.SetLemmas.{walked}
 use Rattle.xa_bag.proofs.BagLemmas.{of_type_at, can_take}

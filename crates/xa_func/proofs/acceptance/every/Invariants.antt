@@ -1,4 +1,4 @@
-use Rattle.std.proofs.Common.{◌≡◌, map, drop}
+use Rattle.std.proofs.Common.{map, drop}
 use Rattle.xa_func.specs.Signature.{Every}
 use Rattle.xa_func.proofs.acceptance.every.Given as goal
 

@@ -1,4 +1,4 @@
-use Rattle.std.proofs.Common.{◌≡◌, sym, ◌∙◌}
+use Rattle.std.proofs.Common.{sym, ◌∙◌}
 use Rattle.xa_func.specs.declared.func_id.BagFunction.TheVariants.{OneAndOnly}
 use Rattle.xa_func.specs.Table.{names, bags_of}
 use Rattle.xa_func.proofs.NameLemmas.{found_here, not_here}

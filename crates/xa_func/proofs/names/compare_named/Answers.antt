@@ -1,4 +1,4 @@
-use Rattle.std.proofs.Common.{◌≡◌, sym, ◌∙◌}
+use Rattle.std.proofs.Common.{sym, ◌∙◌}
 use Rattle.xa_func.specs.declared.func_id.Comparison.TheVariants.{GreaterThan}
 use Rattle.xa_func.specs.Table.{names, compares_of}
 use Rattle.xa_func.proofs.NameLemmas.{found_here, not_here}
