@@ -1,3 +1,4 @@
+pub mod Applying
 pub mod Bag
 pub mod Gives
 pub mod HigherOrder

@@ -82,3 +82,14 @@ impl Bag {
         Ok(())
     }
 }
+
+impl Clone for Bag {
+    ghost is_clone = { λ bag copy. copy ≡ bag };
+
+    fn clone(&self) -> Result<Bag, AllocError> {
+        Ok(Bag {
+            data_type: self.data_type,
+            values: self.values.clone()?,
+        })
+    }
+}

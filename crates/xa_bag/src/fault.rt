@@ -1,8 +1,10 @@
 ghost use Rattle.std.specs.Prelude.{◌≡◌};
+ghost use Rattle.xa_bag.specs.Gives.{inner_fault};
 ghost use Rattle.xa_bag.specs.declared.fault.BagFault.TheVariants.{Memory};
 
 use std::alloc::{AllocError, AllocFailed};
 use thiserror::Error;
+use xa_func::FuncFault;
 
 /// Why a function of bags gave no value, where `F` says why a function of values gave none.
 #[derive(Debug, Drop, PartialEq, Eq, Error)]
@@ -31,5 +33,16 @@ impl<F, T: Drop> From<AllocFailed<T>> for BagFault<F> {
 
     fn from(_error: AllocFailed<T>) -> BagFault<F> {
         BagFault::Memory
+    }
+}
+
+impl From<FuncFault> for BagFault<FuncFault> {
+    ghost from_gives = { λ fault e. e ≡ inner_fault fault };
+
+    fn from(fault: FuncFault) -> BagFault<FuncFault> {
+        match fault {
+            FuncFault::Memory => BagFault::Memory,
+            fault => BagFault::Inner(fault),
+        }
     }
 }

@@ -1,6 +1,7 @@
 //! Bags of values, and the bag, set and higher-order functions of XACML 3.0 (core, appendix A.3.10 to A.3.12).
 #![tactic(auto)]
 
+mod apply;
 mod bag;
 mod fault;
 mod higher_order;
@@ -10,6 +11,7 @@ mod sets;
 mod tests;
 mod value_or_bag;
 
+pub use apply::{apply_bag_function, apply_higher_order};
 pub use bag::Bag;
 pub use fault::BagFault;
 pub use higher_order::{all_of, all_of_all, all_of_any, any_of, any_of_any, map};

@@ -8,11 +8,12 @@ ghost use Rattle.xa_bag.specs.declared.tests.Trap.TheVariants as trap;
 
 use crate::{
     Bag, BagFault, Inner, ValueOrBag, all_of, all_of_all, all_of_any, any_of, any_of_any,
-    at_least_one_member_of, bag_of, bag_size, intersection, is_in, map, one_and_only, set_equals,
-    subset, union,
+    apply_bag_function, apply_higher_order, at_least_one_member_of, bag_of, bag_size, intersection,
+    is_in, map, one_and_only, set_equals, subset, union,
 };
 use std::alloc::Global;
 use std::process::Abort;
+use xa_func::{BagFunction, FuncFault, HigherOrder};
 use xa_value::{DataType, Items, Value};
 
 /// Which of two traps was met.
@@ -70,6 +71,17 @@ fn united(rt: &impl Abort, alloc: Global, data_type: DataType, first: Bag, secon
     assert!(rt; bag_size(&together) == count, "all values of both");
     let joined = union(alloc, data_type, arguments.as_slice()).expect(rt, "memory");
     assert!(rt; set_equals(&joined, &together), "the same values");
+    let named = apply_bag_function::<Trap>(
+        alloc,
+        BagFunction::Union,
+        data_type,
+        arguments.as_slice(),
+    );
+    let named = named.expect(rt, "memory");
+    assert!(rt;
+        named.values().len() == joined.len(),
+        "the union by its name"
+    );
     joined
 }
 
@@ -297,6 +309,34 @@ fn check_map(
     }
 }
 
+/// By its name and with copies of its arguments, the function gives this boolean or fault.
+fn check_named(
+    rt: &impl Abort,
+    alloc: Global,
+    higher_order: HigherOrder,
+    function: &Probe,
+    arguments: &[ValueOrBag],
+    wanted: Result<bool, BagFault<Trap>>,
+) {
+    let mut copies = Vec::new(alloc);
+    for argument in arguments {
+        copies
+            .push(argument.clone().expect(rt, "memory"))
+            .expect(rt, "memory");
+    }
+    match (
+        apply_higher_order(alloc, higher_order, function, copies.as_slice()),
+        wanted,
+    ) {
+        (Ok(ValueOrBag::Value(Value::Boolean(answer))), Ok(wanted)) => assert_eq!(rt;
+            answer,
+            wanted
+        ),
+        (Err(fault), Err(wanted)) => assert_eq!(rt; fault, wanted),
+        _ => assert!(rt; false, "another answer by name"),
+    }
+}
+
 #[test]
 fn choices(rt: HostRuntime) {
     let alloc = rt.alloc();
@@ -473,4 +513,12 @@ fn many_arguments(rt: HostRuntime) {
         map(alloc, &function, arguments.as_slice()),
         Ok("false"),
     );
+}
+
+#[test]
+fn faults(rt: HostRuntime) {
+    let memory: BagFault<FuncFault> = BagFault::from(FuncFault::Memory);
+    assert!(rt; memory == BagFault::Memory);
+    let overflow: BagFault<FuncFault> = BagFault::from(FuncFault::Overflow);
+    assert!(rt; overflow == BagFault::Inner(FuncFault::Overflow));
 }

@@ -8,7 +8,7 @@ use xa_func::Kind;
 use xa_value::{DataType, Value};
 
 /// What an expression gives: one value, or a bag.
-#[derive(Debug, Drop)]
+#[derive(Clone, Debug, Drop)]
 pub enum ValueOrBag {
     /// One value.
     Value(Value),

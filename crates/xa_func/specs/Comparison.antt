@@ -1,4 +1,4 @@
--- Equality and order, of values of any type (XACML 3.0, core, appendices A.3.1 and A.3.6 to A.3.8).
+-- Order, of values of a type that has one (XACML 3.0, core, appendices A.3.6 and A.3.8).
 use Rattle.std.specs.Prelude.{Bool, true, false, Option, Some, None}
 use Rattle.std.specs.declared.cmp.Ordering.{Ordering}
 use Rattle.std.specs.declared.cmp.Ordering.TheVariants.{Less, Greater}

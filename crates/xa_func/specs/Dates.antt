@@ -1,4 +1,4 @@
--- Days, times and durations (XACML 3.0, core, appendices A.3.7 and A.3.8; XQuery and XPath functions, section 10.6).
+-- Days, times and durations (XACML 3.0, core, appendices A.3.7 and A.3.8; XML Schema, part 2, appendix E).
 use Rattle.std.specs.Prelude.{ℕ, zero, suc, ◌+◌, ◌-◌, ◌*◌, min, Bool, ◌&&◌, if◌then◌else◌, ℤ, pos, neg_ℤ, unsigned_abs, nat_le, int_le, ◌+ℤ◌, ◌-ℤ◌, ◌*ℤ◌, Option, Result, Ok, Err}
 use Rattle.std.specs.Int.{int_div_euclid, int_rem_euclid}
 use Rattle.std.specs.Option.{option_or}

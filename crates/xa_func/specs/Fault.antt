@@ -1,4 +1,4 @@
--- What a function answers, beside its definition's answer, and what a fault stands for (XACML 3.0, core, sections 7.2.2 and B.8).
+-- What a function answers, beside its definition's answer, and what a fault stands for (XACML 3.0, core, section 7.5 and appendix B.8).
 use Rattle.std.specs.Prelude.{◌≡◌, Result, Ok, Err, Option, Some, None}
 use Rattle.xa_func.specs.declared.fault.FuncFault.{FuncFault}
 use Rattle.xa_func.specs.declared.fault.FuncFault.TheVariants.{Memory, ZeroDivisor, Overflow, BadText, Position, CalendarRange}
