@@ -1,18 +1,20 @@
 -- Dates that were read print as texts that read as the same.
-use Rattle.std.proofs.Common.{◌≡◌, ℕ, ◌+◌, ◌-◌, ◌*◌, ◌/◌, ◌%◌, ◌<◌, ◌≤◌, true, List, ◌++◌, drop, ℤ, pos, Option, Ok, refl, ap, subst, ◌∙◌, arith}
+use Rattle.std.proofs.Common.{◌≡◌, ℕ, ◌<◌, ◌≤◌, true, List, ◌++◌, drop, ℤ, pos, Option, Ok, refl, ap, subst, ◌∙◌, arith, append_assoc}
 use Rattle.std.specs.Prelude.{codes}
 use Rattle.jiff_core.specs.Calendar.{days_in_month}
 use Rattle.jiff_core.proofs.CalendarLemmas.{days_in_month_bounds}
 use Rattle.xa_value.specs.declared.read_error.ReadError.TheVariants.{NotThisType, OutOfRange}
 use Rattle.xa_value.specs.Gives.{◌>>=◌}
-use Rattle.xa_value.specs.Lexical.{has_shape, two_digits, padded, trimmed}
+use Rattle.xa_value.specs.Lexical.{has_shape, two_digits, number, padded, trimmed}
 use Rattle.xa_value.specs.Time.{ClockTime, read_clock, clock_text, day_nanos}
 use Rattle.xa_value.specs.Zone.{read_zone, zone_text}
 use Rattle.xa_value.specs.Calendar.{CivilDate, CivilDateTime, is_day, dated, date_timed, year_of, read_date, read_date_time, day_text, date_text, date_time_text}
 use Rattle.xa_value.proofs.CalendarLemmas.{day_bounds}
-use Rattle.xa_value.proofs.SolidLemmas.{Solid, Solid-append, Solid-padded, trimmed_solid}
-use Rattle.xa_value.proofs.TimeReads.{bind_ok, IsClockTime, time_in_day, clock_reads, Solid-clock_text}
-use Rattle.xa_value.proofs.ZoneLemmas.{IsZone, zone_read, zone_reads, Solid-zone_text, is_cell, two_of, if_ok_or_err}
+use Rattle.xa_value.specs.TimeGrammar.{Day, IsDay, Date as DateTree, IsDate as IsDateTree, print_date, date_value, is_date_in_range, DateTime as DateTimeTree, IsDateTime as IsDateTimeTree, print_date_time, date_time_value, is_date_time_in_range}
+use Rattle.xa_value.proofs.PrintedLemmas.{IsTreeOf, tree_reads, number-padded, digits_padded}
+use Rattle.xa_value.proofs.CalendarGrammarLemmas.{date_means, date_plain, date_time_means, date_time_plain}
+use Rattle.xa_value.proofs.TimeReads.{bind_ok, IsClockTime, time_in_day, time_tree}
+use Rattle.xa_value.proofs.ZoneLemmas.{IsZone, zone_read, zone_written, if_ok_or_err}
 
 -- a day of the calendar, in a zone in range
 abbrev IsDate : CivilDate → Type 0
@@ -58,75 +60,62 @@ date_time_read text v h =
 days_at_most_31 : (y : ℤ) (m d : ℕ) → d ≤ days_in_month y m → d ≤ 31
 days_at_most_31 y m d h = let bounds = days_in_month_bounds y m in omega arith
 
--- four printed digits are the number
-four_of : (n : ℕ) → n ≤ 9999 → (((48 + n / 10 / 10 / 10 % 10) - 48) * 10 + ((48 + n / 10 / 10 % 10) - 48)) * 100 + (((48 + n / 10 % 10) - 48) * 10 + ((48 + n % 10) - 48)) ≡ n
-four_of n h = omega arith
+-- the tree of a day
+abbrev day_tree : ℕ → ℕ → ℕ → Day
+day_tree y m d = record { year = padded 4 y; month = padded 2 m; day = padded 2 d }
 
-date_text_reads : (y m d : ℕ) (z : Option ℤ) → is_day y m d ≡ true → IsZone z → read_date (day_text y m d ++ zone_text z) ≡ Ok (record { year = y; month = m; day = d; zone = z })
-unfolding read_date has_shape day_text padded dated
-date_text_reads y m d z day offset =
+day_valid : (y m d : ℕ) → IsDay (day_tree y m d)
+day_valid y m d = record { year = digits_padded 4 y; month = digits_padded 2 m; day = digits_padded 2 d }
+
+-- its digits are the numbers
+printed_numbers : (y m d : ℕ) → is_day y m d ≡ true → (number (padded 4 y) ≡ y) × (number (padded 2 m) ≡ m) × (number (padded 2 d) ≡ d)
+printed_numbers y m d day =
     let bounds = day_bounds y m d day in
     let in_month : d ≤ 31 = days_at_most_31 (pos y) m d bounds.5 in
-    rw (
-      is_cell (y / 10 / 10 / 10),
-      is_cell (y / 10 / 10),
-      is_cell (y / 10),
-      is_cell y,
-      is_cell (m / 10),
-      is_cell m,
-      is_cell (d / 10),
-      is_cell d,
-      zone_reads z offset,
-      four_of y bounds.1,
-      two_of m (omega arith),
-      two_of d (omega arith),
-      day,
-    ) refl
+    (number-padded 4 y (omega arith), number-padded 2 m (omega arith), number-padded 2 d (omega arith))
 
-date_time_text_reads : (y m d n : ℕ) (z : Option ℤ) → is_day y m d ≡ true → n < day_nanos → IsZone z
-    → read_date_time (day_text y m d ++ codes "T" ++ clock_text n ++ zone_text z) ≡ Ok (record { year = y; month = m; day = d; nanos = n; zone = z })
-unfolding read_date_time has_shape day_text padded date_timed
-date_time_text_reads y m d n z day clock offset =
-    let bounds = day_bounds y m d day in
-    let in_month : d ≤ 31 = days_at_most_31 (pos y) m d bounds.5 in
-    rw (
-      is_cell (y / 10 / 10 / 10),
-      is_cell (y / 10 / 10),
-      is_cell (y / 10),
-      is_cell y,
-      is_cell (m / 10),
-      is_cell m,
-      is_cell (d / 10),
-      is_cell d,
-      clock_reads n z clock offset,
-      four_of y bounds.1,
-      two_of m (omega arith),
-      two_of d (omega arith),
-      day,
-    ) refl
+abbrev DateOf : List ℕ → CivilDate → Type 0
+DateOf = IsTreeOf CivilDate DateTree IsDateTree print_date date_value is_date_in_range
 
-Solid-day_text : (y m d : ℕ) → Solid (day_text y m d)
+-- the tree of a day in a zone
+date_tree : (y m d : ℕ) (z : Option ℤ) → is_day y m d ≡ true → IsZone z → DateOf (day_text y m d ++ zone_text z) (record { year = y; month = m; day = d; zone = z })
 unfolding day_text
-Solid-day_text y m d =
-    Solid-append _ (padded 2 d)
-    (Solid-append _ (codes "-")
-    (Solid-append _ (padded 2 m)
-    (Solid-append (padded 4 y) (codes "-") (Solid-padded 4 y) (refl, tt))
-    (Solid-padded 2 m))
-    (refl, tt))
-    (Solid-padded 2 d)
+date_tree y m d z day offset =
+    let k = printed_numbers y m d day in
+    let zone = zone_written z offset in
+    record {
+      tree = record { day = day_tree y m d; zone = zone.tree };
+      valid = (day_valid y m d, zone.valid);
+      whole = rw zone.text refl;
+      in_range = rw (k.0, k.1, k.2, day, zone.in_range) refl;
+      value = rw (k.0, k.1, k.2, zone.value) refl;
+    }
+
+abbrev DateTimeOf : List ℕ → CivilDateTime → Type 0
+DateTimeOf = IsTreeOf CivilDateTime DateTimeTree IsDateTimeTree print_date_time date_time_value is_date_time_in_range
+
+-- the tree of a time of a day
+date_time_tree : (y m d n : ℕ) (z : Option ℤ) → is_day y m d ≡ true → n < day_nanos → IsZone z
+    → DateTimeOf (day_text y m d ++ codes "T" ++ clock_text n ++ zone_text z) (record { year = y; month = m; day = d; nanos = n; zone = z })
+unfolding day_text
+date_time_tree y m d n z day clock offset =
+    let k = printed_numbers y m d day in
+    let t = time_tree n z clock offset in
+    record {
+      tree = record { day = day_tree y m d; time = t.tree };
+      valid = (day_valid y m d, t.valid);
+      whole = append_assoc (day_text y m d ++ codes "T") (clock_text n) (zone_text z) ∙ ap (λ s. day_text y m d ++ codes "T" ++ s) t.whole;
+      in_range = rw (k.0, k.1, k.2, day, t.in_range) refl;
+      value = rw (k.0, k.1, k.2) (ap (λ (c : ClockTime). record { year = y; month = m; day = d; nanos = c.nanos; zone = c.zone }) t.value);
+    }
 
 pub date_reads : (text : List ℕ) (v : CivilDate) → read_date text ≡ Ok v → read_date (trimmed (date_text v)) ≡ Ok v
 date_reads text v h =
     let k = date_read text v h in
-    ap read_date (trimmed_solid (date_text v) (Solid-append (day_text v.year v.month v.day) (zone_text v.zone) (Solid-day_text v.year v.month v.day) (Solid-zone_text v.zone)))
-    ∙ date_text_reads v.year v.month v.day v.zone k.0 k.1
+    tree_reads IsDateTree print_date date_value is_date_in_range read_date (date_text v) v date_means date_plain (date_tree v.year v.month v.day v.zone k.0 k.1)
 
 pub date_time_reads : (text : List ℕ) (v : CivilDateTime) → read_date_time text ≡ Ok v → read_date_time (trimmed (date_time_text v)) ≡ Ok v
 date_time_reads text v h =
     let k = date_time_read text v h in
-    let solid : Solid (date_time_text v) =
-    Solid-append _ (zone_text v.zone)
-    (Solid-append _ (clock_text v.nanos) (Solid-append (day_text v.year v.month v.day) (codes "T") (Solid-day_text v.year v.month v.day) (refl, tt)) (Solid-clock_text v.nanos))
-    (Solid-zone_text v.zone) in
-    ap read_date_time (trimmed_solid (date_time_text v) solid) ∙ date_time_text_reads v.year v.month v.day v.nanos v.zone k.0 k.1 k.2
+    tree_reads IsDateTimeTree print_date_time date_time_value is_date_time_in_range read_date_time (date_time_text v) v
+    date_time_means date_time_plain (date_time_tree v.year v.month v.day v.nanos v.zone k.0 k.1 k.2)

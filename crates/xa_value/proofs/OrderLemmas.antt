@@ -7,24 +7,43 @@ use Rattle.std.specs.Cmp.Lexicographic.{slice_cmp}
 use Rattle.std.specs.declared.cmp.Ordering.{Ordering}
 use Rattle.std.specs.declared.cmp.Ordering.TheVariants.{Less, Equal, Greater}
 use Rattle.std.proofs.lemmas.Cmp.{int_cmp_total, nat_list_cmp_total, on_total, then_total, nat_eq_equiv, int_eq_equiv, nat_list_eq_equiv, and_equiv, on_equiv}
-use Rattle.std.proofs.lemmas.Bool.{eqb-true}
+use Rattle.std.proofs.lemmas.Bool.{eqb-true, and_parts}
+use Rattle.std.proofs.lemmas.Slice.Eq.{bytes_eq-Decides}
 use Rattle.std.proofs.lemmas.Bool.Decides.{Decides-int_eq}
 use Rattle.std.proofs.lemmas.Map.Text.{is_eq-slice_cmp}
 use Rattle.xa_value.specs.declared.data_type.DataType.{DataType}
 use Rattle.xa_value.specs.declared.data_type.DataType.TheVariants.{String, Boolean, Integer, Date, Time, DateTime, DayTimeDuration, YearMonthDuration, AnyUri, HexBinary, Base64Binary}
 use Rattle.xa_value.specs.Types.{all_types}
 use Rattle.xa_value.specs.declared.value.Value.{Value}
-use Rattle.xa_value.specs.Order.{place_of, type_of, number_of, bytes_of, same, is_ordered, compared, order, IsOrder}
+use Rattle.xa_value.specs.Order.{place_of, type_of, number_of, bytes_of, NumberAndBytes, key_of, compare_keys, equal_keys, same, is_ordered, order, IsOrder, KeysTellApart}
+
+-- equal keys are an equivalence
+pub keys_equal : IsEquivalence equal_keys
+keys_equal = and_equiv (on_equiv (λ k. k.number) int_eq_equiv) (on_equiv (λ k. k.bytes) nat_list_eq_equiv)
+
+-- keys are equal where they compare as equal
+pub keys_match : (j k : NumberAndBytes) → equal_keys j k ≡ is_eq (compare_keys j k)
+keys_match j k = by_number (int_cmp j.number k.number) refl where
+  by_number : (o : Ordering) → int_cmp j.number k.number ≡ o → equal_keys j k ≡ is_eq (ordering_then (int_cmp j.number k.number) (slice_cmp nat_cmp j.bytes k.bytes))
+  by_number Less e = rw e refl
+  by_number Greater e = rw e refl
+  by_number Equal e = rw e (sym (is_eq-slice_cmp j.bytes k.bytes))
 
 -- `same` is an equivalence
 pub same_is_equivalence : IsEquivalence same
 unfolding same
-same_is_equivalence = and_equiv (and_equiv (on_equiv (λ v. place_of (type_of v)) nat_eq_equiv) (on_equiv number_of int_eq_equiv)) (on_equiv bytes_of nat_list_eq_equiv)
+same_is_equivalence = and_equiv (on_equiv (λ v. place_of (type_of v)) nat_eq_equiv) (on_equiv key_of keys_equal)
 
--- values compare totally by number and bytes
+-- keys compare totally
+pub keys_ordered : IsTotalOrder compare_keys
+keys_ordered = then_total (on_total (λ k. k.number) int_cmp_total) (on_total (λ k. k.bytes) nat_list_cmp_total)
+
+-- values compare totally by their keys
+abbrev compared : Value → Value → Ordering
+compared a b = compare_keys (key_of a) (key_of b)
+
 compared_is_total : IsTotalOrder compared
-unfolding compared
-compared_is_total = then_total (on_total number_of int_cmp_total) (on_total bytes_of nat_list_cmp_total)
+compared_is_total = on_total key_of keys_ordered
 
 -- the type at a place
 type_at : ℕ → DataType
@@ -92,7 +111,7 @@ equal_bytes : (xs ys : List ℕ) → slice_cmp nat_cmp xs ys ≡ Equal → bytes
 equal_bytes xs ys e = sym (is_eq-slice_cmp xs ys) ∙ ap is_eq e
 
 same_from_equal : (a b : Value) → order a b ≡ Some Equal → same a b ≡ true
-unfolding same compared
+unfolding same
 same_from_equal a b h =
     let k = ordered a b Equal h in
     let parts = both_equal _ _ k.outcome in
@@ -123,6 +142,48 @@ order_transitive a b c h k =
     let e : (place_of (type_of a) == place_of (type_of c)) ≡ true = nat_eq_equiv.congr (place_of (type_of a)) (place_of (type_of b)) (place_of (type_of c)) first.place ∙ second.place in
     order_alike a c e first.has_order ∙ ap Some (compared_is_total.trans a b c first.outcome second.outcome)
 
+-- what two values that are the same have in common
+same_places : (a b : Value) → same a b ≡ true → (place_of (type_of a) == place_of (type_of b)) ≡ true
+unfolding same
+same_places a b e = (and_parts (place_of (type_of a) == place_of (type_of b)) (equal_keys (key_of a) (key_of b)) e).0
+
+same_keys : (a b : Value) → same a b ≡ true → equal_keys (key_of a) (key_of b) ≡ true
+unfolding same
+same_keys a b e = (and_parts (place_of (type_of a) == place_of (type_of b)) (equal_keys (key_of a) (key_of b)) e).1
+
+same_number : (a b : Value) → same a b ≡ true → number_of a ≡ number_of b
+same_number a b e =
+    (Decides-int_eq (number_of a) (number_of b)).0 (and_parts (int_eq (number_of a) (number_of b)) (bytes_eq (bytes_of a) (bytes_of b)) (same_keys a b e)).0
+
+same_bytes : (a b : Value) → same a b ≡ true → bytes_of a ≡ bytes_of b
+same_bytes a b e =
+    (bytes_eq-Decides (bytes_of a) (bytes_of b)).0 (and_parts (int_eq (number_of a) (number_of b)) (bytes_eq (bytes_of a) (bytes_of b)) (same_keys a b e)).1
+
+equal_from_is_eq : (o : Ordering) → is_eq o ≡ true → o ≡ Equal
+equal_from_is_eq Equal e = refl
+equal_from_is_eq Less e = absurd (cc)
+equal_from_is_eq Greater e = absurd (cc)
+
+order_tied : (a b : Value) → is_ordered (type_of a) ≡ true → same a b ≡ true → order a b ≡ Some Equal
+order_tied a b o e =
+    order_alike a b (same_places a b e) o ∙ ap Some (equal_from_is_eq (compared a b) (sym (keys_match (key_of a) (key_of b)) ∙ same_keys a b e))
+
+order_congruent : (a b c : Value) → same a b ≡ true → order a c ≡ order b c
+unfolding order
+order_congruent a b c e =
+    rw (same_place (type_of a) (type_of b) (same_places a b e), same_number a b e, same_bytes a b e) refl
+
 -- `order` orders what it compares
 pub order_is_order : IsOrder
-order_is_order = record { equal = same_from_equal; reversed = order_reversed; transitive = order_transitive }
+order_is_order = record { equal = same_from_equal; tied = order_tied; congruent = order_congruent; reversed = order_reversed; transitive = order_transitive }
+
+-- of one type, keys compare as equal exactly where values are the same
+pub keys_tell_apart : KeysTellApart
+unfolding same
+keys_tell_apart a b e = rw (here, keys_match (key_of a) (key_of b)) refl where
+  here : (place_of (type_of a) == place_of (type_of b)) ≡ true
+  here = ap (λ t. place_of t == place_of (type_of b)) e ∙ nat_eq_equiv.refl (place_of (type_of b))
+
+-- values that are the same are of one type
+pub same_types : (a b : Value) → same a b ≡ true → type_of a ≡ type_of b
+same_types a b e = same_place (type_of a) (type_of b) (same_places a b e)

@@ -1,7 +1,7 @@
 -- Texts without white space stay as they are when they are trimmed.
-use Rattle.std.proofs.Common.{◌≡◌, ℕ, zero, suc, ◌+◌, ◌-◌, ◌/◌, ◌%◌, ◌<◌, Bool, true, false, List, [], ◌∷◌, ◌++◌, length, get_or, refl, ap, ◌∙◌, arith}
+use Rattle.std.proofs.Common.{◌≡◌, ℕ, zero, suc, ◌-◌, ◌<◌, Bool, true, false, List, [], ◌∷◌, ◌++◌, length, get_or, refl, ap, ◌∙◌, arith}
 use Rattle.std.proofs.lemmas.Bool.Decides.{nat_tests}
-use Rattle.xa_value.specs.Lexical.{is_blank, trimmed_start, trimmed_end, trimmed, padded, digit_count}
+use Rattle.xa_value.specs.Lexical.{is_blank, trimmed_start, trimmed_end, trimmed, digit_count}
 use Rattle.xa_value.specs.Binary.{without_blanks}
 use Rattle.xa_value.proofs.LexicalLemmas.{last_other, trimmed_end_none}
 use Rattle.xa_value.proofs.TimeLemmas.{digits_cons, digit_bounds}
@@ -36,11 +36,6 @@ trimmed_end_solid (x ∷ xs) p = last_other (x ∷ xs) (omega arith) (Solid-at (
 -- such a text has nothing to trim
 pub trimmed_solid : (xs : List ℕ) → Solid xs → trimmed xs ≡ xs
 trimmed_solid xs p = ap trimmed_end (trimmed_start_solid xs p) ∙ trimmed_end_solid xs p
-
-pub Solid-padded : (count n : ℕ) → Solid (padded count n)
-unfolding padded
-Solid-padded zero n = tt
-Solid-padded (suc count) n = Solid-append (padded count (n / 10)) ((48 + n % 10) ∷ []) (Solid-padded count (n / 10)) (not_blank (48 + n % 10) (omega arith), tt)
 
 pub Solid-digits : (ds : List ℕ) → digit_count ds ≡ length ds → Solid ds
 Solid-digits [] h = tt

@@ -2,7 +2,7 @@
 use Rattle.std.specs.Prelude.{ℕ, ◌+◌, ◌*◌, ◌/◌, ◌%◌, Bool, not, ◌&&◌, ◌||◌, ◌==◌, nat_le, nat_lt, if◌then◌else◌, List, [], ◌∷◌, ◌++◌, codes, length, take, drop, decimal, ℤ, pos, neg_ℤ, unsigned_abs, int_lt, ◌≤ℤ◌, Result, Ok, Err}
 use Rattle.xa_value.specs.declared.read_error.ReadError.{ReadError}
 use Rattle.xa_value.specs.declared.read_error.ReadError.TheVariants.{NotThisType, OutOfRange}
-use Rattle.xa_value.specs.Lexical.{begins_with, digit_count, number}
+use Rattle.xa_value.specs.Lexical.{begins_with, digit_count, number, with_sign}
 use Rattle.xa_value.specs.Time.{fraction_length, fraction_digits, nanoseconds, fraction_text}
 
 -- how many digits stand before the unit, where the text begins with a part of that unit
@@ -44,7 +44,7 @@ without_minus text = if begins_with 45 text then drop 1 text else text
 -- a magnitude with its sign, at most so great
 unfoldable pub within : ℕ → Bool → ℕ → Result ℤ ReadError
 within most negative n =
-    if nat_le n most then Ok (if negative then neg_ℤ (pos n) else pos n) else Err OutOfRange
+    if nat_le n most then Ok (with_sign negative n) else Err OutOfRange
 
 -- 10,000 years, in months
 abbrev pub most_months : ℕ

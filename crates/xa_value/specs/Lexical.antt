@@ -1,5 +1,5 @@
 -- The characters of a value's text: white space, digits and shapes (XML Schema, part 2, sections 2.3 and 4.3.6).
-use Rattle.std.specs.Prelude.{ℕ, zero, suc, ◌+◌, ◌-◌, ◌*◌, ◌/◌, ◌%◌, Bool, true, false, ◌&&◌, ◌||◌, ◌==◌, if◌then◌else◌, List, [], ◌∷◌, ◌++◌, length, reverse, slice_index, nat_lt}
+use Rattle.std.specs.Prelude.{ℕ, zero, suc, ◌+◌, ◌-◌, ◌*◌, ◌/◌, ◌%◌, Bool, true, false, ◌&&◌, ◌||◌, ◌==◌, if◌then◌else◌, List, [], ◌∷◌, ◌++◌, length, reverse, slice_index, nat_lt, ℤ, pos, neg_ℤ}
 use Rattle.std.specs.List.{prefix_len}
 use Rattle.std.specs.Char.{is_ascii_digit}
 
@@ -55,6 +55,10 @@ number_after n (d ∷ ds) = number_after (n * 10 + (d - 48)) ds
 -- the number that digits write
 abbrev pub number : List ℕ → ℕ
 number digits = number_after 0 digits
+
+-- a magnitude and its sign
+abbrev pub with_sign : Bool → ℕ → ℤ
+with_sign negative n = if negative then neg_ℤ (pos n) else pos n
 
 -- the last so many digits of a number
 unfoldable pub padded : ℕ → ℕ → List ℕ

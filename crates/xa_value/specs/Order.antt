@@ -1,6 +1,6 @@
 -- Equality and order of values (XACML 3.0, core, appendix A.3; XML Schema, part 2, section 3.2.7.4).
 use Rattle.std.specs.Prelude.{◌≡◌, option_map, ℕ, Bool, true, false, ◌&&◌, ◌==◌, if◌then◌else◌, List, [], bytes_eq, ℤ, pos, Option, Some, None}
-use Rattle.std.specs.Ordering.{int_eq, int_cmp, nat_cmp, on, then_cmp, ordering_reverse}
+use Rattle.std.specs.Ordering.{int_eq, int_cmp, nat_cmp, on, then_cmp, ordering_reverse, is_eq}
 use Rattle.std.specs.Cmp.Lexicographic.{slice_cmp}
 use Rattle.std.specs.declared.cmp.Ordering.{Ordering}
 use Rattle.std.specs.declared.cmp.Ordering.TheVariants.{Less, Equal}
@@ -57,10 +57,6 @@ place_of type.AnyUri = 8
 place_of type.HexBinary = 9
 place_of type.Base64Binary = 10
 
--- the same type, number and bytes
-unfoldable pub same : Value → Value → Bool
-same a b = (place_of (type_of a) == place_of (type_of b)) && int_eq (number_of a) (number_of b) && bytes_eq (bytes_of a) (bytes_of b)
-
 -- strings, integers, dates and times have an order
 abbrev pub is_ordered : DataType → Bool
 is_ordered type.String = true
@@ -70,17 +66,42 @@ is_ordered type.Time = true
 is_ordered type.DateTime = true
 is_ordered _ = false
 
+-- what the values of one type are ordered by: a number, and then bytes
+pub record NumberAndBytes : Type 0 where
+  pub number : ℤ
+  pub bytes : List ℕ
+
+abbrev pub number_and_bytes : ℤ → List ℕ → NumberAndBytes
+number_and_bytes z bs = record { number = z; bytes = bs }
+
 -- by the number, and then by the bytes
-unfoldable pub compared : Value → Value → Ordering
-compared = then_cmp (on number_of int_cmp) (on bytes_of (slice_cmp nat_cmp))
+abbrev pub compare_keys : NumberAndBytes → NumberAndBytes → Ordering
+compare_keys = then_cmp (on (λ k. k.number) int_cmp) (on (λ k. k.bytes) (slice_cmp nat_cmp))
+
+-- the same number, and the same bytes
+abbrev pub equal_keys : NumberAndBytes → NumberAndBytes → Bool
+equal_keys j k = int_eq j.number k.number && bytes_eq j.bytes k.bytes
+
+abbrev pub key_of : Value → NumberAndBytes
+key_of v = number_and_bytes (number_of v) (bytes_of v)
+
+-- the same type, number and bytes
+unfoldable pub same : Value → Value → Bool
+same a b = (place_of (type_of a) == place_of (type_of b)) && equal_keys (key_of a) (key_of b)
 
 -- the order of two values of one type that has an order
 unfoldable pub order : Value → Value → Option Ordering
 order a b =
-    if (place_of (type_of a) == place_of (type_of b)) && is_ordered (type_of a) then Some (compared a b) else None
+    if (place_of (type_of a) == place_of (type_of b)) && is_ordered (type_of a) then Some (compare_keys (key_of a) (key_of b)) else None
 
--- `order` orders the values that it compares
+-- `order` orders the values that it compares, and agrees with `same`
 pub record IsOrder : Type 0 where
   pub equal : (a b : Value) → order a b ≡ Some Equal → same a b ≡ true
+  pub tied : (a b : Value) → is_ordered (type_of a) ≡ true → same a b ≡ true → order a b ≡ Some Equal
+  pub congruent : (a b c : Value) → same a b ≡ true → order a c ≡ order b c
   pub reversed : (a b : Value) → order a b ≡ option_map ordering_reverse (order b a)
   pub transitive : (a b c : Value) → order a b ≡ Some Less → order b c ≡ Some Less → order a c ≡ Some Less
+
+-- of two values of one type, the keys compare as equal exactly where the values are the same
+abbrev pub KeysTellApart : Type 0
+KeysTellApart = (a b : Value) → type_of a ≡ type_of b → same a b ≡ is_eq (compare_keys (key_of a) (key_of b))

@@ -1,5 +1,5 @@
--- The value that a text stands for under a data type (XACML 3.0, core, appendix A.2).
-use Rattle.std.specs.Prelude.{ℕ, List, Result, Ok, Err}
+-- The value that a text stands for under a data type (XACML 3.0, core, appendix A.2). `Grammar` says the same by grammars.
+use Rattle.std.specs.Prelude.{ℕ, Bool, true, false, List, Result, Ok, Err}
 use Rattle.xa_value.specs.declared.data_type.DataType.{DataType}
 use Rattle.xa_value.specs.declared.data_type.DataType.TheVariants as type
 use Rattle.xa_value.specs.declared.value.Value.{Value}
@@ -30,3 +30,11 @@ read type.YearMonthDuration text = read_as value.YearMonthDuration (read_year_mo
 read type.AnyUri text = Ok (value.AnyUri (trimmed text))
 read type.HexBinary text = read_as value.HexBinary (read_hex (trimmed text))
 read type.Base64Binary text = read_as value.Base64Binary (read_base64 (trimmed text))
+
+-- the types whose values hold text or bytes: reading one of them alone may want memory
+abbrev pub grows : DataType → Bool
+grows type.String = true
+grows type.AnyUri = true
+grows type.HexBinary = true
+grows type.Base64Binary = true
+grows _ = false

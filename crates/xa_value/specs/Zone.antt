@@ -2,7 +2,7 @@
 use Rattle.std.specs.Prelude.{ℕ, ◌+◌, ◌*◌, ◌/◌, ◌%◌, Bool, ◌&&◌, ◌||◌, ◌==◌, nat_le, if◌then◌else◌, List, [], ◌++◌, codes, length, ℤ, pos, neg_ℤ, negsuc, ◌≤ℤ◌, Option, Some, None, Result, Ok, Err, bytes_eq, suc}
 use Rattle.xa_value.specs.declared.read_error.ReadError.{ReadError}
 use Rattle.xa_value.specs.declared.read_error.ReadError.TheVariants.{NotThisType, OutOfRange}
-use Rattle.xa_value.specs.Lexical.{has_shape, two_digits, begins_with, padded}
+use Rattle.xa_value.specs.Lexical.{has_shape, two_digits, begins_with, with_sign, padded}
 
 -- offsets reach 14 hours to either side
 abbrev pub IsOffset : ℤ → Type 0
@@ -12,15 +12,11 @@ IsOffset minutes = (neg_ℤ (pos 840) ≤ℤ minutes) × (minutes ≤ℤ pos 840
 abbrev pub is_offset_text : List ℕ → Bool
 is_offset_text text = (length text == 6) && (has_shape (codes "+99:99") text || has_shape (codes "-99:99") text)
 
--- so many minutes before or after UTC
-abbrev pub signed_minutes : Bool → ℕ → ℤ
-signed_minutes negative minutes = if negative then neg_ℤ (pos minutes) else pos minutes
-
 -- the offset of a text of that shape: minutes below 60, and at most 14 hours in all
 unfoldable pub read_offset : List ℕ → Result (Option ℤ) ReadError
 read_offset text =
     let minutes = two_digits text 1 * 60 + two_digits text 4 in
-    if nat_le (two_digits text 4) 59 && nat_le minutes 840 then Ok (Some (signed_minutes (begins_with 45 text) minutes))
+    if nat_le (two_digits text 4) 59 && nat_le minutes 840 then Ok (Some (with_sign (begins_with 45 text) minutes))
     else Err OutOfRange
 
 -- the zone of a text

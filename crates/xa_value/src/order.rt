@@ -3,9 +3,10 @@ ghost use Rattle.std.specs.Cmp.{IsEquivalence};
 ghost use Rattle.jiff_core.specs.Calendar.{IsBetween};
 ghost use Rattle.xa_value.specs.Calendar.{instant};
 ghost use Rattle.xa_value.specs.Zone.{offset_of};
-ghost use Rattle.xa_value.specs.Order.{place_of, type_of, number_of, bytes_of, same, is_ordered, compared, order, IsOrder};
+ghost use Rattle.xa_value.specs.Order.{place_of, type_of, number_of, bytes_of, key_of, compare_keys, same, is_ordered, order, IsOrder, KeysTellApart};
 
 use crate::data_type::DataType;
+use crate::sort_key::SortKey;
 use crate::time::{DAY, MINUTE};
 use crate::value::Value;
 use crate::zone::{Offset, offset_of};
@@ -85,6 +86,14 @@ impl Value {
         }
     }
 
+    /// What the value is ordered by among those of its type, and equal by.
+    pub fn sort_key(&self) -> SortKey<'_>
+        ensures value { result ≡ key_of self.now }
+        ensures law { KeysTellApart }
+    {
+        SortKey::new(self.number(), self.bytes())
+    }
+
     /// Whether the values are equal: of one type, and of the same instant, number or bytes.
     #[tactic(auto, unfolding(crate::specs::Order::same))]
     pub fn same(&self, other: &Value) -> bool
@@ -110,9 +119,8 @@ impl Value {
     }
 
     /// The order by the number, and then by the bytes.
-    #[tactic(auto, unfolding(crate::specs::Order::compared))]
     fn compared(&self, other: &Value) -> Ordering
-        ensures { result ≡ compared self.now other.now }
+        ensures { result ≡ compare_keys (key_of self.now) (key_of other.now) }
     {
         self.number()
             .cmp(&other.number())

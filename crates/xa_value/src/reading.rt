@@ -1,5 +1,6 @@
+ghost use Rattle.std.specs.Prelude.{◌≡◌, false};
 ghost use Rattle.xa_value.specs.Gives.{Gives};
-ghost use Rattle.xa_value.specs.Reading.{read};
+ghost use Rattle.xa_value.specs.Reading.{grows, read};
 
 use crate::binary::{read_base64, read_hex};
 use crate::calendar::{read_date, read_date_time};
@@ -16,7 +17,8 @@ use std::alloc::Global;
 impl Value {
     /// The value that the text stands for under the type. White space at its ends is dropped, but of a string.
     pub fn read(alloc: Global, data_type: DataType, text: &str) -> Result<Value, ReadError>
-        ensures { Gives result (read data_type text.now) }
+        ensures value { Gives result (read data_type text.now) }
+        ensures exact { grows data_type ≡ false → result ≡ read data_type text.now }
     {
         let bytes = trimmed(text.as_bytes());
         match data_type {

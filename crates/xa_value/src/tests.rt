@@ -1,6 +1,6 @@
 //! Texts of each type with what they print, texts that are refused, and pairs of values with their order.
 use crate::{
-    DataType, Date, DateTime, DayTimeDuration, Offset, ReadError, Text, Time, Value,
+    Boxed, DataType, Date, DateTime, DayTimeDuration, Offset, ReadError, Shared, Text, Time, Value,
     YearMonthDuration,
 };
 use jiff_core::civil;
@@ -244,6 +244,19 @@ fn made_values(rt: HostRuntime) {
     assert_eq!(rt; YearMonthDuration::new(120_001), None);
 }
 
+#[test]
+fn held_values(rt: HostRuntime) {
+    let alloc = rt.alloc();
+    let one = Boxed::new(alloc, Value::Integer(1)).expect(&rt, "memory");
+    let two = Boxed::new(alloc, Value::Integer(2)).expect(&rt, "memory");
+    assert!(rt; *one.get() == Value::Integer(1) && one == one && one != two);
+    assert!(rt; two.into_inner() == Value::Integer(2));
+    let share = Shared::new(alloc, Value::Integer(3)).expect(&rt, "memory");
+    let other = share.clone().expect(&rt, "memory");
+    drop(share);
+    assert!(rt; *other.get() == Value::Integer(3));
+}
+
 /// Rows `type left right`, of which the left value is less, equal or greater, by a letter before them.
 const ORDERED: &str = "< string a b|< string 10 9|< string \u{ffff} \u{10000}|= string a a\
     |> integer 10 9|< integer -5 4|< time 01:00:00+02:00 23:00:00Z|= time 12:00:00 12:00:00Z\
@@ -274,10 +287,15 @@ fn sameness_and_order(rt: HostRuntime) {
         assert!(rt; order == wanted, "{left:?} and {right:?}: {order}");
         assert!(rt; left.same(&right) == (wanted == "=" || wanted == "s"));
         assert!(rt; left.same(&left) && left.data_type() == data_type);
+        let (left, right) = (left.sort_key(), right.sort_key());
+        assert!(rt; (left == right) == (wanted == "=" || wanted == "s"));
+        assert!(rt; (left < right) == (left.cmp(&right) == Ordering::Less));
+        assert!(rt; wanted != "<" || left < right);
     }
     let one = Value::Integer(1);
     let text = Value::String(Text::new(alloc, "1").expect(&rt, "memory"));
     assert!(rt; !one.same(&text) && one.order(&text).is_none());
     assert!(rt; one.clone().expect(&rt, "memory") == one && one != text);
     Value::reads_back(DataType::Integer, "1");
+    Value::agrees_with_grammar(DataType::Integer, "1");
 }

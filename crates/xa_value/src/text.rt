@@ -1,7 +1,9 @@
 ghost use Rattle.std.specs.Prelude.{◌≡◌, nat_eq, string_bytes, IfOk};
 ghost use Rattle.std.specs.Cmp.{partial_equiv_from_equiv};
 ghost use Rattle.std.specs.Cmp.Lexicographic.{pointwise, nat_list_eq_equiv};
+ghost use Rattle.xa_value.specs.Lexical.{trimmed};
 
+use crate::lexical::trimmed_text;
 use std::alloc::{AllocError, Global};
 use std::marker::Model;
 
@@ -48,6 +50,14 @@ impl Text {
         ensures { result.now ≡ self.now }
     {
         self.string.as_bytes()
+    }
+
+    /// A copy without the white space at the text's ends: space, tab, carriage return and line feed (XML Schema, part 2,
+    /// section 4.3.6).
+    pub fn trimmed(&self, alloc: Global) -> Result<Text, AllocError>
+        ensures { IfOk result (λ t. t ≡ trimmed self.now) }
+    {
+        Text::new(alloc, trimmed_text(self.as_str()))
     }
 }
 

@@ -1,5 +1,5 @@
 ghost use Rattle.std.specs.Prelude.{◌≡◌, ◌++◌, neg_ℤ, if◌then◌else◌, OnOk, string_bytes, length, IfOk, pos, SomeIff};
-ghost use Rattle.xa_value.specs.Zone.{IsOffset, is_offset_text, signed_minutes, read_offset, read_zone, offset_text, zone_text, offset_of};
+ghost use Rattle.xa_value.specs.Zone.{IsOffset, is_offset_text, read_offset, read_zone, offset_text, zone_text, offset_of};
 
 use crate::lexical::{begins_with, has_shape, push_padded, two_digits};
 use crate::read_error::ReadError;
