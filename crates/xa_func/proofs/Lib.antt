@@ -1,5 +1,6 @@
 pub mod LogicLemmas
 pub mod DateLemmas
 pub mod NameLemmas
+pub mod PlaceLemmas
 pub mod TableLemmas
 pub mod TypingLemmas

@@ -1,11 +1,12 @@
 -- What each function of values gives (XACML 3.0, core, appendix A.3).
-use Rattle.std.specs.Prelude.{ℕ, List, [], ◌∷◌, Result, Ok}
+use Rattle.std.specs.Prelude.{ℕ, Bool, true, false, List, [], ◌∷◌, Result, Ok}
 use Rattle.std.specs.List.{concat}
 use Rattle.xa_value.specs.declared.value.Value.{Value}
 use Rattle.xa_value.specs.declared.value.Value.TheVariants as value
 use Rattle.xa_value.specs.Lexical.{trimmed}
 use Rattle.xa_value.specs.Order.{same}
 use Rattle.xa_value.specs.Printing.{printed}
+use Rattle.xa_value.specs.Reading.{grows as reading_grows}
 use Rattle.xa_func.specs.declared.func_id.FuncId.{FuncId}
 use Rattle.xa_func.specs.declared.func_id.FuncId.TheVariants as function
 use Rattle.xa_func.specs.declared.func_id.TextFunction.{TextFunction}
@@ -68,3 +69,10 @@ applied (function.FromString t) vs = value_read t vs
 applied (function.Move m d) vs = moved m d vs
 applied function.TimeInRange vs = in_range vs
 applied _ _ = misfit
+
+-- the functions whose result holds text, or is read from one: they alone may want memory
+abbrev pub grows : FuncId → Bool
+grows (function.Text f) = true
+grows (function.StringFrom t) = true
+grows (function.FromString t) = reading_grows (printed_type t)
+grows _ = false

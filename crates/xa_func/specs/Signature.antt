@@ -1,5 +1,5 @@
 -- What each function takes and gives (XACML 3.0, core, appendix A.3).
-use Rattle.std.specs.Prelude.{◌≡◌, ℕ, ◌≤◌, Bool, nat_le, ◌==◌, if◌then◌else◌, List, [], ◌∷◌, map, length, slice_get, Option, Some}
+use Rattle.std.specs.Prelude.{◌≡◌, ℕ, ◌≤◌, ◌<◌, Bool, IsTrue, nat_le, ◌==◌, if◌then◌else◌, List, [], ◌∷◌, map, length, slice_get, Option, Some}
 use Rattle.xa_value.specs.declared.data_type.DataType.{DataType}
 use Rattle.xa_value.specs.declared.data_type.DataType.TheVariants as type
 use Rattle.xa_value.specs.declared.value.Value.{Value}
@@ -130,6 +130,16 @@ Fits (Three k l m) ks = ks ≡ k ∷ l ∷ m ∷ []
 Fits (AtLeast least k) ks = (least ≤ length ks) × Every k ks
 Fits (OneAndMore k l) [] = ⊥
 Fits (OneAndMore k l) (m ∷ ms) = (m ≡ k) × Every l ms
+
+-- there are so many arguments as the function takes, each of the kind that belongs at its place
+pub record EachInPlace (parameters : Parameters) (ks : List Kind) : Type 0 where
+  pub counted : IsTrue (takes parameters (length ks))
+  pub placed : (place : ℕ) → place < length ks → kind_at parameters place ≡ slice_get ks place
+
+-- arguments fit exactly where their number does, and each of them at its place
+pub record IsByPlaces (parameters : Parameters) : Type 0 where
+  pub each : (ks : List Kind) → Fits parameters ks → EachInPlace parameters ks
+  pub whole : (ks : List Kind) → EachInPlace parameters ks → Fits parameters ks
 
 -- arguments of these kinds are what a function of the signature takes
 abbrev pub AcceptsKinds : Signature → List Kind → Type 0

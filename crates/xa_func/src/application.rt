@@ -1,8 +1,9 @@
-ghost use Rattle.std.specs.Prelude.{IfOk, IsTrue};
+ghost use Rattle.std.specs.Prelude.{◌≡◌, false, IfOk, IsTrue};
 ghost use Rattle.xa_func.specs.Fault.{Gives};
-ghost use Rattle.xa_func.specs.Table.{is_scalar};
+ghost use Rattle.xa_value.specs.Reading.{grows as reading_grows};
+ghost use Rattle.xa_func.specs.Table.{is_scalar, printed_type};
 ghost use Rattle.xa_func.specs.Signature.{Accepts, IsResult, signature_of};
-ghost use Rattle.xa_func.specs.Application.{applied};
+ghost use Rattle.xa_func.specs.Application.{applied, grows};
 ghost use Rattle.xa_func.specs.declared.func_id.FuncId.TheVariants as function_id;
 ghost use Rattle.xa_func.specs.declared.func_id.Logic.TheVariants as logic;
 ghost use Rattle.xa_func.specs.declared.func_id.Moved.TheVariants as moved_by;
@@ -25,14 +26,14 @@ use crate::func_id::{
     TextFunction, TextPart, TextType,
 };
 use crate::logic::{all_true, any_true, n_of};
-use crate::text::{concatenated, has_part, normalized, substring};
+use crate::text::{concatenated, has_part, substring};
 use std::alloc::Global;
 use xa_value::{DataType, Value};
 
 /// Whether two values of the type are equal.
 fn equal(data_type: DataType, arguments: &[Value]) -> Result<Value, FuncFault>
     requires { Accepts (signature_of (function_id.Equal data_type)) arguments.now }
-    ensures value { Gives result (applied (function_id.Equal data_type) arguments.now) }
+    ensures value { result ≡ applied (function_id.Equal data_type) arguments.now }
     ensures typed { IfOk result (IsResult (signature_of (function_id.Equal data_type))) }
 {
     let (left, right) = two(arguments);
@@ -46,7 +47,7 @@ fn compare(
     arguments: &[Value],
 ) -> Result<Value, FuncFault>
     requires { Accepts (signature_of (function_id.Compare comparison ordered)) arguments.now }
-    ensures value { Gives result (applied (function_id.Compare comparison ordered) arguments.now) }
+    ensures value { result ≡ applied (function_id.Compare comparison ordered) arguments.now }
     ensures typed { IfOk result (IsResult (signature_of (function_id.Compare comparison ordered))) }
 {
     let (left, right) = two(arguments);
@@ -56,7 +57,7 @@ fn compare(
 /// A function of integers, from left to right.
 fn calculate(function: Arithmetic, arguments: &[Value]) -> Result<Value, FuncFault>
     requires { Accepts (signature_of (function_id.Arithmetic function)) arguments.now }
-    ensures value { Gives result (applied (function_id.Arithmetic function) arguments.now) }
+    ensures value { result ≡ applied (function_id.Arithmetic function) arguments.now }
     ensures typed { IfOk result (IsResult (signature_of (function_id.Arithmetic function))) }
 {
     Ok(Value::Integer(arithmetic(function, arguments)?))
@@ -65,7 +66,7 @@ fn calculate(function: Arithmetic, arguments: &[Value]) -> Result<Value, FuncFau
 /// The absolute value of an integer.
 fn integer_abs(arguments: &[Value]) -> Result<Value, FuncFault>
     requires { Accepts (signature_of function_id.IntegerAbs) arguments.now }
-    ensures value { Gives result (applied function_id.IntegerAbs arguments.now) }
+    ensures value { result ≡ applied function_id.IntegerAbs arguments.now }
     ensures typed { IfOk result (IsResult (signature_of function_id.IntegerAbs)) }
 {
     Ok(Value::Integer(absolute(integer_of(one(arguments)))?))
@@ -84,15 +85,20 @@ fn string_from(alloc: Global, printed: PrintedType, arguments: &[Value]) -> Resu
 fn from_string(alloc: Global, printed: PrintedType, arguments: &[Value]) -> Result<Value, FuncFault>
     requires { Accepts (signature_of (function_id.FromString printed)) arguments.now }
     ensures value { Gives result (applied (function_id.FromString printed) arguments.now) }
+    ensures exact { reading_grows (printed_type printed) ≡ false → result ≡ applied (function_id.FromString printed) arguments.now }
     ensures typed { IfOk result (IsResult (signature_of (function_id.FromString printed))) }
 {
-    value_of(alloc, printed.data_type(), string_of(one(arguments)))
+    value_of(
+        alloc,
+        printed.data_type(),
+        string_of(one(arguments)).as_str(),
+    )
 }
 
 /// Whether one of the booleans, or each of them, or so many of them are true; or the negation of one.
 fn decide(function: Logic, arguments: &[Value]) -> Result<Value, FuncFault>
     requires { Accepts (signature_of (function_id.Logic function)) arguments.now }
-    ensures value { Gives result (applied (function_id.Logic function) arguments.now) }
+    ensures value { result ≡ applied (function_id.Logic function) arguments.now }
     ensures typed { IfOk result (IsResult (signature_of (function_id.Logic function))) }
 {
     match function {
@@ -106,7 +112,7 @@ fn decide(function: Logic, arguments: &[Value]) -> Result<Value, FuncFault>
 /// Whether so many of the booleans are true.
 fn n_true(arguments: &[Value]) -> Result<Value, FuncFault>
     requires { Accepts (signature_of (function_id.Logic logic.NOf)) arguments.now }
-    ensures value { Gives result (applied (function_id.Logic logic.NOf) arguments.now) }
+    ensures value { result ≡ applied (function_id.Logic logic.NOf) arguments.now }
     ensures typed { IfOk result (IsResult (signature_of (function_id.Logic logic.NOf))) }
 {
     let [wanted, booleans @ ..] = arguments else {
@@ -134,7 +140,7 @@ fn normalize_space(alloc: Global, arguments: &[Value]) -> Result<Value, FuncFaul
     ensures value { Gives result (applied (function_id.Text text_function.NormalizeSpace) arguments.now) }
     ensures typed { IfOk result (IsResult (signature_of (function_id.Text text_function.NormalizeSpace))) }
 {
-    Ok(Value::String(normalized(alloc, string_of(one(arguments)))?))
+    Ok(Value::String(string_of(one(arguments)).trimmed(alloc)?))
 }
 
 /// The characters of a text from one place up to another.
@@ -144,13 +150,18 @@ fn string_substring(alloc: Global, arguments: &[Value]) -> Result<Value, FuncFau
     ensures typed { IfOk result (IsResult (signature_of (function_id.Text text_function.Substring))) }
 {
     let (text, begin, end) = three(arguments);
-    Ok(Value::String(substring(alloc, string_of(text), integer_of(begin), integer_of(end))?))
+    Ok(Value::String(substring(
+        alloc,
+        string_of(text).as_str(),
+        integer_of(begin),
+        integer_of(end),
+    )?))
 }
 
 /// Whether the first text stands in the second.
 fn find_part(place: TextPart, text_type: TextType, arguments: &[Value]) -> Result<Value, FuncFault>
     requires { Accepts (signature_of (function_id.Part place text_type)) arguments.now }
-    ensures value { Gives result (applied (function_id.Part place text_type) arguments.now) }
+    ensures value { result ≡ applied (function_id.Part place text_type) arguments.now }
     ensures typed { IfOk result (IsResult (signature_of (function_id.Part place text_type))) }
 {
     let (part, text) = two(arguments);
@@ -160,7 +171,7 @@ fn find_part(place: TextPart, text_type: TextType, arguments: &[Value]) -> Resul
 /// A day or a moment, moved by a duration.
 fn move_by(moved: Moved, direction: Direction, arguments: &[Value]) -> Result<Value, FuncFault>
     requires { Accepts (signature_of (function_id.Move moved direction)) arguments.now }
-    ensures value { Gives result (applied (function_id.Move moved direction) arguments.now) }
+    ensures value { result ≡ applied (function_id.Move moved direction) arguments.now }
     ensures typed { IfOk result (IsResult (signature_of (function_id.Move moved direction))) }
 {
     match moved {
@@ -173,7 +184,7 @@ fn move_by(moved: Moved, direction: Direction, arguments: &[Value]) -> Result<Va
 /// A day and time, moved by days, hours, minutes and seconds.
 fn date_time_by_day_time(direction: Direction, arguments: &[Value]) -> Result<Value, FuncFault>
     requires { Accepts (signature_of (function_id.Move moved_by.DateTimeByDayTime direction)) arguments.now }
-    ensures value { Gives result (applied (function_id.Move moved_by.DateTimeByDayTime direction) arguments.now) }
+    ensures value { result ≡ applied (function_id.Move moved_by.DateTimeByDayTime direction) arguments.now }
     ensures typed { IfOk result (IsResult (signature_of (function_id.Move moved_by.DateTimeByDayTime direction))) }
 {
     let (moment, duration) = two(arguments);
@@ -184,7 +195,7 @@ fn date_time_by_day_time(direction: Direction, arguments: &[Value]) -> Result<Va
 /// A day and time, moved by years and months.
 fn date_time_by_year_month(direction: Direction, arguments: &[Value]) -> Result<Value, FuncFault>
     requires { Accepts (signature_of (function_id.Move moved_by.DateTimeByYearMonth direction)) arguments.now }
-    ensures value { Gives result (applied (function_id.Move moved_by.DateTimeByYearMonth direction) arguments.now) }
+    ensures value { result ≡ applied (function_id.Move moved_by.DateTimeByYearMonth direction) arguments.now }
     ensures typed { IfOk result (IsResult (signature_of (function_id.Move moved_by.DateTimeByYearMonth direction))) }
 {
     let (moment, duration) = two(arguments);
@@ -195,7 +206,7 @@ fn date_time_by_year_month(direction: Direction, arguments: &[Value]) -> Result<
 /// A day, moved by years and months.
 fn date_by_year_month(direction: Direction, arguments: &[Value]) -> Result<Value, FuncFault>
     requires { Accepts (signature_of (function_id.Move moved_by.DateByYearMonth direction)) arguments.now }
-    ensures value { Gives result (applied (function_id.Move moved_by.DateByYearMonth direction) arguments.now) }
+    ensures value { result ≡ applied (function_id.Move moved_by.DateByYearMonth direction) arguments.now }
     ensures typed { IfOk result (IsResult (signature_of (function_id.Move moved_by.DateByYearMonth direction))) }
 {
     let (date, duration) = two(arguments);
@@ -206,7 +217,7 @@ fn date_by_year_month(direction: Direction, arguments: &[Value]) -> Result<Value
 /// Whether a time lies in a range of times.
 fn is_in_range(arguments: &[Value]) -> Result<Value, FuncFault>
     requires { Accepts (signature_of function_id.TimeInRange) arguments.now }
-    ensures value { Gives result (applied function_id.TimeInRange arguments.now) }
+    ensures value { result ≡ applied function_id.TimeInRange arguments.now }
     ensures typed { IfOk result (IsResult (signature_of function_id.TimeInRange)) }
 {
     let (time, start, end) = three(arguments);
@@ -219,6 +230,7 @@ impl FuncId {
         requires scalar { IsTrue (is_scalar self) }
         requires accepted { Accepts (signature_of self) arguments.now }
         ensures value { Gives result (applied self arguments.now) }
+        ensures exact { grows self ≡ false → result ≡ applied self arguments.now }
         ensures typed { IfOk result (IsResult (signature_of self)) }
     {
         match self {

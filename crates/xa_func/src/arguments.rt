@@ -4,7 +4,7 @@ ghost use Rattle.xa_value.specs.declared.data_type.DataType.TheVariants as data_
 ghost use Rattle.xa_value.specs.declared.value.Value.TheVariants as value_of;
 ghost use Rattle.xa_func.specs.Arguments.{texts, IsText};
 
-use xa_value::{Date, DateTime, DayTimeDuration, Time, Value, YearMonthDuration};
+use xa_value::{Date, DateTime, DayTimeDuration, Text, Time, Value, YearMonthDuration};
 
 /// The integer of a value of that type.
 pub(crate) fn integer_of(value: &Value) -> i64
@@ -29,12 +29,12 @@ pub(crate) fn boolean_of(value: &Value) -> bool
 }
 
 /// The text of a string.
-pub(crate) fn string_of(value: &Value) -> &str
+pub(crate) fn string_of(value: &Value) -> &Text
     requires { type_of value.now ≡ data_type.String }
     ensures { value.now ≡ value_of.String result.now }
 {
     match value {
-        Value::String(text) => text.as_str(),
+        Value::String(text) => text,
         _ => unreachable!(),
     }
 }

@@ -1,4 +1,5 @@
-ghost use Rattle.std.specs.Prelude.{◌≡◌, IfOk};
+ghost use Rattle.std.specs.Prelude.{◌≡◌, false, IfOk};
+ghost use Rattle.xa_value.specs.Reading.{grows};
 ghost use Rattle.xa_value.specs.Order.{type_of};
 ghost use Rattle.xa_func.specs.Fault.{Gives};
 ghost use Rattle.xa_func.specs.Conversion.{value_of};
@@ -11,6 +12,7 @@ use xa_value::{DataType, ReadError, Value};
 #[tactic(auto, using(crate::proofs::TypingLemmas::read_typed))]
 pub(crate) fn value_of(alloc: Global, data_type: DataType, text: &str) -> Result<Value, FuncFault>
     ensures value { Gives result (value_of data_type text.now) }
+    ensures exact { grows data_type ≡ false → result ≡ value_of data_type text.now }
     ensures typed { IfOk result (λ v. type_of v ≡ data_type) }
 {
     match Value::read(alloc, data_type, text) {

@@ -1,5 +1,5 @@
 ghost use Rattle.std.specs.Prelude.{◌≡◌, slice_get};
-ghost use Rattle.xa_func.specs.Signature.{takes, kind_at, of_values, question, one, pair, integers, booleans, texts, moving, move_signature, bag_signature, signature_of};
+ghost use Rattle.xa_func.specs.Signature.{takes, kind_at, IsByPlaces, of_values, question, one, pair, integers, booleans, texts, moving, move_signature, bag_signature, signature_of};
 
 use crate::func_id::{Arithmetic, BagFunction, FuncId, HigherOrder, Logic, Moved, TextFunction};
 use xa_value::DataType;
@@ -172,9 +172,12 @@ fn bag_signature(function: BagFunction, data_type: DataType) -> Signature
 }
 
 impl Parameters {
-    /// Whether the function takes so many arguments.
+    /// Whether the function takes so many arguments. Clause `law`: arguments fit exactly where their number does, and each of
+    /// them at its place.
+    #[tactic(auto, using(crate::proofs::PlaceLemmas::by_places))]
     pub fn takes(self, count: usize) -> bool
-        ensures { result ≡ takes self count }
+        ensures value { result ≡ takes self count }
+        ensures law { IsByPlaces self }
     {
         match self {
             Parameters::One(_) => count == 1,

@@ -1,6 +1,5 @@
 ghost use Rattle.std.specs.Prelude.{◌≡◌, ◌<◌, Ok, map, length, chars, encode_utf8_all, string_bytes, IfOk};
 ghost use Rattle.std.specs.List.{concat};
-ghost use Rattle.xa_value.specs.Lexical.{trimmed};
 ghost use Rattle.xa_value.specs.declared.data_type.DataType.TheVariants as data_type;
 ghost use Rattle.xa_func.specs.declared.signature.Kind.TheVariants as kind;
 ghost use Rattle.xa_func.specs.Fault.{Gives};
@@ -12,7 +11,7 @@ use crate::arguments::string_of;
 use crate::fault::FuncFault;
 use crate::func_id::TextPart;
 use std::alloc::{AllocError, Global};
-use xa_value::{DataType, ReadError, Text, Value};
+use xa_value::{Text, Value};
 
 /// Whether the part stands anywhere in the text.
 fn contains(text: &[u8], part: &[u8]) -> bool
@@ -39,17 +38,6 @@ pub(crate) fn has_part(place: TextPart, text: &[u8], part: &[u8]) -> bool
     }
 }
 
-/// The text without white space at its ends: a URI is any text, read so.
-pub(crate) fn normalized(alloc: Global, text: &str) -> Result<Text, FuncFault>
-    ensures { Gives result (Ok (trimmed text.now)) }
-{
-    match Value::read(alloc, DataType::AnyUri, text) {
-        Ok(Value::AnyUri(text)) => Ok(text),
-        Err(ReadError::Memory) => Err(FuncFault::Memory),
-        _ => unreachable!(),
-    }
-}
-
 /// The texts in a row.
 pub(crate) fn concatenated(alloc: Global, arguments: &[Value]) -> Result<Text, FuncFault>
     requires { Every (kind.Value data_type.String) (map kind_of arguments.now) }
@@ -57,7 +45,7 @@ pub(crate) fn concatenated(alloc: Global, arguments: &[Value]) -> Result<Text, F
 {
     let mut text = String::new(alloc);
     for argument in arguments {
-        text.push_str(string_of(argument))?;
+        text.push_str(string_of(argument).as_str())?;
     }
     Ok(Text::from_string(text))
 }
