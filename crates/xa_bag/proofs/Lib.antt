@@ -1,3 +1,4 @@
+mod KeyLemmas
 pub mod BagLemmas
-pub mod SetLemmas
 pub mod JoiningLemmas
+pub mod SetLemmas

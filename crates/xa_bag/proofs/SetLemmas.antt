@@ -8,7 +8,8 @@ use Rattle.xa_value.specs.declared.data_type.DataType.{DataType}
 use Rattle.xa_value.specs.declared.value.Value.{Value}
 use Rattle.xa_value.specs.Order.{same}
 use Rattle.xa_value.proofs.OrderLemmas.{same_is_equivalence}
-use Rattle.xa_bag.specs.Sets.{is_among, distinct, joined, with_new, with_shared, all_values}
+use Rattle.xa_bag.specs.Distinct.{joined, with_new, with_shared}
+use Rattle.xa_bag.specs.Sets.{is_among, distinct, all_values}
 use Rattle.xa_bag.specs.Bag.{Contents, bag_of, OfType}
 use Rattle.xa_bag.specs.declared.value_or_bag.ValueOrBag.{ValueOrBag}
 use Rattle.xa_bag.specs.ValueOrBag.{values_of, EachOf}

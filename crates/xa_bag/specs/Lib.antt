@@ -1,7 +1,9 @@
 pub mod Applying
 pub mod Bag
+pub mod Distinct
 pub mod Gives
 pub mod HigherOrder
 pub mod Joining
+pub mod Keys
 pub mod Sets
 pub mod ValueOrBag

@@ -1,5 +1,5 @@
 -- The bag and set functions (XACML 3.0, core, appendix A.3.10, A.3.11). Two values are equal where the type's equal function says so.
-use Rattle.std.specs.Prelude.{Bool, not, ◌&&◌, if◌then◌else◌, List, [], ◌∷◌, ◌++◌, filter, flat_map, Result, Ok, Err}
+use Rattle.std.specs.Prelude.{Bool, not, ◌&&◌, List, [], ◌∷◌, filter, flat_map, Result, Ok, Err}
 use Rattle.std.specs.List.{list_any, list_all}
 use Rattle.xa_value.specs.declared.value.Value.{Value}
 use Rattle.xa_value.specs.Order.{same}
@@ -45,15 +45,3 @@ all_values arguments = flat_map values_of arguments
 -- those without doubles
 abbrev pub union : List ValueOrBag → List Value
 union arguments = distinct (all_values arguments)
-
--- the values kept, and a further one that is not among them
-abbrev pub with_new : List Value → Value → List Value
-with_new kept v = if is_among kept v then kept else kept ++ v ∷ []
-
--- the values kept, and those of the list that are not among them, without doubles
-abbrev pub joined : List Value → List Value → List Value
-joined kept vs = kept ++ filter (λ v. not (is_among kept v)) (distinct vs)
-
--- the values kept, and a further one that is among the others and not among them
-abbrev pub with_shared : List Value → List Value → Value → List Value
-with_shared others kept v = if is_among others v then with_new kept v else kept

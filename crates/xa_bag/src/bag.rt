@@ -50,6 +50,11 @@ impl Bag {
         self.values.as_slice()
     }
 
+    /// The allocator that the bag was made with.
+    pub(crate) fn allocator(&self) -> Global {
+        *self.values.allocator()
+    }
+
     /// How many values there are.
     pub fn len(&self) -> usize
         ensures value { result ≡ length self.now.values }

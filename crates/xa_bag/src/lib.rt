@@ -3,9 +3,11 @@
 
 mod apply;
 mod bag;
+mod distinct;
 mod fault;
 mod higher_order;
 mod inner;
+mod members;
 mod sets;
 #[cfg(test)]
 mod tests;

@@ -3,12 +3,15 @@ ghost use Rattle.std.specs.Prelude.{◌≡◌, ◌++◌, length, pos, IfOk};
 ghost use Rattle.xa_value.specs.Order.{type_of};
 ghost use Rattle.xa_bag.specs.Bag.{bag_of as contents};
 ghost use Rattle.xa_bag.specs.Gives.{Gives};
-ghost use Rattle.xa_bag.specs.Sets.{one_and_only, is_among, at_least_one, subset, set_equals, with_new, with_shared, joined, all_values};
+ghost use Rattle.xa_bag.specs.Distinct.{with_new, with_shared, joined};
+ghost use Rattle.xa_bag.specs.Sets.{one_and_only, is_among, at_least_one, subset, set_equals, all_values};
 ghost use Rattle.xa_bag.specs.Sets as sets;
 ghost use Rattle.xa_bag.specs.ValueOrBag.{values_of, type_of_each, EachOf};
 
 use crate::bag::Bag;
+use crate::distinct::Distinct;
 use crate::fault::BagFault;
+use crate::members::{Members, is_among};
 use crate::value_or_bag::ValueOrBag;
 use std::alloc::{AllocError, Global};
 use xa_value::{DataType, Value};
@@ -37,31 +40,34 @@ pub fn is_in(value: &Value, bag: &Bag) -> bool
     is_among(bag.values(), value)
 }
 
-/// Whether one of the values is the value.
-fn is_among(values: &[Value], value: &Value) -> bool
-    ensures { result ≡ is_among values.now value.now }
-{
-    values.iter().any(|other| value.same(other))
-}
-
 /// Whether some value of the first bag is in the second.
-pub fn at_least_one_member_of(first: &Bag, second: &Bag) -> bool
+pub fn at_least_one_member_of<'a>(first: &'a Bag, second: &'a Bag) -> bool
     ensures { result ≡ at_least_one first.now.values second.now.values }
 {
-    let values = second.values();
-    first.values().iter().any(|value| is_among(values, value))
+    let members = Members::new(second, first.len());
+    for value in first.values() {
+        if members.contains(value) {
+            return true;
+        }
+    }
+    false
 }
 
 /// Whether every value of the first bag is in the second.
-pub fn subset(first: &Bag, second: &Bag) -> bool
+pub fn subset<'a>(first: &'a Bag, second: &'a Bag) -> bool
     ensures { result ≡ subset first.now.values second.now.values }
 {
-    let values = second.values();
-    first.values().iter().all(|value| is_among(values, value))
+    let members = Members::new(second, first.len());
+    for value in first.values() {
+        if !members.contains(value) {
+            return false;
+        }
+    }
+    true
 }
 
 /// Whether each bag has all values of the other.
-pub fn set_equals(first: &Bag, second: &Bag) -> bool
+pub fn set_equals<'a>(first: &'a Bag, second: &'a Bag) -> bool
     ensures { result ≡ set_equals first.now.values second.now.values }
 {
     subset(first, second) && subset(second, first)
@@ -69,15 +75,15 @@ pub fn set_equals(first: &Bag, second: &Bag) -> bool
 
 /// The values of the first bag that are in the second, each once, at its first appearance.
 #[tactic(auto, using(crate::proofs::SetLemmas::joined_more, crate::proofs::SetLemmas::joined_none, crate::proofs::SetLemmas::joined_all))]
-pub fn intersection(alloc: Global, first: &Bag, second: &Bag) -> Result<Bag, AllocError>
+pub fn intersection<'a>(alloc: Global, first: &'a Bag, second: &'a Bag) -> Result<Bag, AllocError>
     ensures { IfOk result (λ bag. bag ≡ contents first.now.data_type (sets.intersection first.now.values second.now.values)) }
 {
-    let mut both = Bag::new(alloc, first.data_type());
-    let values = second.values();
+    let others = Members::new(second, first.len());
+    let mut both = Distinct::new(alloc, first.data_type(), first.len());
     for value in first.values() {
-        push_shared(&mut both, values, value)?;
+        both = both.with_shared(&others, value)?;
     }
-    Ok(both)
+    Ok(both.into_bag())
 }
 
 /// The bag of the arguments' values, in order.
@@ -97,6 +103,14 @@ pub fn bag_of(
     Ok(all)
 }
 
+/// How many values the arguments have.
+fn count_values(arguments: &[ValueOrBag]) -> usize {
+    arguments.iter().fold(
+        0usize,
+        |count, argument| count.saturating_add(argument.values().len()),
+    )
+}
+
 /// The values of all arguments, each once, at its first appearance.
 #[tactic(auto, using(crate::proofs::SetLemmas::joined_lists, crate::proofs::SetLemmas::joined_none, crate::proofs::SetLemmas::joined_all))]
 pub fn union(
@@ -107,11 +121,11 @@ pub fn union(
     requires { EachOf data_type arguments.now }
     ensures { IfOk result (λ bag. bag ≡ contents data_type (sets.union arguments.now)) }
 {
-    let mut all = Bag::new(alloc, data_type);
-    for bag in arguments {
-        push_all_new(&mut all, bag)?;
+    let mut all = Distinct::new(alloc, data_type, count_values(arguments));
+    for argument in arguments {
+        all = all.with_all(argument.values())?;
     }
-    Ok(all)
+    Ok(all.into_bag())
 }
 
 /// Puts the argument's values at the end of the bag.
@@ -121,40 +135,6 @@ fn push_all(bag: &mut Bag, argument: &ValueOrBag) -> Result<(), AllocError>
     ensures { IfOk result (λ _. bag.new ≡ contents bag.old.data_type (bag.old.values ++ values_of argument.now)) }
 {
     for value in argument.values() {
-        bag.push(value.clone()?)?;
-    }
-    Ok(())
-}
-
-/// Puts the argument's values at the end of the bag, but for those that are there.
-#[tactic(auto, using(crate::proofs::SetLemmas::joined_more, crate::proofs::SetLemmas::joined_none))]
-fn push_all_new(kept: &mut Bag, argument: &ValueOrBag) -> Result<(), AllocError>
-    requires { type_of_each argument.now ≡ kept.old.data_type }
-    ensures { IfOk result (λ _. kept.new ≡ contents kept.old.data_type (joined kept.old.values (values_of argument.now))) }
-{
-    for value in argument.values() {
-        push_new(kept, value)?;
-    }
-    Ok(())
-}
-
-/// Puts the value at the end of the bag, if it is among the others and not yet there.
-fn push_shared(bag: &mut Bag, others: &[Value], value: &Value) -> Result<(), AllocError>
-    requires { type_of value.now ≡ bag.old.data_type }
-    ensures { IfOk result (λ _. bag.new ≡ contents bag.old.data_type (with_shared others.now bag.old.values value.now)) }
-{
-    if is_among(others, value) {
-        push_new(bag, value)?;
-    }
-    Ok(())
-}
-
-/// Puts the value at the end of the bag, unless it is there.
-fn push_new(bag: &mut Bag, value: &Value) -> Result<(), AllocError>
-    requires { type_of value.now ≡ bag.old.data_type }
-    ensures { IfOk result (λ _. bag.new ≡ contents bag.old.data_type (with_new bag.old.values value.now)) }
-{
-    if !is_among(bag.values(), value) {
         bag.push(value.clone()?)?;
     }
     Ok(())

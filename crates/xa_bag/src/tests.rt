@@ -14,7 +14,7 @@ use crate::{
 use std::alloc::Global;
 use std::process::Abort;
 use xa_func::{BagFunction, FuncFault, HigherOrder};
-use xa_value::{DataType, Items, Value};
+use xa_value::{DataType, Items, Offset, Time, Value};
 
 /// Which of two traps was met.
 #[derive(Clone, Copy, Debug, PartialEq, Eq)]
@@ -67,6 +67,7 @@ fn united(rt: &impl Abort, alloc: Global, data_type: DataType, first: Bag, secon
     let arguments = vec![in alloc; ValueOrBag::Bag(first), ValueOrBag::Bag(second)].expect(
         rt, "memory",
     );
+    assert!(rt; ValueOrBag::each_of(arguments.as_slice(), data_type));
     let together = bag_of(alloc, data_type, arguments.as_slice()).expect(rt, "memory");
     assert!(rt; bag_size(&together) == count, "all values of both");
     let joined = union(alloc, data_type, arguments.as_slice()).expect(rt, "memory");
@@ -218,6 +219,80 @@ fn sets(rt: HostRuntime) {
             "union of {left} and {right}"
         );
     }
+}
+
+/// So many integers from the first on.
+fn integers(rt: &impl Abort, alloc: Global, count: i64) -> Bag {
+    let mut bag = Bag::new(alloc, DataType::Integer);
+    for i in 0..count {
+        let value = Value::Integer(i);
+        assert!(rt; bag.takes(&value));
+        bag.push(value).expect(rt, "memory");
+    }
+    bag
+}
+
+/// So many booleans, false and true in turn.
+fn booleans(rt: &impl Abort, alloc: Global, count: u32) -> Bag {
+    let mut bag = Bag::new(alloc, DataType::Boolean);
+    for i in 0..count {
+        let value = Value::Boolean(i % 2 == 1);
+        assert!(rt; bag.takes(&value));
+        bag.push(value).expect(rt, "memory");
+    }
+    bag
+}
+
+/// The time of so many seconds after midnight of UTC, in a zone.
+fn time(rt: &impl Abort, seconds: u16, zone: i16) -> Value {
+    let offset = Offset::new(zone).expect(rt, "an offset");
+    let local = u64::from(seconds) + 60 * u64::from(zone.unsigned_abs());
+    Value::Time(Time::new(local * 1_000_000_000, Some(offset)).expect(rt, "a time"))
+}
+
+/// So many times in a zone, a second apart.
+fn times(rt: &impl Abort, alloc: Global, first: u16, count: u16, zone: i16) -> Bag
+    ensures { result.data_type ≡ type_named.Time }
+{
+    let mut bag = Bag::new(alloc, DataType::Time);
+    for i in 0..count {
+        let value = time(rt, first.wrapping_add(i), zone);
+        assert!(rt; bag.takes(&value));
+        bag.push(value).expect(rt, "memory");
+    }
+    bag
+}
+
+#[test]
+fn many_values(rt: HostRuntime) {
+    let alloc = rt.alloc();
+    let here = times(&rt, alloc, 0, 200, 0);
+    let there = times(&rt, alloc, 100, 200, 60);
+    let shared = intersection(alloc, &here, &there).expect(&rt, "memory");
+    assert_eq!(rt; shared.len(), 100);
+    assert!(rt; shared.values().first() == Some(&time(&rt, 100, 0)));
+    assert!(rt; shared.values().last() == Some(&time(&rt, 199, 0)));
+    assert!(rt; at_least_one_member_of(&here, &there) && !subset(&here, &there));
+    assert!(rt; subset(&shared, &there) && !set_equals(&shared, &there));
+    assert!(rt; set_equals(&there, &there));
+    let joined = united(&rt, alloc, DataType::Time, here, there);
+    assert_eq!(rt; joined.len(), 300);
+    assert!(rt; joined.values().get(199) == Some(&time(&rt, 199, 0)));
+    assert!(rt; joined.values().get(200) == Some(&time(&rt, 200, 60)));
+}
+
+#[test]
+fn many_values_of_two_types(rt: HostRuntime) {
+    let alloc = rt.alloc();
+    let integers = integers(&rt, alloc, 200);
+    let booleans = booleans(&rt, alloc, 200);
+    assert!(rt; !at_least_one_member_of(&booleans, &integers));
+    assert!(rt; !subset(&booleans, &integers) && !set_equals(&integers, &booleans));
+    let shared = intersection(alloc, &booleans, &integers).expect(&rt, "memory");
+    assert!(rt; shared.is_empty() && shared.data_type() == DataType::Boolean);
+    let arguments = vec![in alloc; ValueOrBag::Bag(booleans), ValueOrBag::Bag(integers)];
+    let arguments = arguments.expect(&rt, "memory");
+    assert!(rt; !ValueOrBag::each_of(arguments.as_slice(), DataType::Boolean));
 }
 
 #[test]

@@ -1,6 +1,6 @@
-ghost use Rattle.std.specs.Prelude.{◌≡◌};
+ghost use Rattle.std.specs.Prelude.{◌≡◌, ◌↔◌, IsTrue};
 ghost use Rattle.xa_bag.specs.Bag.{OfType};
-ghost use Rattle.xa_bag.specs.ValueOrBag.{values_of, type_of_each, kind_of_argument};
+ghost use Rattle.xa_bag.specs.ValueOrBag.{values_of, type_of_each, kind_of_argument, EachOf};
 
 use crate::bag::Bag;
 use std::slice;
@@ -46,5 +46,24 @@ impl ValueOrBag {
             ValueOrBag::Value(value) => Kind::Value(value.data_type()),
             ValueOrBag::Bag(bag) => Kind::Bag(bag.data_type()),
         }
+    }
+
+    /// Whether the value is of the type, or the bag is one of it.
+    pub fn is_of(&self, data_type: DataType) -> bool
+        ensures { IsTrue result ↔ (type_of_each self.now ≡ data_type) }
+    {
+        self.data_type() == data_type
+    }
+
+    /// Whether every argument is of the type, or a bag of it.
+    pub fn each_of(arguments: &[ValueOrBag], data_type: DataType) -> bool
+        ensures { IsTrue result ↔ EachOf data_type arguments.now }
+    {
+        for argument in arguments {
+            if !argument.is_of(data_type) {
+                return false;
+            }
+        }
+        true
     }
 }

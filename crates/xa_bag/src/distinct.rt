@@ -1,0 +1,114 @@
+ghost use Rattle.std.specs.Prelude.{◌≡◌, [], IfOk};
+ghost use Rattle.xa_value.specs.Order.{type_of};
+ghost use Rattle.xa_bag.specs.Bag.{OfType, bag_of};
+ghost use Rattle.xa_bag.specs.Distinct.{joined, with_new, with_shared};
+
+use crate::bag::Bag;
+use crate::members::{Members, ORDERED_FROM, is_among};
+use std::alloc::{AllocError, Global};
+use std::collections::BTreeSet;
+use std::marker::Model;
+use xa_value::{DataType, SortKey, Value};
+
+/// A bag without doubles in the making, beside the keys of its values where there may be many.
+#[derive(Drop)]
+pub(crate) struct Distinct<'a> {
+    bag: Bag,
+    keys: Option<BTreeSet<SortKey<'a>>>,
+}
+
+impl<'a> Model for Distinct<'a> {
+    ghost use Rattle.std.specs.Prelude.{IfSome};
+    ghost use Rattle.xa_bag.specs.Bag.{Contents, OfType};
+    ghost use Rattle.xa_bag.specs.Keys.{HasKeys};
+
+    ghost Value = { Contents };
+
+    ghost view = { λ d. d.bag };
+
+    ghost invariant = { λ d. OfType d.bag.data_type d.bag.values × IfSome d.keys (λ keys. HasKeys keys d.bag.values) };
+}
+
+impl<'a> Distinct<'a> {
+    /// No values, of the type. At most so many will be put, or the work grows.
+    pub(crate) fn new(alloc: Global, data_type: DataType, most: usize) -> Distinct<'a>
+        ensures { result ≡ bag_of data_type [] }
+    {
+        let bag = Bag::new(alloc, data_type);
+        let keys = if most < ORDERED_FROM {
+            None
+        } else {
+            Some(BTreeSet::new(alloc))
+        };
+        Distinct { bag, keys }
+    }
+
+    /// The values, and the value at their end, unless it is among them.
+    pub(crate) fn with(self, value: &'a Value) -> Result<Distinct<'a>, AllocError>
+        requires { type_of value.now ≡ self.data_type }
+        ensures { IfOk result (λ d. d ≡ bag_of self.entry.data_type (with_new self.entry.values value.now)) }
+    {
+        let Distinct { mut bag, keys } = self;
+        let Some(mut keys) = keys else {
+            push_new(&mut bag, value)?;
+            return Ok(Distinct { bag, keys: None });
+        };
+        if !keys.insert(value.sort_key())? {
+            return Ok(Distinct {
+                bag,
+                keys: Some(keys),
+            });
+        }
+        bag.push(value.clone()?)?;
+        Ok(Distinct {
+            bag,
+            keys: Some(keys),
+        })
+    }
+
+    /// The same, if the value is also among the members.
+    pub(crate) fn with_shared(
+        self,
+        members: &Members<'a>,
+        value: &'a Value,
+    ) -> Result<Distinct<'a>, AllocError>
+        requires { type_of value.now ≡ self.data_type }
+        ensures { IfOk result (λ d. d ≡ bag_of self.entry.data_type (with_shared members.now.values self.entry.values value.now)) }
+    {
+        if !members.contains(value) {
+            return Ok(self);
+        }
+        self.with(value)
+    }
+
+    /// The values, and those of the list that are not among them, each once, at its first appearance.
+    #[tactic(auto, using(crate::proofs::SetLemmas::joined_more, crate::proofs::SetLemmas::joined_none))]
+    pub(crate) fn with_all(self, values: &'a [Value]) -> Result<Distinct<'a>, AllocError>
+        requires { OfType self.data_type values.now }
+        ensures { IfOk result (λ d. d ≡ bag_of self.entry.data_type (joined self.entry.values values.now)) }
+    {
+        let mut all = self;
+        for value in values {
+            all = all.with(value)?;
+        }
+        Ok(all)
+    }
+
+    /// The bag.
+    pub(crate) fn into_bag(self) -> Bag
+        ensures { result ≡ self.entry }
+    {
+        self.bag
+    }
+}
+
+/// Puts the value at the end of the bag, unless it is there.
+fn push_new(bag: &mut Bag, value: &Value) -> Result<(), AllocError>
+    requires { type_of value.now ≡ bag.old.data_type }
+    ensures { IfOk result (λ _. bag.new ≡ bag_of bag.old.data_type (with_new bag.old.values value.now)) }
+{
+    if !is_among(bag.values(), value) {
+        bag.push(value.clone()?)?;
+    }
+    Ok(())
+}

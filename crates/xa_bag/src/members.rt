@@ -1,0 +1,83 @@
+ghost use Rattle.std.specs.Prelude.{◌≡◌, ◌↔◌, IsTrue, IfOk};
+ghost use Rattle.xa_value.specs.Order.{type_of};
+ghost use Rattle.xa_bag.specs.Keys.{HasKeys};
+ghost use Rattle.xa_bag.specs.Sets.{is_among};
+
+use crate::bag::Bag;
+use std::alloc::{AllocError, Global};
+use std::collections::BTreeSet;
+use std::marker::Model;
+use xa_value::{DataType, SortKey, Value};
+
+/// From so many values and so many searches on, the values are ordered by their keys; fewer are faster one after another.
+pub(crate) const ORDERED_FROM: usize = 32;
+
+/// The values of a bag, to be searched. Where there is no memory to order them, they are searched one after another.
+#[derive(Drop)]
+pub(crate) struct Members<'a> {
+    data_type: DataType,
+    values: &'a [Value],
+    keys: Option<BTreeSet<SortKey<'a>>>,
+}
+
+impl<'a> Model for Members<'a> {
+    ghost use Rattle.std.specs.Prelude.{IfSome};
+    ghost use Rattle.xa_bag.specs.Bag.{Contents, OfType, bag_of};
+    ghost use Rattle.xa_bag.specs.Keys.{HasKeys};
+
+    ghost Value = { Contents };
+
+    ghost view = { λ m. bag_of m.data_type m.values.now };
+
+    ghost invariant = { λ m. OfType m.data_type m.values.now × IfSome m.keys (λ keys. HasKeys keys m.values.now) };
+}
+
+impl<'a> Members<'a> {
+    /// The values of the bag, for so many searches.
+    pub(crate) fn new(bag: &'a Bag, searches: usize) -> Members<'a>
+        ensures { result ≡ bag.now }
+    {
+        let values = bag.values();
+        let keys = if values.len().min(searches) < ORDERED_FROM {
+            None
+        } else {
+            keys_of(bag.allocator(), values).ok()
+        };
+        Members {
+            data_type: bag.data_type(),
+            values,
+            keys,
+        }
+    }
+
+    /// Whether the value is of the type of the values.
+    fn takes(&self, value: &Value) -> bool
+        ensures { IsTrue result ↔ (type_of value.now ≡ self.now.data_type) }
+    {
+        value.data_type() == self.data_type
+    }
+
+    /// Whether one of the values is the value.
+    pub(crate) fn contains(&self, value: &'a Value) -> bool
+        ensures { result ≡ is_among self.now.values value.now }
+    {
+        match &self.keys {
+            Some(keys) => self.takes(value) && keys.contains(&value.sort_key()),
+            None => is_among(self.values, value),
+        }
+    }
+}
+
+/// Whether one of the values is the value.
+pub(crate) fn is_among(values: &[Value], value: &Value) -> bool
+    ensures { result ≡ is_among values.now value.now }
+{
+    values.iter().any(|other| value.same(other))
+}
+
+/// The keys of the values.
+fn keys_of<'a>(alloc: Global, values: &'a [Value]) -> Result<BTreeSet<SortKey<'a>>, AllocError>
+    ensures { IfOk result (λ keys. HasKeys keys values.now) }
+{
+    values.iter().map(|value| value.sort_key()).collect(alloc)
+}
