@@ -1,8 +1,9 @@
 -- How many bytes of body a head announces, or why the message is refused (RFC 9112, section 6).
-use Rattle.std.specs.Prelude.{ℕ, ◌+◌, ◌*◌, ◌-◌, Bool, ◌&&◌, List, [], ◌∷◌, length, map, nat_lt, nat_le, ◌==◌, if◌then◌else◌, Result, Ok, Err, codes}
+use Rattle.std.specs.Prelude.{ℕ, Bool, ◌&&◌, List, [], ◌∷◌, length, map, nat_lt, nat_le, ◌==◌, if◌then◌else◌, Result, Ok, Err, codes}
 use Rattle.std.specs.List.{filter, list_all, list_any}
-use Rattle.std.specs.Char.{is_ascii_digit}
 use Rattle.std.specs.Str.{str_eq_ignore_ascii_case}
+use Rattle.std.specs.Str.Parse.{digits_value}
+use Rattle.xa_http.specs.Digits.{is_number}
 use Rattle.xa_http.specs.declared.message.Field.{Field}
 use Rattle.xa_http.specs.declared.front.Cause.{Cause}
 use Rattle.xa_http.specs.declared.front.Cause.TheVariants.{HeadTooLarge, TransferCoding, BadLength, BodyTooLarge}
@@ -16,32 +17,19 @@ is_named name f = str_eq_ignore_ascii_case f.name name
 abbrev pub values_of : List ℕ → List Field → List (List ℕ)
 values_of name fields = map (λ f. f.value) (filter (is_named name) fields)
 
--- one digit or more, and nothing else
-abbrev pub is_number : List ℕ → Bool
-is_number text = nat_lt 0 (length text) && list_all is_ascii_digit text
-
--- the number that digits write after those of n
-abbrev pub number_after : ℕ → List ℕ → ℕ
-number_after n [] = n
-number_after n (c ∷ cs) = number_after (10 * n + (c - 48)) cs
-
--- the number that digits write, of any size
-unfoldable pub number : List ℕ → ℕ
-number digits = number_after 0 digits
-
 -- a body of that many bytes is taken, if there are not too many
 abbrev pub within_limit : ℕ → Result ℕ Cause
 within_limit n = if nat_le n MAX_BODY_BYTES then Ok n else Err BodyTooLarge
 
 -- the text is digits alone, and writes the number that the digits do
 abbrev pub writes_same : List ℕ → List ℕ → Bool
-writes_same digits text = is_number text && (number text == number digits)
+writes_same digits text = is_number text && (digits_value 10 text == digits_value 10 digits)
 
 -- the length that the values of Content-Length agree on: the first is digits alone, and the others write the same number; without one there is no body
 unfoldable pub agreed_length : List (List ℕ) → Result ℕ Cause
 agreed_length [] = Ok 0
 agreed_length (first ∷ others) =
-    if is_number first && list_all (writes_same first) others then within_limit (number first) else Err BadLength
+    if is_number first && list_all (writes_same first) others then within_limit (digits_value 10 first) else Err BadLength
 
 -- the length of the body after a head of those fields, or the first of the reasons to refuse it
 unfoldable pub body_length : List Field → Result ℕ Cause

@@ -1,4 +1,5 @@
 pub mod Stream
+pub mod Digits
 pub mod Length
 pub mod Zeros
 pub mod Messages

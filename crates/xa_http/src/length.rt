@@ -1,9 +1,11 @@
-ghost use Rattle.std.specs.Prelude.{◌≡◌, ◌+◌, ◌∷◌, [], ◌==◌, ◌&&◌, IsTrue, MatchOption, min};
-ghost use Rattle.std.specs.Char.{is_ascii_digit};
+ghost use Rattle.std.specs.Prelude.{◌≡◌, ◌∷◌, [], IsTrue, MatchOption};
 ghost use Rattle.std.specs.List.{list_all, list_any};
-ghost use Rattle.xa_http.specs.Length.{is_named, values_of, is_number, number, writes_same, within_limit, agreed_length, body_length};
+ghost use Rattle.std.specs.Str.Parse.{digits_value};
+ghost use Rattle.xa_http.specs.Digits.{is_number};
+ghost use Rattle.xa_http.specs.Length.{is_named, values_of, writes_same, within_limit, agreed_length, body_length};
 ghost use Rattle.xa_http.specs.Zeros.{skip_zeros};
 
+use crate::digits::{is_number, number_up_to};
 use crate::front::Cause;
 use crate::limits::{MAX_BODY_BYTES, MAX_FIELDS};
 use crate::message::Field;
@@ -90,20 +92,6 @@ fn writes_same(text: &[u8], digits: &[u8]) -> bool
     is_number(text) && without_zeros(text) == without_zeros(digits)
 }
 
-/// Whether the text is one digit or more, and nothing else.
-fn is_number(text: &[u8]) -> bool
-    ensures { result ≡ is_number text.now }
-{
-    !text.is_empty() && all_digits(text)
-}
-
-/// Whether each byte is a digit.
-fn all_digits(text: &[u8]) -> bool
-    ensures { result ≡ list_all is_ascii_digit text.now }
-{
-    text.iter().all(|byte| byte.is_ascii_digit())
-}
-
 /// The digits from the first that is no zero.
 fn without_zeros(digits: &[u8]) -> &[u8]
     ensures { result.now ≡ skip_zeros digits.now }
@@ -118,24 +106,8 @@ fn without_zeros(digits: &[u8]) -> &[u8]
 
 /// The number that the digits write, if a body may be so long.
 fn within_limit(digits: &[u8]) -> Result<usize, Cause>
-    ensures { result ≡ within_limit (number digits.now) }
+    requires { IsTrue (is_number digits.now) }
+    ensures { result ≡ within_limit (digits_value 10 digits.now) }
 {
-    let length = capped_number(digits);
-    if length <= MAX_BODY_BYTES {
-        Ok(length)
-    } else {
-        Err(Cause::BodyTooLarge)
-    }
-}
-
-/// The number that the digits write, or the first that is too large for a body.
-#[tactic(auto, using(crate::proofs::NumberLemmas::capped_after), unfolding(crate::specs::Length::number))]
-fn capped_number(digits: &[u8]) -> usize
-    ensures { result ≡ min (number digits.now) (MAX_BODY_BYTES + 1) }
-{
-    let mut number = 0usize;
-    for digit in digits {
-        number = (10 * number + usize::from(digit.saturating_sub(b'0'))).min(MAX_BODY_BYTES + 1);
-    }
-    number
+    number_up_to(MAX_BODY_BYTES, digits).ok_or(Cause::BodyTooLarge)
 }

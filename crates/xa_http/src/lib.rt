@@ -1,6 +1,7 @@
 //! HTTP/1.x as this server speaks it: the messages of a stream, what a message's path asks for, and the bytes of a reply.
 #![tactic(auto)]
 
+mod digits;
 mod front;
 mod head;
 mod laws;
@@ -15,6 +16,7 @@ mod session;
 #[cfg(test)]
 mod tests;
 
+pub use digits::number_up_to;
 pub use laws::pieces_make_no_difference;
 pub use limits::{MAX_BODY_BYTES, MAX_FIELDS, MAX_HEAD_BYTES};
 pub use message::{Field, Message};

@@ -4,11 +4,16 @@ use crate::{
 };
 use http::StatusCode;
 use std::alloc::{AllocError, Global};
+use std::process::Abort;
 use std::test::Fail;
 use xa_value::Items;
 
 const REQUEST: &str =
     "POST /domains/acme/pdp HTTP/1.1\r\nAuthorization: Bearer acme-token-1\r\nContent-Length: 14\r\n\r\n{\"Request\":{}}";
+
+/// That request as `text_of` writes it.
+const MESSAGE: &str =
+    "POST\n/domains/acme/pdp\nAuthorization=Bearer acme-token-1\nContent-Length=14\n{\"Request\":{}}";
 
 /// The session to which those bytes have come.
 fn session_of(alloc: Global, bytes: &[u8]) -> Result<Session, AllocError> {
@@ -27,74 +32,87 @@ fn word(next: &Next) -> &'static str {
     }
 }
 
-/// What a session answers to a head with those field lines and what follows them.
-fn answer(alloc: Global, fields: &str) -> Result<&'static str, AllocError> {
-    let text = format!(in alloc; "POST / HTTP/1.1\r\n{fields}")?;
-    let next = session_of(alloc, text.as_bytes())?.next()?;
-    Ok(word(&next))
+/// Asserts what a session answers next.
+fn expect_next(
+    rt: &(impl Abort + AllocGlobal),
+    session: &mut Session,
+    expected: &str,
+) -> Result<(), Fail> {
+    let next = session.next()?;
+    assert_eq!(rt; word(&next), expected);
+    Ok(())
+}
+
+/// A message as one text: its method, target, fields and body, a line each.
+fn text_of(alloc: Global, message: &Message) -> Result<Vec<u8>, AllocError> {
+    let mut text = Vec::new(alloc);
+    text.extend_from_slice(message.method.as_slice())?;
+    text.push(b'\n')?;
+    text.extend_from_slice(message.target.as_slice())?;
+    text.push(b'\n')?;
+    for field in message.fields.as_slice() {
+        text.extend_from_slice(field.name.as_slice())?;
+        text.push(b'=')?;
+        text.extend_from_slice(field.value.as_slice())?;
+        text.push(b'\n')?;
+    }
+    text.extend_from_slice(message.body.as_slice())?;
+    Ok(text)
 }
 
 #[test]
 fn a_message_comes_byte_by_byte(rt: HostRuntime) -> Result<(), Fail> {
     let mut session = Session::new(rt.alloc());
     for byte in REQUEST.as_bytes() {
-        let next = session.next()?;
-        assert_eq!(rt; word(&next), "more");
+        expect_next(&rt, &mut session, "more")?;
         session.feed([*byte].as_slice())?;
     }
     let Next::Message(message) = session.next()? else {
         return Err(Fail::from("no message"));
     };
-    assert_eq!(rt; message.method.as_slice(), b"POST".as_slice());
-    assert_eq!(rt; message.target.as_slice(), b"/domains/acme/pdp".as_slice());
-    assert_eq!(rt; message.fields.len(), 2);
-    for field in message.fields.as_slice() {
-        if field.name.len() == 13 {
-            assert_eq!(rt; field.name.as_slice(), b"Authorization".as_slice());
-            assert_eq!(rt; field.value.as_slice(), b"Bearer acme-token-1".as_slice());
-        }
-    }
-    assert_eq!(rt; message.body.as_slice(), b"{\"Request\":{}}".as_slice());
-    let next = session.next()?;
-    assert_eq!(rt; word(&next), "more");
-    Ok(())
+    let text = text_of(rt.alloc(), &message)?;
+    assert_eq!(rt; text.as_slice(), MESSAGE.as_bytes());
+    expect_next(&rt, &mut session, "more")
 }
 
 #[test]
 fn two_messages_come_in_one_piece(rt: HostRuntime) -> Result<(), Fail> {
     let piece = format!(in rt.alloc(); "{REQUEST}{REQUEST}POST")?;
     let mut session = session_of(rt.alloc(), piece.as_bytes())?;
-    let first = session.next()?;
-    assert_eq!(rt; word(&first), "message");
-    let second = session.next()?;
-    assert_eq!(rt; word(&second), "message");
-    let third = session.next()?;
-    assert_eq!(rt; word(&third), "more");
-    session.feed(b"/ HTTP/1.1\r\n")?;
-    let fourth = session.next()?;
-    assert_eq!(rt; word(&fourth), "bad head");
-    let fifth = session.next()?;
-    assert_eq!(rt; word(&fifth), "ended");
-    Ok(())
+    expect_next(&rt, &mut session, "message")?;
+    expect_next(&rt, &mut session, "message")?;
+    expect_next(&rt, &mut session, "more")?;
+    session.feed("/ HTTP/1.1\r\n".as_bytes())?;
+    expect_next(&rt, &mut session, "bad head")?;
+    expect_next(&rt, &mut session, "ended")
+}
+
+/// So many bytes of a head that doesn't end.
+fn long_head(alloc: Global, count: usize) -> Result<Vec<u8>, AllocError> {
+    let mut bytes = Vec::from_slice(alloc, "GET /".as_bytes())?;
+    bytes.resize(count, b'a')?;
+    Ok(bytes)
 }
 
 #[test]
 fn a_head_without_an_end_is_refused_at_its_limit(rt: HostRuntime) -> Result<(), Fail> {
-    let mut bytes = Vec::from_slice(rt.alloc(), b"GET /")?;
-    bytes.resize(16_383, b'a')?;
-    let mut session = session_of(rt.alloc(), bytes.as_slice())?;
-    let next = session.next()?;
-    assert_eq!(rt; word(&next), "more");
-    session.feed(b"a")?;
-    let next = session.next()?;
-    assert_eq!(rt; word(&next), "bad head");
-    Ok(())
+    let head = long_head(rt.alloc(), 16_383)?;
+    let mut session = session_of(rt.alloc(), head.as_slice())?;
+    expect_next(&rt, &mut session, "more")?;
+    session.feed("a".as_bytes())?;
+    expect_next(&rt, &mut session, "bad head")
 }
 
 #[test]
 fn a_head_that_none_begins_like_is_refused(rt: HostRuntime) -> Result<(), Fail> {
-    let next = session_of(rt.alloc(), b":")?.next()?;
-    assert_eq!(rt; word(&next), "bad head");
+    expect_first(&rt, ":", "bad head")
+}
+
+/// Asserts what a session answers first to that text.
+fn expect_first(rt: &(impl Abort + AllocGlobal), text: &str, expected: &str) -> Result<(), Fail> {
+    let mut session = session_of(rt.alloc(), text.as_bytes())?;
+    let next = session.next()?;
+    assert_eq!(rt; word(&next), expected, "at {text:?}");
     Ok(())
 }
 
@@ -128,40 +146,65 @@ fn lengths_compare_as_numbers(rt: HostRuntime) -> Result<(), Fail> {
         ("Host: a\r\n\r\n", "message"),
     ];
     for (fields, expected) in cases {
-        let answered = answer(rt.alloc(), fields)?;
-        assert_eq!(rt; answered, expected, "at {fields:?}");
+        let text = format!(in rt.alloc(); "POST / HTTP/1.1\r\n{fields}")?;
+        expect_first(&rt, text.as_str(), expected)?;
     }
     Ok(())
 }
 
 /// A head of so many field lines.
-fn head_of(alloc: Global, count: usize) -> Result<Vec<u8>, AllocError> {
-    let mut bytes = Vec::from_slice(alloc, b"GET / HTTP/1.1\r\n")?;
+fn head_of(alloc: Global, count: usize) -> Result<String, AllocError> {
+    let mut text = String::new(alloc);
+    text.push_str("GET / HTTP/1.1\r\n")?;
     for _ in 0..count {
-        bytes.extend_from_slice(b"a:b\r\n")?;
+        text.push_str("a:b\r\n")?;
     }
-    bytes.extend_from_slice(b"\r\n")?;
-    Ok(bytes)
+    text.push_str("\r\n")?;
+    Ok(text)
 }
 
 #[test]
 fn a_head_has_at_most_64_fields(rt: HostRuntime) -> Result<(), Fail> {
     for (count, expected) in [(64, "message"), (65, "bad head"), (3_000, "bad head")] {
-        let bytes = head_of(rt.alloc(), count)?;
-        let next = session_of(rt.alloc(), bytes.as_slice())?.next()?;
-        assert_eq!(rt; word(&next), expected, "at {count}");
+        let head = head_of(rt.alloc(), count)?;
+        expect_first(&rt, head.as_str(), expected)?;
     }
     Ok(())
 }
 
 /// A message of that method and target alone.
-fn message_of(alloc: Global, method: &[u8], target: &[u8]) -> Result<Message, AllocError> {
+fn message_of(alloc: Global, method: &str, target: &[u8]) -> Result<Message, AllocError> {
     Ok(Message {
-        method: Items::from_vec(Vec::from_slice(alloc, method)?),
+        method: Items::from_vec(Vec::from_slice(alloc, method.as_bytes())?),
         target: Items::from_vec(Vec::from_slice(alloc, target)?),
         fields: Items::new(alloc),
         body: Items::new(alloc),
     })
+}
+
+/// Asserts of which domain a POST to the target asks a decision.
+fn expect_domain(
+    rt: &(impl Abort + AllocGlobal),
+    target: &str,
+    expected: &str,
+) -> Result<(), Fail> {
+    let message = message_of(rt.alloc(), "POST", target.as_bytes())?;
+    let Route::Decide { domain } = route(rt.alloc(), &message)?;
+    assert_eq!(rt; domain.as_slice(), expected.as_bytes(), "at {target:?}");
+    Ok(())
+}
+
+/// Asserts why a message isn't served.
+fn expect_fault(
+    rt: &(impl Abort + AllocGlobal),
+    method: &str,
+    target: &[u8],
+    expected: RouteFault,
+) -> Result<(), Fail> {
+    let message = message_of(rt.alloc(), method, target)?;
+    let fault = route(rt.alloc(), &message).err().ok_or("a route")?;
+    assert_eq!(rt; fault, expected, "at {method} {target:?}");
+    Ok(())
 }
 
 #[test]
@@ -174,9 +217,7 @@ fn a_decision_is_asked_at_its_domain(rt: HostRuntime) -> Result<(), Fail> {
         ("/domains/pdp/pdp", "pdp"),
     ];
     for (target, expected) in cases {
-        let message = message_of(rt.alloc(), b"POST", target.as_bytes())?;
-        let Route::Decide { domain } = route(rt.alloc(), &message)?;
-        assert_eq!(rt; domain.as_slice(), expected.as_bytes(), "at {target:?}");
+        expect_domain(&rt, target, expected)?;
     }
     Ok(())
 }
@@ -199,54 +240,51 @@ fn nothing_else_is_served(rt: HostRuntime) -> Result<(), Fail> {
         ("POST", "", RouteFault::NoRoute),
     ];
     for (method, target, expected) in cases {
-        let message = message_of(rt.alloc(), method.as_bytes(), target.as_bytes())?;
-        let fault = route(rt.alloc(), &message).err().ok_or("a route")?;
-        assert_eq!(rt; fault, expected, "at {method} {target:?}");
+        expect_fault(&rt, method, target.as_bytes(), expected)?;
     }
-    let message = message_of(rt.alloc(), b"POST", b"/domains/a/pdp?\xff")?;
-    let fault = route(rt.alloc(), &message).err().ok_or("a route")?;
-    assert_eq!(rt; fault, RouteFault::NoRoute);
+    expect_fault(&rt, "POST", b"/domains/a/pdp?\xff", RouteFault::NoRoute)
+}
+
+/// Asserts that a reply has so many bytes: those of the head, and then those of the body.
+fn expect_reply(
+    rt: &(impl Abort + AllocGlobal),
+    (status, media, extra): (StatusCode, Media, Extra),
+    head: &str,
+    body: &str,
+    length: usize,
+) -> Result<(), Fail> {
+    let bytes = reply(rt.alloc(), status, media, extra, body.as_bytes())?;
+    let expected = format!(in rt.alloc(); "{head}{body}")?;
+    assert_eq!(rt; bytes.as_slice(), expected.as_bytes());
+    assert_eq!(rt; bytes.len(), length);
     Ok(())
 }
 
 #[test]
 fn replies_are_these_bytes(rt: HostRuntime) -> Result<(), Fail> {
-    let refused = reply(
-        rt.alloc(),
-        StatusCode::UNAUTHORIZED,
-        Media::Json,
-        Extra::Challenge,
-        b"{\"Error\":\"Unauthorized\"}",
+    expect_reply(
+        &rt,
+        (StatusCode::UNAUTHORIZED, Media::Json, Extra::Challenge),
+        "HTTP/1.1 401 Unauthorized\r\nContent-Type: application/json\r\nContent-Length: 24\r\nWWW-Authenticate: Bearer\r\n\r\n",
+        "{\"Error\":\"Unauthorized\"}",
+        131,
     )?;
-    assert_eq!(rt; refused.len(), 131);
-    assert_eq!(rt;
-        refused.as_slice(),
-        b"HTTP/1.1 401 Unauthorized\r\nContent-Type: application/json\r\nContent-Length: 24\r\nWWW-Authenticate: Bearer\r\n\r\n{\"Error\":\"Unauthorized\"}".as_slice()
-    );
-    let body =
-        b"{\"Response\":[{\"Decision\":\"Permit\",\"Status\":{\"StatusCode\":{\"Value\":\"urn:oasis:names:tc:xacml:1.0:status:ok\"}}}]}";
-    let permit = reply(
-        rt.alloc(),
-        StatusCode::OK,
-        Media::XacmlJson,
-        Extra::Nothing,
-        body,
+    expect_reply(
+        &rt,
+        (StatusCode::OK, Media::XacmlJson, Extra::Nothing),
+        "HTTP/1.1 200 OK\r\nContent-Type: application/xacml+json\r\nContent-Length: 111\r\n\r\n",
+        "{\"Response\":[{\"Decision\":\"Permit\",\"Status\":{\"StatusCode\":{\"Value\":\"urn:oasis:names:tc:xacml:1.0:status:ok\"}}}]}",
+        189,
     )?;
-    assert_eq!(rt; permit.len(), 189);
-    assert_eq!(rt;
-        permit.as_slice(),
-        b"HTTP/1.1 200 OK\r\nContent-Type: application/xacml+json\r\nContent-Length: 111\r\n\r\n{\"Response\":[{\"Decision\":\"Permit\",\"Status\":{\"StatusCode\":{\"Value\":\"urn:oasis:names:tc:xacml:1.0:status:ok\"}}}]}".as_slice()
-    );
-    let method = reply(
-        rt.alloc(),
-        StatusCode::METHOD_NOT_ALLOWED,
-        Media::Json,
-        Extra::Allow(Methods::Post),
-        b"{}",
-    )?;
-    assert_eq!(rt;
-        method.as_slice(),
-        b"HTTP/1.1 405 Method Not Allowed\r\nContent-Type: application/json\r\nContent-Length: 2\r\nAllow: POST\r\n\r\n{}".as_slice()
-    );
-    Ok(())
+    expect_reply(
+        &rt,
+        (
+            StatusCode::METHOD_NOT_ALLOWED,
+            Media::Json,
+            Extra::Allow(Methods::Post),
+        ),
+        "HTTP/1.1 405 Method Not Allowed\r\nContent-Type: application/json\r\nContent-Length: 2\r\nAllow: POST\r\n\r\n",
+        "{}",
+        101,
+    )
 }
