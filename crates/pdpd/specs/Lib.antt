@@ -1,0 +1,3 @@
+pub mod Heading
+pub mod Exit
+pub mod FirstDomain

@@ -1,8 +1,10 @@
 //! How the program ends.
 ghost use Rattle.std.specs.Prelude.{◌≡◌};
+ghost use Rattle.pdpd.specs.Exit.{status_of};
 
 use std::alloc::{AllocError, AllocFailed};
-use std::{fmt, io};
+use std::fmt;
+use std::io::{self, ErrorKind};
 
 /// How the program ends, which its status tells.
 #[derive(Clone, Copy, Debug, PartialEq, Eq)]
@@ -21,7 +23,9 @@ pub enum Exit {
 
 impl Exit {
     /// The status with which the program ends.
-    pub fn status(self) -> u8 {
+    pub fn status(self) -> u8
+        ensures { result ≡ status_of self }
+    {
         match self {
             Exit::Done => 0,
             Exit::Failed => 1,
@@ -47,23 +51,38 @@ impl fmt::Display for Exit {
 }
 
 impl From<AllocError> for Exit {
+    ghost use Rattle.std.specs.Prelude.{◌≡◌};
+    ghost use Rattle.pdpd.specs.declared.exit.Exit.TheVariants.{Memory};
+
+    ghost from_gives = { λ _ exit. exit ≡ Memory };
+
     fn from(_: AllocError) -> Exit {
         Exit::Memory
     }
 }
 
 impl<T: Drop> From<AllocFailed<T>> for Exit {
+    ghost use Rattle.std.specs.Prelude.{◌≡◌};
+    ghost use Rattle.pdpd.specs.declared.exit.Exit.TheVariants.{Memory};
+
+    ghost from_gives = { λ _ exit. exit ≡ Memory };
+
     fn from(_: AllocFailed<T>) -> Exit {
         Exit::Memory
     }
 }
 
 impl From<io::Error> for Exit {
+    ghost use Rattle.std.specs.Prelude.{◌≡◌};
+    ghost use Rattle.std.specs.IoError.{error_kind};
+    ghost use Rattle.pdpd.specs.Exit.{failed_by};
+
+    ghost from_gives = { λ error exit. exit ≡ failed_by (error_kind error) };
+
     fn from(error: io::Error) -> Exit {
-        if error.kind() == io::ErrorKind::OutOfMemory {
-            Exit::Memory
-        } else {
-            Exit::Failed
+        match error.kind() {
+            ErrorKind::OutOfMemory => Exit::Memory,
+            _ => Exit::Failed,
         }
     }
 }

@@ -1,4 +1,7 @@
 //! The one domain that the program starts with.
+ghost use Rattle.std.specs.Prelude.{◌≡◌, IfOk};
+ghost use Rattle.pdpd.specs.FirstDomain.{acme, permit_all};
+
 use std::alloc::{AllocError, Global};
 use xa_policy::{Alg, Effect, Policy, Rule, Target};
 use xa_server::{Digest, Given, Role, Token};
@@ -8,7 +11,10 @@ use xa_value::{Items, Text};
 const ASK_TOKEN: &[u8] = b"acme-token-1";
 
 /// A policy of one rule, which permits everything.
-fn permit_all(alloc: Global) -> Result<Policy, AllocError> {
+#[tactic(auto, unfolding(crate::specs::FirstDomain::permit_all))]
+fn permit_all(alloc: Global) -> Result<Policy, AllocError>
+    ensures { IfOk result (λ policy. policy ≡ permit_all) }
+{
     let mut rules = Items::new(alloc);
     rules.push(Rule {
         effect: Effect::Permit,
@@ -25,7 +31,10 @@ fn permit_all(alloc: Global) -> Result<Policy, AllocError> {
 }
 
 /// The domain `acme`: one token that may ask, and a policy that permits everything.
-pub fn acme(alloc: Global) -> Result<Given, AllocError> {
+#[tactic(auto, unfolding(crate::specs::FirstDomain::acme))]
+pub fn acme(alloc: Global) -> Result<Given, AllocError>
+    ensures { IfOk result (λ given. given ≡ acme) }
+{
     let mut tokens = Items::new(alloc);
     tokens.push(Token {
         digest: Digest::of(ASK_TOKEN),

@@ -3,6 +3,7 @@
 
 mod exit;
 mod first_domain;
+mod heading;
 mod replay;
 #[cfg(test)]
 mod tests;

@@ -1,8 +1,17 @@
 //! Answers the messages of a transcript.
+ghost use Rattle.std.specs.Prelude.{◌≡◌, ◌≢◌, ◌↔◌, Ok, IsTrue, IsFalse, IfOk, IfErr, [], ◌∷◌, slice_index_or, slice_set, replicate};
+ghost use Rattle.sha2.specs.Sha256.{sha256};
+ghost use Rattle.xa_server.specs.Authorization.{is_token};
+ghost use Rattle.pdpd.specs.Exit.{breaks_off};
+ghost use Rattle.pdpd.specs.FirstDomain.{acme};
+ghost use Rattle.pdpd.specs.declared.exit.Exit.TheVariants.{Memory, Usage};
+ghost use Rattle.pdpd.specs.declared.replay.Connection.TheVariants.{Closed, Ended};
+
 use crate::exit::Exit;
 use crate::first_domain::acme;
-use crate::transcript::{CONNECTIONS, Heading, Transcript};
-use std::alloc::Global;
+use crate::heading::{CONNECTIONS, Heading};
+use crate::transcript::Transcript;
+use std::alloc::{AllocError, Global};
 use std::io::{BufWriter, Read, Write};
 use std::mem;
 use xa_http::{Message, Next, Session};
@@ -23,6 +32,26 @@ enum Connection {
     Ended,
 }
 
+/// All connections, closed.
+fn all_closed(alloc: Global) -> Result<Vec<Connection>, AllocError>
+    ensures { IfOk result (λ connections. connections.items ≡ replicate CONNECTIONS Closed) }
+{
+    let mut connections = Vec::with_capacity(alloc, CONNECTIONS)?;
+    for _ in 0..CONNECTIONS {
+        connections.push(Connection::Closed)?;
+    }
+    Ok(connections)
+}
+
+/// The server over the one domain that the program starts with.
+fn first_server(alloc: Global, token: &str) -> Result<Server, AllocError>
+    ensures { IfOk result (λ server. server ≡ record { operator = sha256 token.now; domains = acme ∷ [] }) }
+{
+    let mut domains = Vec::new(alloc);
+    domains.push(acme(alloc)?)?;
+    Ok(Server::given(alloc, domains, Digest::of(token.as_bytes())).unwrap())
+}
+
 /// What the program holds between entries.
 #[derive(Drop)]
 struct Replayer<W: Write + Drop> {
@@ -34,26 +63,23 @@ struct Replayer<W: Write + Drop> {
 
 impl<W: Write + Drop> Replayer<W> {
     /// Over the one domain that the program starts with, with all connections closed.
-    fn new(alloc: Global, writer: W, token: &str) -> Result<Replayer<W>, Exit> {
-        let mut domains = Vec::new(alloc);
-        domains.push(acme(alloc)?)?;
-        let Ok(server) = Server::given(alloc, domains, Digest::of(token.as_bytes())) else {
-            return Err(Exit::Usage);
-        };
-        let mut connections = Vec::with_capacity(alloc, CONNECTIONS)?;
-        for _ in 0..CONNECTIONS {
-            connections.push(Connection::Closed)?;
-        }
+    fn new(alloc: Global, writer: W, token: &str) -> Result<Replayer<W>, Exit>
+        ensures ok { IfOk result (λ replayer. replayer.server ≡ record { operator = sha256 token.now; domains = acme ∷ [] }) }
+        ensures closed { IfOk result (λ replayer. replayer.connections.items ≡ replicate CONNECTIONS Closed) }
+        ensures err { IfErr result (λ exit. exit ≡ Memory) }
+    {
         Ok(Replayer {
             alloc,
-            server,
-            connections,
+            server: first_server(alloc, token)?,
+            connections: all_closed(alloc)?,
             writer: BufWriter::with_capacity(alloc, BUFFER_BYTES, writer)?,
         })
     }
 
     /// Hands the bytes of an entry to its connection, and answers the messages that are whole then.
-    fn entry(&mut self, heading: Heading, bytes: &[u8]) -> Result<(), Exit> {
+    fn entry(&mut self, heading: Heading, bytes: &[u8]) -> Result<(), Exit>
+        ensures { IfErr result (λ exit. IsTrue (breaks_off exit)) }
+    {
         let place = heading.connection;
         let was = self.take(place);
         let is = self.went_on(was, heading, bytes)?;
@@ -62,14 +88,21 @@ impl<W: Write + Drop> Replayer<W> {
     }
 
     /// Takes a connection out, which leaves it closed.
-    fn take(&mut self, place: usize) -> Connection {
+    fn take(&mut self, place: usize) -> Connection
+        ensures taken { result ≡ slice_index_or self.old.connections.items place Closed }
+        ensures left { self.new.connections.items ≡ slice_set self.old.connections.items place Closed }
+        ensures server { self.new.server ≡ self.old.server }
+    {
         match self.connections.get_mut(place) {
             Some(connection) => mem::replace(connection, Connection::Closed),
             None => Connection::Closed,
         }
     }
 
-    fn put(&mut self, place: usize, is: Connection) {
+    fn put(&mut self, place: usize, is: Connection)
+        ensures put { self.new.connections.items ≡ slice_set self.old.connections.items place is }
+        ensures server { self.new.server ≡ self.old.server }
+    {
         if let Some(connection) = self.connections.get_mut(place) {
             *connection = is;
         }
@@ -81,7 +114,12 @@ impl<W: Write + Drop> Replayer<W> {
         was: Connection,
         heading: Heading,
         bytes: &[u8],
-    ) -> Result<Connection, Exit> {
+    ) -> Result<Connection, Exit>
+        ensures closes { bytes.now ≡ [] → result ≡ Ok Closed }
+        ensures passes_over { was ≡ Ended → bytes.now ≢ [] → result ≡ Ok Ended }
+        ensures others { self.new.connections ≡ self.old.connections }
+        ensures err { IfErr result (λ exit. IsTrue (breaks_off exit)) }
+    {
         if bytes.is_empty() {
             return Ok(Connection::Closed);
         }
@@ -98,7 +136,10 @@ impl<W: Write + Drop> Replayer<W> {
         heading: Heading,
         session: Session,
         bytes: &[u8],
-    ) -> Result<Connection, Exit> {
+    ) -> Result<Connection, Exit>
+        ensures others { self.new.connections ≡ self.old.connections }
+        ensures err { IfErr result (λ exit. IsTrue (breaks_off exit)) }
+    {
         let mut session = session;
         session.feed(bytes)?;
         let mut messages = Vec::new(self.alloc);
@@ -116,7 +157,10 @@ impl<W: Write + Drop> Replayer<W> {
     }
 
     /// Writes a reply: the connection and the count of its bytes, and the bytes.
-    fn write(&mut self, connection: usize, bytes: &[u8]) -> Result<(), Exit> {
+    fn write(&mut self, connection: usize, bytes: &[u8]) -> Result<(), Exit>
+        ensures others { self.new.connections ≡ self.old.connections }
+        ensures err { IfErr result (λ exit. IsTrue (breaks_off exit)) }
+    {
         let count = bytes.len();
         writeln!(self.writer, "{connection} {count}")?;
         self.writer.write_all(bytes)?;
@@ -130,7 +174,9 @@ fn take_messages(
     session: &mut Session,
     moment: Moment,
     messages: &mut Vec<(Moment, Message)>,
-) -> Result<bool, Exit> {
+) -> Result<bool, Exit>
+    ensures { IfErr result (λ exit. exit ≡ Memory) }
+{
     for _ in 0..u64::MAX {
         match session.next()? {
             Next::Message(message) => messages.push((moment, message))?,
@@ -146,7 +192,9 @@ fn answer_all<R: Read, W: Write + Drop>(
     alloc: Global,
     reader: &mut R,
     replayer: &mut Replayer<W>,
-) -> Result<(), Exit> {
+) -> Result<(), Exit>
+    ensures { IfErr result (λ exit. IsTrue (breaks_off exit)) }
+{
     let mut transcript = Transcript::new(alloc, reader)?;
     let mut bytes = Vec::new(alloc);
     for _ in 0..u64::MAX {
@@ -167,7 +215,9 @@ pub fn replay<R: Read, W: Write + Drop>(
     reader: &mut R,
     writer: W,
     token: &str,
-) -> Exit {
+) -> Exit
+    ensures { (result ≡ Usage) ↔ IsFalse (is_token token.now) }
+{
     if !is_token(token.as_bytes()) {
         return Exit::Usage;
     }

@@ -9,21 +9,21 @@ use std::test::Fail;
 const TOKEN: &str = "operator-token-1";
 
 /// A request for a decision, and the entry's line before it.
-const ASK: &[u8] =
-    b"0 0 105\nPOST /domains/acme/pdp HTTP/1.1\r\nAuthorization: Bearer acme-token-1\r\nContent-Length: 14\r\n\r\n{\"Request\":{}}\n";
+const ASK: &str =
+    "0 0 105\nPOST /domains/acme/pdp HTTP/1.1\r\nAuthorization: Bearer acme-token-1\r\nContent-Length: 14\r\n\r\n{\"Request\":{}}\n";
 
 /// The reply to it, and the line before it.
-const PERMIT: &[u8] =
-    b"0 189\nHTTP/1.1 200 OK\r\nContent-Type: application/xacml+json\r\nContent-Length: 111\r\n\r\n{\"Response\":[{\"Decision\":\"Permit\",\"Status\":{\"StatusCode\":{\"Value\":\"urn:oasis:names:tc:xacml:1.0:status:ok\"}}}]}\n";
+const PERMIT: &str =
+    "0 189\nHTTP/1.1 200 OK\r\nContent-Type: application/xacml+json\r\nContent-Length: 111\r\n\r\n{\"Response\":[{\"Decision\":\"Permit\",\"Status\":{\"StatusCode\":{\"Value\":\"urn:oasis:names:tc:xacml:1.0:status:ok\"}}}]}\n";
 
 /// The reply to a stream that doesn't go on with a message.
-const BAD_HEAD: &[u8] =
-    b"99\nHTTP/1.1 400 Bad Request\r\nContent-Type: application/json\r\nContent-Length: 19\r\n\r\n{\"Error\":\"BadHead\"}\n";
+const BAD_HEAD: &str =
+    "99\nHTTP/1.1 400 Bad Request\r\nContent-Type: application/json\r\nContent-Length: 19\r\n\r\n{\"Error\":\"BadHead\"}\n";
 
-fn joined(alloc: Global, parts: &[&[u8]]) -> Result<Vec<u8>, AllocError> {
-    let mut all = Vec::new(alloc);
+fn joined(alloc: Global, parts: &[&str]) -> Result<String, AllocError> {
+    let mut all = String::new(alloc);
     for part in parts {
-        all.extend_from_slice(*part)?;
+        all.push_str(*part)?;
     }
     Ok(all)
 }
@@ -31,16 +31,16 @@ fn joined(alloc: Global, parts: &[&[u8]]) -> Result<Vec<u8>, AllocError> {
 /// Replays the parts of a transcript, and asserts how it ends and what was written.
 fn expect(
     rt: &(impl Abort + AllocGlobal),
-    parts: &[&[u8]],
+    parts: &[&str],
     exit: Exit,
-    written: &[&[u8]],
+    written: &[&str],
 ) -> Result<(), Fail> {
     let alloc = rt.alloc();
     let transcript = joined(alloc, parts)?;
     let mut output = Vec::new(alloc);
-    let ended = replay(alloc, &mut transcript.as_slice(), &mut output, TOKEN);
+    let ended = replay(alloc, &mut transcript.as_bytes(), &mut output, TOKEN);
     assert_eq!(rt; ended, exit);
-    assert_eq!(rt; output.as_slice(), joined(alloc, written)?.as_slice());
+    assert_eq!(rt; output.as_slice(), joined(alloc, written)?.as_bytes());
     Ok(())
 }
 
@@ -49,25 +49,25 @@ fn whole_transcripts(rt: HostRuntime) -> Result<(), Fail> {
     expect(&rt, &[], Exit::Done, &[])?;
     expect(&rt, &[ASK, ASK], Exit::Done, &[PERMIT, PERMIT])?;
     let empty_list =
-        b"0 0 92\nPOST /domains/acme/pdp HTTP/1.1\r\nAuthorization: Bearer acme-token-1\r\nContent-Length: 2\r\n\r\n[]\n";
+        "0 0 92\nPOST /domains/acme/pdp HTTP/1.1\r\nAuthorization: Bearer acme-token-1\r\nContent-Length: 2\r\n\r\n[]\n";
     let syntax_error =
-        b"0 206\nHTTP/1.1 200 OK\r\nContent-Type: application/xacml+json\r\nContent-Length: 128\r\n\r\n{\"Response\":[{\"Decision\":\"Indeterminate\",\"Status\":{\"StatusCode\":{\"Value\":\"urn:oasis:names:tc:xacml:1.0:status:syntax-error\"}}}]}\n";
+        "0 206\nHTTP/1.1 200 OK\r\nContent-Type: application/xacml+json\r\nContent-Length: 128\r\n\r\n{\"Response\":[{\"Decision\":\"Indeterminate\",\"Status\":{\"StatusCode\":{\"Value\":\"urn:oasis:names:tc:xacml:1.0:status:syntax-error\"}}}]}\n";
     expect(&rt, &[empty_list], Exit::Done, &[syntax_error])?;
     let empty_body =
-        b"7 -0 71\nPOST /domains/acme/pdp HTTP/1.1\r\nAuthorization: Bearer acme-token-1\r\n\r\n\n";
+        "7 -0 71\nPOST /domains/acme/pdp HTTP/1.1\r\nAuthorization: Bearer acme-token-1\r\n\r\n\n";
     let not_json =
-        b"7 99\nHTTP/1.1 400 Bad Request\r\nContent-Type: application/json\r\nContent-Length: 19\r\n\r\n{\"Error\":\"NotJson\"}\n";
+        "7 99\nHTTP/1.1 400 Bad Request\r\nContent-Type: application/json\r\nContent-Length: 19\r\n\r\n{\"Error\":\"NotJson\"}\n";
     expect(&rt, &[empty_body], Exit::Done, &[not_json])
 }
 
 #[test]
 fn a_wrong_token_and_an_absent_domain_get_the_same(rt: HostRuntime) -> Result<(), Fail> {
     let wrong =
-        b"0 0 71\nPOST /domains/acme/pdp HTTP/1.1\r\nAuthorization: Bearer acme-token-2\r\n\r\n\n";
+        "0 0 71\nPOST /domains/acme/pdp HTTP/1.1\r\nAuthorization: Bearer acme-token-2\r\n\r\n\n";
     let absent =
-        b"0 0 71\nPOST /domains/zeta/pdp HTTP/1.1\r\nAuthorization: Bearer acme-token-1\r\n\r\n\n";
+        "0 0 71\nPOST /domains/zeta/pdp HTTP/1.1\r\nAuthorization: Bearer acme-token-1\r\n\r\n\n";
     let unauthorized =
-        b"0 131\nHTTP/1.1 401 Unauthorized\r\nContent-Type: application/json\r\nContent-Length: 24\r\nWWW-Authenticate: Bearer\r\n\r\n{\"Error\":\"Unauthorized\"}\n";
+        "0 131\nHTTP/1.1 401 Unauthorized\r\nContent-Type: application/json\r\nContent-Length: 24\r\nWWW-Authenticate: Bearer\r\n\r\n{\"Error\":\"Unauthorized\"}\n";
     expect(
         &rt,
         &[wrong, absent],
@@ -78,49 +78,51 @@ fn a_wrong_token_and_an_absent_domain_get_the_same(rt: HostRuntime) -> Result<()
 
 #[test]
 fn malformed_and_cut_transcripts(rt: HostRuntime) -> Result<(), Fail> {
-    let malformed: [&[u8]; 12] = [
-        b"64 0 1\nx\n",
-        b"0 0 1048577\n",
-        b"0 253402300800 1\nx\n",
-        b"0 -62135596801 1\nx\n",
-        b"0 0\nx\n",
-        b"0  0 1\nx\n",
-        b"0 0 1 \nx\n",
-        b"+0 0 1\nx\n",
-        b"0 0 1\nxx",
-        b"0 0 1",
-        b"0 0 00000000000000000000000000000000000000000000000000000000000001\nx\n",
-        b"\n",
+    let malformed = [
+        "64 0 1\nx\n",
+        "0 0 1048577\n",
+        "0 253402300800 1\nx\n",
+        "0 -62135596801 1\nx\n",
+        "0 0\nx\n",
+        "0  0 1\nx\n",
+        "0 0 1 \nx\n",
+        "+0 0 1\nx\n",
+        "0 0 1\nxx",
+        "0 0 1",
+        "0 0 00000000000000000000000000000000000000000000000000000000000001\nx\n",
+        "\n",
     ];
-    for last in &malformed {
-        expect(&rt, &[ASK, *last], Exit::Malformed, &[PERMIT])?;
+    for last in malformed {
+        expect(&rt, &[ASK, last], Exit::Malformed, &[PERMIT])?;
     }
-    expect(&rt, &[ASK, &ASK[..60]], Exit::Malformed, &[PERMIT])?;
-    expect(&rt, &[ASK, b"1 0 1\nx"], Exit::Malformed, &[PERMIT])
+    let cut = ASK.get(..60).ok_or("a cut")?;
+    expect(&rt, &[ASK, cut], Exit::Malformed, &[PERMIT])?;
+    expect(&rt, &[ASK, "1 0 1\nx"], Exit::Malformed, &[PERMIT])
 }
 
 #[test]
 fn entries_of_a_connection(rt: HostRuntime) -> Result<(), Fail> {
-    let bad = b"1 0 1\n:\n";
-    let more = b"1 253402300799 3\nabc\n";
-    let close = b"1 -62135596800 0\n\n";
-    let padded = b"00000000000000000000000000000000000000000000000000000000001 0 1\n:\n";
+    let bad = "1 0 1\n:\n";
+    let more = "1 253402300799 3\nabc\n";
+    let close = "1 -62135596800 0\n\n";
+    let padded = "00000000000000000000000000000000000000000000000000000000001 0 1\n:\n";
     // A fault ends the stream, further entries are passed over, and after a close the connection is new.
     expect(
         &rt,
         &[bad, more, close, padded, ASK],
         Exit::Done,
-        &[b"1 ", BAD_HEAD, b"1 ", BAD_HEAD, PERMIT],
+        &["1 ", BAD_HEAD, "1 ", BAD_HEAD, PERMIT],
     )?;
     // A message may come in two entries, others between, and closing what isn't open does nothing.
-    let first = b"2 0 40\nPOST /domains/acme/pdp HTTP/1.1\r\nAuthori\n";
+    let first = "2 0 40\nPOST /domains/acme/pdp HTTP/1.1\r\nAuthori\n";
     let rest =
-        b"2 0 65\nzation: Bearer acme-token-1\r\nContent-Length: 14\r\n\r\n{\"Request\":{}}\n";
+        "2 0 65\nzation: Bearer acme-token-1\r\nContent-Length: 14\r\n\r\n{\"Request\":{}}\n";
+    let unnumbered = PERMIT.get(1..).ok_or("a rest")?;
     expect(
         &rt,
         &[close, first, ASK, rest],
         Exit::Done,
-        &[PERMIT, b"2", &PERMIT[1..]],
+        &[PERMIT, "2", unnumbered],
     )
 }
 
@@ -157,14 +159,14 @@ fn broken_streams_and_bad_tokens(rt: HostRuntime) -> Result<(), Fail> {
     let alloc = rt.alloc();
     let mut output = Vec::new(alloc);
     assert_eq!(rt;
-        replay(alloc, &mut Broken(ASK), &mut output, TOKEN),
+        replay(alloc, &mut Broken(ASK.as_bytes()), &mut output, TOKEN),
         Exit::Failed
     );
-    assert_eq!(rt; output.as_slice(), PERMIT);
-    let mut input: &[u8] = ASK;
+    assert_eq!(rt; output.as_slice(), PERMIT.as_bytes());
+    let mut input = ASK.as_bytes();
     assert_eq!(rt; replay(alloc, &mut input, Full, TOKEN), Exit::Failed);
     for token in ["", "seven77", "with a blank"] {
-        let mut input: &[u8] = ASK;
+        let mut input = ASK.as_bytes();
         assert_eq!(rt;
             replay(alloc, &mut input, &mut Vec::new(alloc), token),
             Exit::Usage

@@ -1,17 +1,12 @@
 //! Transcripts: entries of a line `CONNECTION MOMENT COUNT`, so many bytes, and a line feed.
-ghost use Rattle.std.specs.Prelude.{◌<◌, ◌≤◌, IsTrue, IfOk, vec_len};
+ghost use Rattle.std.specs.Prelude.{◌≡◌, ◌<◌, ◌≤◌, IsTrue, IfOk, IfErr, vec_len};
+ghost use Rattle.pdpd.specs.Exit.{breaks_off};
+ghost use Rattle.pdpd.specs.declared.exit.Exit.TheVariants.{Memory};
 
 use crate::exit::Exit;
+use crate::heading::{Heading, heading_of};
 use std::alloc::Global;
 use std::io::{self, Read};
-use std::str;
-use xa_value::Moment;
-
-/// How many connections a transcript may hold at once.
-pub const CONNECTIONS: usize = 64;
-
-/// The most bytes of an entry.
-const MAX_ENTRY_BYTES: usize = 1_048_576;
 
 /// The most bytes of an entry's line, without its line feed.
 const MAX_LINE_BYTES: usize = 64;
@@ -21,17 +16,6 @@ const PIECE_BYTES: usize = 65_536;
 
 /// How often the transcript is read before that counts as a failed read.
 const MAX_READS: u32 = 1_000_000_000;
-
-/// What the line of an entry says.
-#[derive(Clone, Copy, Debug)]
-pub struct Heading {
-    /// The connection, below 64.
-    pub connection: usize,
-    /// The moment at which the entry's messages are answered.
-    pub moment: Moment,
-    /// How many bytes follow.
-    pub count: usize,
-}
 
 /// What is read of a transcript, a piece at a time.
 #[derive(Drop)]
@@ -46,7 +30,9 @@ pub struct Transcript<'a, R> {
 
 impl<'a, R: Read> Transcript<'a, R> {
     /// A transcript of which nothing is read yet.
-    pub fn new(alloc: Global, reader: &'a mut R) -> Result<Transcript<'a, R>, Exit> {
+    pub fn new(alloc: Global, reader: &'a mut R) -> Result<Transcript<'a, R>, Exit>
+        ensures { IfErr result (λ exit. exit ≡ Memory) }
+    {
         Ok(Transcript {
             reader,
             piece: vec![in alloc; 0; PIECE_BYTES]?,
@@ -57,7 +43,9 @@ impl<'a, R: Read> Transcript<'a, R> {
     }
 
     /// Reads the next piece, once all of the last is taken. It is empty at the transcript's end.
-    fn refill(&mut self) -> Result<(), Exit> {
+    fn refill(&mut self) -> Result<(), Exit>
+        ensures { IfErr result (λ exit. IsTrue (breaks_off exit)) }
+    {
         for _ in 0..MAX_READS {
             if self.reads == 0 {
                 return Err(Exit::Failed);
@@ -78,7 +66,8 @@ impl<'a, R: Read> Transcript<'a, R> {
 
     /// Reads on where all that was read is taken. Whether the transcript goes on.
     fn goes_on(&mut self) -> Result<bool, Exit>
-        ensures { IfOk result (λ more. IsTrue more → self.new.start < self.new.end) }
+        ensures more { IfOk result (λ more. IsTrue more → self.new.start < self.new.end) }
+        ensures err { IfErr result (λ exit. IsTrue (breaks_off exit)) }
     {
         if self.start == self.end {
             self.refill()?;
@@ -87,7 +76,9 @@ impl<'a, R: Read> Transcript<'a, R> {
     }
 
     /// The next byte, if the transcript goes on.
-    fn next_byte(&mut self) -> Result<Option<u8>, Exit> {
+    fn next_byte(&mut self) -> Result<Option<u8>, Exit>
+        ensures { IfErr result (λ exit. IsTrue (breaks_off exit)) }
+    {
         if !self.goes_on()? {
             return Ok(None);
         }
@@ -97,7 +88,9 @@ impl<'a, R: Read> Transcript<'a, R> {
     }
 
     /// Moves at most so many bytes of the transcript to the end of `bytes`. Whether it goes on.
-    fn take(&mut self, most: usize, bytes: &mut Vec<u8>) -> Result<bool, Exit> {
+    fn take(&mut self, most: usize, bytes: &mut Vec<u8>) -> Result<bool, Exit>
+        ensures { IfErr result (λ exit. IsTrue (breaks_off exit)) }
+    {
         if !self.goes_on()? {
             return Ok(false);
         }
@@ -108,7 +101,9 @@ impl<'a, R: Read> Transcript<'a, R> {
     }
 
     /// The line of the next entry, if there is one.
-    pub fn heading(&mut self) -> Result<Option<Heading>, Exit> {
+    pub fn heading(&mut self) -> Result<Option<Heading>, Exit>
+        ensures { IfErr result (λ exit. IsTrue (breaks_off exit)) }
+    {
         let mut line = [0; MAX_LINE_BYTES];
         for len in 0..=MAX_LINE_BYTES {
             match self.next_byte()? {
@@ -125,7 +120,9 @@ impl<'a, R: Read> Transcript<'a, R> {
     }
 
     /// The bytes of an entry, in place of those of the last, and the line feed after them.
-    pub fn entry(&mut self, count: usize, bytes: &mut Vec<u8>) -> Result<(), Exit> {
+    pub fn entry(&mut self, count: usize, bytes: &mut Vec<u8>) -> Result<(), Exit>
+        ensures { IfErr result (λ exit. IsTrue (breaks_off exit)) }
+    {
         bytes.clear();
         for _ in 0..count {
             let wanted = count.saturating_sub(bytes.len());
@@ -141,38 +138,4 @@ impl<'a, R: Read> Transcript<'a, R> {
             _ => Err(Exit::Malformed),
         }
     }
-}
-
-/// The number that plain digits write.
-fn number(digits: &[u8]) -> Option<u64> {
-    if !digits.iter().all(|digit| digit.is_ascii_digit()) {
-        return None;
-    }
-    str::from_utf8(digits).ok()?.parse().ok()
-}
-
-/// The moment that plain digits write, after a `-` where it lies before 1970.
-fn moment(text: &[u8]) -> Option<Moment> {
-    let (digits, before) = match text {
-        [b'-', digits @ ..] => (digits, true),
-        digits => (digits, false),
-    };
-    let seconds = i64::try_from(number(digits)?).ok()?;
-    Moment::new(if before { -seconds } else { seconds })
-}
-
-/// What a line of `CONNECTION MOMENT COUNT` says.
-fn heading_of(line: &[u8]) -> Option<Heading> {
-    let mut parts = line.split(|byte| *byte == b' ');
-    let connection = usize::try_from(number(parts.next()?)?).ok()?;
-    let moment = moment(parts.next()?)?;
-    let count = usize::try_from(number(parts.next()?)?).ok()?;
-    if parts.next().is_some() || CONNECTIONS <= connection || MAX_ENTRY_BYTES < count {
-        return None;
-    }
-    Some(Heading {
-        connection,
-        moment,
-        count,
-    })
 }

@@ -1,0 +1,25 @@
+-- How the program ends.
+use Rattle.std.specs.Prelude.{ℕ, Bool, true, false}
+use Rattle.std.specs.declared.io.ErrorKind.{ErrorKind}
+use Rattle.std.specs.declared.io.ErrorKind.TheVariants.{OutOfMemory}
+use Rattle.pdpd.specs.declared.exit.Exit.{Exit}
+use Rattle.pdpd.specs.declared.exit.Exit.TheVariants.{Done, Failed, Usage, Malformed, Memory}
+
+-- the status with which it ends
+abbrev pub status_of : Exit → ℕ
+status_of Done = 0
+status_of Failed = 1
+status_of Usage = 2
+status_of Malformed = 3
+status_of Memory = 6
+
+-- how it ends where standard input or output fails so
+abbrev pub failed_by : ErrorKind → Exit
+failed_by OutOfMemory = Memory
+failed_by _ = Failed
+
+-- it ends so in the middle of a transcript
+abbrev pub breaks_off : Exit → Bool
+breaks_off Done = false
+breaks_off Usage = false
+breaks_off _ = true

@@ -1,0 +1,33 @@
+-- The line before an entry of a transcript: a connection, a moment and a count, with one space between.
+use Rattle.std.specs.Prelude.{ℕ, ◌-◌, ℤ, pos, neg_ℤ, ◌==◌, if◌then◌else◌, List, [], ◌∷◌, Option, None, option_map}
+use Rattle.std.specs.List.{slice_split}
+use Rattle.std.specs.Option.{option_and_then}
+use Rattle.xa_http.specs.Digits.{number_up_to}
+use Rattle.pdpd.specs.declared.heading.Heading.{Heading}
+use Rattle.pdpd.specs.declared.heading.TheConstants.{CONNECTIONS, MAX_ENTRY_BYTES}
+
+-- the moment that plain digits write in seconds since 1970, after a `-` in seconds before: in the years 0001 to 9999
+unfoldable pub moment_of : List ℕ → Option ℤ
+moment_of [] = None
+moment_of (c ∷ cs) =
+    if c == 45 then option_map (λ n. neg_ℤ (pos n)) (number_up_to 62_135_596_800 cs)
+    else option_map pos (number_up_to 253_402_300_799 (c ∷ cs))
+
+-- what three parts say
+unfoldable pub said : List ℕ → List ℕ → List ℕ → Option Heading
+said connection moment count =
+    option_and_then (λ c. option_and_then (λ m. option_map (λ n. record { connection = c; moment = m; count = n })
+    (number_up_to MAX_ENTRY_BYTES count)) (moment_of moment)) (number_up_to (CONNECTIONS - 1) connection)
+
+-- what the parts of a line say: they are three
+abbrev pub said_by : List (List ℕ) → Option Heading
+said_by (connection ∷ moment ∷ count ∷ []) = said connection moment count
+said_by _ = None
+
+-- the parts of a line, a space between two
+abbrev pub parts_of : List ℕ → List (List ℕ)
+parts_of line = slice_split (λ c. c == 32) line
+
+-- what a line says, if it is well-formed
+abbrev pub heading_of : List ℕ → Option Heading
+heading_of line = said_by (parts_of line)

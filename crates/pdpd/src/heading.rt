@@ -1,0 +1,83 @@
+//! The line before an entry: `CONNECTION MOMENT COUNT`.
+ghost use Rattle.std.specs.Prelude.{◌≡◌, ◌-◌, ◌^◌, ◌∷◌, [], MatchOption, option_map, pos};
+ghost use Rattle.xa_http.specs.Digits.{number_up_to};
+ghost use Rattle.pdpd.specs.Heading.{heading_of, moment_of, parts_of, said};
+
+use xa_http::number_up_to;
+use xa_value::Moment;
+
+/// How many connections a transcript may hold at once.
+pub const CONNECTIONS: usize = 64;
+
+/// The most bytes of an entry.
+pub const MAX_ENTRY_BYTES: usize = 1_048_576;
+
+/// What the line of an entry says.
+#[derive(Clone, Copy, Debug)]
+pub struct Heading {
+    /// The connection, below 64.
+    pub connection: usize,
+    /// The moment at which the entry's messages are answered.
+    pub moment: Moment,
+    /// How many bytes follow.
+    pub count: usize,
+}
+
+/// The seconds that plain digits write.
+fn seconds(digits: &[u8]) -> Option<i64>
+    ensures { result ≡ option_map pos (number_up_to (2 ^ 63 - 1) digits.now) }
+{
+    i64::try_from(number_up_to(usize::MAX, digits)?).ok()
+}
+
+/// The moment that plain digits write, after a `-` where it lies before 1970.
+#[tactic(auto, unfolding(crate::specs::Heading::moment_of))]
+fn moment_of(text: &[u8]) -> Option<Moment>
+    ensures { result ≡ moment_of text.now }
+{
+    match text {
+        [b'-', digits @ ..] => Moment::new(-seconds(digits)?),
+        digits => Moment::new(seconds(digits)?),
+    }
+}
+
+/// The text before the first space, and the text after it.
+#[tactic(auto, using(crate::proofs::PartLemmas::no_space_more))]
+fn cut(text: &[u8]) -> Option<(&[u8], &[u8])>
+    ensures { MatchOption result (parts_of text.now ≡ text.now ∷ []) (λ found. parts_of text.now ≡ found.0.now ∷ parts_of found.1.now) }
+{
+    for (i, byte) in text.iter().enumerate() {
+        if *byte == b' ' {
+            return Some((&text[..i], &text[i + 1..]));
+        }
+    }
+    None
+}
+
+/// What three parts say.
+#[tactic(auto, unfolding(crate::specs::Heading::said))]
+fn said(connection: &[u8], moment: &[u8], count: &[u8]) -> Option<Heading>
+    ensures { result ≡ said connection.now moment.now count.now }
+{
+    let connection = number_up_to(CONNECTIONS - 1, connection)?;
+    let moment = moment_of(moment)?;
+    let count = number_up_to(MAX_ENTRY_BYTES, count)?;
+    Some(Heading {
+        connection,
+        moment,
+        count,
+    })
+}
+
+/// What a line says, if it is well-formed.
+#[tactic(auto, using(crate::proofs::PartLemmas::more_parts))]
+pub fn heading_of(line: &[u8]) -> Option<Heading>
+    ensures { result ≡ heading_of line.now }
+{
+    let (connection, rest) = cut(line)?;
+    let (moment, count) = cut(rest)?;
+    match cut(count) {
+        Some(_) => None,
+        None => said(connection, moment, count),
+    }
+}
