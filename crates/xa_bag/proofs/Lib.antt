@@ -1,3 +1,4 @@
+mod ArgumentLemmas
 mod KeyLemmas
 pub mod BagLemmas
 pub mod JoiningLemmas

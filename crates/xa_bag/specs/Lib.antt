@@ -1,6 +1,7 @@
 pub mod Applying
 pub mod Bag
 pub mod Distinct
+pub mod Function
 pub mod Gives
 pub mod HigherOrder
 pub mod Joining

@@ -1,4 +1,4 @@
-ghost use Rattle.std.specs.Prelude.{◌≡◌, List, Result, map, IfOk};
+ghost use Rattle.std.specs.Prelude.{◌≡◌, ◌↔◌, List, Result, map, IsTrue, IfOk};
 ghost use Rattle.xa_value.specs.declared.data_type.DataType.{DataType};
 ghost use Rattle.xa_value.specs.declared.value.Value.{Value};
 ghost use Rattle.xa_value.specs.Order.{type_of};
@@ -9,6 +9,7 @@ ghost use Rattle.xa_bag.specs.HigherOrder.{outcome};
 
 use crate::fault::BagFault;
 use std::alloc::Global;
+use xa_func::Kind;
 use xa_value::{DataType, Value};
 
 /// A function of values, as a higher-order function takes it: any function from arguments to a value of one type, or a fault.
@@ -24,6 +25,10 @@ pub trait Inner {
 
     /// What it gives.
     ghost gives: { Self → List Value → Result Value Self.Fault };
+
+    /// Whether the function takes arguments of these kinds.
+    fn takes(&self, kinds: &[Kind]) -> bool
+        ensures { IsTrue result ↔ can self.now kinds.now };
 
     /// The type of the function's values.
     fn result_type(&self) -> DataType

@@ -5,6 +5,7 @@ mod apply;
 mod bag;
 mod distinct;
 mod fault;
+mod function;
 mod higher_order;
 mod inner;
 mod members;

@@ -6,6 +6,8 @@ ghost use Rattle.xa_value.specs.declared.data_type.DataType.TheVariants as type_
 ghost use Rattle.xa_value.specs.declared.value.Value.TheVariants as value_named;
 ghost use Rattle.xa_bag.specs.declared.tests.Trap.TheVariants as trap;
 
+mod named;
+
 use crate::{
     Bag, BagFault, Inner, ValueOrBag, all_of, all_of_all, all_of_any, any_of, any_of_any,
     apply_bag_function, apply_higher_order, at_least_one_member_of, bag_of, bag_size, intersection,
@@ -13,7 +15,7 @@ use crate::{
 };
 use std::alloc::Global;
 use std::process::Abort;
-use xa_func::{BagFunction, FuncFault, HigherOrder};
+use xa_func::{BagFunction, FuncFault, HigherOrder, Kind};
 use xa_value::{DataType, Items, Offset, Time, Value};
 
 /// Which of two traps was met.
@@ -42,6 +44,10 @@ impl Inner for Probe {
         if pointwise ⟦<Value as PartialEq>⟧.eq vs probe.first then Err trap.First
         else if pointwise ⟦<Value as PartialEq>⟧.eq vs probe.second then Err trap.Second
         else Ok (value_named.Boolean (pointwise ⟦<Value as PartialEq>⟧.eq vs probe.wanted)) };
+
+    fn takes(&self, _kinds: &[Kind]) -> bool {
+        true
+    }
 
     fn result_type(&self) -> DataType {
         DataType::Boolean

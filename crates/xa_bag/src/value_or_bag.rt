@@ -1,10 +1,10 @@
 ghost use Rattle.std.specs.Prelude.{◌≡◌, ◌↔◌, IsTrue};
 ghost use Rattle.xa_bag.specs.Bag.{OfType};
-ghost use Rattle.xa_bag.specs.ValueOrBag.{values_of, type_of_each, kind_of_argument, EachOf};
+ghost use Rattle.xa_bag.specs.ValueOrBag.{values_of, type_of_each, kind_of_each, kind_of_argument, EachOf, TakesEachOf};
 
 use crate::bag::Bag;
 use std::slice;
-use xa_func::Kind;
+use xa_func::{HasKind, Kind};
 use xa_value::{DataType, Value};
 
 /// What an expression gives: one value, or a bag.
@@ -38,14 +38,11 @@ impl ValueOrBag {
         }
     }
 
-    /// The kind of the argument: a value of its type, or a bag of it.
-    pub fn kind(&self) -> Kind
-        ensures { result ≡ kind_of_argument self.now }
+    /// The kind of the values: what an inner function takes one of them as.
+    pub fn kind_of_each(&self) -> Kind
+        ensures { result ≡ kind_of_each self.now }
     {
-        match self {
-            ValueOrBag::Value(value) => Kind::Value(value.data_type()),
-            ValueOrBag::Bag(bag) => Kind::Bag(bag.data_type()),
-        }
+        Kind::Value(self.data_type())
     }
 
     /// Whether the value is of the type, or the bag is one of it.
@@ -55,9 +52,12 @@ impl ValueOrBag {
         self.data_type() == data_type
     }
 
-    /// Whether every argument is of the type, or a bag of it.
+    /// Whether every argument is of the type, or a bag of it. Clause `law`: arguments that the signature of a bag function
+    /// takes are so.
+    #[tactic(auto, using(crate::proofs::ArgumentLemmas::takes_each_of))]
     pub fn each_of(arguments: &[ValueOrBag], data_type: DataType) -> bool
-        ensures { IsTrue result ↔ EachOf data_type arguments.now }
+        ensures each { IsTrue result ↔ EachOf data_type arguments.now }
+        ensures law { TakesEachOf }
     {
         for argument in arguments {
             if !argument.is_of(data_type) {
@@ -65,5 +65,16 @@ impl ValueOrBag {
             }
         }
         true
+    }
+}
+
+impl HasKind for ValueOrBag {
+    ghost kind_of = { kind_of_argument };
+
+    fn kind(&self) -> Kind {
+        match self {
+            ValueOrBag::Value(value) => value.kind(),
+            ValueOrBag::Bag(bag) => Kind::Bag(bag.data_type()),
+        }
     }
 }
