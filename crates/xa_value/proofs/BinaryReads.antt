@@ -10,7 +10,8 @@ use Rattle.base64.specs.GeneralPurpose.{decode_of as decode_by, encode_of as enc
 use Rattle.base64.specs.Engines.{standard}
 use Rattle.base64.proofs.EngineFacts.{decode_of_strict}
 use Rattle.xa_value.specs.Lexical.{is_blank, trimmed, trimmed_start, trimmed_end}
-use Rattle.xa_value.specs.Binary.{or_not_this_type, read_hex, hex_text, without_blanks, read_base64, base64_text}
+use Rattle.xa_value.specs.Binary.{hex_text, without_blanks, base64_text}
+use Rattle.xa_value.specs.parsing.Binary.{or_not_this_type, read_hex, read_base64}
 use Rattle.xa_value.proofs.LexicalLemmas.{trimmed_start_is_drop, trimmed_end_is_take}
 use Rattle.xa_value.proofs.SolidLemmas.{Solid, Solid-at, trimmed_solid, Solid-without_blanks, without_blanks_solid}
 
@@ -36,11 +37,11 @@ hex_reads text bytes h =
     let byte : IsBytes bytes = (decode_of-ok text bytes (decoded (decode_of text) bytes h)).3 in
     ap (λ t. or_not_this_type (decode_of t)) (trimmed_solid (encode_upper bytes) (Solid-encode_upper bytes byte)) ∙ ap or_not_this_type (decode_of-encode_upper bytes byte)
 
-IsBytes-cons : (x : ℕ) (xs : List ℕ) → x < 256 → IsBytes xs → IsBytes (x ∷ xs)
+pub IsBytes-cons : (x : ℕ) (xs : List ℕ) → x < 256 → IsBytes xs → IsBytes (x ∷ xs)
 IsBytes-cons x xs h hs zero = h
 IsBytes-cons x xs h hs (suc i) = hs i
 
-IsBytes-without_blanks : (xs : List ℕ) → IsBytes xs → IsBytes (without_blanks xs)
+pub IsBytes-without_blanks : (xs : List ℕ) → IsBytes xs → IsBytes (without_blanks xs)
 IsBytes-without_blanks [] h = h
 IsBytes-without_blanks (x ∷ xs) h = by_first (is_blank x) refl (IsBytes-without_blanks xs (λ i. h (suc i)))
   where
@@ -51,7 +52,7 @@ IsBytes-without_blanks (x ∷ xs) h = by_first (is_blank x) refl (IsBytes-withou
 IsBytes-drop : (n : ℕ) (xs : List ℕ) → IsBytes xs → IsBytes (drop n xs)
 IsBytes-drop n xs h i = rw (get_or-drop n xs i 0) (h (n + i))
 
-IsBytes-take : (n : ℕ) (xs : List ℕ) → IsBytes xs → IsBytes (take n xs)
+pub IsBytes-take : (n : ℕ) (xs : List ℕ) → IsBytes xs → IsBytes (take n xs)
 IsBytes-take n xs h i = elim (cases_lt i n) [
   | inl below ↦ rw (get_or-take n xs i 0 below) (h i)
   | inr past ↦ rw (get_or_past (take n xs) i 0 (omega (arith, length-take n xs))) (omega arith)

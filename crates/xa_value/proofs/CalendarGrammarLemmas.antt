@@ -6,10 +6,11 @@ use Rattle.std.proofs.lemmas.List.{drop-drop}
 use Rattle.std.proofs.lemmas.List.Folds.{list_all-append}
 use Rattle.std.proofs.lemmas.Bool.{and_parts}
 use Rattle.xa_value.specs.declared.read_error.ReadError.TheVariants.{NotThisType, OutOfRange}
-use Rattle.xa_value.specs.Lexical.{has_shape, number, number_after, trimmed}
-use Rattle.xa_value.specs.Time.{read_clock}
-use Rattle.xa_value.specs.Zone.{read_zone}
-use Rattle.xa_value.specs.Calendar.{dated, date_timed, read_date, read_date_time}
+use Rattle.xa_value.specs.Lexical.{number, number_after, trimmed}
+use Rattle.xa_value.specs.parsing.Lexical.{has_shape}
+use Rattle.xa_value.specs.parsing.Time.{read_clock}
+use Rattle.xa_value.specs.parsing.Zone.{read_zone}
+use Rattle.xa_value.specs.parsing.Calendar.{date_of, date_time_of, read_date, read_date_time}
 use Rattle.xa_value.specs.DigitGrammar.{IsDigits}
 use Rattle.xa_value.specs.TimeGrammar.{Zone, IsZone, print_zone, zone_value, is_zone_in_range, Time, IsTime, print_time, time_value, is_time_in_range, Day, IsDay, print_day, Date, IsDate, print_date, date_value, is_date_in_range, DateTime, IsDateTime, print_date_time, date_time_value, is_date_time_in_range}
 use Rattle.xa_value.proofs.DigitGrammarLemmas.{Digits-from_all}
@@ -49,7 +50,7 @@ date_digits : (z : Zone) (a b c d e f g h : ℕ) → IsZone z
     → is_ascii_digit a ≡ true → is_ascii_digit b ≡ true → is_ascii_digit c ≡ true → is_ascii_digit d ≡ true
     → is_ascii_digit e ≡ true → is_ascii_digit f ≡ true → is_ascii_digit g ≡ true → is_ascii_digit h ≡ true
     → DateReads z (a ∷ b ∷ c ∷ d ∷ []) (e ∷ f ∷ []) (g ∷ h ∷ [])
-unfolding read_date has_shape dated
+unfolding read_date has_shape date_of
 date_digits z a b c d e f g h zone a_is b_is c_is d_is e_is f_is g_is h_is =
     rw (number_four a b c d, number_two e f, number_two g h, a_is, b_is, c_is, d_is, e_is, f_is, g_is, h_is, zone_means z zone)
     (both_in_range _ (is_zone_in_range z) (zone_value z) _)
@@ -71,7 +72,7 @@ date_time_digits : (t : Time) (a b c d e f g h : ℕ) → IsTime t
     → is_ascii_digit a ≡ true → is_ascii_digit b ≡ true → is_ascii_digit c ≡ true → is_ascii_digit d ≡ true
     → is_ascii_digit e ≡ true → is_ascii_digit f ≡ true → is_ascii_digit g ≡ true → is_ascii_digit h ≡ true
     → DateTimeReads t (a ∷ b ∷ c ∷ d ∷ []) (e ∷ f ∷ []) (g ∷ h ∷ [])
-unfolding read_date_time has_shape date_timed
+unfolding read_date_time has_shape date_time_of
 date_time_digits t a b c d e f g h time a_is b_is c_is d_is e_is f_is g_is h_is =
     rw (number_four a b c d, number_two e f, number_two g h, a_is, b_is, c_is, d_is, e_is, f_is, g_is, h_is, time_means t time)
     (both_in_range _ (is_time_in_range t) (time_value t) _)

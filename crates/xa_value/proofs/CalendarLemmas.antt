@@ -1,5 +1,5 @@
 -- Facts on days of the calendar.
-use Rattle.std.proofs.Common.{◌≡◌, ℕ, ◌≤◌, true, refl, arith}
+use Rattle.std.proofs.Common.{◌≡◌, ℕ, ◌≤◌, true, List, drop, codes, Ok, Err, refl, arith}
 use Rattle.std.proofs.lemmas.Bool.{and_parts}
 use Rattle.std.specs.Prelude.{nat_le, ◌&&◌, ℤ, pos, negsuc, unsigned_abs, ◌≤ℤ◌}
 use borrow.Author.Tests.{leb-true, le-leb}
@@ -7,7 +7,11 @@ use Rattle.std.specs.Int.{IsInRange}
 use Rattle.jiff_core.proofs.SignedLemmas.{signed_arith}
 use Rattle.jiff_core.specs.Calendar.{IsYear, days_in_month}
 use Rattle.jiff_core.specs.declared.civil.date.Date.{Date}
+use Rattle.xa_value.specs.declared.read_error.ReadError.{ReadError}
+use Rattle.xa_value.specs.parsing.Lexical.{has_shape}
+use Rattle.xa_value.specs.parsing.Time.{read_clock}
 use Rattle.xa_value.specs.Calendar.{is_day}
+use Rattle.xa_value.specs.parsing.Calendar.{read_date_time}
 
 -- what the test of a day shows
 pub day_bounds : (year month day : ℕ) → is_day year month day ≡ true → (1 ≤ year) × (year ≤ 9999) × (1 ≤ month) × (month ≤ 12) × (1 ≤ day) × (day ≤ days_in_month (pos year) month)
@@ -31,3 +35,8 @@ civil_is_day_at (negsuc n) m d late year month day = absurd (omega (arith, signe
 -- a day of jiff's calendar from the year 1 on is a day
 pub civil_is_day : (d : Date) → pos 1 ≤ℤ d.year → is_day (unsigned_abs d.year) d.month d.day ≡ true
 civil_is_day d late = civil_is_day_at d.year d.month d.day late d.year_in d.month_in d.day_in
+
+-- the fault of the clock of a date with a time is the fault of the whole
+pub date_without_clock : (text : List ℕ) (fault : ReadError) → has_shape (codes "9999-99-99T") text ≡ true → read_clock (drop 11 text) ≡ Err fault → read_date_time text ≡ Err fault
+unfolding read_date_time
+date_without_clock text fault shaped read = rw shaped (rw read refl)

@@ -5,10 +5,14 @@ use Rattle.jiff_core.specs.Calendar.{days_in_month}
 use Rattle.jiff_core.proofs.CalendarLemmas.{days_in_month_bounds}
 use Rattle.xa_value.specs.declared.read_error.ReadError.TheVariants.{NotThisType, OutOfRange}
 use Rattle.xa_value.specs.Gives.{◌>>=◌}
-use Rattle.xa_value.specs.Lexical.{has_shape, two_digits, number, padded, trimmed}
-use Rattle.xa_value.specs.Time.{ClockTime, read_clock, clock_text, day_nanos}
-use Rattle.xa_value.specs.Zone.{read_zone, zone_text}
-use Rattle.xa_value.specs.Calendar.{CivilDate, CivilDateTime, is_day, dated, date_timed, year_of, read_date, read_date_time, day_text, date_text, date_time_text}
+use Rattle.xa_value.specs.Lexical.{number, last_digits, trimmed}
+use Rattle.xa_value.specs.parsing.Lexical.{has_shape, two_digits}
+use Rattle.xa_value.specs.Time.{ClockTime, clock_text, day_nanos}
+use Rattle.xa_value.specs.parsing.Time.{read_clock}
+use Rattle.xa_value.specs.Zone.{zone_text}
+use Rattle.xa_value.specs.parsing.Zone.{read_zone}
+use Rattle.xa_value.specs.Calendar.{CivilDate, CivilDateTime, is_day, day_text, date_text, date_time_text}
+use Rattle.xa_value.specs.parsing.Calendar.{date_of, date_time_of, year_of, read_date, read_date_time}
 use Rattle.xa_value.proofs.CalendarLemmas.{day_bounds}
 use Rattle.xa_value.specs.TimeGrammar.{Day, IsDay, Date as DateTree, IsDate as IsDateTree, print_date, date_value, is_date_in_range, DateTime as DateTimeTree, IsDateTime as IsDateTimeTree, print_date_time, date_time_value, is_date_time_in_range}
 use Rattle.xa_value.proofs.PrintedLemmas.{IsTreeOf, tree_reads, number-padded, digits_padded}
@@ -23,9 +27,9 @@ IsDate d = (is_day d.year d.month d.day ≡ true) × IsZone d.zone
 abbrev IsDateTime : CivilDateTime → Type 0
 IsDateTime d = (is_day d.year d.month d.day ≡ true) × (d.nanos < day_nanos) × IsZone d.zone
 
-dated_is_day : (y m d : ℕ) (z : Option ℤ) (v : CivilDate) → IsZone z → dated y m d z ≡ Ok v → IsDate v
-unfolding dated
-dated_is_day y m d z v offset h =
+date_of_is_day : (y m d : ℕ) (z : Option ℤ) (v : CivilDate) → IsZone z → date_of y m d z ≡ Ok v → IsDate v
+unfolding date_of
+date_of_is_day y m d z v offset h =
     let made : CivilDate = record { year = y; month = m; day = d; zone = z } in
     let k = if_ok_or_err (is_day y m d) (Ok made) OutOfRange v h in
     let e : made ≡ v = cc in
@@ -35,14 +39,14 @@ dated_is_day y m d z v offset h =
 date_read : (text : List ℕ) (v : CivilDate) → read_date text ≡ Ok v → IsDate v
 unfolding read_date
 date_read text v h =
-    let next = λ (z : Option ℤ). dated (year_of text) (two_digits text 5) (two_digits text 8) z in
+    let next = λ (z : Option ℤ). date_of (year_of text) (two_digits text 5) (two_digits text 8) z in
     let k = if_ok_or_err (has_shape (codes "9999-99-99") text) (read_zone (drop 10 text) >>= next) NotThisType v h in
     let steps = bind_ok (read_zone (drop 10 text)) next v k.1 in
-    dated_is_day _ _ _ steps.0 v (zone_read (drop 10 text) steps.0 steps.1) steps.2
+    date_of_is_day _ _ _ steps.0 v (zone_read (drop 10 text) steps.0 steps.1) steps.2
 
-date_timed_is_day : (y m d : ℕ) (t : ClockTime) (v : CivilDateTime) → IsClockTime t → date_timed y m d t ≡ Ok v → IsDateTime v
-unfolding date_timed
-date_timed_is_day y m d t v clock h =
+date_time_of_is_day : (y m d : ℕ) (t : ClockTime) (v : CivilDateTime) → IsClockTime t → date_time_of y m d t ≡ Ok v → IsDateTime v
+unfolding date_time_of
+date_time_of_is_day y m d t v clock h =
     let made : CivilDateTime = record { year = y; month = m; day = d; nanos = t.nanos; zone = t.zone } in
     let k = if_ok_or_err (is_day y m d) (Ok made) OutOfRange v h in
     let e : made ≡ v = cc in
@@ -51,10 +55,10 @@ date_timed_is_day y m d t v clock h =
 date_time_read : (text : List ℕ) (v : CivilDateTime) → read_date_time text ≡ Ok v → IsDateTime v
 unfolding read_date_time
 date_time_read text v h =
-    let next = λ (t : ClockTime). date_timed (year_of text) (two_digits text 5) (two_digits text 8) t in
+    let next = λ (t : ClockTime). date_time_of (year_of text) (two_digits text 5) (two_digits text 8) t in
     let k = if_ok_or_err (has_shape (codes "9999-99-99T") text) (read_clock (drop 11 text) >>= next) NotThisType v h in
     let steps = bind_ok (read_clock (drop 11 text)) next v k.1 in
-    date_timed_is_day _ _ _ steps.0 v (time_in_day (drop 11 text) steps.0 steps.1) steps.2
+    date_time_of_is_day _ _ _ steps.0 v (time_in_day (drop 11 text) steps.0 steps.1) steps.2
 
 -- no month has more than 31 days
 days_at_most_31 : (y : ℤ) (m d : ℕ) → d ≤ days_in_month y m → d ≤ 31
@@ -62,13 +66,13 @@ days_at_most_31 y m d h = let bounds = days_in_month_bounds y m in omega arith
 
 -- the tree of a day
 abbrev day_tree : ℕ → ℕ → ℕ → Day
-day_tree y m d = record { year = padded 4 y; month = padded 2 m; day = padded 2 d }
+day_tree y m d = record { year = last_digits 4 y; month = last_digits 2 m; day = last_digits 2 d }
 
 day_valid : (y m d : ℕ) → IsDay (day_tree y m d)
 day_valid y m d = record { year = digits_padded 4 y; month = digits_padded 2 m; day = digits_padded 2 d }
 
 -- its digits are the numbers
-printed_numbers : (y m d : ℕ) → is_day y m d ≡ true → (number (padded 4 y) ≡ y) × (number (padded 2 m) ≡ m) × (number (padded 2 d) ≡ d)
+printed_numbers : (y m d : ℕ) → is_day y m d ≡ true → (number (last_digits 4 y) ≡ y) × (number (last_digits 2 m) ≡ m) × (number (last_digits 2 d) ≡ d)
 printed_numbers y m d day =
     let bounds = day_bounds y m d day in
     let in_month : d ≤ 31 = days_at_most_31 (pos y) m d bounds.5 in

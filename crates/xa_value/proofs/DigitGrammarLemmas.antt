@@ -9,8 +9,9 @@ use Rattle.std.proofs.lemmas.List.Folds.{length-prefix_len}
 use Rattle.std.proofs.lemmas.Bool.{and_parts, eqb-true}
 use Rattle.std.proofs.lemmas.Bool.Decides.{nat_tests}
 use borrow.Author.Tests.{ne_eqb}
-use Rattle.xa_value.specs.Lexical.{begins_with, digit_count}
-use Rattle.xa_value.specs.Time.{fraction_length, fraction_digits, nanoseconds}
+use Rattle.xa_value.specs.parsing.Lexical.{begins_with, digit_count}
+use Rattle.xa_value.specs.Time.{nanoseconds}
+use Rattle.xa_value.specs.parsing.Time.{fraction_length, fraction_digits}
 use Rattle.xa_value.specs.DigitGrammar.{IsNumeral, IsOptionalNumeral, print_minus, print_fraction, fraction_nanos, is_short}
 use Rattle.xa_value.proofs.TimeLemmas.{digits_cons, digits_taken, no_fraction}
 use Rattle.xa_value.proofs.NumeralLemmas.{Digits, digits_more, digit_count_append}

@@ -6,9 +6,12 @@ use Rattle.std.proofs.lemmas.Bool.{and_parts}
 use borrow.Author.Tests.{ne_eqb}
 use Rattle.xa_value.specs.declared.read_error.ReadError.{ReadError}
 use Rattle.xa_value.specs.declared.read_error.ReadError.TheVariants.{NotThisType, OutOfRange}
-use Rattle.xa_value.specs.Lexical.{begins_with, digit_count, number_after, trimmed, with_sign}
-use Rattle.xa_value.specs.Time.{fraction_length, nanoseconds}
-use Rattle.xa_value.specs.Duration.{part_length, part, after, after_part, seconds_length, without_minus, within, most_months, most_nanos, is_years_and_months, months_of, read_year_month, is_clock_part, is_days_and_clock, nanos_of, has_short_fraction, read_day_time}
+use Rattle.xa_value.specs.Lexical.{number_after, trimmed, with_sign}
+use Rattle.xa_value.specs.parsing.Lexical.{begins_with, digit_count}
+use Rattle.xa_value.specs.Time.{nanoseconds}
+use Rattle.xa_value.specs.parsing.Time.{fraction_length}
+use Rattle.xa_value.specs.Duration.{most_months, most_nanos}
+use Rattle.xa_value.specs.parsing.Duration.{part_length, part, after, after_part, seconds_length, without_minus, within, is_years_and_months, months_of, read_year_month, is_clock_part, is_days_and_clock, nanos_of, has_short_fraction, read_day_time}
 use Rattle.xa_value.specs.DigitGrammar.{IsOptionalNumeral, count, print_minus, print_fraction}
 use Rattle.xa_value.specs.DurationGrammar.{print_part, YearMonth, IsYearMonth, print_year_month, year_month_value, is_year_month_in_range, Seconds, ClockPart, DayTime, print_seconds, print_clock_part, print_day_time, IsSeconds, IsClockPart, IsOptionalClockPart, IsDayTime, clock_part_nanos, is_clock_short, day_time_value, is_day_time_in_range}
 use Rattle.xa_value.proofs.DigitGrammarLemmas.{begins_at, emptied, Solid-minus}

@@ -2,7 +2,8 @@
 use Rattle.std.proofs.Common.{◌≡◌, ℕ, ◌+◌, ◌-◌, ◌*◌, ◌^◌, ◌<◌, Bool, List, min, ap, ◌⊎◌, inl, inr, arith}
 use Rattle.std.proofs.lemmas.Bool.{cases_lt}
 use Rattle.std.proofs.lemmas.Bool.Decides.{nat_tests}
-use Rattle.xa_value.specs.Duration.{within, most_months, most_nanos, total_nanos, nanos_of}
+use Rattle.xa_value.specs.Duration.{most_months, most_nanos}
+use Rattle.xa_value.specs.parsing.Duration.{within, total_nanos, nanos_of}
 
 -- two magnitudes of which each is the other, or both are too great
 pub same_within : (most : ℕ) (b : Bool) (m n : ℕ) → (most < m) × (most < n) ⊎ (m ≡ n) → within most b m ≡ within most b n

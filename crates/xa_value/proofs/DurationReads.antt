@@ -7,8 +7,10 @@ use Rattle.std.proofs.lemmas.Bool.Decides.{nat_tests}
 use borrow.Author.Tests.{le-leb, leb-true, ne_eqb}
 use Rattle.jiff_core.proofs.SignedLemmas.{signed_arith}
 use Rattle.xa_value.specs.declared.read_error.ReadError.TheVariants.{NotThisType, OutOfRange}
-use Rattle.xa_value.specs.Lexical.{begins_with, number_after, trimmed, with_sign}
-use Rattle.xa_value.specs.Duration.{after_part, part, without_minus, within, most_months, most_nanos, IsMonths, IsNanos, is_years_and_months, months_of, read_year_month, is_days_and_clock, nanos_of, has_short_fraction, read_day_time, part_text, year_month_text, seconds_text, clock_part_text, day_time_text}
+use Rattle.xa_value.specs.Lexical.{number_after, trimmed, with_sign}
+use Rattle.xa_value.specs.parsing.Lexical.{begins_with}
+use Rattle.xa_value.specs.Duration.{most_months, most_nanos, IsMonths, IsNanos, part_text, year_month_text, seconds_text, clock_part_text, day_time_text}
+use Rattle.xa_value.specs.parsing.Duration.{after_part, part, without_minus, within, is_years_and_months, months_of, read_year_month, is_days_and_clock, nanos_of, has_short_fraction, read_day_time}
 use Rattle.xa_value.specs.DigitGrammar.{print_minus}
 use Rattle.xa_value.specs.DurationGrammar.{YearMonth, IsYearMonth, print_year_month, year_month_value, is_year_month_in_range, Seconds, IsSeconds, print_seconds, seconds_nanos, is_seconds_short, ClockPart, IsOptionalClockPart, print_clock_part, clock_part_nanos, is_clock_short, DayTime, IsDayTime, print_day_time, day_time_value, is_day_time_in_range}
 use Rattle.xa_value.proofs.NumeralLemmas.{number_decimal}

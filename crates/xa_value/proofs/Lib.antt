@@ -20,5 +20,13 @@ pub mod CalendarReads
 pub mod PartGrammarLemmas
 pub mod DurationGrammarLemmas
 pub mod DurationReads
+pub mod BooleanGrammarLemmas
+pub mod HexGrammarLemmas
+pub mod Base64Bytes
+pub mod Base64GrammarLemmas
 pub mod RoundTripLemmas
-pub mod GrammarLemmas
+pub mod ReadingLemmas
+pub mod DigitLemmas
+pub mod TypeLemmas
+pub mod DayLemmas
+pub mod PlainLemmas

@@ -5,8 +5,9 @@ use Rattle.std.proofs.lemmas.List.{append-nil}
 use Rattle.std.proofs.lemmas.Bool.{and_parts, eqb-true}
 use borrow.Author.Tests.{lt-ltb, ltb-true, eq-eqb}
 use Rattle.xa_value.specs.declared.read_error.ReadError.TheVariants.{NotThisType, OutOfRange}
-use Rattle.xa_value.specs.Lexical.{begins_with, digit_count, is_number, number, trimmed, with_sign}
-use Rattle.xa_value.specs.Number.{signed, without_sign, read_integer}
+use Rattle.xa_value.specs.Lexical.{number, trimmed, with_sign}
+use Rattle.xa_value.specs.parsing.Lexical.{begins_with, digit_count, is_number}
+use Rattle.xa_value.specs.parsing.Number.{integer_of, without_sign, read_integer}
 use Rattle.xa_value.specs.DigitGrammar.{IsNumeral}
 use Rattle.xa_value.specs.NumberGrammar.{Sign, plus, minus, neither, print_sign, is_minus, Integer, IsInteger, print_integer, integer_value, is_integer_in_range}
 use Rattle.xa_value.proofs.NumeralLemmas.{digits_begin}
@@ -30,7 +31,7 @@ numeral_unsigned ds valid = (
 
 integer_signed : (s : Sign) (ds : List ℕ) → IsNumeral ds
     → read_integer (print_sign s ++ ds) ≡ (if nat_le (number ds) (if is_minus s then 2 ^ 63 else 2 ^ 63 - 1) then Ok (with_sign (is_minus s) (number ds)) else Err OutOfRange)
-unfolding read_integer without_sign signed
+unfolding read_integer without_sign integer_of
 integer_signed plus ds valid = rw (numeral_is_number ds valid) refl
 integer_signed minus ds valid = rw (numeral_is_number ds valid) refl
 integer_signed neither ds valid = let k = numeral_unsigned ds valid in rw (k.0, k.1, numeral_is_number ds valid) refl

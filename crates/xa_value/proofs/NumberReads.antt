@@ -5,8 +5,10 @@ use Rattle.std.specs.Fmt.{signed_decimal}
 use borrow.Author.Tests.{le-leb, leb-true}
 use Rattle.jiff_core.proofs.SignedLemmas.{signed_arith}
 use Rattle.xa_value.specs.declared.read_error.ReadError.TheVariants.{NotThisType, OutOfRange}
-use Rattle.xa_value.specs.Lexical.{begins_with, is_number, number, trimmed, trimmed_start, trimmed_end}
-use Rattle.xa_value.specs.Number.{read_boolean, boolean_text, signed, without_sign, read_integer}
+use Rattle.xa_value.specs.Lexical.{number, trimmed, trimmed_start, trimmed_end}
+use Rattle.xa_value.specs.parsing.Lexical.{begins_with, is_number}
+use Rattle.xa_value.specs.Number.{boolean_text}
+use Rattle.xa_value.specs.parsing.Number.{read_boolean, integer_of, without_sign, read_integer}
 use Rattle.xa_value.specs.NumberGrammar.{neither, minus, Integer, IsInteger as IsIntegerTree, print_integer, integer_value, is_integer_in_range}
 use Rattle.xa_value.proofs.NumeralLemmas.{number_decimal}
 use Rattle.xa_value.proofs.PrintedLemmas.{IsTreeOf, tree_reads, numeral_decimal}
@@ -22,9 +24,9 @@ boolean_reads false = refl
 abbrev pub IsInteger : ℤ → Type 0
 IsInteger z = (neg_ℤ (pos 9_223_372_036_854_775_808) ≤ℤ z) × (z ≤ℤ pos 9_223_372_036_854_775_807)
 
-signed_read : (b : Bool) (n : ℕ) (z : ℤ) → signed b n ≡ Ok z → IsInteger z
-unfolding signed
-signed_read true n z h =
+integer_of_read : (b : Bool) (n : ℕ) (z : ℤ) → integer_of b n ≡ Ok z → IsInteger z
+unfolding integer_of
+integer_of_read true n z h =
     let k = if_ok_or_err (nat_le n 9_223_372_036_854_775_808) (Ok (neg_ℤ (pos n))) OutOfRange z h in
     let small : n ≤ 9_223_372_036_854_775_808 = leb-true n 9_223_372_036_854_775_808 k.0 in
     let e : neg_ℤ (pos n) ≡ z = cc in
@@ -33,7 +35,7 @@ signed_read true n z h =
     negated : (m : ℕ) → m ≤ 9_223_372_036_854_775_808 → IsInteger (neg_ℤ (pos m))
     negated zero l = (omega (arith, signed_arith), omega (arith, signed_arith))
     negated (suc m) l = (omega (arith, signed_arith), omega (arith, signed_arith))
-signed_read false n z h =
+integer_of_read false n z h =
     let k = if_ok_or_err (nat_le n 9_223_372_036_854_775_807) (Ok (pos n)) OutOfRange z h in
     let small : n ≤ 9_223_372_036_854_775_807 = leb-true n 9_223_372_036_854_775_807 k.0 in
     let e : pos n ≡ z = cc in
@@ -42,7 +44,7 @@ signed_read false n z h =
 -- an integer that was read is one of 64 bits
 pub integer_read : (text : List ℕ) (z : ℤ) → read_integer text ≡ Ok z → IsInteger z
 unfolding read_integer
-integer_read text z h = signed_read (begins_with 45 text) (number (without_sign text)) z (if_ok_or_err (is_number (without_sign text)) _ NotThisType z h).1
+integer_read text z h = integer_of_read (begins_with 45 text) (number (without_sign text)) z (if_ok_or_err (is_number (without_sign text)) _ NotThisType z h).1
 
 -- the tree of an integer
 integer_tree : (z : ℤ) → IsInteger z → IsTreeOf ℤ Integer IsIntegerTree print_integer integer_value is_integer_in_range (signed_decimal z) z

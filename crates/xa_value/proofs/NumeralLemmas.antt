@@ -5,7 +5,8 @@ use Rattle.std.specs.Char.{is_ascii_digit}
 use Rattle.std.proofs.lemmas.Str.Parse.{IsDigitsTest, FoldsDigits, IsNumeralModel, numerals_by_fold}
 use Rattle.std.proofs.lemmas.Fmt.{digits_decimal, digits_value-decimal}
 use borrow.Author.Tests.{le-leb, ne_eqb}
-use Rattle.xa_value.specs.Lexical.{begins_with, digit_count, number, number_after}
+use Rattle.xa_value.specs.Lexical.{number, number_after}
+use Rattle.xa_value.specs.parsing.Lexical.{begins_with, digit_count}
 use Rattle.xa_value.proofs.TimeLemmas.{digits_cons, digit_bounds}
 
 -- the text has digits alone

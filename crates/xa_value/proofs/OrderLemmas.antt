@@ -13,9 +13,9 @@ use Rattle.std.proofs.lemmas.Bool.Decides.{Decides-int_eq}
 use Rattle.std.proofs.lemmas.Map.Text.{is_eq-slice_cmp}
 use Rattle.xa_value.specs.declared.data_type.DataType.{DataType}
 use Rattle.xa_value.specs.declared.data_type.DataType.TheVariants.{String, Boolean, Integer, Date, Time, DateTime, DayTimeDuration, YearMonthDuration, AnyUri, HexBinary, Base64Binary}
-use Rattle.xa_value.specs.Types.{all_types}
+use Rattle.xa_value.specs.Types.{all_types, place_of}
 use Rattle.xa_value.specs.declared.value.Value.{Value}
-use Rattle.xa_value.specs.Order.{place_of, type_of, number_of, bytes_of, NumberAndBytes, key_of, compare_keys, equal_keys, same, is_ordered, order, IsOrder, KeysTellApart}
+use Rattle.xa_value.specs.Order.{type_of, number_of, bytes_of, NumberAndBytes, key_of, compare_keys, equal_keys, same, is_ordered, order, IsOrder, KeysTellApart}
 
 -- equal keys are an equivalence
 pub keys_equal : IsEquivalence equal_keys

@@ -6,9 +6,11 @@ use Rattle.std.proofs.Math.Seq.{take-append_seam, drop-append_seam}
 use Rattle.std.proofs.lemmas.List.{append-nil, take-append-drop, drop-drop}
 use Rattle.std.proofs.lemmas.Bool.{and_parts}
 use borrow.Author.Tests.{lt-ltb, ltb-true, ne_eqb, eq-eqb}
-use Rattle.xa_value.specs.Lexical.{begins_with, digit_count, number, number_after}
-use Rattle.xa_value.specs.Time.{fraction_length, fraction_digits, nanoseconds}
-use Rattle.xa_value.specs.Duration.{part_length, part, after, after_part, seconds_length, seconds_part, seconds_fraction}
+use Rattle.xa_value.specs.Lexical.{number, number_after}
+use Rattle.xa_value.specs.parsing.Lexical.{begins_with, digit_count}
+use Rattle.xa_value.specs.Time.{nanoseconds}
+use Rattle.xa_value.specs.parsing.Time.{fraction_length, fraction_digits}
+use Rattle.xa_value.specs.parsing.Duration.{part_length, part, after, after_part, seconds_length, seconds_part, seconds_fraction}
 use Rattle.xa_value.specs.DigitGrammar.{IsNumeral, IsOptionalNumeral, count, print_fraction, fraction_nanos, is_short}
 use Rattle.xa_value.specs.DurationGrammar.{Seconds, IsSeconds, print_part, print_seconds, seconds_nanos, is_seconds_short}
 use Rattle.xa_value.proofs.NumeralLemmas.{digit_count_append, digit_count_other}

@@ -7,7 +7,7 @@ use native.Mathlib.Nat.{pow-succ', pow-zero}
 use Rattle.std.proofs.lemmas.Fmt.{decimal_nonempty}
 use Rattle.xa_value.specs.declared.read_error.ReadError.{ReadError}
 use Rattle.xa_value.specs.declared.read_error.ReadError.TheVariants.{OutOfRange}
-use Rattle.xa_value.specs.Lexical.{number, number_after, padded, trimmed}
+use Rattle.xa_value.specs.Lexical.{number, number_after, last_digits, trimmed}
 use Rattle.xa_value.specs.Duration.{part_text}
 use Rattle.xa_value.specs.DigitGrammar.{IsDigits, IsNumeral, IsOptionalNumeral, count}
 use Rattle.xa_value.specs.DurationGrammar.{print_part}
@@ -78,23 +78,23 @@ Digits-append : (xs ys : List ℕ) → Digits xs → Digits ys → Digits (xs ++
 Digits-append [] ys p q = q
 Digits-append (x ∷ xs) ys p q = let k = digits_cons x xs p in digits_more x (xs ++ ys) k.0 (Digits-append xs ys k.1 q)
 
-pub Digits-padded : (count n : ℕ) → Digits (padded count n)
-unfolding padded
+pub Digits-padded : (count n : ℕ) → Digits (last_digits count n)
+unfolding last_digits
 Digits-padded zero n = refl
-Digits-padded (suc count) n = Digits-append (padded count (n / 10)) ((48 + n % 10) ∷ []) (Digits-padded count (n / 10)) (digits_more (48 + n % 10) [] (is_cell n) refl)
+Digits-padded (suc count) n = Digits-append (last_digits count (n / 10)) ((48 + n % 10) ∷ []) (Digits-padded count (n / 10)) (digits_more (48 + n % 10) [] (is_cell n) refl)
 
-pub length-padded : (count n : ℕ) → length (padded count n) ≡ count
-unfolding padded
+pub length-padded : (count n : ℕ) → length (last_digits count n) ≡ count
+unfolding last_digits
 length-padded zero n = refl
-length-padded (suc count) n = let ih = length-padded count (n / 10) in omega (arith, length-append (padded count (n / 10)) ((48 + n % 10) ∷ []))
+length-padded (suc count) n = let ih = length-padded count (n / 10) in omega (arith, length-append (last_digits count (n / 10)) ((48 + n % 10) ∷ []))
 
-pub number-padded : (count n : ℕ) → n < 10 ^ count → number (padded count n) ≡ n
-unfolding padded number_after
+pub number-padded : (count n : ℕ) → n < 10 ^ count → number (last_digits count n) ≡ n
+unfolding last_digits number_after
 number-padded zero n h = omega (arith, pow-zero 10)
 number-padded (suc count) n h =
     let small : n / 10 < 10 ^ count = omega (arith, pow-succ' 10 count) in
     let ih = number-padded count (n / 10) small in
-    number_push (padded count (n / 10)) (48 + n % 10) ∙ omega arith
+    number_push (last_digits count (n / 10)) (48 + n % 10) ∙ omega arith
 
-pub digits_padded : (count n : ℕ) → IsDigits count (padded count n)
-digits_padded count n = (length-padded count n, all-from_Digits (padded count n) (Digits-padded count n))
+pub digits_padded : (count n : ℕ) → IsDigits count (last_digits count n)
+digits_padded count n = (length-padded count n, all-from_Digits (last_digits count n) (Digits-padded count n))

@@ -7,11 +7,11 @@ use Rattle.xa_value.specs.declared.value.Value.{Value}
 use Rattle.xa_value.specs.declared.value.Value.TheVariants as value
 use Rattle.xa_value.specs.declared.read_error.ReadError.{ReadError}
 use Rattle.xa_value.specs.Lexical.{trimmed}
-use Rattle.xa_value.specs.Number.{read_boolean, read_integer}
-use Rattle.xa_value.specs.Time.{read_clock}
-use Rattle.xa_value.specs.Calendar.{read_date, read_date_time}
-use Rattle.xa_value.specs.Duration.{read_day_time, read_year_month}
-use Rattle.xa_value.specs.Binary.{read_hex, read_base64}
+use Rattle.xa_value.specs.parsing.Number.{read_boolean, read_integer}
+use Rattle.xa_value.specs.parsing.Time.{read_clock}
+use Rattle.xa_value.specs.parsing.Calendar.{read_date, read_date_time}
+use Rattle.xa_value.specs.parsing.Duration.{read_day_time, read_year_month}
+use Rattle.xa_value.specs.parsing.Binary.{read_hex, read_base64}
 use Rattle.xa_value.specs.Reading.{read_as, read}
 use Rattle.xa_value.specs.Printing.{printed}
 use Rattle.xa_value.specs.RoundTrip.{ReadsBack}

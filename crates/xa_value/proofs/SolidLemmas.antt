@@ -1,7 +1,8 @@
 -- Texts without white space stay as they are when they are trimmed.
 use Rattle.std.proofs.Common.{◌≡◌, ℕ, zero, suc, ◌-◌, ◌<◌, Bool, true, false, List, [], ◌∷◌, ◌++◌, length, get_or, refl, ap, ◌∙◌, arith}
 use Rattle.std.proofs.lemmas.Bool.Decides.{nat_tests}
-use Rattle.xa_value.specs.Lexical.{is_blank, trimmed_start, trimmed_end, trimmed, digit_count}
+use Rattle.xa_value.specs.Lexical.{is_blank, trimmed_start, trimmed_end, trimmed}
+use Rattle.xa_value.specs.parsing.Lexical.{digit_count}
 use Rattle.xa_value.specs.Binary.{without_blanks}
 use Rattle.xa_value.proofs.LexicalLemmas.{last_other, trimmed_end_none}
 use Rattle.xa_value.proofs.TimeLemmas.{digits_cons, digit_bounds}

@@ -6,9 +6,11 @@ use Rattle.std.proofs.Math.Seq.{drop-append_seam}
 use Rattle.std.proofs.lemmas.List.{drop-drop}
 use Rattle.xa_value.specs.declared.read_error.ReadError.TheVariants.{NotThisType, OutOfRange}
 use Rattle.xa_value.specs.Gives.{◌>>=◌}
-use Rattle.xa_value.specs.Lexical.{has_shape, trimmed}
-use Rattle.xa_value.specs.Time.{fraction_length, fraction_digits, nanoseconds, is_clock, clock_nanos as nanos_read, timed, read_clock}
-use Rattle.xa_value.specs.Zone.{read_zone}
+use Rattle.xa_value.specs.Lexical.{trimmed}
+use Rattle.xa_value.specs.parsing.Lexical.{has_shape}
+use Rattle.xa_value.specs.Time.{nanoseconds}
+use Rattle.xa_value.specs.parsing.Time.{fraction_length, fraction_digits, is_clock, clock_nanos as nanos_read, time_of, read_clock}
+use Rattle.xa_value.specs.parsing.Zone.{read_zone}
 use Rattle.xa_value.specs.DigitGrammar.{IsDigits, IsOptionalNumeral, print_fraction, fraction_nanos, is_short}
 use Rattle.xa_value.specs.TimeGrammar.{Zone, IsZone, print_zone, zone_value, is_zone_in_range, Clock, IsClock, print_clock, clock_nanos, is_clock_in_range, Time, IsTime, print_time, time_value, is_time_in_range}
 use Rattle.xa_value.proofs.DigitGrammarLemmas.{fraction_is, fraction_split, Solid-fraction}
@@ -52,7 +54,7 @@ ClockReads f z h m s =
 digits_read : (f : Option (List ℕ)) (z : Zone) (a b c d e g : ℕ) → TailIs f z (print_fraction f ++ print_zone z)
     → is_ascii_digit a ≡ true → is_ascii_digit b ≡ true → is_ascii_digit c ≡ true → is_ascii_digit d ≡ true → is_ascii_digit e ≡ true → is_ascii_digit g ≡ true
     → ClockReads f z (a ∷ b ∷ []) (c ∷ d ∷ []) (e ∷ g ∷ [])
-unfolding read_clock has_shape timed is_clock nanos_read
+unfolding read_clock has_shape time_of is_clock nanos_read
 digits_read f z a b c d e g rest a_is b_is c_is d_is e_is g_is =
     rw (number_two a b, number_two c d, number_two e g, a_is, b_is, c_is, d_is, e_is, g_is, rest.pointed, rest.zone, rest.kept, rest.value)
     (both_in_range _ (is_zone_in_range z) (zone_value z) _)

@@ -6,8 +6,10 @@ use Rattle.std.proofs.lemmas.Bool.{and_parts}
 use lib.Dec.{leb}
 use mathlib.Core.Bool.{◌&&◌}
 use borrow.Author.Tests.{leb-true}
-use Rattle.xa_value.specs.Lexical.{number, number_after, digit_count, begins_with, two_digits}
-use Rattle.xa_value.specs.Time.{nanoseconds, fraction_length, fraction_digits, is_clock}
+use Rattle.xa_value.specs.Lexical.{number, number_after}
+use Rattle.xa_value.specs.parsing.Lexical.{digit_count, begins_with, two_digits}
+use Rattle.xa_value.specs.Time.{nanoseconds}
+use Rattle.xa_value.specs.parsing.Time.{fraction_length, fraction_digits, is_clock}
 
 -- powers of ten that are used here are small
 pub small_power : (n : ℕ) → n ≤ 9 → 10 ^ n ≤ 1_000_000_000

@@ -8,9 +8,12 @@ use borrow.Author.Tests.{le-leb}
 use Rattle.xa_value.specs.declared.read_error.ReadError.{ReadError}
 use Rattle.xa_value.specs.declared.read_error.ReadError.TheVariants.{NotThisType, OutOfRange}
 use Rattle.xa_value.specs.Gives.{◌>>=◌}
-use Rattle.xa_value.specs.Lexical.{has_shape, number, number_after, padded, trimmed}
-use Rattle.xa_value.specs.Time.{ClockTime, day_nanos, fraction_length, fraction_digits, nanoseconds, is_clock, clock_nanos, timed, read_clock, significant, fraction_text, clock_text, time_text}
-use Rattle.xa_value.specs.Zone.{read_zone, zone_text}
+use Rattle.xa_value.specs.Lexical.{number, number_after, last_digits, trimmed}
+use Rattle.xa_value.specs.parsing.Lexical.{has_shape}
+use Rattle.xa_value.specs.Time.{ClockTime, day_nanos, nanoseconds, significant_digits, fraction_text, clock_text, time_text}
+use Rattle.xa_value.specs.parsing.Time.{fraction_length, fraction_digits, is_clock, clock_nanos, time_of, read_clock}
+use Rattle.xa_value.specs.Zone.{zone_text}
+use Rattle.xa_value.specs.parsing.Zone.{read_zone}
 use Rattle.xa_value.proofs.TimeLemmas.{clock_bounds, nanoseconds_lt, fraction_digits_count}
 use Rattle.xa_value.proofs.NumeralLemmas.{Digits}
 use Rattle.xa_value.specs.TimeGrammar.{Time, IsTime, print_time, time_value, is_time_in_range}
@@ -35,16 +38,16 @@ one_zero_more count n ds e ih =
     ap (λ k. number ds * 10 ^ k) places ∙ ap (λ p. number ds * p) (pow-suc 10 (count - length ds)) ∙ sym (mul_assoc (number ds) (10 ^ (count - length ds)) 10) ∙ ap (λ v. v * 10) ih.value in
     record { digits = ih.digits; short = omega arith; value = omega arith; some = λ l. ih.some (omega arith) }
 
-all_digits : (count n : ℕ) → n < 10 ^ count → 0 < count → Significant count n (padded count n)
+all_digits : (count n : ℕ) → n < 10 ^ count → 0 < count → Significant count n (last_digits count n)
 all_digits count n h some =
     let size = length-padded count n in
-    let none : count - length (padded count n) ≡ 0 = omega arith in
-    let value : number (padded count n) * 10 ^ (count - length (padded count n)) ≡ n =
-    ap (λ k. number (padded count n) * 10 ^ k) none ∙ ap (λ p. number (padded count n) * p) (pow-zero 10) ∙ omega (arith, number-padded count n h) in
+    let none : count - length (last_digits count n) ≡ 0 = omega arith in
+    let value : number (last_digits count n) * 10 ^ (count - length (last_digits count n)) ≡ n =
+    ap (λ k. number (last_digits count n) * 10 ^ k) none ∙ ap (λ p. number (last_digits count n) * p) (pow-zero 10) ∙ omega (arith, number-padded count n h) in
     record { digits = Digits-padded count n; short = omega arith; value = value; some = λ l. omega arith }
 
-significant_reads : (count n : ℕ) → n < 10 ^ count → Significant count n (significant count n)
-unfolding significant number_after
+significant_reads : (count n : ℕ) → n < 10 ^ count → Significant count n (significant_digits count n)
+unfolding significant_digits number_after
 significant_reads zero n h = record {
   digits = refl;
   short = omega arith;
@@ -53,8 +56,8 @@ significant_reads zero n h = record {
 }
 significant_reads (suc count) n h = by_last (n % 10 == 0) refl (significant_reads count (n / 10) (omega (arith, pow-succ' 10 count)))
   where
-    by_last : (b : Bool) → (n % 10 == 0) ≡ b → Significant count (n / 10) (significant count (n / 10)) → Significant (suc count) n (significant (suc count) n)
-    by_last true e ih = rw e (one_zero_more count n (significant count (n / 10)) (eqb-true (n % 10) 0 e) ih)
+    by_last : (b : Bool) → (n % 10 == 0) ≡ b → Significant count (n / 10) (significant_digits count (n / 10)) → Significant (suc count) n (significant_digits (suc count) n)
+    by_last true e ih = rw e (one_zero_more count n (significant_digits count (n / 10)) (eqb-true (n % 10) 0 e) ih)
     by_last false e ih = rw e (all_digits (suc count) n h (omega arith))
 
 -- the fraction that so many nanoseconds print as
@@ -74,11 +77,11 @@ fraction_written n h = by_zero (n == 0) refl
     by_zero false e =
         let k = significant_reads 9 n h in
         record {
-          fraction = Some (significant 9 n);
-          valid = (k.some (positive n e), all-from_Digits (significant 9 n) k.digits);
+          fraction = Some (significant_digits 9 n);
+          valid = (k.some (positive n e), all-from_Digits (significant_digits 9 n) k.digits);
           text = rw e refl;
           value = k.value;
-          kept = le-leb (length (significant 9 n)) 9 k.short;
+          kept = le-leb (length (significant_digits 9 n)) 9 k.short;
         }
 
 -- what two steps that gave a value show
@@ -99,9 +102,9 @@ clock_nanos_lt text h =
     let fraction = nanoseconds_lt (fraction_digits rest) (fraction_digits_count rest) size in
     omega arith
 
-timed_in_day : (text : List ℕ) (z : Option ℤ) (t : ClockTime) → IsZone z → timed text z ≡ Ok t → IsClockTime t
-unfolding timed
-timed_in_day text z t offset h =
+time_of_in_day : (text : List ℕ) (z : Option ℤ) (t : ClockTime) → IsZone z → time_of text z ≡ Ok t → IsClockTime t
+unfolding time_of
+time_of_in_day text z t offset h =
     let k = if_ok_or_err (is_clock text) (Ok (record { nanos = clock_nanos text; zone = z })) OutOfRange t h in
     let made : ClockTime = record { nanos = clock_nanos text; zone = z } in
     let e : made ≡ t = cc in
@@ -113,9 +116,9 @@ unfolding read_clock
 time_in_day text t h =
     let shape = has_shape (codes "99:99:99") text && not (fraction_length (drop 8 text) == 1) in
     let zoned = read_zone (drop (fraction_length (drop 8 text)) (drop 8 text)) in
-    let k = if_ok_or_err shape (zoned >>= λ z. timed text z) NotThisType t h in
-    let steps = bind_ok zoned (λ z. timed text z) t k.1 in
-    timed_in_day text steps.0 t (zone_read _ steps.0 steps.1) steps.2
+    let k = if_ok_or_err shape (zoned >>= λ z. time_of text z) NotThisType t h in
+    let steps = bind_ok zoned (λ z. time_of text z) t k.1 in
+    time_of_in_day text steps.0 t (zone_read _ steps.0 steps.1) steps.2
 
 abbrev TimeOf : List ℕ → ClockTime → Type 0
 TimeOf = IsTreeOf ClockTime Time IsTime print_time time_value is_time_in_range
@@ -133,9 +136,9 @@ time_tree nanos z day offset =
     record {
       tree = record {
         clock = record {
-          hours = padded 2 (nanos / 3_600_000_000_000);
-          minutes = padded 2 (nanos / 60_000_000_000 % 60);
-          seconds = padded 2 (nanos / 1_000_000_000 % 60);
+          hours = last_digits 2 (nanos / 3_600_000_000_000);
+          minutes = last_digits 2 (nanos / 60_000_000_000 % 60);
+          seconds = last_digits 2 (nanos / 1_000_000_000 % 60);
           fraction = f.fraction;
         };
         zone = zone.tree;

@@ -6,8 +6,9 @@ use Rattle.std.proofs.lemmas.List.{append-nil}
 use Rattle.std.proofs.lemmas.Slice.Eq.{bytes_eq-Decides}
 use Rattle.std.proofs.lemmas.Bool.{and_parts, or_cases, eqb-true}
 use Rattle.xa_value.specs.declared.read_error.ReadError.TheVariants.{NotThisType, OutOfRange}
-use Rattle.xa_value.specs.Lexical.{begins_with, digit_count, has_shape, number, number_after}
-use Rattle.xa_value.specs.Zone.{is_offset_text, read_offset, read_zone}
+use Rattle.xa_value.specs.Lexical.{number, number_after}
+use Rattle.xa_value.specs.parsing.Lexical.{begins_with, digit_count, has_shape}
+use Rattle.xa_value.specs.parsing.Zone.{is_offset_text, read_offset, read_zone}
 use Rattle.xa_value.specs.DigitGrammar.{IsDigits}
 use Rattle.xa_value.specs.TimeGrammar.{Zone, absent, utc, offset, IsZone, print_zone, zone_value, is_zone_in_range}
 use Rattle.xa_value.proofs.DigitGrammarLemmas.{Digits-from_all, emptied}

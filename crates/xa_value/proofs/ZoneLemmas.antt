@@ -6,8 +6,10 @@ use borrow.Author.Tests.{le-leb, leb-true, ne_eqb}
 use Rattle.jiff_core.proofs.SignedLemmas.{signed_arith}
 use Rattle.xa_value.specs.declared.read_error.ReadError.{ReadError}
 use Rattle.xa_value.specs.declared.read_error.ReadError.TheVariants.{NotThisType, OutOfRange}
-use Rattle.xa_value.specs.Lexical.{padded, two_digits, begins_with, with_sign}
-use Rattle.xa_value.specs.Zone.{IsOffset, is_offset_text, read_offset, read_zone, offset_text, zone_text}
+use Rattle.xa_value.specs.Lexical.{last_digits, with_sign}
+use Rattle.xa_value.specs.parsing.Lexical.{two_digits, begins_with}
+use Rattle.xa_value.specs.Zone.{IsOffset, offset_text, zone_text}
+use Rattle.xa_value.specs.parsing.Zone.{is_offset_text, read_offset, read_zone}
 use Rattle.xa_value.specs.TimeGrammar.{Zone, absent, utc, offset, IsZone as IsZoneTree, print_zone, zone_value, is_zone_in_range}
 use Rattle.xa_value.proofs.PrintedLemmas.{number-padded, digits_padded}
 
@@ -65,16 +67,16 @@ pub record ZoneWritten (z : Option ℤ) : Type 0 where
   pub value : zone_value tree ≡ z
 
 -- a sign, and hours and minutes
-offset_regroup : (mark n : ℕ) → mark ∷ [] ++ offset_text n ≡ mark ∷ [] ++ padded 2 (n / 60) ++ codes ":" ++ padded 2 (n % 60)
+offset_regroup : (mark n : ℕ) → mark ∷ [] ++ offset_text n ≡ mark ∷ [] ++ last_digits 2 (n / 60) ++ codes ":" ++ last_digits 2 (n % 60)
 offset_regroup mark n = simp append_assoc
 
-offset_written : (b : Bool) (n : ℕ) (z : Option ℤ) → n ≤ 840 → zone_text z ≡ print_zone (offset b (padded 2 (n / 60)) (padded 2 (n % 60))) → Some (with_sign b n) ≡ z → ZoneWritten z
+offset_written : (b : Bool) (n : ℕ) (z : Option ℤ) → n ≤ 840 → zone_text z ≡ print_zone (offset b (last_digits 2 (n / 60)) (last_digits 2 (n % 60))) → Some (with_sign b n) ≡ z → ZoneWritten z
 offset_written b n z h text value =
     let whole : n / 60 * 60 + n % 60 ≡ n = omega arith in
     let hours = number-padded 2 (n / 60) (omega arith) in
     let minutes = number-padded 2 (n % 60) (omega arith) in
     record {
-      tree = offset b (padded 2 (n / 60)) (padded 2 (n % 60));
+      tree = offset b (last_digits 2 (n / 60)) (last_digits 2 (n % 60));
       valid = (digits_padded 2 (n / 60), digits_padded 2 (n % 60));
       text = text;
       in_range = rw (hours, minutes, whole, le-leb (n % 60) 59 (omega arith), le-leb n 840 h) refl;

@@ -1,7 +1,5 @@
--- The characters of a value's text: white space, digits and shapes (XML Schema, part 2, sections 2.3 and 4.3.6).
-use Rattle.std.specs.Prelude.{ℕ, zero, suc, ◌+◌, ◌-◌, ◌*◌, ◌/◌, ◌%◌, Bool, true, false, ◌&&◌, ◌||◌, ◌==◌, if◌then◌else◌, List, [], ◌∷◌, ◌++◌, length, reverse, slice_index, nat_lt, ℤ, pos, neg_ℤ}
-use Rattle.std.specs.List.{prefix_len}
-use Rattle.std.specs.Char.{is_ascii_digit}
+-- White space, and the numbers that digits write (XML Schema, part 2, sections 2.3 and 4.3.6).
+use Rattle.std.specs.Prelude.{ℕ, zero, suc, ◌+◌, ◌-◌, ◌*◌, ◌/◌, ◌%◌, Bool, ◌||◌, ◌==◌, if◌then◌else◌, List, [], ◌∷◌, ◌++◌, reverse, ℤ, pos, neg_ℤ}
 
 -- space, tab, carriage return and line feed
 abbrev pub is_blank : ℕ → Bool
@@ -20,33 +18,6 @@ trimmed_end text = reverse (trimmed_start (reverse text))
 abbrev pub trimmed : List ℕ → List ℕ
 trimmed text = trimmed_end (trimmed_start text)
 
--- the text begins with the character
-abbrev pub begins_with : ℕ → List ℕ → Bool
-begins_with c [] = false
-begins_with c (d ∷ ds) = c == d
-
--- a character of a shape stands for itself, and 9 for any digit
-abbrev pub fits_place : ℕ → ℕ → Bool
-fits_place place c = if place == 57 then is_ascii_digit c else place == c
-
--- the text begins with characters of the shape
-unfoldable pub has_shape : List ℕ → List ℕ → Bool
-has_shape [] text = true
-has_shape (place ∷ places) [] = false
-has_shape (place ∷ places) (c ∷ cs) = fits_place place c && has_shape places cs
-
--- the number of the two digits at a place of the text
-abbrev pub two_digits : List ℕ → ℕ → ℕ
-two_digits text at = (slice_index text at - 48) * 10 + (slice_index text (at + 1) - 48)
-
--- how many digits the text begins with
-abbrev pub digit_count : List ℕ → ℕ
-digit_count text = prefix_len is_ascii_digit text
-
--- the text has digits alone, and at least one
-abbrev pub is_number : List ℕ → Bool
-is_number text = nat_lt 0 (length text) && (digit_count text == length text)
-
 -- the number that digits write after those of n
 unfoldable pub number_after : ℕ → List ℕ → ℕ
 number_after n [] = n
@@ -61,6 +32,6 @@ abbrev pub with_sign : Bool → ℕ → ℤ
 with_sign negative n = if negative then neg_ℤ (pos n) else pos n
 
 -- the last so many digits of a number
-unfoldable pub padded : ℕ → ℕ → List ℕ
-padded zero n = []
-padded (suc count) n = padded count (n / 10) ++ (48 + n % 10) ∷ []
+unfoldable pub last_digits : ℕ → ℕ → List ℕ
+last_digits zero n = []
+last_digits (suc count) n = last_digits count (n / 10) ++ (48 + n % 10) ∷ []

@@ -9,6 +9,7 @@ use Rattle.xa_value.specs.declared.data_type.DataType.TheVariants as type
 use Rattle.xa_value.specs.declared.value.Value.{Value}
 use Rattle.xa_value.specs.declared.value.Value.TheVariants as value
 use Rattle.xa_value.specs.Calendar.{instant, day_number}
+use Rattle.xa_value.specs.Types.{place_of}
 
 -- a value's type
 abbrev pub type_of : Value → DataType
@@ -42,20 +43,6 @@ bytes_of (value.AnyUri text) = text
 bytes_of (value.HexBinary bytes) = bytes
 bytes_of (value.Base64Binary bytes) = bytes
 bytes_of _ = []
-
--- a type's place in the list of types
-abbrev pub place_of : DataType → ℕ
-place_of type.String = 0
-place_of type.Boolean = 1
-place_of type.Integer = 2
-place_of type.Date = 3
-place_of type.Time = 4
-place_of type.DateTime = 5
-place_of type.DayTimeDuration = 6
-place_of type.YearMonthDuration = 7
-place_of type.AnyUri = 8
-place_of type.HexBinary = 9
-place_of type.Base64Binary = 10
 
 -- strings, integers, dates and times have an order
 abbrev pub is_ordered : DataType → Bool

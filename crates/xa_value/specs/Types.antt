@@ -1,5 +1,5 @@
 -- The data types of XACML 3.0 and their names (core, appendix A.2, B.3).
-use Rattle.std.specs.Prelude.{ℕ, Bool, ◌||◌, List, [], ◌∷◌, ◌++◌, codes, bytes_eq, find, Option}
+use Rattle.std.specs.Prelude.{ℕ, Bool, ◌||◌, ◌==◌, List, [], ◌∷◌, ◌++◌, codes, bytes_eq, find, Option}
 use Rattle.xa_value.specs.declared.data_type.DataType.{DataType}
 use Rattle.xa_value.specs.declared.data_type.DataType.TheVariants.{String, Boolean, Integer, Date, Time, DateTime, DayTimeDuration, YearMonthDuration, AnyUri, HexBinary, Base64Binary}
 
@@ -28,6 +28,24 @@ uri_of type = namespace ++ name_of type
 -- all types
 abbrev pub all_types : List DataType
 all_types = String ∷ Boolean ∷ Integer ∷ Date ∷ Time ∷ DateTime ∷ DayTimeDuration ∷ YearMonthDuration ∷ AnyUri ∷ HexBinary ∷ Base64Binary ∷ []
+
+-- a type's place in the list of types
+abbrev pub place_of : DataType → ℕ
+place_of String = 0
+place_of Boolean = 1
+place_of Integer = 2
+place_of Date = 3
+place_of Time = 4
+place_of DateTime = 5
+place_of DayTimeDuration = 6
+place_of YearMonthDuration = 7
+place_of AnyUri = 8
+place_of HexBinary = 9
+place_of Base64Binary = 10
+
+-- the type that has that place
+abbrev pub type_at : ℕ → Option DataType
+type_at place = find (λ type. place_of type == place) all_types
 
 -- the text is the type's URI, or its name alone
 unfoldable pub names : List ℕ → DataType → Bool

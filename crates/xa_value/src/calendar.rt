@@ -1,7 +1,10 @@
-ghost use Rattle.std.specs.Prelude.{◌≡◌, ◌≤◌, ◌<◌, ◌≤ℤ◌, unsigned_abs, ◌++◌, OnOk, IsTrue, SomeIff, string_bytes, length, pos, true};
+//! Dates, with and without a time, read and printed.
+ghost use Rattle.std.specs.Prelude.{◌≡◌, ◌≤◌, ◌<◌, ◌≤ℤ◌, unsigned_abs, ◌++◌, OnOk, IsTrue, SomeIff, string_bytes, length, drop, pos, true};
 ghost use Rattle.jiff_core.specs.Date.{IsYmd, epoch_day};
-ghost use Rattle.xa_value.specs.Calendar.{is_day, dated, date_timed, year_of, read_date, read_date_time, day_text, date_text, date_time_text, day_number};
+ghost use Rattle.xa_value.specs.Calendar.{is_day, day_text, date_text, date_time_text, day_number};
+ghost use Rattle.xa_value.specs.parsing.Calendar.{date_of, date_time_of, year_of, read_date, read_date_time};
 ghost use Rattle.xa_value.specs.Time.{day_nanos};
+ghost use Rattle.xa_value.specs.parsing.Time.{read_clock};
 
 use crate::lexical::{has_shape, push_padded, two_digits};
 use crate::read_error::ReadError;
@@ -158,9 +161,9 @@ fn is_day(year: u32, month: u32, day: u32) -> bool
 }
 
 /// The date, where the calendar has it.
-#[tactic(auto, using(crate::proofs::CalendarLemmas::day_bounds), unfolding(crate::specs::Calendar::dated))]
-fn dated(year: u32, month: u32, day: u32, zone: Option<Offset>) -> Result<Date, ReadError>
-    ensures { result ≡ dated year month day zone }
+#[tactic(auto, using(crate::proofs::CalendarLemmas::day_bounds), unfolding(crate::specs::parsing::Calendar::date_of))]
+fn date_of(year: u32, month: u32, day: u32, zone: Option<Offset>) -> Result<Date, ReadError>
+    ensures { result ≡ date_of year month day zone }
 {
     if !is_day(year, month, day) {
         return Err(ReadError::OutOfRange);
@@ -182,7 +185,7 @@ fn year_of(text: &[u8]) -> u32
 }
 
 /// The date of the text, `YYYY-MM-DD` and a zone.
-#[tactic(auto, unfolding(crate::specs::Calendar::read_date))]
+#[tactic(auto, unfolding(crate::specs::parsing::Calendar::read_date))]
 pub(crate) fn read_date(text: &[u8]) -> Result<Date, ReadError>
     ensures { result ≡ read_date text.now }
 {
@@ -190,7 +193,7 @@ pub(crate) fn read_date(text: &[u8]) -> Result<Date, ReadError>
         return Err(ReadError::NotThisType);
     }
     let zone = read_zone(&text[10..])?;
-    dated(
+    date_of(
         year_of(text),
         two_digits(text, 5),
         two_digits(text, 8),
@@ -210,7 +213,6 @@ fn push_day(text: &mut String, year: u16, month: u8, day: u8) -> Result<(), Allo
     push_padded(text, 2, u32::from(day))
 }
 
-/// Writes the date and its zone.
 pub(crate) fn push_date(text: &mut String, date: Date) -> Result<(), AllocError>
     ensures { OnOk result (string_bytes text.new ≡ string_bytes text.old ++ date_text date) }
 {
@@ -219,9 +221,9 @@ pub(crate) fn push_date(text: &mut String, date: Date) -> Result<(), AllocError>
 }
 
 /// The date with a time, where the calendar has it.
-#[tactic(auto, using(crate::proofs::CalendarLemmas::day_bounds), unfolding(crate::specs::Calendar::date_timed))]
-fn date_timed(year: u32, month: u32, day: u32, clock: Time) -> Result<DateTime, ReadError>
-    ensures { result ≡ date_timed year month day clock }
+#[tactic(auto, using(crate::proofs::CalendarLemmas::day_bounds), unfolding(crate::specs::parsing::Calendar::date_time_of))]
+fn date_time_of(year: u32, month: u32, day: u32, clock: Time) -> Result<DateTime, ReadError>
+    ensures { result ≡ date_time_of year month day clock }
 {
     if !is_day(year, month, day) {
         return Err(ReadError::OutOfRange);
@@ -235,24 +237,32 @@ fn date_timed(year: u32, month: u32, day: u32, clock: Time) -> Result<DateTime, 
     })
 }
 
+fn clock_after_day(text: &[u8]) -> Result<Time, ReadError>
+    requires { 11 ≤ length text.now }
+    ensures { result ≡ read_clock (drop 11 text.now) }
+{
+    read_clock(&text[11..])
+}
+
 /// The date and time of the text: a date without a zone, `T`, and a time.
-#[tactic(auto, unfolding(crate::specs::Calendar::read_date_time))]
+#[tactic(auto, unfolding(crate::specs::parsing::Calendar::read_date_time))]
 pub(crate) fn read_date_time(text: &[u8]) -> Result<DateTime, ReadError>
     ensures { result ≡ read_date_time text.now }
 {
     if !has_shape(b"9999-99-99T", text) {
         return Err(ReadError::NotThisType);
     }
-    let clock = read_clock(&text[11..])?;
-    date_timed(
-        year_of(text),
-        two_digits(text, 5),
-        two_digits(text, 8),
-        clock,
-    )
+    match clock_after_day(text) {
+        Ok(clock) => date_time_of(
+            year_of(text),
+            two_digits(text, 5),
+            two_digits(text, 8),
+            clock,
+        ),
+        Err(fault) => Err(fault),
+    }
 }
 
-/// Writes the date, `T`, the time and the zone.
 pub(crate) fn push_date_time(text: &mut String, moment: DateTime) -> Result<(), AllocError>
     ensures { OnOk result (string_bytes text.new ≡ string_bytes text.old ++ date_time_text moment) }
 {

@@ -1,5 +1,6 @@
+//! The data types, with their names and numbers.
 ghost use Rattle.std.specs.Prelude.{◌≡◌, find};
-ghost use Rattle.xa_value.specs.Types.{name_of, uri_of, names, type_named};
+ghost use Rattle.xa_value.specs.Types.{name_of, uri_of, place_of, type_at, names, type_named};
 
 /// A data type (XACML 3.0, appendix A.2).
 #[derive(Clone, Copy, Debug, PartialEq, Eq)]
@@ -50,6 +51,22 @@ impl DataType {
         ensures { result ≡ type_named text.now }
     {
         first_named(&DataType::ALL, text)
+    }
+
+    /// The type of that number, its place among all types.
+    #[tactic(auto, using(crate::proofs::TypeLemmas::type_got))]
+    pub fn from_number(number: u8) -> Option<DataType>
+        ensures { result ≡ type_at number }
+    {
+        DataType::ALL.get(usize::from(number)).copied()
+    }
+
+    /// The type's number: its place among all types, from 0 to 10.
+    pub fn number(self) -> u8
+        ensures value { result ≡ place_of self }
+        ensures inverse { type_at (place_of self) ≡ Some self }
+    {
+        self as u8
     }
 
     /// Whether the text is the type's URI or its name alone.

@@ -1,6 +1,9 @@
+//! Durations, read and printed.
 ghost use Rattle.std.specs.Prelude.{◌≡◌, [], codes, ◌+◌, ◌-◌, ◌*◌, ◌^◌, ◌≤◌, ◌<◌, ◌++◌, min, if◌then◌else◌, pos, neg_ℤ, drop, OnOk, SomeIff, string_bytes, length, true};
-ghost use Rattle.xa_value.specs.Time.{fraction_length, fraction_digits, nanoseconds};
-ghost use Rattle.xa_value.specs.Duration.{part_length, part, after, after_part, seconds_length, seconds_part, seconds_fraction, without_minus, within, most_months, most_nanos, IsMonths, IsNanos, is_years_and_months, months_of, read_year_month, is_clock_part, is_days_and_clock, seconds_of, total_nanos, nanos_of, has_short_fraction, read_day_time, part_text, sign_text, year_month_text, seconds_text, clock_part_text, day_time_text};
+ghost use Rattle.xa_value.specs.Time.{nanoseconds};
+ghost use Rattle.xa_value.specs.parsing.Time.{fraction_length, fraction_digits};
+ghost use Rattle.xa_value.specs.Duration.{most_months, most_nanos, IsMonths, IsNanos, part_text, sign_text, year_month_text, seconds_text, clock_part_text, day_time_text};
+ghost use Rattle.xa_value.specs.parsing.Duration.{part_length, part, after, after_part, seconds_length, seconds_part, seconds_fraction, without_minus, within, is_years_and_months, months_of, read_year_month, is_clock_part, is_days_and_clock, seconds_of, total_nanos, nanos_of, has_short_fraction, read_day_time};
 
 use crate::lexical::{begins_with, digit_count, number};
 use crate::read_error::ReadError;
@@ -95,7 +98,7 @@ impl DayTimeDuration {
 }
 
 /// How many digits stand before the unit, where the text begins with a part of that unit.
-#[tactic(auto, unfolding(crate::specs::Duration::part_length))]
+#[tactic(auto, unfolding(crate::specs::parsing::Duration::part_length))]
 fn part_length(unit: u8, text: &[u8]) -> usize
     ensures value { result ≡ part_length unit text.now }
     ensures within { result ≤ length text.now }
@@ -130,7 +133,6 @@ fn after(count: usize, text: &[u8]) -> &[u8]
     }
 }
 
-/// What follows that part.
 fn after_part(unit: u8, text: &[u8]) -> &[u8]
     ensures { result.now ≡ after_part unit text.now }
 {
@@ -138,7 +140,7 @@ fn after_part(unit: u8, text: &[u8]) -> &[u8]
 }
 
 /// The length of seconds with a fraction, where the text begins with them.
-#[tactic(auto, unfolding(crate::specs::Duration::seconds_length))]
+#[tactic(auto, unfolding(crate::specs::parsing::Duration::seconds_length))]
 fn seconds_length(text: &[u8]) -> usize
     ensures value { result ≡ seconds_length text.now }
     ensures within { result ≤ length text.now }
@@ -152,8 +154,7 @@ fn seconds_length(text: &[u8]) -> usize
     }
 }
 
-/// The text without a minus.
-#[tactic(auto, unfolding(crate::specs::Duration::without_minus))]
+#[tactic(auto, unfolding(crate::specs::parsing::Duration::without_minus))]
 fn without_minus(text: &[u8]) -> &[u8]
     ensures { result.now ≡ without_minus text.now }
 {
@@ -163,7 +164,6 @@ fn without_minus(text: &[u8]) -> &[u8]
     }
 }
 
-/// The text without its first character.
 fn rest_of(text: &[u8]) -> &[u8]
     ensures { result.now ≡ drop 1 text.now }
 {
@@ -174,7 +174,7 @@ fn rest_of(text: &[u8]) -> &[u8]
 }
 
 /// Whether years and months stand after `P`: at least one part, and nothing else.
-#[tactic(auto, unfolding(crate::specs::Duration::is_years_and_months))]
+#[tactic(auto, unfolding(crate::specs::parsing::Duration::is_years_and_months))]
 fn is_years_and_months(text: &[u8]) -> bool
     ensures { result ≡ is_years_and_months text.now }
 {
@@ -185,7 +185,7 @@ fn is_years_and_months(text: &[u8]) -> bool
 }
 
 /// The duration of so many years and months, where it is in range.
-#[tactic(auto, unfolding(crate::specs::Duration::within))]
+#[tactic(auto, unfolding(crate::specs::parsing::Duration::within))]
 fn months_within(negative: bool, years: u64, months: u64) -> Result<YearMonthDuration, ReadError>
     ensures { result ≡ within most_months negative (years * 12 + months) }
 {
@@ -200,7 +200,7 @@ fn months_within(negative: bool, years: u64, months: u64) -> Result<YearMonthDur
 }
 
 /// The duration of the text, `-?P(nY)?(nM)?`.
-#[tactic(auto, using(crate::proofs::DurationLemmas::months_capped), unfolding(crate::specs::Duration::read_year_month, crate::specs::Duration::months_of))]
+#[tactic(auto, using(crate::proofs::DurationLemmas::months_capped), unfolding(crate::specs::parsing::Duration::read_year_month, crate::specs::parsing::Duration::months_of))]
 pub(crate) fn read_year_month(text: &[u8]) -> Result<YearMonthDuration, ReadError>
     ensures { result ≡ read_year_month text.now }
 {
@@ -217,7 +217,7 @@ pub(crate) fn read_year_month(text: &[u8]) -> Result<YearMonthDuration, ReadErro
 }
 
 /// Whether hours, minutes and seconds stand after `T`: at least one part, and nothing else.
-#[tactic(auto, unfolding(crate::specs::Duration::is_clock_part))]
+#[tactic(auto, unfolding(crate::specs::parsing::Duration::is_clock_part))]
 fn is_clock_part(text: &[u8]) -> bool
     ensures { result ≡ is_clock_part text.now }
 {
@@ -229,7 +229,7 @@ fn is_clock_part(text: &[u8]) -> bool
 }
 
 /// Whether days, and what may follow them, stand after `P`: at least one part, and nothing else.
-#[tactic(auto, unfolding(crate::specs::Duration::is_days_and_clock))]
+#[tactic(auto, unfolding(crate::specs::parsing::Duration::is_days_and_clock))]
 fn is_days_and_clock(text: &[u8]) -> bool
     ensures { result ≡ is_days_and_clock text.now }
 {
@@ -256,7 +256,7 @@ fn seconds_fraction(seconds: &[u8]) -> &[u8]
 }
 
 /// Whether the fraction has at most nine digits.
-#[tactic(auto, unfolding(crate::specs::Duration::has_short_fraction))]
+#[tactic(auto, unfolding(crate::specs::parsing::Duration::has_short_fraction))]
 fn has_short_fraction(clock: &[u8]) -> bool
     ensures { result ≡ has_short_fraction clock.now }
 {
@@ -264,7 +264,7 @@ fn has_short_fraction(clock: &[u8]) -> bool
 }
 
 /// The duration of so many days, hours, minutes, seconds and nanoseconds, where it is in range.
-#[tactic(auto, unfolding(crate::specs::Duration::within))]
+#[tactic(auto, unfolding(crate::specs::parsing::Duration::within))]
 fn total_within(
     negative: bool,
     days: u64,
@@ -288,7 +288,7 @@ fn total_within(
 }
 
 /// The duration of so many days and the hours, minutes and seconds of a clock part, where it is in range.
-#[tactic(auto, using(crate::proofs::DurationLemmas::clock_capped), unfolding(crate::specs::Duration::nanos_of, crate::specs::Duration::has_short_fraction))]
+#[tactic(auto, using(crate::proofs::DurationLemmas::clock_capped), unfolding(crate::specs::parsing::Duration::nanos_of, crate::specs::parsing::Duration::has_short_fraction))]
 fn nanos_within(negative: bool, days: u64, clock: &[u8]) -> Result<DayTimeDuration, ReadError>
     requires { has_short_fraction clock.now ≡ true }
     ensures { result ≡ within most_nanos negative (nanos_of days clock.now) }
@@ -301,7 +301,7 @@ fn nanos_within(negative: bool, days: u64, clock: &[u8]) -> Result<DayTimeDurati
 }
 
 /// The duration of the text, `-?P(nD)?(T(nH)?(nM)?(n(\.f)?S)?)?`.
-#[tactic(auto, using(crate::proofs::DurationLemmas::days_capped), unfolding(crate::specs::Duration::read_day_time))]
+#[tactic(auto, using(crate::proofs::DurationLemmas::days_capped), unfolding(crate::specs::parsing::Duration::read_day_time))]
 pub(crate) fn read_day_time(text: &[u8]) -> Result<DayTimeDuration, ReadError>
     ensures { result ≡ read_day_time text.now }
 {
@@ -337,7 +337,6 @@ fn push_part(text: &mut String, number: u64, unit: char) -> Result<(), AllocErro
     text.push(unit)
 }
 
-/// Writes years and months.
 #[tactic(auto, unfolding(crate::specs::Duration::year_month_text))]
 pub(crate) fn push_year_month(
     text: &mut String,
@@ -383,7 +382,6 @@ fn push_clock_part(text: &mut String, nanos: u64) -> Result<(), AllocError>
     push_seconds(text, nanos % MINUTE)
 }
 
-/// Writes days, hours, minutes and seconds.
 #[tactic(auto, unfolding(crate::specs::Duration::day_time_text))]
 pub(crate) fn push_day_time(text: &mut String, duration: DayTimeDuration) -> Result<(), AllocError>
     ensures { OnOk result (string_bytes text.new ≡ string_bytes text.old ++ day_time_text duration) }

@@ -1,6 +1,8 @@
+//! White space, digits and shapes of a text.
 ghost use Rattle.std.specs.Prelude.{◌≡◌, ◌+◌, ◌-◌, ◌<◌, ◌≤◌, ◌^◌, [], ◌∷◌, length, min, OnOk, ◌++◌, IsTrue, string_bytes};
 ghost use Rattle.std.specs.List.{prefix_len};
-ghost use Rattle.xa_value.specs.Lexical.{is_blank, trimmed_start, trimmed_end, trimmed, begins_with, fits_place, has_shape, two_digits, digit_count, is_number, number, padded};
+ghost use Rattle.xa_value.specs.Lexical.{is_blank, trimmed_start, trimmed_end, trimmed, number, last_digits};
+ghost use Rattle.xa_value.specs.parsing.Lexical.{begins_with, fits_place, has_shape, two_digits, digit_count, is_number};
 
 use std::alloc::AllocError;
 
@@ -41,8 +43,7 @@ fn trimmed_end(text: &[u8]) -> &[u8]
     rest
 }
 
-/// The text without white space at its ends.
-pub(crate) fn trimmed(text: &[u8]) -> &[u8]
+pub(crate) fn trimmed_bytes(text: &[u8]) -> &[u8]
     ensures { result.now ≡ trimmed text.now }
 {
     trimmed_end(trimmed_start(text))
@@ -61,7 +62,7 @@ fn blank_count(text: &[u8]) -> usize
     text.len()
 }
 
-/// The text without white space at its ends.
+/// The text without white space at its ends: cut at places where a character begins.
 #[tactic(auto, using(crate::proofs::LexicalLemmas::boundary_after_blanks, crate::proofs::LexicalLemmas::boundary_before_blanks, crate::proofs::LexicalLemmas::trimmed_start_is_drop, crate::proofs::LexicalLemmas::trimmed_end_is_take))]
 pub(crate) fn trimmed_text(text: &str) -> &str
     ensures { result.now ≡ trimmed text.now }
@@ -70,7 +71,6 @@ pub(crate) fn trimmed_text(text: &str) -> &str
     &rest[..trimmed_end(rest.as_bytes()).len()]
 }
 
-/// Whether the text begins with the character.
 pub(crate) fn begins_with(byte: u8, text: &[u8]) -> bool
     ensures { result ≡ begins_with byte text.now }
 {
@@ -92,7 +92,7 @@ fn fits_place(place: u8, byte: u8) -> bool
 }
 
 /// Whether the text begins with characters of the shape, such as `9999-99-99`.
-#[tactic(auto, unfolding(crate::specs::Lexical::has_shape))]
+#[tactic(auto, unfolding(crate::specs::parsing::Lexical::has_shape))]
 pub(crate) fn has_shape(shape: &[u8], text: &[u8]) -> bool
     ensures value { result ≡ has_shape shape.now text.now }
     ensures long { IsTrue result → length shape.now ≤ length text.now }
@@ -149,7 +149,6 @@ pub(crate) fn number(digits: &[u8]) -> u64
     value
 }
 
-/// Writes one digit.
 fn push_digit(text: &mut String, digit: u8) -> Result<(), AllocError>
     requires { digit < 10 }
     ensures { OnOk result (string_bytes text.new ≡ string_bytes text.old ++ (48 + digit) ∷ []) }
@@ -158,9 +157,9 @@ fn push_digit(text: &mut String, digit: u8) -> Result<(), AllocError>
 }
 
 /// Writes the last so many digits of the number.
-#[tactic(auto, unfolding(crate::specs::Lexical::padded))]
+#[tactic(auto, unfolding(crate::specs::Lexical::last_digits))]
 pub(crate) fn push_padded(text: &mut String, count: u8, number: u32) -> Result<(), AllocError>
-    ensures { OnOk result (string_bytes text.new ≡ string_bytes text.old ++ padded count number) }
+    ensures { OnOk result (string_bytes text.new ≡ string_bytes text.old ++ last_digits count number) }
 {
     if count == 0 {
         return Ok(());

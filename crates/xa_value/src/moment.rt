@@ -1,7 +1,19 @@
-ghost use Rattle.std.specs.Prelude.{◌≡◌, SomeIff};
-ghost use Rattle.xa_value.specs.Moment.{IsMoment};
+//! Moments, and the date and time that they show.
+ghost use Rattle.std.specs.Prelude.{◌≡◌, ◌*ℤ◌, ◌≤ℤ◌, ◌<◌, pos, unsigned_abs, SomeIff};
+ghost use Rattle.jiff_core.specs.Date.{epoch_day};
+ghost use Rattle.xa_value.specs.Calendar.{instant, day_number};
+ghost use Rattle.xa_value.specs.Days.{day_of_number};
+ghost use Rattle.xa_value.specs.Moment.{IsMoment, day_number_of, nanos_of, date_of, time_of, date_time_of};
+ghost use Rattle.xa_value.specs.Time.{day_nanos};
 
+use crate::calendar::{Date, DateTime};
+use crate::time::{SECOND, Time};
+use crate::zone::Offset;
+use jiff_core::civil;
 use std::marker::Model;
+
+/// The seconds of a day.
+const DAY: i64 = 86_400;
 
 /// A moment: whole seconds since 1970-01-01T00:00:00Z, from 0001-01-01T00:00:00Z to 9999-12-31T23:59:59Z.
 #[derive(Clone, Copy, Debug, PartialEq, Eq)]
@@ -46,5 +58,45 @@ impl Moment {
         ensures within { IsMoment result }
     {
         self.seconds
+    }
+
+    /// The moment's date, by UTC.
+    pub fn date(self) -> Date
+        ensures value { result ≡ date_of self }
+        ensures day { day_number result.year result.month result.day ≡ day_number_of self }
+    {
+        Date::new(self.day(), Offset::new(0)).unwrap()
+    }
+
+    /// The moment's time of day, by UTC.
+    pub fn time(self) -> Time
+        ensures { result ≡ time_of self }
+    {
+        Time::new(self.nanos(), Offset::new(0)).unwrap()
+    }
+
+    /// The moment's date with its time, by UTC.
+    pub fn date_time(self) -> DateTime
+        ensures value { result ≡ date_time_of self }
+        ensures instant { instant (day_number result.year result.month result.day) result.nanos result.zone ≡ self *ℤ pos 1_000_000_000 }
+    {
+        DateTime::new(self.day(), self.nanos(), Offset::new(0)).unwrap()
+    }
+
+    /// The moment's day, by UTC.
+    fn day(self) -> civil::Date
+        ensures value { day_of_number (day_number_of self) ≡ record { year = unsigned_abs result.year; month = result.month; day = result.day } }
+        ensures number { epoch_day result ≡ day_number_of self }
+        ensures late { pos 1 ≤ℤ result.year }
+    {
+        civil::Date::from_unix_epoch_day(self.seconds.div_euclid(DAY)).unwrap()
+    }
+
+    /// The nanoseconds since the midnight that began the moment's day, by UTC.
+    fn nanos(self) -> u64
+        ensures value { result ≡ nanos_of self }
+        ensures within { result < day_nanos }
+    {
+        self.seconds.rem_euclid(DAY) as u64 * SECOND
     }
 }

@@ -1,13 +1,14 @@
+//! Booleans and integers, read and printed.
 ghost use Rattle.std.specs.Prelude.{◌≡◌, ◌^◌, ◌-◌, min, ◌++◌, OnOk, string_bytes};
 ghost use Rattle.std.specs.Fmt.{signed_decimal};
-ghost use Rattle.xa_value.specs.Number.{read_boolean, boolean_text, signed, without_sign, read_integer};
+ghost use Rattle.xa_value.specs.Number.{boolean_text};
+ghost use Rattle.xa_value.specs.parsing.Number.{read_boolean, integer_of, without_sign, read_integer};
 
 use crate::lexical::{begins_with, is_number, number};
 use crate::read_error::ReadError;
 use std::alloc::AllocError;
 
-/// The boolean of the text.
-#[tactic(auto, unfolding(crate::specs::Number::read_boolean))]
+#[tactic(auto, unfolding(crate::specs::parsing::Number::read_boolean))]
 pub(crate) fn read_boolean(text: &[u8]) -> Result<bool, ReadError>
     ensures { result ≡ read_boolean text.now }
 {
@@ -20,7 +21,6 @@ pub(crate) fn read_boolean(text: &[u8]) -> Result<bool, ReadError>
     Err(ReadError::NotThisType)
 }
 
-/// Writes `true` or `false`.
 #[tactic(auto, unfolding(crate::specs::Number::boolean_text))]
 pub(crate) fn push_boolean(text: &mut String, value: bool) -> Result<(), AllocError>
     ensures { OnOk result (string_bytes text.new ≡ string_bytes text.old ++ boolean_text value) }
@@ -32,8 +32,7 @@ pub(crate) fn push_boolean(text: &mut String, value: bool) -> Result<(), AllocEr
     }
 }
 
-/// The text without a sign.
-#[tactic(auto, unfolding(crate::specs::Number::without_sign))]
+#[tactic(auto, unfolding(crate::specs::parsing::Number::without_sign))]
 fn without_sign(text: &[u8]) -> &[u8]
     ensures { result.now ≡ without_sign text.now }
 {
@@ -44,9 +43,9 @@ fn without_sign(text: &[u8]) -> &[u8]
 }
 
 /// The number with its sign, where it fits 64 bits.
-#[tactic(auto, unfolding(crate::specs::Number::signed))]
-fn signed(negative: bool, magnitude: u64) -> Result<i64, ReadError>
-    ensures { result ≡ signed negative magnitude }
+#[tactic(auto, unfolding(crate::specs::parsing::Number::integer_of))]
+fn integer_of(negative: bool, magnitude: u64) -> Result<i64, ReadError>
+    ensures { result ≡ integer_of negative magnitude }
 {
     let value = if negative {
         -i128::from(magnitude)
@@ -57,7 +56,7 @@ fn signed(negative: bool, magnitude: u64) -> Result<i64, ReadError>
 }
 
 /// The integer of the text: digits, after a sign or none.
-#[tactic(auto, using(crate::proofs::NumberLemmas::signed_capped), unfolding(crate::specs::Number::read_integer))]
+#[tactic(auto, using(crate::proofs::NumberLemmas::integer_capped), unfolding(crate::specs::parsing::Number::read_integer))]
 pub(crate) fn read_integer(text: &[u8]) -> Result<i64, ReadError>
     ensures { result ≡ read_integer text.now }
 {
@@ -65,7 +64,7 @@ pub(crate) fn read_integer(text: &[u8]) -> Result<i64, ReadError>
     if !is_number(digits) {
         return Err(ReadError::NotThisType);
     }
-    signed(begins_with(b'-', text), number(digits))
+    integer_of(begins_with(b'-', text), number(digits))
 }
 
 /// Writes the integer without a plus and without leading zeros.

@@ -1,39 +1,14 @@
-ghost use Rattle.std.specs.Prelude.{◌≡◌, ◌==◌, ◌^◌, pos, neg_ℤ, ◌+ℤ◌, ◌*ℤ◌};
+//! Equality and order of values.
+ghost use Rattle.std.specs.Prelude.{◌≡◌, ◌==◌};
 ghost use Rattle.std.specs.Cmp.{IsEquivalence};
-ghost use Rattle.jiff_core.specs.Calendar.{IsBetween};
-ghost use Rattle.xa_value.specs.Calendar.{instant};
-ghost use Rattle.xa_value.specs.Zone.{offset_of};
-ghost use Rattle.xa_value.specs.Order.{place_of, type_of, number_of, bytes_of, key_of, compare_keys, same, is_ordered, order, IsOrder, KeysTellApart};
+ghost use Rattle.xa_value.specs.Types.{place_of};
+ghost use Rattle.xa_value.specs.Order.{type_of, number_of, bytes_of, key_of, compare_keys, same, is_ordered, order, IsOrder, KeysTellApart};
 
 use crate::data_type::DataType;
+use crate::instant::instant;
 use crate::sort_key::SortKey;
-use crate::time::{DAY, MINUTE};
 use crate::value::Value;
-use crate::zone::{Offset, offset_of};
 use std::cmp::Ordering;
-
-/// Nanoseconds since 1970-01-01T00:00:00Z.
-fn instant(day: i32, nanos: u64, zone: Option<Offset>) -> i128
-    ensures { result ≡ instant day nanos zone }
-{
-    local_nanos(day, nanos) - offset_nanos(zone)
-}
-
-/// Nanoseconds since the midnight that began 1970, by the zone's clock.
-fn local_nanos(day: i32, nanos: u64) -> i128
-    ensures value { result ≡ day *ℤ pos 86_400_000_000_000 +ℤ pos nanos }
-    ensures within { IsBetween (neg_ℤ (pos (2 ^ 100))) (pos (2 ^ 100)) result }
-{
-    i128::from(day) * i128::from(DAY) + i128::from(nanos)
-}
-
-/// The nanoseconds by which the zone is ahead of UTC.
-fn offset_nanos(zone: Option<Offset>) -> i128
-    ensures value { result ≡ offset_of zone *ℤ pos 60_000_000_000 }
-    ensures within { IsBetween (neg_ℤ (pos (2 ^ 100))) (pos (2 ^ 100)) result }
-{
-    i128::from(offset_of(zone)) * i128::from(MINUTE)
-}
 
 /// Whether the types are the same.
 fn is_same_type(left: DataType, right: DataType) -> bool

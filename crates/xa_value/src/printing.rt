@@ -1,3 +1,4 @@
+//! The text of a value.
 ghost use Rattle.std.specs.Prelude.{◌≡◌, IfOk};
 ghost use Rattle.std.specs.Fmt.{signed_decimal};
 ghost use Rattle.xa_value.specs.Number.{boolean_text};
@@ -16,7 +17,7 @@ use crate::value::Value;
 use std::alloc::{AllocError, Global};
 
 impl Value {
-    /// The value's text.
+    /// The text of the value, which reads as the value again.
     pub fn to_text(&self, alloc: Global) -> Result<Text, AllocError>
         ensures { IfOk result (λ t. t ≡ printed self.now) }
     {
@@ -36,7 +37,6 @@ impl Value {
     }
 }
 
-/// `true` or `false`.
 fn boolean_text(alloc: Global, value: bool) -> Result<Text, AllocError>
     ensures { IfOk result (λ t. t ≡ boolean_text value) }
 {
@@ -45,7 +45,6 @@ fn boolean_text(alloc: Global, value: bool) -> Result<Text, AllocError>
     Ok(Text::from_string(text))
 }
 
-/// The integer's text.
 fn integer_text(alloc: Global, value: i64) -> Result<Text, AllocError>
     ensures { IfOk result (λ t. t ≡ signed_decimal value) }
 {
@@ -54,7 +53,6 @@ fn integer_text(alloc: Global, value: i64) -> Result<Text, AllocError>
     Ok(Text::from_string(text))
 }
 
-/// The date's text.
 fn date_text(alloc: Global, date: Date) -> Result<Text, AllocError>
     ensures { IfOk result (λ t. t ≡ date_text date) }
 {
@@ -63,7 +61,6 @@ fn date_text(alloc: Global, date: Date) -> Result<Text, AllocError>
     Ok(Text::from_string(text))
 }
 
-/// The time's text.
 fn time_text(alloc: Global, time: Time) -> Result<Text, AllocError>
     ensures { IfOk result (λ t. t ≡ time_text time) }
 {
@@ -72,7 +69,6 @@ fn time_text(alloc: Global, time: Time) -> Result<Text, AllocError>
     Ok(Text::from_string(text))
 }
 
-/// The date's and time's text.
 fn date_time_text(alloc: Global, moment: DateTime) -> Result<Text, AllocError>
     ensures { IfOk result (λ t. t ≡ date_time_text moment) }
 {
@@ -81,7 +77,6 @@ fn date_time_text(alloc: Global, moment: DateTime) -> Result<Text, AllocError>
     Ok(Text::from_string(text))
 }
 
-/// The text in days, hours, minutes and seconds.
 fn day_time_text(alloc: Global, duration: DayTimeDuration) -> Result<Text, AllocError>
     ensures { IfOk result (λ t. t ≡ day_time_text duration) }
 {
@@ -90,7 +85,6 @@ fn day_time_text(alloc: Global, duration: DayTimeDuration) -> Result<Text, Alloc
     Ok(Text::from_string(text))
 }
 
-/// The text in years and months.
 fn year_month_text(alloc: Global, duration: YearMonthDuration) -> Result<Text, AllocError>
     ensures { IfOk result (λ t. t ≡ year_month_text duration) }
 {

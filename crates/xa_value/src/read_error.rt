@@ -1,15 +1,13 @@
+//! Why a text is no value of a type.
 ghost use Rattle.std.specs.Prelude.{◌≡◌};
-ghost use Rattle.xa_value.specs.declared.read_error.ReadError.TheVariants.{Memory};
+ghost use Rattle.xa_value.specs.declared.or_memory.OrMemory.TheVariants.{Error};
 
-use std::alloc::{AllocError, AllocFailed};
+use crate::or_memory::OrMemory;
 use thiserror::Error;
 
-/// Why a text was not read as a value of a type.
-#[derive(Debug, Drop, PartialEq, Eq, Error)]
+/// Why a text was not read as a value of a type (XACML 3.0, appendix A.2).
+#[derive(Clone, Copy, Debug, PartialEq, Eq, Error)]
 pub enum ReadError {
-    /// There was no memory.
-    #[error("out of memory")]
-    Memory,
     /// The text does not have the shape of the type.
     #[error("the text is not of this data type")]
     NotThisType,
@@ -18,18 +16,10 @@ pub enum ReadError {
     OutOfRange,
 }
 
-impl From<AllocError> for ReadError {
-    ghost from_gives = { λ _ e. e ≡ Memory };
+impl From<ReadError> for OrMemory<ReadError> {
+    ghost from_gives = { λ error e. e ≡ Error error };
 
-    fn from(_error: AllocError) -> ReadError {
-        ReadError::Memory
-    }
-}
-
-impl<T: Drop> From<AllocFailed<T>> for ReadError {
-    ghost from_gives = { λ _ e. e ≡ Memory };
-
-    fn from(_error: AllocFailed<T>) -> ReadError {
-        ReadError::Memory
+    fn from(error: ReadError) -> OrMemory<ReadError> {
+        OrMemory::Error(error)
     }
 }

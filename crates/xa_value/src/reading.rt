@@ -1,13 +1,16 @@
-ghost use Rattle.std.specs.Prelude.{◌≡◌, false};
-ghost use Rattle.xa_value.specs.Gives.{Gives};
-ghost use Rattle.xa_value.specs.Reading.{grows, read};
+//! The value that a text stands for.
+ghost use Rattle.std.specs.Prelude.{◌≡◌, false, IfOk};
+ghost use Rattle.xa_value.specs.Gives.{Gives, answered};
+ghost use Rattle.xa_value.specs.Order.{type_of};
+ghost use Rattle.xa_value.specs.Reading.{IsReading, grows, read};
 
 use crate::binary::{read_base64, read_hex};
 use crate::calendar::{read_date, read_date_time};
 use crate::data_type::DataType;
 use crate::duration::{read_day_time, read_year_month};
-use crate::lexical::{trimmed, trimmed_text};
+use crate::lexical::{trimmed_bytes, trimmed_text};
 use crate::number::{read_boolean, read_integer};
+use crate::or_memory::OrMemory;
 use crate::read_error::ReadError;
 use crate::text::Text;
 use crate::time::read_clock;
@@ -15,12 +18,19 @@ use crate::value::Value;
 use std::alloc::Global;
 
 impl Value {
-    /// The value that the text stands for under the type. White space at its ends is dropped, but of a string.
-    pub fn read(alloc: Global, data_type: DataType, text: &str) -> Result<Value, ReadError>
+    /// The value that the text stands for under the type. White space around it does not count, except in a string; in base64 no white
+    /// space counts.
+    pub fn read(
+        alloc: Global,
+        data_type: DataType,
+        text: &str,
+    ) -> Result<Value, OrMemory<ReadError>>
         ensures value { Gives result (read data_type text.now) }
-        ensures exact { grows data_type ≡ false → result ≡ read data_type text.now }
+        ensures grammar { IsReading data_type text.now (read data_type text.now) }
+        ensures data_type { IfOk result (λ v. type_of v ≡ data_type) }
+        ensures exact { grows data_type ≡ false → result ≡ answered (read data_type text.now) }
     {
-        let bytes = trimmed(text.as_bytes());
+        let bytes = trimmed_bytes(text.as_bytes());
         match data_type {
             DataType::String => Ok(Value::String(Text::new(alloc, text)?)),
             DataType::Boolean => Ok(Value::Boolean(read_boolean(bytes)?)),

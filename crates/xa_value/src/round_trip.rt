@@ -1,3 +1,4 @@
+//! The law that a value that was read prints as a text that reads as the same value.
 ghost use Rattle.xa_value.specs.RoundTrip.{ReadsBack};
 
 use crate::data_type::DataType;

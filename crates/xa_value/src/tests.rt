@@ -1,15 +1,18 @@
 //! Texts of each type with what they print, texts that are refused, and pairs of values with their order.
 use crate::{
-    Boxed, DataType, Date, DateTime, DayTimeDuration, Offset, ReadError, Shared, Text, Time, Value,
-    YearMonthDuration,
+    Boxed, Bytes, Category, DAY_NANOS, DataType, Date, DateTime, DayTimeDuration, Moment, Offset,
+    OrMemory, Plain, ReadError, Shared, Text, TextRef, Time, Value, YearMonthDuration,
+    category_uri, is_number, number_up_to,
 };
 use jiff_core::civil;
 use std::alloc::Global;
 use std::cmp::Ordering;
+use std::collections::{BTreeMap, HashMap};
 use std::process::Abort;
+use std::test::Fail;
 
 /// What the text prints once it is read.
-fn printed(alloc: Global, data_type: DataType, text: &str) -> Result<Text, ReadError> {
+fn printed(alloc: Global, data_type: DataType, text: &str) -> Result<Text, OrMemory<ReadError>> {
     let value = Value::read(alloc, data_type, text)?;
     Ok(value.to_text(alloc)?)
 }
@@ -30,12 +33,12 @@ fn check_refused(
     rt: &impl Abort,
     alloc: Global,
     data_type: DataType,
-    wanted: &ReadError,
+    wanted: ReadError,
     texts: &str,
 ) {
     for text in texts.split('|') {
         let error = Value::read(alloc, data_type, text).expect_err(rt, "the text is refused");
-        assert!(rt; error == *wanted, "{text}: {error}");
+        assert!(rt; error == OrMemory::Error(wanted), "{text}: {error}");
     }
 }
 
@@ -66,7 +69,7 @@ fn plain_values(rt: HostRuntime) {
         &rt,
         alloc,
         DataType::Boolean,
-        &ReadError::NotThisType,
+        ReadError::NotThisType,
         booleans,
     );
     let integers = "-0>0|+007>7| 9223372036854775807>9223372036854775807\
@@ -77,7 +80,7 @@ fn plain_values(rt: HostRuntime) {
         &rt,
         alloc,
         DataType::Integer,
-        &ReadError::NotThisType,
+        ReadError::NotThisType,
         integers,
     );
     let integers = "9223372036854775808|-9223372036854775809|18446744073709551616\
@@ -86,7 +89,7 @@ fn plain_values(rt: HostRuntime) {
         &rt,
         alloc,
         DataType::Integer,
-        &ReadError::OutOfRange,
+        ReadError::OutOfRange,
         integers,
     );
 }
@@ -101,7 +104,7 @@ fn binary_values(rt: HostRuntime) {
         &rt,
         alloc,
         DataType::HexBinary,
-        &ReadError::NotThisType,
+        ReadError::NotThisType,
         "0|0g|0a 0b|0x",
     );
     let bytes = "Zg|Zh==|Zg=|-_-_|Zg==Zg==|Z\u{b}g==";
@@ -109,7 +112,7 @@ fn binary_values(rt: HostRuntime) {
         &rt,
         alloc,
         DataType::Base64Binary,
-        &ReadError::NotThisType,
+        ReadError::NotThisType,
         bytes,
     );
 }
@@ -125,11 +128,11 @@ fn dates(rt: HostRuntime) {
     let dates = "|2023-2-01|2023-02-1|-2023-02-01|+2023-02-01|12023-02-01|2023-02-01 Z|2023-02-01z\
         |2023-13-01+1:00|2023-02-01+0100|2023-02-01+01:00Z|2023/02/01|2023-02-01T00:00:00\
         |\u{662}023-02-01";
-    check_refused(&rt, alloc, DataType::Date, &ReadError::NotThisType, dates);
+    check_refused(&rt, alloc, DataType::Date, ReadError::NotThisType, dates);
     let dates = "0000-01-01|2023-00-01|2023-13-01|2023-01-00|2023-01-32|2023-02-29|1900-02-29\
         |2024-02-30|2023-04-31|2023-06-31|2023-09-31|2023-11-31|2023-12-32|2023-01-01+14:01\
         |2023-01-01-14:01|2023-01-01+15:00|2023-01-01+01:60|2023-01-01+99:99";
-    check_refused(&rt, alloc, DataType::Date, &ReadError::OutOfRange, dates);
+    check_refused(&rt, alloc, DataType::Date, ReadError::OutOfRange, dates);
 }
 
 #[test]
@@ -141,9 +144,9 @@ fn times(rt: HostRuntime) {
     check_printed(&rt, alloc, DataType::Time, times);
     let times = "|1:00:00|12:00|12:00:00.|12:00:00.Z|12:00:00,5|12:00:00 Z|24:00:00x\
         |12:00:00.0000000000x|12:0\u{660}:00";
-    check_refused(&rt, alloc, DataType::Time, &ReadError::NotThisType, times);
+    check_refused(&rt, alloc, DataType::Time, ReadError::NotThisType, times);
     let times = "24:00:00|12:60:00|23:59:60|12:00:00.0000000000|12:00:00+14:01|12:00:00.5-24:00";
-    check_refused(&rt, alloc, DataType::Time, &ReadError::OutOfRange, times);
+    check_refused(&rt, alloc, DataType::Time, ReadError::OutOfRange, times);
     let moments = "2024-02-29T23:59:59.5+14:00>2024-02-29T23:59:59.5+14:00\
         |\t0001-01-01T00:00:00\n>0001-01-01T00:00:00\
         |9999-12-31T23:59:59.999999999-00:00>9999-12-31T23:59:59.999999999Z";
@@ -153,7 +156,7 @@ fn times(rt: HostRuntime) {
         &rt,
         alloc,
         DataType::DateTime,
-        &ReadError::NotThisType,
+        ReadError::NotThisType,
         moments,
     );
     let moments = "2023-02-29T12:00:00|2024-02-29T24:00:00|0000-01-01T00:00:00Z";
@@ -161,7 +164,7 @@ fn times(rt: HostRuntime) {
         &rt,
         alloc,
         DataType::DateTime,
-        &ReadError::OutOfRange,
+        ReadError::OutOfRange,
         moments,
     );
 }
@@ -181,7 +184,7 @@ fn day_time_durations(rt: HostRuntime) {
         &rt,
         alloc,
         DataType::DayTimeDuration,
-        &ReadError::NotThisType,
+        ReadError::NotThisType,
         durations,
     );
     let durations = "PT315576000000.000000001S|-P3652500DT1S|P3652501D|PT0.0000000000S\
@@ -191,7 +194,7 @@ fn day_time_durations(rt: HostRuntime) {
         &rt,
         alloc,
         DataType::DayTimeDuration,
-        &ReadError::OutOfRange,
+        ReadError::OutOfRange,
         durations,
     );
 }
@@ -207,7 +210,7 @@ fn year_month_durations(rt: HostRuntime) {
         &rt,
         alloc,
         DataType::YearMonthDuration,
-        &ReadError::NotThisType,
+        ReadError::NotThisType,
         durations,
     );
     let durations = "P120001M|-P10000Y1M|P18446744073709551616Y|P99999999999999999999999Y";
@@ -215,7 +218,7 @@ fn year_month_durations(rt: HostRuntime) {
         &rt,
         alloc,
         DataType::YearMonthDuration,
-        &ReadError::OutOfRange,
+        ReadError::OutOfRange,
         durations,
     );
 }
@@ -297,5 +300,69 @@ fn sameness_and_order(rt: HostRuntime) {
     assert!(rt; !one.same(&text) && one.order(&text).is_none());
     assert!(rt; one.clone().expect(&rt, "memory") == one && one != text);
     Value::reads_back(DataType::Integer, "1");
-    Value::agrees_with_grammar(DataType::Integer, "1");
+}
+
+#[test]
+fn names_and_numbers(rt: HostRuntime) {
+    let resource = "urn:oasis:names:tc:xacml:3.0:attribute-category:resource";
+    assert!(rt; category_uri("Resource") == resource && category_uri(resource) == resource);
+    assert!(rt; category_uri("resource") == "resource");
+    assert_eq!(rt;
+        Category::from_shorthand("Codebase"),
+        Some(Category::Codebase)
+    );
+    assert!(rt; Category::Codebase.is_subject() && !Category::Action.is_subject());
+    assert_eq!(rt; DataType::from_number(8), Some(DataType::AnyUri));
+    assert_eq!(rt; DataType::from_number(DataType::ALL.len() as u8), None);
+    assert!(rt; DataType::Base64Binary.number() == 10);
+    assert_eq!(rt; number_up_to(255, "0255".as_bytes()), Some(255));
+    assert!(rt; number_up_to(255, "256".as_bytes()).is_none() && !is_number("-1".as_bytes()));
+}
+
+#[test]
+fn a_moment_shows_a_date_and_a_time(rt: HostRuntime) {
+    let alloc = rt.alloc();
+    let moment = Moment::new(951_868_799).expect(&rt, "a moment");
+    let date = Value::Date(moment.date())
+        .to_text(alloc)
+        .expect(&rt, "memory");
+    assert!(rt; date.as_str() == "2000-02-29Z", "{date:?}");
+    let time = Value::Time(moment.time())
+        .to_text(alloc)
+        .expect(&rt, "memory");
+    assert!(rt; time.as_str() == "23:59:59Z", "{time:?}");
+    let both = moment.date_time();
+    assert!(rt; both.local_nanos() == i128::from(moment.seconds()) * 1_000_000_000);
+    assert!(rt; both.nanos() + 1_000_000_000 == DAY_NANOS);
+}
+
+#[test]
+fn plain_members(rt: HostRuntime) -> Result<(), Fail> {
+    let alloc = rt.alloc();
+    let text = Plain::Text(TextRef::new("-7"));
+    let seven = Value::from_plain(alloc, DataType::Integer, &text)?;
+    assert!(rt;
+        seven.to_plain(alloc)? == Plain::Integer(-7) && text.data_type() == DataType::String
+    );
+    let large = Plain::Integer(9_223_372_036_854_775_808);
+    let answer = Value::from_plain(alloc, large.data_type(), &large);
+    assert!(rt; answer == Err(OrMemory::Error(ReadError::OutOfRange)));
+    let answer = Value::from_plain(alloc, DataType::String, &Plain::Boolean(true));
+    assert!(rt; answer == Err(OrMemory::Error(ReadError::NotThisType)));
+    Ok(())
+}
+
+#[test]
+fn texts_and_bytes_as_keys(rt: HostRuntime) -> Result<(), Fail> {
+    let alloc = rt.alloc();
+    let mut sizes = BTreeMap::new(alloc);
+    sizes.insert(Text::new(alloc, "b")?, 1)?;
+    sizes.insert(Text::new(alloc, "a")?, 2)?;
+    assert_eq!(rt; sizes.get(&Text::new(alloc, "a")?), Some(&2));
+    let mut names = HashMap::new(alloc);
+    names.insert(Text::new(alloc, "a")?, 3)?;
+    assert_eq!(rt; names.get(&Text::new(alloc, "a")?), Some(&3));
+    let none = Bytes::from_vec(Vec::new(alloc));
+    assert!(rt; none.cmp(&none) == Ordering::Equal);
+    Ok(())
 }

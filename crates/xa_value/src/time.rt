@@ -1,6 +1,8 @@
+//! Times of day, read and printed.
 ghost use Rattle.std.specs.Prelude.{◌≡◌, ◌+◌, ◌≤◌, ◌<◌, ◌%◌, ◌++◌, true, OnOk, string_bytes, length, drop, SomeIff};
-ghost use Rattle.xa_value.specs.Lexical.{digit_count};
-ghost use Rattle.xa_value.specs.Time.{day_nanos, fraction_length, fraction_digits, nanoseconds, is_clock, clock_nanos, timed, read_clock, significant, fraction_text, clock_text, time_text};
+ghost use Rattle.xa_value.specs.parsing.Lexical.{digit_count};
+ghost use Rattle.xa_value.specs.Time.{day_nanos, nanoseconds, significant_digits, fraction_text, clock_text, time_text};
+ghost use Rattle.xa_value.specs.parsing.Time.{fraction_length, fraction_digits, is_clock, clock_nanos, time_of, read_clock};
 
 use crate::lexical::{begins_with, digit_count, has_shape, number, push_padded, two_digits};
 use crate::read_error::ReadError;
@@ -18,7 +20,7 @@ pub(crate) const MINUTE: u64 = 60_000_000_000;
 pub(crate) const HOUR: u64 = 3_600_000_000_000;
 
 /// The nanoseconds of a day.
-pub(crate) const DAY: u64 = 86_400_000_000_000;
+pub const DAY: u64 = 86_400_000_000_000;
 
 /// A time of day, in nanoseconds since midnight, with or without a zone.
 #[derive(Clone, Copy, Debug, PartialEq, Eq)]
@@ -69,7 +71,7 @@ impl Time {
 }
 
 /// The length of the point and digits that the text begins with.
-#[tactic(auto, unfolding(crate::specs::Time::fraction_length))]
+#[tactic(auto, unfolding(crate::specs::parsing::Time::fraction_length))]
 pub(crate) fn fraction_length(text: &[u8]) -> usize
     ensures value { result ≡ fraction_length text.now }
     ensures within { result ≤ length text.now }
@@ -92,7 +94,7 @@ pub(crate) fn nanoseconds(digits: &[u8]) -> u64
 }
 
 /// Whether hours, minutes, seconds and the fraction are those of a clock.
-#[tactic(auto, unfolding(crate::specs::Time::is_clock))]
+#[tactic(auto, unfolding(crate::specs::parsing::Time::is_clock))]
 fn is_clock(text: &[u8]) -> bool
     requires { 8 ≤ length text.now }
     ensures { result ≡ is_clock text.now }
@@ -104,10 +106,10 @@ fn is_clock(text: &[u8]) -> bool
 }
 
 /// The time in its zone, where a clock shows it.
-#[tactic(auto, unfolding(crate::specs::Time::timed))]
-fn timed(text: &[u8], zone: Option<Offset>) -> Result<Time, ReadError>
+#[tactic(auto, unfolding(crate::specs::parsing::Time::time_of))]
+fn time_of(text: &[u8], zone: Option<Offset>) -> Result<Time, ReadError>
     requires { 8 ≤ length text.now }
-    ensures { result ≡ timed text.now zone }
+    ensures { result ≡ time_of text.now zone }
 {
     if !is_clock(text) {
         return Err(ReadError::OutOfRange);
@@ -131,7 +133,7 @@ pub(crate) fn fraction_nanos(text: &[u8]) -> u64
 }
 
 /// The nanoseconds since midnight of a text that a clock shows.
-#[tactic(auto, using(crate::proofs::TimeLemmas::clock_bounds), unfolding(crate::specs::Time::clock_nanos))]
+#[tactic(auto, using(crate::proofs::TimeLemmas::clock_bounds), unfolding(crate::specs::parsing::Time::clock_nanos))]
 fn clock_nanos(text: &[u8]) -> u64
     requires long { 8 ≤ length text.now }
     requires clock { is_clock text.now ≡ true }
@@ -145,7 +147,7 @@ fn clock_nanos(text: &[u8]) -> u64
 }
 
 /// The time of the text, `hh:mm:ss` with or without a fraction and a zone.
-#[tactic(auto, unfolding(crate::specs::Time::read_clock))]
+#[tactic(auto, unfolding(crate::specs::parsing::Time::read_clock))]
 pub(crate) fn read_clock(text: &[u8]) -> Result<Time, ReadError>
     ensures { result ≡ read_clock text.now }
 {
@@ -158,13 +160,13 @@ pub(crate) fn read_clock(text: &[u8]) -> Result<Time, ReadError>
         return Err(ReadError::NotThisType);
     }
     let zone = read_zone(&rest[length..])?;
-    timed(text, zone)
+    time_of(text, zone)
 }
 
 /// Writes the digits of a fraction without zeros at its end.
-#[tactic(auto, unfolding(crate::specs::Time::significant))]
+#[tactic(auto, unfolding(crate::specs::Time::significant_digits))]
 fn push_significant(text: &mut String, count: u8, nanos: u32) -> Result<(), AllocError>
-    ensures { OnOk result (string_bytes text.new ≡ string_bytes text.old ++ significant count nanos) }
+    ensures { OnOk result (string_bytes text.new ≡ string_bytes text.old ++ significant_digits count nanos) }
 {
     if count == 0 {
         return Ok(());
@@ -201,7 +203,6 @@ pub(crate) fn push_clock(text: &mut String, nanos: u64) -> Result<(), AllocError
     push_fraction(text, (nanos % SECOND) as u32)
 }
 
-/// Writes the time and its zone.
 pub(crate) fn push_time(text: &mut String, time: Time) -> Result<(), AllocError>
     ensures { OnOk result (string_bytes text.new ≡ string_bytes text.old ++ time_text time) }
 {

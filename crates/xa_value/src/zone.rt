@@ -1,5 +1,7 @@
+//! Zones and their offsets from UTC, read and printed.
 ghost use Rattle.std.specs.Prelude.{◌≡◌, ◌++◌, neg_ℤ, if◌then◌else◌, OnOk, string_bytes, length, IfOk, pos, SomeIff};
-ghost use Rattle.xa_value.specs.Zone.{IsOffset, is_offset_text, read_offset, read_zone, offset_text, zone_text, offset_of};
+ghost use Rattle.xa_value.specs.Zone.{IsOffset, offset_text, zone_text, offset_of};
+ghost use Rattle.xa_value.specs.parsing.Zone.{is_offset_text, read_offset, read_zone};
 
 use crate::lexical::{begins_with, has_shape, push_padded, two_digits};
 use crate::read_error::ReadError;
@@ -69,7 +71,7 @@ fn signed_offset(negative: bool, minutes: i16) -> Offset
 }
 
 /// The offset of a text of that shape.
-#[tactic(auto, unfolding(crate::specs::Zone::read_offset))]
+#[tactic(auto, unfolding(crate::specs::parsing::Zone::read_offset))]
 fn read_offset(text: &[u8]) -> Result<Option<Offset>, ReadError>
     requires { length text.now ≡ 6 }
     ensures { result ≡ read_offset text.now }
@@ -83,7 +85,7 @@ fn read_offset(text: &[u8]) -> Result<Option<Offset>, ReadError>
 }
 
 /// The zone of the text: absent, `Z`, or an offset.
-#[tactic(auto, unfolding(crate::specs::Zone::read_zone))]
+#[tactic(auto, unfolding(crate::specs::parsing::Zone::read_zone))]
 pub(crate) fn read_zone(text: &[u8]) -> Result<Option<Offset>, ReadError>
     ensures { result ≡ read_zone text.now }
 {
@@ -99,7 +101,6 @@ pub(crate) fn read_zone(text: &[u8]) -> Result<Option<Offset>, ReadError>
     Err(ReadError::NotThisType)
 }
 
-/// Writes hours and minutes.
 fn push_offset(text: &mut String, minutes: u16) -> Result<(), AllocError>
     ensures { OnOk result (string_bytes text.new ≡ string_bytes text.old ++ offset_text minutes) }
 {

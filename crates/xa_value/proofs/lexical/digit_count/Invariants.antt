@@ -1,5 +1,5 @@
 use Rattle.std.proofs.Common.{◌≡◌, ◌+◌, drop}
-use Rattle.xa_value.specs.Lexical.{digit_count}
+use Rattle.xa_value.specs.parsing.Lexical.{digit_count}
 use Rattle.xa_value.proofs.lexical.digit_count.Given as goal
 
 abbrev pub invariant-loop-i : goal.invariant-loop-i

@@ -1,6 +1,6 @@
 use Rattle.std.proofs.Common.{refl}
 use Rattle.std.proofs.lemmas.List.{take_rest}
-use Rattle.xa_value.specs.Time.{clock_nanos}
+use Rattle.xa_value.specs.parsing.Time.{clock_nanos}
 use Rattle.xa_value.proofs.TimeLemmas.{clock_bounds}
 use Rattle.xa_value.proofs.time.clock_nanos.Goals as goal
 
