@@ -2,5 +2,5 @@ pub mod LogicLemmas
 pub mod DateLemmas
 pub mod NameLemmas
 pub mod PlaceLemmas
-pub mod TableLemmas
 pub mod TypingLemmas
+pub mod TableLemmas

@@ -27,33 +27,33 @@ use Rattle.xa_func.specs.Table.{printed_type}
 use Rattle.xa_func.specs.Text.{has_part, substring}
 
 -- the functions that give a text
-abbrev pub text_given : TextFunction → List Value → Result (List ℕ) FuncFault
-text_given NormalizeSpace (value.String text ∷ []) = Ok (trimmed text)
-text_given Concatenate vs = Ok (concat (texts vs))
-text_given Substring (value.String text ∷ value.Integer begin ∷ value.Integer end ∷ []) = substring text begin end
-text_given _ _ = misfit
+abbrev pub text_result : TextFunction → List Value → Result (List ℕ) FuncFault
+text_result NormalizeSpace (value.String text ∷ []) = Ok (trimmed text)
+text_result Concatenate vs = Ok (concat (texts vs))
+text_result Substring (value.String text ∷ value.Integer begin ∷ value.Integer end ∷ []) = substring text begin end
+text_result _ _ = misfit
 
 -- whether the first text stands in the second
-abbrev pub part_found : TextPart → List (List ℕ) → Result Value FuncFault
-part_found place (part ∷ text ∷ []) = Ok (value.Boolean (has_part place text part))
-part_found place _ = misfit
+abbrev pub part_result : TextPart → List (List ℕ) → Result Value FuncFault
+part_result place (part ∷ text ∷ []) = Ok (value.Boolean (has_part place text part))
+part_result place _ = misfit
 
 -- the value of a string
-abbrev pub value_read : PrintedType → List Value → Result Value FuncFault
-value_read t (value.String text ∷ []) = value_of (printed_type t) text
-value_read t _ = misfit
+abbrev pub read_result : PrintedType → List Value → Result Value FuncFault
+read_result t (value.String text ∷ []) = value_of (printed_type t) text
+read_result t _ = misfit
 
 -- days and moments, moved by durations
-abbrev pub moved : Moved → Direction → List Value → Result Value FuncFault
-moved DateTimeByDayTime d (value.DateTime moment ∷ value.DayTimeDuration nanos ∷ []) = as_value value.DateTime (date_time_after_nanos moment (directed d nanos))
-moved DateTimeByYearMonth d (value.DateTime moment ∷ value.YearMonthDuration months ∷ []) = as_value value.DateTime (date_time_after_months moment (directed d months))
-moved DateByYearMonth d (value.Date date ∷ value.YearMonthDuration months ∷ []) = as_value value.Date (date_after_months date (directed d months))
-moved _ _ _ = misfit
+abbrev pub move_result : Moved → Direction → List Value → Result Value FuncFault
+move_result DateTimeByDayTime d (value.DateTime moment ∷ value.DayTimeDuration nanos ∷ []) = as_value value.DateTime (date_time_after_nanos moment (directed d nanos))
+move_result DateTimeByYearMonth d (value.DateTime moment ∷ value.YearMonthDuration months ∷ []) = as_value value.DateTime (date_time_after_months moment (directed d months))
+move_result DateByYearMonth d (value.Date date ∷ value.YearMonthDuration months ∷ []) = as_value value.Date (date_after_months date (directed d months))
+move_result _ _ _ = misfit
 
 -- a time in a range of times
-abbrev pub in_range : List Value → Result Value FuncFault
-in_range (value.Time t ∷ value.Time start ∷ value.Time end ∷ []) = Ok (value.Boolean (time_in_range t start end))
-in_range _ = misfit
+abbrev pub range_result : List Value → Result Value FuncFault
+range_result (value.Time t ∷ value.Time start ∷ value.Time end ∷ []) = Ok (value.Boolean (time_in_range t start end))
+range_result _ = misfit
 
 -- what the function gives
 abbrev pub applied : FuncId → List Value → Result Value FuncFault
@@ -62,12 +62,12 @@ applied (function.Compare c t) vs = of_two (λ a b. Ok (value.Boolean (compared 
 applied (function.Arithmetic f) vs = as_value value.Integer (arithmetic f (integers vs))
 applied function.IntegerAbs vs = as_value value.Integer (absolute (integers vs))
 applied (function.Logic f) vs = as_value value.Boolean (logical f vs)
-applied (function.Text f) vs = as_value value.String (text_given f vs)
-applied (function.Part place t) vs = part_found place (texts vs)
+applied (function.Text f) vs = as_value value.String (text_result f vs)
+applied (function.Part place t) vs = part_result place (texts vs)
 applied (function.StringFrom t) vs = of_one (λ v. Ok (value.String (printed v))) vs
-applied (function.FromString t) vs = value_read t vs
-applied (function.Move m d) vs = moved m d vs
-applied function.TimeInRange vs = in_range vs
+applied (function.FromString t) vs = read_result t vs
+applied (function.Move m d) vs = move_result m d vs
+applied function.TimeInRange vs = range_result vs
 applied _ _ = misfit
 
 -- the functions whose result holds text, or is read from one: they alone may want memory

@@ -11,12 +11,6 @@ use Rattle.xa_func.specs.declared.fault.FuncFault.TheVariants.{Position}
 abbrev pub misfit : {X : Type 0} → Result X FuncFault
 misfit = Err Position
 
--- the second step, where the first gave a value
-infixl 10 ◌>>=◌
-abbrev pub ◌>>=◌ : {A B : Type 0} → Result A FuncFault → (A → Result B FuncFault) → Result B FuncFault
-Ok x >>= f = f x
-Err e >>= f = Err e
-
 -- what was computed, as a value of its type
 abbrev pub as_value : {A : Type 0} → (A → Value) → Result A FuncFault → Result Value FuncFault
 as_value variant (Ok a) = Ok (variant a)

@@ -1,13 +1,12 @@
 -- Whole numbers without bound, and what of them fits 64 bits (XACML 3.0, core, appendix A.3.2).
 use Rattle.std.specs.Prelude.{Bool, ◌&&◌, if◌then◌else◌, List, [], ◌∷◌, ℤ, pos, neg_ℤ, unsigned_abs, int_le, int_div, int_rem, ◌+ℤ◌, ◌-ℤ◌, ◌*ℤ◌, Result, Ok, Err}
 use Rattle.std.specs.Ordering.{int_eq}
-use Rattle.xa_value.specs.declared.value.Value.{Value}
-use Rattle.xa_value.specs.declared.value.Value.TheVariants as value
 use Rattle.xa_func.specs.declared.func_id.Arithmetic.{Arithmetic}
 use Rattle.xa_func.specs.declared.func_id.Arithmetic.TheVariants.{Add, Multiply, Subtract, Divide, Mod}
 use Rattle.xa_func.specs.declared.fault.FuncFault.{FuncFault}
 use Rattle.xa_func.specs.declared.fault.FuncFault.TheVariants.{ZeroDivisor, Overflow}
-use Rattle.xa_func.specs.Arguments.{◌>>=◌, misfit}
+use Rattle.xa_value.specs.Gives.{◌>>=◌}
+use Rattle.xa_func.specs.Arguments.{misfit}
 
 -- the number lies in 64 bits
 abbrev pub fits : ℤ → Bool
@@ -47,8 +46,3 @@ arithmetic f (a ∷ bs) = left_to_right (operation f) a bs
 abbrev pub absolute : List ℤ → Result ℤ FuncFault
 absolute (a ∷ []) = within (pos (unsigned_abs a))
 absolute _ = misfit
-
--- one step more, with an argument
-abbrev pub stepped : Arithmetic → ℤ → Value → Result ℤ FuncFault
-stepped f a (value.Integer b) = operation f a b
-stepped f a _ = misfit

@@ -4,13 +4,14 @@ use Rattle.std.specs.Int.{int_div_euclid, int_rem_euclid}
 use Rattle.std.specs.Option.{option_or}
 use Rattle.jiff_core.specs.Calendar.{days_in_month}
 use Rattle.xa_value.specs.Calendar.{CivilDate, CivilDateTime, day_number}
-use Rattle.xa_value.specs.Time.{ClockTime}
+use Rattle.xa_value.specs.Instant.{local_nanos}
+use Rattle.xa_value.specs.Time.{ClockTime, day_nanos}
 use Rattle.xa_value.specs.Zone.{offset_of}
 use Rattle.xa_func.specs.declared.func_id.Direction.{Direction}
 use Rattle.xa_func.specs.declared.func_id.Direction.TheVariants.{Add, Subtract}
 use Rattle.xa_func.specs.declared.fault.FuncFault.{FuncFault}
 use Rattle.xa_func.specs.declared.fault.FuncFault.TheVariants.{CalendarRange}
-use Rattle.xa_func.specs.Arguments.{◌>>=◌}
+use Rattle.xa_value.specs.Gives.{◌>>=◌}
 
 -- a day of the calendar
 pub record Day : Type 0 where
@@ -22,10 +23,6 @@ pub record Day : Type 0 where
 abbrev pub directed : Direction → ℤ → ℤ
 directed Add duration = duration
 directed Subtract duration = neg_ℤ duration
-
--- the nanoseconds of a day
-abbrev pub day_length : ℤ
-day_length = pos 86_400_000_000_000
 
 -- months since January of the year 0
 abbrev pub month_number : Day → ℤ
@@ -79,16 +76,12 @@ day_at n =
     if is_day_number n then Ok (day_of_month (year_of_day n) (month_of_day (year_of_day n) n) n)
     else Err CalendarRange
 
--- nanoseconds from the midnight that began 1970, as written, without the zone
-abbrev pub nanos_as_written : CivilDateTime → ℤ
-nanos_as_written d = day_number d.year d.month d.day *ℤ day_length +ℤ pos d.nanos
-
 -- the day, and a day with a time, in the zone as it was written
-abbrev pub dated : Option ℤ → Day → CivilDate
-dated zone d = record { year = d.year; month = d.month; day = d.day; zone = zone }
+abbrev pub date_on : Option ℤ → Day → CivilDate
+date_on zone d = record { year = d.year; month = d.month; day = d.day; zone = zone }
 
-abbrev pub date_timed : ℕ → Option ℤ → Day → CivilDateTime
-date_timed nanos zone d = record { year = d.year; month = d.month; day = d.day; nanos = nanos; zone = zone }
+abbrev pub date_time_on : ℕ → Option ℤ → Day → CivilDateTime
+date_time_on nanos zone d = record { year = d.year; month = d.month; day = d.day; nanos = nanos; zone = zone }
 
 abbrev pub day_of_date : CivilDate → Day
 day_of_date d = record { year = d.year; month = d.month; day = d.day }
@@ -98,20 +91,20 @@ day_of_date_time d = record { year = d.year; month = d.month; day = d.day }
 
 -- a day some months later
 abbrev pub date_after_months : CivilDate → ℤ → Result CivilDate FuncFault
-date_after_months d months = months_later (day_of_date d) months >>= λ day. Ok (dated d.zone day)
+date_after_months d months = months_later (day_of_date d) months >>= λ day. Ok (date_on d.zone day)
 
 -- a day and time some months later, at the same time of day
 abbrev pub date_time_after_months : CivilDateTime → ℤ → Result CivilDateTime FuncFault
-date_time_after_months d months = months_later (day_of_date_time d) months >>= λ day. Ok (date_timed d.nanos d.zone day)
+date_time_after_months d months = months_later (day_of_date_time d) months >>= λ day. Ok (date_time_on d.nanos d.zone day)
 
 -- the day and time of so many nanoseconds
 abbrev pub date_time_at : ℤ → Option ℤ → Result CivilDateTime FuncFault
 date_time_at nanos zone =
-    day_at (int_div_euclid nanos day_length) >>= λ day. Ok (date_timed (unsigned_abs (int_rem_euclid nanos day_length)) zone day)
+    day_at (int_div_euclid nanos (pos day_nanos)) >>= λ day. Ok (date_time_on (unsigned_abs (int_rem_euclid nanos (pos day_nanos))) zone day)
 
 -- a day and time some nanoseconds later, as written
 abbrev pub date_time_after_nanos : CivilDateTime → ℤ → Result CivilDateTime FuncFault
-date_time_after_nanos d nanos = date_time_at (nanos_as_written d +ℤ nanos) d.zone
+date_time_after_nanos d nanos = date_time_at (local_nanos d +ℤ nanos) d.zone
 
 -- a time's nanoseconds in UTC, where an absent zone is the other one, and without that UTC
 abbrev pub nanos_in_utc : ClockTime → Option ℤ → ℤ
@@ -119,7 +112,7 @@ nanos_in_utc t zone = pos t.nanos -ℤ offset_of (option_or t.zone zone) *ℤ po
 
 -- how long it takes a clock that goes round to come from one time to another
 abbrev pub distance : ℤ → ℤ → ℕ
-distance from to = unsigned_abs (int_rem_euclid (to -ℤ from) day_length)
+distance from to = unsigned_abs (int_rem_euclid (to -ℤ from) (pos day_nanos))
 
 -- a clock that goes round comes from the start to the time no later than to the end
 unfoldable pub time_in_range : ClockTime → ClockTime → ClockTime → Bool

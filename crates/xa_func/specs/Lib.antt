@@ -8,5 +8,6 @@ pub mod Dates
 pub mod Fault
 pub mod Logic
 pub mod Signature
+pub mod Status
 pub mod Table
 pub mod Text

@@ -22,7 +22,7 @@ use Rattle.xa_func.specs.declared.signature.Parameters.{Parameters}
 use Rattle.xa_func.specs.declared.signature.Parameters.TheVariants.{One, Two, Three, AtLeast, OneAndMore}
 use Rattle.xa_func.specs.declared.signature.Signature.{Signature}
 use Rattle.xa_func.specs.declared.signature.Signature.TheVariants.{FirstOrder, HigherOrder}
-use Rattle.xa_func.specs.Table.{ordered_type, text_type, printed_type}
+use Rattle.xa_func.specs.Table.{is_scalar, ordered_type, text_type, printed_type}
 
 -- a function that gives a value of the type
 abbrev pub of_values : Parameters → DataType → Signature
@@ -117,6 +117,20 @@ kind_at (OneAndMore k l) place = Some (if place == 0 then k else l)
 abbrev pub kind_of : Value → Kind
 kind_of v = kind.Value (type_of v)
 
+-- the data type of a value of the kind, or of a bag's values
+abbrev pub type_of_kind : Kind → DataType
+type_of_kind (kind.Value t) = t
+type_of_kind (kind.Bag t) = t
+
+-- the kind of one of the values
+abbrev pub of_each : Kind → Kind
+of_each k = kind.Value (type_of_kind k)
+
+-- the type of what a function of the signature gives. A function that takes a function counts as one that gives a boolean
+abbrev pub result_type_of : Signature → DataType
+result_type_of (FirstOrder parameters k) = type_of_kind k
+result_type_of (HigherOrder f) = type.Boolean
+
 -- every argument is of the kind
 abbrev pub Every : Kind → List Kind → Type 0
 Every k [] = Unit {0}
@@ -145,6 +159,10 @@ pub record IsByPlaces (parameters : Parameters) : Type 0 where
 abbrev pub AcceptsKinds : Signature → List Kind → Type 0
 AcceptsKinds (FirstOrder parameters k) ks = Fits parameters ks
 AcceptsKinds (HigherOrder f) ks = ⊥
+
+-- it is a function of values, and its signature takes arguments of these kinds
+abbrev pub TakesKinds : FuncId → List Kind → Type 0
+TakesKinds f ks = IsTrue (is_scalar f) × AcceptsKinds (signature_of f) ks
 
 -- the values are arguments that it takes
 abbrev pub Accepts : Signature → List Value → Type 0

@@ -1,8 +1,9 @@
--- The functions of XACML 3.0 and their names (core, appendix A.3).
-use Rattle.std.specs.Prelude.{◌≡◌, ℕ, Bool, true, false, ◌&&◌, ◌||◌, List, [], ◌∷◌, ◌++◌, codes, bytes_eq, map, find, flat_map, Option, Some}
+-- The functions of XACML 3.0 and their names (core, appendix A.3). A name has three parts: the version of the standard, the subject that
+-- the function is of, and the verb that tells what it does. Each family of functions is one row of the table.
+use Rattle.std.specs.Prelude.{ℕ, Bool, true, false, ◌&&◌, ◌||◌, if◌then◌else◌, List, [], ◌++◌, codes, bytes_eq}
 use Rattle.xa_value.specs.declared.data_type.DataType.{DataType}
 use Rattle.xa_value.specs.declared.data_type.DataType.TheVariants as type
-use Rattle.xa_value.specs.Types.{name_of, all_types}
+use Rattle.xa_value.specs.Types.{name_of}
 use Rattle.xa_func.specs.declared.func_id.FuncId.{FuncId}
 use Rattle.xa_func.specs.declared.func_id.FuncId.TheVariants as function
 use Rattle.xa_func.specs.declared.func_id.OrderedType.{OrderedType}
@@ -70,216 +71,115 @@ second_version = codes "urn:oasis:names:tc:xacml:2.0:function:"
 abbrev pub third_version : List ℕ
 third_version = codes "urn:oasis:names:tc:xacml:3.0:function:"
 
+-- the durations came with the third version
 abbrev pub is_duration : DataType → Bool
 is_duration type.DayTimeDuration = true
 is_duration type.YearMonthDuration = true
 is_duration _ = false
 
--- the version that brought each function
-abbrev pub version_of_equal : DataType → List ℕ
-version_of_equal type.DayTimeDuration = third_version
-version_of_equal type.YearMonthDuration = third_version
-version_of_equal _ = first_version
+-- a name: the version, what the function is of, and what it does
+pub record Name : Type 0 where
+  pub version : List ℕ
+  pub subject : List ℕ
+  pub verb : List ℕ
 
-abbrev pub version_of_text : TextFunction → List ℕ
-version_of_text text_function.NormalizeSpace = first_version
-version_of_text text_function.Concatenate = second_version
-version_of_text text_function.Substring = third_version
+abbrev pub row : List ℕ → List ℕ → List ℕ → Name
+row version subject verb = record { version = version; subject = subject; verb = verb }
 
-abbrev pub version_of_higher : HigherOrder → List ℕ
-version_of_higher higher.AllOfAny = first_version
-version_of_higher higher.AllOfAll = first_version
-version_of_higher _ = third_version
+-- the verbs of a family's members
+abbrev pub comparison_verb : Comparison → List ℕ
+comparison_verb comparison.GreaterThan = codes "-greater-than"
+comparison_verb comparison.GreaterThanOrEqual = codes "-greater-than-or-equal"
+comparison_verb comparison.LessThan = codes "-less-than"
+comparison_verb comparison.LessThanOrEqual = codes "-less-than-or-equal"
 
-abbrev pub version_of : FuncId → List ℕ
-version_of (function.Equal t) = version_of_equal t
-version_of (function.Text f) = version_of_text f
-version_of (function.Part p t) = third_version
-version_of (function.StringFrom t) = third_version
-version_of (function.FromString t) = third_version
-version_of (function.Move m d) = third_version
-version_of function.TimeInRange = second_version
-version_of (function.HigherOrder f) = version_of_higher f
-version_of _ = first_version
+abbrev pub arithmetic_verb : Arithmetic → List ℕ
+arithmetic_verb arithmetic.Add = codes "-add"
+arithmetic_verb arithmetic.Multiply = codes "-multiply"
+arithmetic_verb arithmetic.Subtract = codes "-subtract"
+arithmetic_verb arithmetic.Divide = codes "-divide"
+arithmetic_verb arithmetic.Mod = codes "-mod"
 
--- what each function is of: the first part of its name
-abbrev pub subject_of_moved : Moved → List ℕ
-subject_of_moved moved.DateTimeByDayTime = codes "dateTime"
-subject_of_moved moved.DateTimeByYearMonth = codes "dateTime"
-subject_of_moved moved.DateByYearMonth = codes "date"
+abbrev pub logic_verb : Logic → List ℕ
+logic_verb logic.Or = codes "or"
+logic_verb logic.And = codes "and"
+logic_verb logic.NOf = codes "n-of"
+logic_verb logic.Not = codes "not"
 
-abbrev pub subject_of : FuncId → List ℕ
-subject_of (function.Equal t) = name_of t
-subject_of (function.Compare c t) = name_of (ordered_type t)
-subject_of (function.Arithmetic f) = codes "integer"
-subject_of function.IntegerAbs = codes "integer"
-subject_of (function.Text f) = codes "string"
-subject_of (function.Part p t) = name_of (text_type t)
-subject_of (function.StringFrom t) = codes "string"
-subject_of (function.FromString t) = name_of (printed_type t)
-subject_of (function.Move m d) = subject_of_moved m
-subject_of (function.Bag f t) = name_of t
-subject_of _ = []
+abbrev pub part_verb : TextPart → List ℕ
+part_verb part.StartsWith = codes "-starts-with"
+part_verb part.EndsWith = codes "-ends-with"
+part_verb part.Contains = codes "-contains"
 
--- what each function does: the rest of its name
-abbrev pub verb_of_comparison : Comparison → List ℕ
-verb_of_comparison comparison.GreaterThan = codes "-greater-than"
-verb_of_comparison comparison.GreaterThanOrEqual = codes "-greater-than-or-equal"
-verb_of_comparison comparison.LessThan = codes "-less-than"
-verb_of_comparison comparison.LessThanOrEqual = codes "-less-than-or-equal"
+abbrev pub printed_verb : PrintedType → List ℕ
+printed_verb printed.Boolean = codes "-from-boolean"
+printed_verb printed.Integer = codes "-from-integer"
+printed_verb printed.Date = codes "-from-date"
+printed_verb printed.Time = codes "-from-time"
+printed_verb printed.DateTime = codes "-from-dateTime"
+printed_verb printed.AnyUri = codes "-from-anyURI"
+printed_verb printed.DayTimeDuration = codes "-from-dayTimeDuration"
+printed_verb printed.YearMonthDuration = codes "-from-yearMonthDuration"
 
-abbrev pub verb_of_arithmetic : Arithmetic → List ℕ
-verb_of_arithmetic arithmetic.Add = codes "-add"
-verb_of_arithmetic arithmetic.Multiply = codes "-multiply"
-verb_of_arithmetic arithmetic.Subtract = codes "-subtract"
-verb_of_arithmetic arithmetic.Divide = codes "-divide"
-verb_of_arithmetic arithmetic.Mod = codes "-mod"
+abbrev pub bag_verb : BagFunction → List ℕ
+bag_verb bag.OneAndOnly = codes "-one-and-only"
+bag_verb bag.BagSize = codes "-bag-size"
+bag_verb bag.IsIn = codes "-is-in"
+bag_verb bag.Bag = codes "-bag"
+bag_verb bag.Intersection = codes "-intersection"
+bag_verb bag.Union = codes "-union"
+bag_verb bag.AtLeastOneMemberOf = codes "-at-least-one-member-of"
+bag_verb bag.Subset = codes "-subset"
+bag_verb bag.SetEquals = codes "-set-equals"
 
-abbrev pub verb_of_logic : Logic → List ℕ
-verb_of_logic logic.Or = codes "or"
-verb_of_logic logic.And = codes "and"
-verb_of_logic logic.NOf = codes "n-of"
-verb_of_logic logic.Not = codes "not"
+-- families whose members came with different versions, or are of different subjects
+abbrev pub text_row : TextFunction → Name
+text_row text_function.NormalizeSpace = row first_version (codes "string") (codes "-normalize-space")
+text_row text_function.Concatenate = row second_version (codes "string") (codes "-concatenate")
+text_row text_function.Substring = row third_version (codes "string") (codes "-substring")
 
-abbrev pub verb_of_text : TextFunction → List ℕ
-verb_of_text text_function.NormalizeSpace = codes "-normalize-space"
-verb_of_text text_function.Concatenate = codes "-concatenate"
-verb_of_text text_function.Substring = codes "-substring"
+abbrev pub move_row : Moved → Direction → Name
+move_row moved.DateTimeByDayTime direction.Add = row third_version (codes "dateTime") (codes "-add-dayTimeDuration")
+move_row moved.DateTimeByDayTime direction.Subtract = row third_version (codes "dateTime") (codes "-subtract-dayTimeDuration")
+move_row moved.DateTimeByYearMonth direction.Add = row third_version (codes "dateTime") (codes "-add-yearMonthDuration")
+move_row moved.DateTimeByYearMonth direction.Subtract = row third_version (codes "dateTime") (codes "-subtract-yearMonthDuration")
+move_row moved.DateByYearMonth direction.Add = row third_version (codes "date") (codes "-add-yearMonthDuration")
+move_row moved.DateByYearMonth direction.Subtract = row third_version (codes "date") (codes "-subtract-yearMonthDuration")
 
-abbrev pub verb_of_part : TextPart → List ℕ
-verb_of_part part.StartsWith = codes "-starts-with"
-verb_of_part part.EndsWith = codes "-ends-with"
-verb_of_part part.Contains = codes "-contains"
+abbrev pub higher_row : HigherOrder → Name
+higher_row higher.AnyOf = row third_version [] (codes "any-of")
+higher_row higher.AllOf = row third_version [] (codes "all-of")
+higher_row higher.AnyOfAny = row third_version [] (codes "any-of-any")
+higher_row higher.Map = row third_version [] (codes "map")
+higher_row higher.AllOfAny = row first_version [] (codes "all-of-any")
+higher_row higher.AllOfAll = row first_version [] (codes "all-of-all")
 
-abbrev pub verb_of_printed : PrintedType → List ℕ
-verb_of_printed printed.Boolean = codes "-from-boolean"
-verb_of_printed printed.Integer = codes "-from-integer"
-verb_of_printed printed.Date = codes "-from-date"
-verb_of_printed printed.Time = codes "-from-time"
-verb_of_printed printed.DateTime = codes "-from-dateTime"
-verb_of_printed printed.AnyUri = codes "-from-anyURI"
-verb_of_printed printed.DayTimeDuration = codes "-from-dayTimeDuration"
-verb_of_printed printed.YearMonthDuration = codes "-from-yearMonthDuration"
+-- the table
+abbrev pub row_of : FuncId → Name
+row_of (function.Equal t) = row (if is_duration t then third_version else first_version) (name_of t) (codes "-equal")
+row_of (function.Compare c t) = row first_version (name_of (ordered_type t)) (comparison_verb c)
+row_of (function.Arithmetic f) = row first_version (codes "integer") (arithmetic_verb f)
+row_of function.IntegerAbs = row first_version (codes "integer") (codes "-abs")
+row_of (function.Logic f) = row first_version [] (logic_verb f)
+row_of (function.Text f) = text_row f
+row_of (function.Part p t) = row third_version (name_of (text_type t)) (part_verb p)
+row_of (function.StringFrom t) = row third_version (codes "string") (printed_verb t)
+row_of (function.FromString t) = row third_version (name_of (printed_type t)) (codes "-from-string")
+row_of (function.Move m d) = move_row m d
+row_of function.TimeInRange = row second_version [] (codes "time-in-range")
+row_of (function.Bag f t) = row first_version (name_of t) (bag_verb f)
+row_of (function.HigherOrder f) = higher_row f
 
-abbrev pub verb_of_move : Moved → Direction → List ℕ
-verb_of_move moved.DateTimeByDayTime direction.Add = codes "-add-dayTimeDuration"
-verb_of_move moved.DateTimeByDayTime direction.Subtract = codes "-subtract-dayTimeDuration"
-verb_of_move _ direction.Add = codes "-add-yearMonthDuration"
-verb_of_move _ direction.Subtract = codes "-subtract-yearMonthDuration"
-
-abbrev pub verb_of_bag : BagFunction → List ℕ
-verb_of_bag bag.OneAndOnly = codes "-one-and-only"
-verb_of_bag bag.BagSize = codes "-bag-size"
-verb_of_bag bag.IsIn = codes "-is-in"
-verb_of_bag bag.Bag = codes "-bag"
-verb_of_bag bag.Intersection = codes "-intersection"
-verb_of_bag bag.Union = codes "-union"
-verb_of_bag bag.AtLeastOneMemberOf = codes "-at-least-one-member-of"
-verb_of_bag bag.Subset = codes "-subset"
-verb_of_bag bag.SetEquals = codes "-set-equals"
-
-abbrev pub verb_of_higher : HigherOrder → List ℕ
-verb_of_higher higher.AnyOf = codes "any-of"
-verb_of_higher higher.AllOf = codes "all-of"
-verb_of_higher higher.AnyOfAny = codes "any-of-any"
-verb_of_higher higher.Map = codes "map"
-verb_of_higher higher.AllOfAny = codes "all-of-any"
-verb_of_higher higher.AllOfAll = codes "all-of-all"
-
-abbrev pub verb_of : FuncId → List ℕ
-verb_of (function.Equal t) = codes "-equal"
-verb_of (function.Compare c t) = verb_of_comparison c
-verb_of (function.Arithmetic f) = verb_of_arithmetic f
-verb_of function.IntegerAbs = codes "-abs"
-verb_of (function.Logic f) = verb_of_logic f
-verb_of (function.Text f) = verb_of_text f
-verb_of (function.Part p t) = verb_of_part p
-verb_of (function.StringFrom t) = verb_of_printed t
-verb_of (function.FromString t) = codes "-from-string"
-verb_of (function.Move m d) = verb_of_move m d
-verb_of function.TimeInRange = codes "time-in-range"
-verb_of (function.Bag f t) = verb_of_bag f
-verb_of (function.HigherOrder f) = verb_of_higher f
-
--- a function's name, and the later name that those of bags of durations have too
-abbrev pub uri_of : FuncId → List ℕ
-uri_of f = version_of f ++ (subject_of f ++ verb_of f)
-
-abbrev pub later_uri_of : FuncId → List ℕ
-later_uri_of f = third_version ++ (subject_of f ++ verb_of f)
-
+-- the functions of bags of durations have a name in the third version beside that in the first
 abbrev pub has_later_name : FuncId → Bool
 has_later_name (function.Bag f t) = is_duration t
 has_later_name _ = false
 
+-- the whole name, in a version
+abbrev pub uri_in : List ℕ → Name → List ℕ
+uri_in version name = version ++ (name.subject ++ name.verb)
+
 -- the text is a name of the function
 unfoldable pub names : List ℕ → FuncId → Bool
-names text f = bytes_eq text (uri_of f) || (has_later_name f && bytes_eq text (later_uri_of f))
-
--- all members of each family
-abbrev pub comparison_members : List Comparison
-comparison_members = comparison.GreaterThan ∷ comparison.GreaterThanOrEqual ∷ comparison.LessThan ∷ comparison.LessThanOrEqual ∷ []
-
-abbrev pub all_ordered : List OrderedType
-all_ordered = ordered.Integer ∷ ordered.String ∷ ordered.Time ∷ ordered.Date ∷ ordered.DateTime ∷ []
-
-abbrev pub all_printed : List PrintedType
-all_printed = printed.Boolean ∷ printed.Integer ∷ printed.Date ∷ printed.Time ∷ printed.DateTime ∷ printed.AnyUri ∷ printed.DayTimeDuration ∷ printed.YearMonthDuration ∷ []
-
-abbrev pub bag_members : List BagFunction
-bag_members = bag.OneAndOnly ∷ bag.BagSize ∷ bag.IsIn ∷ bag.Bag ∷ bag.Intersection ∷ bag.Union ∷ bag.AtLeastOneMemberOf ∷ bag.Subset ∷ bag.SetEquals ∷ []
-
--- the functions that stand alone
-unfoldable pub single_functions : List FuncId
-single_functions =
-    function.Arithmetic arithmetic.Add ∷ function.Arithmetic arithmetic.Multiply ∷ function.Arithmetic arithmetic.Subtract
-    ∷ function.Arithmetic arithmetic.Divide ∷ function.Arithmetic arithmetic.Mod ∷ function.IntegerAbs
-    ∷ function.Logic logic.Or ∷ function.Logic logic.And ∷ function.Logic logic.NOf ∷ function.Logic logic.Not
-    ∷ function.Text text_function.NormalizeSpace ∷ function.Text text_function.Concatenate ∷ function.Text text_function.Substring
-    ∷ function.Part part.StartsWith text.String ∷ function.Part part.EndsWith text.String ∷ function.Part part.Contains text.String
-    ∷ function.Part part.StartsWith text.AnyUri ∷ function.Part part.EndsWith text.AnyUri ∷ function.Part part.Contains text.AnyUri
-    ∷ function.Move moved.DateTimeByDayTime direction.Add ∷ function.Move moved.DateTimeByDayTime direction.Subtract
-    ∷ function.Move moved.DateTimeByYearMonth direction.Add ∷ function.Move moved.DateTimeByYearMonth direction.Subtract
-    ∷ function.Move moved.DateByYearMonth direction.Add ∷ function.Move moved.DateByYearMonth direction.Subtract
-    ∷ function.TimeInRange
-    ∷ function.HigherOrder higher.AnyOf ∷ function.HigherOrder higher.AllOf ∷ function.HigherOrder higher.AnyOfAny
-    ∷ function.HigherOrder higher.Map ∷ function.HigherOrder higher.AllOfAny ∷ function.HigherOrder higher.AllOfAll ∷ []
-
--- the functions over types
-unfoldable pub equal_functions : List FuncId
-equal_functions = map function.Equal all_types
-
-unfoldable pub compares_of : Comparison → List FuncId
-compares_of c = map (function.Compare c) all_ordered
-
-abbrev pub compare_functions : List Comparison → List FuncId
-compare_functions comparisons = flat_map compares_of comparisons
-
-unfoldable pub printed_functions : List FuncId
-printed_functions = map function.StringFrom all_printed ++ map function.FromString all_printed
-
-unfoldable pub bags_of : BagFunction → List FuncId
-bags_of f = map (function.Bag f) all_types
-
-abbrev pub bag_functions : List BagFunction → List FuncId
-bag_functions functions = flat_map bags_of functions
-
-unfoldable pub all_compare_functions : List FuncId
-all_compare_functions = compare_functions comparison_members
-
-unfoldable pub all_bag_functions : List FuncId
-all_bag_functions = bag_functions bag_members
-
--- all functions
-abbrev pub all_functions : List FuncId
-all_functions =
-    single_functions ++ (equal_functions ++ (all_compare_functions ++ (printed_functions ++ all_bag_functions)))
-
--- the function that the text names
-unfoldable pub function_named : List ℕ → Option FuncId
-function_named text = find (names text) all_functions
-
--- each function is found by its names, and by nothing else
-pub record IsTable : Type 0 where
-  pub found : (text : List ℕ) (f : FuncId) → names text f ≡ true → function_named text ≡ Some f
-  pub names_it : (text : List ℕ) (f : FuncId) → function_named text ≡ Some f → names text f ≡ true
+names text f =
+    bytes_eq text (uri_in (row_of f).version (row_of f)) || (has_later_name f && bytes_eq text (uri_in third_version (row_of f)))

@@ -1,7 +1,9 @@
+//! Whether arguments are of the kinds that a function takes.
 ghost use Rattle.std.specs.Prelude.{◌≡◌, ◌↔◌, ◌∷◌, [], map, IsTrue};
-ghost use Rattle.xa_func.specs.Signature.{kind_of, Every, Fits, AcceptsKinds};
+ghost use Rattle.xa_func.specs.Signature.{kind_of, of_each, Every, Fits, AcceptsKinds, TakesKinds};
 ghost use Rattle.xa_func.specs.declared.signature.Kind.{Kind};
 
+use crate::func_id::FuncId;
 use crate::signature::{Kind, Parameters, Signature};
 use xa_value::Value;
 
@@ -30,95 +32,156 @@ impl HasKind for Value {
     }
 }
 
+/// What an argument counts as, where a function's signature is asked.
+pub trait Counting {
+    ghost counts_as: { Kind → Kind };
+
+    /// The kind as which an argument of the kind counts.
+    fn counts_as(kind: Kind) -> Kind
+        ensures { result ≡ counts_as kind };
+}
+
+/// Each argument counts as what it is.
+pub struct Whole;
+
+impl Counting for Whole {
+    ghost counts_as = { λ kind. kind };
+
+    fn counts_as(kind: Kind) -> Kind {
+        kind
+    }
+}
+
+/// Each argument counts as one of its values.
+pub struct OneOfEach;
+
+impl Counting for OneOfEach {
+    ghost counts_as = { of_each };
+
+    fn counts_as(kind: Kind) -> Kind {
+        kind.of_each()
+    }
+}
+
 /// Whether the argument is of the kind.
-fn is_of<T: HasKind>(argument: &T, kind: Kind) -> bool
-    ensures { IsTrue result ↔ (T.kind_of argument.now ≡ kind) }
+fn is_of<T: HasKind, W: Counting>(argument: &T, kind: Kind) -> bool
+    ensures { IsTrue result ↔ (W.counts_as (T.kind_of argument.now) ≡ kind) }
 {
-    argument.kind() == kind
+    W::counts_as(argument.kind()) == kind
 }
 
 /// Whether every argument is of the kind.
-fn every<T: HasKind>(kind: Kind, arguments: &[T]) -> bool
-    ensures { IsTrue result ↔ Every kind (map T.kind_of arguments.now) }
+fn every<T: HasKind, W: Counting>(kind: Kind, arguments: &[T]) -> bool
+    ensures { IsTrue result ↔ Every kind (map (λ a. W.counts_as (T.kind_of a)) arguments.now) }
 {
     for argument in arguments {
-        if !is_of(argument, kind) {
+        if !is_of::<T, W>(argument, kind) {
             return false;
         }
     }
     true
 }
 
-/// Whether the arguments are one of the first kind, and then as many of the second.
-fn one_and_more<T: HasKind>(first: Kind, more: Kind, arguments: &[T]) -> bool
-    ensures { IsTrue result ↔ Fits (Parameters.OneAndMore first more) (map T.kind_of arguments.now) }
+/// Whether the arguments are one of the first kind, and then any number of the second.
+fn one_and_more<T: HasKind, W: Counting>(first: Kind, more: Kind, arguments: &[T]) -> bool
+    ensures { IsTrue result ↔ Fits (Parameters.OneAndMore first more) (map (λ a. W.counts_as (T.kind_of a)) arguments.now) }
 {
     let [argument, others @ ..] = arguments else {
         return false;
     };
-    is_of(argument, first) && every(more, others)
+    is_of::<T, W>(argument, first) && every::<T, W>(more, others)
 }
 
 /// Whether there is one argument of the kind.
-fn just_one<T: HasKind>(kind: Kind, arguments: &[T]) -> bool
-    ensures { IsTrue result ↔ (map T.kind_of arguments.now ≡ kind ∷ []) }
+fn just_one<T: HasKind, W: Counting>(kind: Kind, arguments: &[T]) -> bool
+    ensures { IsTrue result ↔ (map (λ a. W.counts_as (T.kind_of a)) arguments.now ≡ kind ∷ []) }
 {
     let [argument] = arguments else {
         return false;
     };
-    is_of(argument, kind)
+    is_of::<T, W>(argument, kind)
 }
 
 /// Whether there are two arguments of the kinds.
-fn just_two<T: HasKind>(first: Kind, second: Kind, arguments: &[T]) -> bool
-    ensures { IsTrue result ↔ (map T.kind_of arguments.now ≡ first ∷ second ∷ []) }
+fn just_two<T: HasKind, W: Counting>(first: Kind, second: Kind, arguments: &[T]) -> bool
+    ensures { IsTrue result ↔ (map (λ a. W.counts_as (T.kind_of a)) arguments.now ≡ first ∷ second ∷ []) }
 {
     let [argument, others @ ..] = arguments else {
         return false;
     };
-    is_of(argument, first) && just_one(second, others)
+    is_of::<T, W>(argument, first) && just_one::<T, W>(second, others)
 }
 
 /// Whether there are three arguments of the kinds.
-fn just_three<T: HasKind>(first: Kind, second: Kind, third: Kind, arguments: &[T]) -> bool
-    ensures { IsTrue result ↔ (map T.kind_of arguments.now ≡ first ∷ second ∷ third ∷ []) }
+fn just_three<T: HasKind, W: Counting>(
+    first: Kind,
+    second: Kind,
+    third: Kind,
+    arguments: &[T],
+) -> bool
+    ensures { IsTrue result ↔ (map (λ a. W.counts_as (T.kind_of a)) arguments.now ≡ first ∷ second ∷ third ∷ []) }
 {
     let [argument, others @ ..] = arguments else {
         return false;
     };
-    is_of(argument, first) && just_two(second, third, others)
+    is_of::<T, W>(argument, first) && just_two::<T, W>(second, third, others)
 }
 
 /// Whether there are so many arguments of the kind, or more.
-fn at_least<T: HasKind>(least: usize, kind: Kind, arguments: &[T]) -> bool
-    ensures { IsTrue result ↔ Fits (Parameters.AtLeast least kind) (map T.kind_of arguments.now) }
+fn at_least<T: HasKind, W: Counting>(least: usize, kind: Kind, arguments: &[T]) -> bool
+    ensures { IsTrue result ↔ Fits (Parameters.AtLeast least kind) (map (λ a. W.counts_as (T.kind_of a)) arguments.now) }
 {
-    least <= arguments.len() && every(kind, arguments)
+    least <= arguments.len() && every::<T, W>(kind, arguments)
 }
 
 impl Parameters {
-    /// Whether the function takes the arguments.
-    pub fn accept<T: HasKind>(self, arguments: &[T]) -> bool
-        ensures { IsTrue result ↔ Fits self (map T.kind_of arguments.now) }
+    /// Whether the arguments are of the kinds.
+    fn accept<T: HasKind, W: Counting>(self, arguments: &[T]) -> bool
+        ensures { IsTrue result ↔ Fits self (map (λ a. W.counts_as (T.kind_of a)) arguments.now) }
     {
         match self {
-            Parameters::One(kind) => just_one(kind, arguments),
-            Parameters::Two(first, second) => just_two(first, second, arguments),
-            Parameters::Three(first, second, third) => just_three(first, second, third, arguments),
-            Parameters::AtLeast(least, kind) => at_least(least, kind, arguments),
-            Parameters::OneAndMore(first, more) => one_and_more(first, more, arguments),
+            Parameters::One(kind) => just_one::<T, W>(kind, arguments),
+            Parameters::Two(first, second) => just_two::<T, W>(first, second, arguments),
+            Parameters::Three(first, second, third) => just_three::<T, W>(
+                first, second, third, arguments,
+            ),
+            Parameters::AtLeast(least, kind) => at_least::<T, W>(least, kind, arguments),
+            Parameters::OneAndMore(first, more) => one_and_more::<T, W>(first, more, arguments),
         }
     }
 }
 
 impl Signature {
-    /// Whether the function takes the arguments.
+    /// Whether a function of the signature takes the arguments.
     pub fn accepts<T: HasKind>(self, arguments: &[T]) -> bool
         ensures { IsTrue result ↔ AcceptsKinds self (map T.kind_of arguments.now) }
     {
+        self.accepts_as::<T, Whole>(arguments)
+    }
+
+    /// Whether it takes what the arguments count as.
+    fn accepts_as<T: HasKind, W: Counting>(self, arguments: &[T]) -> bool
+        ensures { IsTrue result ↔ AcceptsKinds self (map (λ a. W.counts_as (T.kind_of a)) arguments.now) }
+    {
         match self {
-            Signature::FirstOrder(parameters, _) => parameters.accept(arguments),
+            Signature::FirstOrder(parameters, _) => parameters.accept::<T, W>(arguments),
             Signature::HigherOrder(_) => false,
         }
+    }
+}
+
+impl FuncId {
+    /// Whether it is a function of values that takes the arguments.
+    pub fn takes<T: HasKind>(self, arguments: &[T]) -> bool
+        ensures { IsTrue result ↔ TakesKinds self (map T.kind_of arguments.now) }
+    {
+        self.is_scalar() && self.signature().accepts(arguments)
+    }
+
+    /// Whether it is a function of values that takes one of the values of each argument.
+    pub fn takes_each<T: HasKind>(self, arguments: &[T]) -> bool
+        ensures { IsTrue result ↔ TakesKinds self (map (λ a. of_each (T.kind_of a)) arguments.now) }
+    {
+        self.is_scalar() && self.signature().accepts_as::<T, OneOfEach>(arguments)
     }
 }

@@ -1,8 +1,9 @@
-ghost use Rattle.std.specs.Prelude.{◌≡◌, false, IfOk, IsTrue};
-ghost use Rattle.xa_func.specs.Fault.{Gives};
+//! What each function of values gives: from the function to what computes it.
+ghost use Rattle.std.specs.Prelude.{◌≡◌, false, map, IfOk};
+ghost use Rattle.xa_value.specs.Gives.{Gives, answered};
 ghost use Rattle.xa_value.specs.Reading.{grows as reading_grows};
-ghost use Rattle.xa_func.specs.Table.{is_scalar, printed_type};
-ghost use Rattle.xa_func.specs.Signature.{Accepts, IsResult, signature_of};
+ghost use Rattle.xa_func.specs.Table.{printed_type};
+ghost use Rattle.xa_func.specs.Signature.{Accepts, IsResult, TakesKinds, kind_of, signature_of};
 ghost use Rattle.xa_func.specs.Application.{applied, grows};
 ghost use Rattle.xa_func.specs.declared.func_id.FuncId.TheVariants as function_id;
 ghost use Rattle.xa_func.specs.declared.func_id.Logic.TheVariants as logic;
@@ -26,9 +27,9 @@ use crate::func_id::{
     TextFunction, TextPart, TextType,
 };
 use crate::logic::{all_true, any_true, n_of};
-use crate::text::{concatenated, has_part, substring};
+use crate::text::{concatenation, has_part, substring};
 use std::alloc::Global;
-use xa_value::{DataType, Value};
+use xa_value::{DataType, OrMemory, Value};
 
 /// Whether two values of the type are equal.
 fn equal(data_type: DataType, arguments: &[Value]) -> Result<Value, FuncFault>
@@ -73,7 +74,11 @@ fn integer_abs(arguments: &[Value]) -> Result<Value, FuncFault>
 }
 
 /// The text of a value.
-fn string_from(alloc: Global, printed: PrintedType, arguments: &[Value]) -> Result<Value, FuncFault>
+fn string_from(
+    alloc: Global,
+    printed: PrintedType,
+    arguments: &[Value],
+) -> Result<Value, OrMemory<FuncFault>>
     requires { Accepts (signature_of (function_id.StringFrom printed)) arguments.now }
     ensures value { Gives result (applied (function_id.StringFrom printed) arguments.now) }
     ensures typed { IfOk result (IsResult (signature_of (function_id.StringFrom printed))) }
@@ -82,10 +87,14 @@ fn string_from(alloc: Global, printed: PrintedType, arguments: &[Value]) -> Resu
 }
 
 /// The value of a text.
-fn from_string(alloc: Global, printed: PrintedType, arguments: &[Value]) -> Result<Value, FuncFault>
+fn from_string(
+    alloc: Global,
+    printed: PrintedType,
+    arguments: &[Value],
+) -> Result<Value, OrMemory<FuncFault>>
     requires { Accepts (signature_of (function_id.FromString printed)) arguments.now }
     ensures value { Gives result (applied (function_id.FromString printed) arguments.now) }
-    ensures exact { reading_grows (printed_type printed) ≡ false → result ≡ applied (function_id.FromString printed) arguments.now }
+    ensures exact { reading_grows (printed_type printed) ≡ false → result ≡ answered (applied (function_id.FromString printed) arguments.now) }
     ensures typed { IfOk result (IsResult (signature_of (function_id.FromString printed))) }
 {
     value_of(
@@ -122,20 +131,24 @@ fn n_true(arguments: &[Value]) -> Result<Value, FuncFault>
 }
 
 /// A text, made of others.
-fn compose(alloc: Global, function: TextFunction, arguments: &[Value]) -> Result<Value, FuncFault>
+fn compose(
+    alloc: Global,
+    function: TextFunction,
+    arguments: &[Value],
+) -> Result<Value, OrMemory<FuncFault>>
     requires { Accepts (signature_of (function_id.Text function)) arguments.now }
     ensures value { Gives result (applied (function_id.Text function) arguments.now) }
     ensures typed { IfOk result (IsResult (signature_of (function_id.Text function))) }
 {
     match function {
         TextFunction::NormalizeSpace => normalize_space(alloc, arguments),
-        TextFunction::Concatenate => Ok(Value::String(concatenated(alloc, arguments)?)),
+        TextFunction::Concatenate => Ok(Value::String(concatenation(alloc, arguments)?)),
         TextFunction::Substring => string_substring(alloc, arguments),
     }
 }
 
 /// The text without white space at its ends.
-fn normalize_space(alloc: Global, arguments: &[Value]) -> Result<Value, FuncFault>
+fn normalize_space(alloc: Global, arguments: &[Value]) -> Result<Value, OrMemory<FuncFault>>
     requires { Accepts (signature_of (function_id.Text text_function.NormalizeSpace)) arguments.now }
     ensures value { Gives result (applied (function_id.Text text_function.NormalizeSpace) arguments.now) }
     ensures typed { IfOk result (IsResult (signature_of (function_id.Text text_function.NormalizeSpace))) }
@@ -144,7 +157,7 @@ fn normalize_space(alloc: Global, arguments: &[Value]) -> Result<Value, FuncFaul
 }
 
 /// The characters of a text from one place up to another.
-fn string_substring(alloc: Global, arguments: &[Value]) -> Result<Value, FuncFault>
+fn string_substring(alloc: Global, arguments: &[Value]) -> Result<Value, OrMemory<FuncFault>>
     requires { Accepts (signature_of (function_id.Text text_function.Substring)) arguments.now }
     ensures value { Gives result (applied (function_id.Text text_function.Substring) arguments.now) }
     ensures typed { IfOk result (IsResult (signature_of (function_id.Text text_function.Substring))) }
@@ -225,26 +238,25 @@ fn is_in_range(arguments: &[Value]) -> Result<Value, FuncFault>
 }
 
 impl FuncId {
-    /// What the function of values gives, of arguments that its signature accepts.
-    pub fn apply(self, alloc: Global, arguments: &[Value]) -> Result<Value, FuncFault>
-        requires scalar { IsTrue (is_scalar self) }
-        requires accepted { Accepts (signature_of self) arguments.now }
+    /// What the function of values gives, of arguments that it takes.
+    pub fn apply(self, alloc: Global, arguments: &[Value]) -> Result<Value, OrMemory<FuncFault>>
+        requires { TakesKinds self (map kind_of arguments.now) }
         ensures value { Gives result (applied self arguments.now) }
-        ensures exact { grows self ≡ false → result ≡ applied self arguments.now }
+        ensures exact { grows self ≡ false → result ≡ answered (applied self arguments.now) }
         ensures typed { IfOk result (IsResult (signature_of self)) }
     {
         match self {
-            FuncId::Equal(data_type) => equal(data_type, arguments),
-            FuncId::Compare(comparison, ordered) => compare(comparison, ordered, arguments),
-            FuncId::Arithmetic(function) => calculate(function, arguments),
-            FuncId::IntegerAbs => integer_abs(arguments),
-            FuncId::Logic(function) => decide(function, arguments),
+            FuncId::Equal(data_type) => Ok(equal(data_type, arguments)?),
+            FuncId::Compare(comparison, ordered) => Ok(compare(comparison, ordered, arguments)?),
+            FuncId::Arithmetic(function) => Ok(calculate(function, arguments)?),
+            FuncId::IntegerAbs => Ok(integer_abs(arguments)?),
+            FuncId::Logic(function) => Ok(decide(function, arguments)?),
             FuncId::Text(function) => compose(alloc, function, arguments),
-            FuncId::Part(place, text_type) => find_part(place, text_type, arguments),
+            FuncId::Part(place, text_type) => Ok(find_part(place, text_type, arguments)?),
             FuncId::StringFrom(printed) => string_from(alloc, printed, arguments),
             FuncId::FromString(printed) => from_string(alloc, printed, arguments),
-            FuncId::Move(moved, direction) => move_by(moved, direction, arguments),
-            FuncId::TimeInRange => is_in_range(arguments),
+            FuncId::Move(moved, direction) => Ok(move_by(moved, direction, arguments)?),
+            FuncId::TimeInRange => Ok(is_in_range(arguments)?),
             FuncId::Bag(..) | FuncId::HigherOrder(_) => unreachable!(),
         }
     }

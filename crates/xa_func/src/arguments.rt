@@ -1,3 +1,4 @@
+//! The arguments of a function, each as what its type holds.
 ghost use Rattle.std.specs.Prelude.{◌≡◌, ◌∷◌, [], length};
 ghost use Rattle.xa_value.specs.Order.{type_of};
 ghost use Rattle.xa_value.specs.declared.data_type.DataType.TheVariants as data_type;

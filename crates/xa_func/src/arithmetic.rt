@@ -1,10 +1,11 @@
-ghost use Rattle.std.specs.Prelude.{◌≡◌, ◌<◌, length, map, pos, neg_ℤ, unsigned_abs};
+//! Functions of integers.
+ghost use Rattle.std.specs.Prelude.{◌≡◌, ◌<◌, ◌∷◌, [], length, slice_index_or, map, pos, neg_ℤ, unsigned_abs};
 ghost use Rattle.xa_value.specs.declared.data_type.DataType.TheVariants as data_type;
 ghost use Rattle.xa_value.specs.Order.{type_of};
 ghost use Rattle.xa_func.specs.declared.signature.Kind.TheVariants as kind;
 ghost use Rattle.xa_func.specs.Signature.{kind_of, Every};
 ghost use Rattle.xa_func.specs.Arguments.{integers};
-ghost use Rattle.xa_func.specs.Arithmetic.{within, quotient, remainder, operation, stepped, arithmetic};
+ghost use Rattle.xa_func.specs.Arithmetic.{within, quotient, remainder, operation, arithmetic};
 
 use crate::arguments::integer_of;
 use crate::fault::FuncFault;
@@ -54,10 +55,10 @@ fn operation(function: Arithmetic, left: i64, right: i64) -> Result<i64, FuncFau
     }
 }
 
-/// One step more, with an argument.
-fn stepped(function: Arithmetic, total: i64, argument: &Value) -> Result<i64, FuncFault>
+/// The total with one argument more.
+fn next_total(function: Arithmetic, total: i64, argument: &Value) -> Result<i64, FuncFault>
     requires { type_of argument.now ≡ data_type.Integer }
-    ensures { result ≡ stepped function total argument.now }
+    ensures { result ≡ operation function total (slice_index_or (integers (argument.now ∷ [])) 0 (pos 0)) }
 {
     operation(function, total, integer_of(argument))
 }
@@ -73,7 +74,7 @@ pub(crate) fn arithmetic(function: Arithmetic, arguments: &[Value]) -> Result<i6
     };
     let mut total = integer_of(first);
     for other in others {
-        total = stepped(function, total, other)?;
+        total = next_total(function, total, other)?;
     }
     Ok(total)
 }

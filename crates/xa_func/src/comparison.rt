@@ -1,3 +1,4 @@
+//! Questions on the order of two values.
 ghost use Rattle.std.specs.Prelude.{◌≡◌};
 ghost use Rattle.xa_func.specs.Comparison.{meets, compared};
 

@@ -1,20 +1,20 @@
+//! Days, times and durations: months and nanoseconds later, and ranges of times.
 ghost use Rattle.std.specs.Prelude.{◌≡◌, ◌≤◌, ◌<◌, ◌≤ℤ◌, ◌+ℤ◌, pos, neg_ℤ, unsigned_abs, IfOk};
 ghost use Rattle.std.specs.Int.{int_div_euclid, int_rem_euclid};
+ghost use Rattle.xa_value.specs.Instant.{local_nanos};
 ghost use Rattle.xa_value.specs.Time.{day_nanos};
 ghost use Rattle.jiff_core.specs.Calendar.{IsBetween, IsWithin};
 ghost use Rattle.jiff_core.specs.Date.{epoch_day};
 ghost use Rattle.xa_value.specs.Duration.{IsMonths, IsNanos};
 ghost use Rattle.xa_func.specs.Civil.{day_of, day_result};
-ghost use Rattle.xa_func.specs.Dates.{day_length, directed, months_later, month_number, day_in_month, day_at, nanos_as_written, date_after_months, date_time_after_months, date_time_at, date_time_after_nanos, nanos_in_utc, distance, time_in_range};
+ghost use Rattle.xa_func.specs.Dates.{directed, months_later, month_number, day_in_month, day_at, date_after_months, date_time_after_months, date_time_at, date_time_after_nanos, nanos_in_utc, distance, time_in_range};
 
 use crate::fault::FuncFault;
 use crate::func_id::Direction;
 use jiff_core::civil;
-use xa_value::{Date, DateTime, DayTimeDuration, Offset, Time, YearMonthDuration};
+use xa_value::{DAY_NANOS, Date, DateTime, DayTimeDuration, Offset, Time, YearMonthDuration};
 
-/// Nanoseconds of a day and a minute.
-const DAY: i128 = 86_400_000_000_000;
-
+/// Nanoseconds of a minute.
 const MINUTE: i128 = 60_000_000_000;
 
 /// The months of the duration, added or subtracted.
@@ -100,37 +100,29 @@ fn day_at(number: i64) -> Result<civil::Date, FuncFault>
     }
 }
 
-/// Nanoseconds from the midnight that began 1970, as written, without the zone.
-fn nanos_as_written(moment: DateTime) -> i128
-    ensures value { result ≡ nanos_as_written moment }
-    ensures within { IsWithin 1_000_000_000_000_000_000_000 result }
-{
-    i128::from(moment.civil().to_unix_epoch_day()) * DAY + i128::from(moment.nanos())
-}
-
 /// The nanoseconds as written, so many later.
 fn nanos_later(moment: DateTime, nanos: i128) -> i128
     requires { IsNanos nanos }
-    ensures value { result ≡ nanos_as_written moment +ℤ nanos }
+    ensures value { result ≡ local_nanos moment +ℤ nanos }
     ensures within { IsWithin 2_000_000_000_000_000_000_000 result }
 {
-    nanos_as_written(moment) + nanos
+    moment.local_nanos() + nanos
 }
 
 /// Whole days of so many nanoseconds.
 fn whole_days(nanos: i128) -> i64
     requires { IsWithin 2_000_000_000_000_000_000_000 nanos }
-    ensures { result ≡ int_div_euclid nanos day_length }
+    ensures { result ≡ int_div_euclid nanos (pos day_nanos) }
 {
-    nanos.div_euclid(DAY) as i64
+    nanos.div_euclid(i128::from(DAY_NANOS)) as i64
 }
 
 /// What is left of so many nanoseconds without whole days.
 fn nanos_of_day(nanos: i128) -> u64
-    ensures value { result ≡ unsigned_abs (int_rem_euclid nanos day_length) }
+    ensures value { result ≡ unsigned_abs (int_rem_euclid nanos (pos day_nanos)) }
     ensures within { result < day_nanos }
 {
-    nanos.rem_euclid(DAY) as u64
+    nanos.rem_euclid(i128::from(DAY_NANOS)) as u64
 }
 
 /// The day so many months later.

@@ -1,16 +1,15 @@
+//! Why a function gives no value, and the status code for which that stands.
 ghost use Rattle.std.specs.Prelude.{◌≡◌};
+ghost use Rattle.xa_value.specs.declared.or_memory.OrMemory.TheVariants.{Error};
 ghost use Rattle.xa_func.specs.Fault.{status_of};
-ghost use Rattle.xa_func.specs.declared.fault.FuncFault.TheVariants.{Memory};
 
-use std::alloc::{AllocError, AllocFailed};
+use crate::status::Status;
 use thiserror::Error;
+use xa_value::OrMemory;
 
-/// Why a function gave no value.
-#[derive(Debug, Drop, PartialEq, Eq, Error)]
+/// Why a function gives no value.
+#[derive(Clone, Copy, Debug, PartialEq, Eq, Error)]
 pub enum FuncFault {
-    /// There was no memory.
-    #[error("out of memory")]
-    Memory,
     /// A division by zero.
     #[error("division by zero")]
     ZeroDivisor,
@@ -28,43 +27,25 @@ pub enum FuncFault {
     CalendarRange,
 }
 
-/// A status code for which a function's fault stands (XACML 3.0, appendix B.8).
-#[derive(Clone, Copy, Debug, PartialEq, Eq)]
-pub enum StatusCode {
-    /// An error in the evaluation.
-    ProcessingError,
-    /// A text that does not read as a value.
-    SyntaxError,
-}
-
 impl FuncFault {
-    /// The status code of the fault; want of memory has none, since it is no answer of the function.
-    pub fn status(&self) -> Option<StatusCode>
-        ensures { result ≡ status_of self.now }
+    /// The status code of the fault.
+    pub fn status(self) -> Status
+        ensures { result ≡ status_of self }
     {
         match self {
-            FuncFault::Memory => None,
-            FuncFault::BadText => Some(StatusCode::SyntaxError),
+            FuncFault::BadText => Status::SyntaxError,
             FuncFault::ZeroDivisor
             | FuncFault::Overflow
             | FuncFault::Position
-            | FuncFault::CalendarRange => Some(StatusCode::ProcessingError),
+            | FuncFault::CalendarRange => Status::ProcessingError,
         }
     }
 }
 
-impl From<AllocError> for FuncFault {
-    ghost from_gives = { λ _ e. e ≡ Memory };
+impl From<FuncFault> for OrMemory<FuncFault> {
+    ghost from_gives = { λ fault e. e ≡ Error fault };
 
-    fn from(_error: AllocError) -> FuncFault {
-        FuncFault::Memory
-    }
-}
-
-impl<T: Drop> From<AllocFailed<T>> for FuncFault {
-    ghost from_gives = { λ _ e. e ≡ Memory };
-
-    fn from(_error: AllocFailed<T>) -> FuncFault {
-        FuncFault::Memory
+    fn from(fault: FuncFault) -> OrMemory<FuncFault> {
+        OrMemory::Error(fault)
     }
 }

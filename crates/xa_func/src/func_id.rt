@@ -1,3 +1,4 @@
+//! The functions, as families over operations and types.
 ghost use Rattle.std.specs.Prelude.{◌≡◌};
 ghost use Rattle.xa_func.specs.Table.{is_scalar, ordered_type, text_type, printed_type};
 

@@ -13,14 +13,16 @@ mod func_id;
 mod logic;
 mod names;
 mod signature;
+mod status;
 #[cfg(test)]
 mod tests;
 mod text;
 
 pub use acceptance::HasKind;
-pub use fault::{FuncFault, StatusCode};
+pub use fault::FuncFault;
 pub use func_id::{
     Arithmetic, BagFunction, Comparison, Direction, FuncId, HigherOrder, Logic, Moved, OrderedType,
     PrintedType, TextFunction, TextPart, TextType,
 };
 pub use signature::{Kind, Parameters, Signature};
+pub use status::Status;

@@ -1,3 +1,4 @@
+//! Or, and, n-of over booleans that are known.
 ghost use Rattle.std.specs.Prelude.{◌≡◌, ◌≤◌, map, length};
 ghost use Rattle.xa_value.specs.declared.data_type.DataType.TheVariants as data_type;
 ghost use Rattle.xa_func.specs.declared.signature.Kind.TheVariants as kind;

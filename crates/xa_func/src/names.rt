@@ -1,5 +1,7 @@
-ghost use Rattle.std.specs.Prelude.{◌≡◌, ◌++◌, map, find, bytes_eq};
-ghost use Rattle.xa_func.specs.Table.{version_of_equal, version_of_text, version_of_higher, version_of, subject_of_moved, subject_of, verb_of_comparison, verb_of_arithmetic, verb_of_logic, verb_of_text, verb_of_part, verb_of_printed, verb_of_move, verb_of_bag, verb_of_higher, verb_of, has_later_name, is_duration, names, single_functions, equal_functions, compares_of, compare_functions, all_compare_functions, printed_functions, bags_of, bag_functions, all_bag_functions, function_named, IsTable, all_printed};
+//! The names of the functions: what each is called, and the function that a URI names.
+ghost use Rattle.std.specs.Prelude.{◌≡◌, ◌↔◌, ◌++◌, map, find, flat_map, bytes_eq, IsTrue, Option, Some};
+ghost use Rattle.xa_func.specs.Table.{row_of, text_row, move_row, higher_row, comparison_verb, arithmetic_verb, logic_verb, part_verb, printed_verb, bag_verb, has_later_name, is_duration, names};
+ghost use Rattle.xa_func.specs.declared.func_id.FuncId.{FuncId};
 ghost use Rattle.xa_func.specs.declared.func_id.FuncId.TheVariants as function_id;
 
 use crate::func_id::{
@@ -8,179 +10,44 @@ use crate::func_id::{
 };
 use xa_value::DataType;
 
-/// What each version of the standard puts before its functions.
+/// What each version of the standard puts before the names of its functions.
 const FIRST: &str = "urn:oasis:names:tc:xacml:1.0:function:";
 
 const SECOND: &str = "urn:oasis:names:tc:xacml:2.0:function:";
 
 const THIRD: &str = "urn:oasis:names:tc:xacml:3.0:function:";
 
-/// Whether the data type is one of the two durations.
-fn is_duration(data_type: DataType) -> bool
-    ensures { result ≡ is_duration data_type }
-{
-    matches!(
-        data_type,
-        DataType::DayTimeDuration | DataType::YearMonthDuration
-    )
+/// A name: the version of the standard, what the function is of, and what it does.
+#[derive(Clone, Copy)]
+struct Name {
+    version: &'static str,
+    subject: &'static str,
+    verb: &'static str,
 }
 
-/// The version that brought the equality of the type.
-fn version_of_equal(data_type: DataType) -> &'static str
-    ensures { result.now ≡ version_of_equal data_type }
-{
-    match data_type {
-        DataType::DayTimeDuration | DataType::YearMonthDuration => THIRD,
-        _ => FIRST,
+impl Name {
+    /// The name of the three parts.
+    fn new(version: &'static str, subject: &'static str, verb: &'static str) -> Name
+        ensures version { result.version.now ≡ version.now }
+        ensures subject { result.subject.now ≡ subject.now }
+        ensures verb { result.verb.now ≡ verb.now }
+    {
+        Name {
+            version,
+            subject,
+            verb,
+        }
     }
-}
 
-/// The version that brought the function of texts.
-fn version_of_text(function: TextFunction) -> &'static str
-    ensures { result.now ≡ version_of_text function }
-{
-    match function {
-        TextFunction::NormalizeSpace => FIRST,
-        TextFunction::Concatenate => SECOND,
-        TextFunction::Substring => THIRD,
-    }
-}
-
-/// The version that brought the function of a function.
-fn version_of_higher(function: HigherOrder) -> &'static str
-    ensures { result.now ≡ version_of_higher function }
-{
-    match function {
-        HigherOrder::AllOfAny | HigherOrder::AllOfAll => FIRST,
-        _ => THIRD,
-    }
-}
-
-/// What a comparison does, as its name says.
-fn verb_of_comparison(comparison: Comparison) -> &'static str
-    ensures { result.now ≡ verb_of_comparison comparison }
-{
-    match comparison {
-        Comparison::GreaterThan => "-greater-than",
-        Comparison::GreaterThanOrEqual => "-greater-than-or-equal",
-        Comparison::LessThan => "-less-than",
-        Comparison::LessThanOrEqual => "-less-than-or-equal",
-    }
-}
-
-/// What a function of integers does, as its name says.
-fn verb_of_arithmetic(function: Arithmetic) -> &'static str
-    ensures { result.now ≡ verb_of_arithmetic function }
-{
-    match function {
-        Arithmetic::Add => "-add",
-        Arithmetic::Multiply => "-multiply",
-        Arithmetic::Subtract => "-subtract",
-        Arithmetic::Divide => "-divide",
-        Arithmetic::Mod => "-mod",
-    }
-}
-
-/// What a function of booleans does, as its name says.
-fn verb_of_logic(function: Logic) -> &'static str
-    ensures { result.now ≡ verb_of_logic function }
-{
-    match function {
-        Logic::Or => "or",
-        Logic::And => "and",
-        Logic::NOf => "n-of",
-        Logic::Not => "not",
-    }
-}
-
-/// What a function that gives a text does, as its name says.
-fn verb_of_text(function: TextFunction) -> &'static str
-    ensures { result.now ≡ verb_of_text function }
-{
-    match function {
-        TextFunction::NormalizeSpace => "-normalize-space",
-        TextFunction::Concatenate => "-concatenate",
-        TextFunction::Substring => "-substring",
-    }
-}
-
-/// What a question on part of a text asks, as its name says.
-fn verb_of_part(part: TextPart) -> &'static str
-    ensures { result.now ≡ verb_of_part part }
-{
-    match part {
-        TextPart::StartsWith => "-starts-with",
-        TextPart::EndsWith => "-ends-with",
-        TextPart::Contains => "-contains",
-    }
-}
-
-/// What a function that gives a string reads, as its name says.
-fn verb_of_printed(printed: PrintedType) -> &'static str
-    ensures { result.now ≡ verb_of_printed printed }
-{
-    match printed {
-        PrintedType::Boolean => "-from-boolean",
-        PrintedType::Integer => "-from-integer",
-        PrintedType::Date => "-from-date",
-        PrintedType::Time => "-from-time",
-        PrintedType::DateTime => "-from-dateTime",
-        PrintedType::AnyUri => "-from-anyURI",
-        PrintedType::DayTimeDuration => "-from-dayTimeDuration",
-        PrintedType::YearMonthDuration => "-from-yearMonthDuration",
-    }
-}
-
-/// What moves a day, as its name says.
-fn verb_of_move(moved: Moved, direction: Direction) -> &'static str
-    ensures { result.now ≡ verb_of_move moved direction }
-{
-    match (moved, direction) {
-        (Moved::DateTimeByDayTime, Direction::Add) => "-add-dayTimeDuration",
-        (Moved::DateTimeByDayTime, Direction::Subtract) => "-subtract-dayTimeDuration",
-        (_, Direction::Add) => "-add-yearMonthDuration",
-        (_, Direction::Subtract) => "-subtract-yearMonthDuration",
-    }
-}
-
-/// What a function of bags does, as its name says.
-fn verb_of_bag(function: BagFunction) -> &'static str
-    ensures { result.now ≡ verb_of_bag function }
-{
-    match function {
-        BagFunction::OneAndOnly => "-one-and-only",
-        BagFunction::BagSize => "-bag-size",
-        BagFunction::IsIn => "-is-in",
-        BagFunction::Bag => "-bag",
-        BagFunction::Intersection => "-intersection",
-        BagFunction::Union => "-union",
-        BagFunction::AtLeastOneMemberOf => "-at-least-one-member-of",
-        BagFunction::Subset => "-subset",
-        BagFunction::SetEquals => "-set-equals",
-    }
-}
-
-/// What a function of a function does, as its name says.
-fn verb_of_higher(function: HigherOrder) -> &'static str
-    ensures { result.now ≡ verb_of_higher function }
-{
-    match function {
-        HigherOrder::AnyOf => "any-of",
-        HigherOrder::AllOf => "all-of",
-        HigherOrder::AnyOfAny => "any-of-any",
-        HigherOrder::Map => "map",
-        HigherOrder::AllOfAny => "all-of-any",
-        HigherOrder::AllOfAll => "all-of-all",
-    }
-}
-
-/// What is moved, as its name says.
-fn subject_of_moved(moved: Moved) -> &'static str
-    ensures { result.now ≡ subject_of_moved moved }
-{
-    match moved {
-        Moved::DateTimeByDayTime | Moved::DateTimeByYearMonth => "dateTime",
-        Moved::DateByYearMonth => "date",
+    /// Whether the text is the name, in the version.
+    #[tactic(auto, using(crate::proofs::NameLemmas::stripped, crate::proofs::NameLemmas::unstripped))]
+    fn is_written(&self, version: &str, uri: &str) -> bool
+        ensures { result ≡ bytes_eq uri.now (version.now ++ (self.now.subject.now ++ self.now.verb.now)) }
+    {
+        match uri.as_bytes().strip_prefix(version.as_bytes()) {
+            None => false,
+            Some(name) => is_joined(name, self.subject.as_bytes(), self.verb.as_bytes()),
+        }
     }
 }
 
@@ -195,83 +62,225 @@ fn is_joined(text: &[u8], head: &[u8], rest: &[u8]) -> bool
     }
 }
 
-/// Whether the text is the version, the subject and the verb.
-#[tactic(auto, using(crate::proofs::NameLemmas::stripped, crate::proofs::NameLemmas::unstripped))]
-fn is_name(text: &[u8], version: &[u8], subject: &[u8], verb: &[u8]) -> bool
-    ensures { result ≡ bytes_eq text.now (version.now ++ (subject.now ++ verb.now)) }
+/// Whether the data type is one of the two durations.
+fn is_duration(data_type: DataType) -> bool
+    ensures { result ≡ is_duration data_type }
 {
-    match text.strip_prefix(version) {
-        None => false,
-        Some(name) => is_joined(name, subject, verb),
+    matches!(
+        data_type,
+        DataType::DayTimeDuration | DataType::YearMonthDuration
+    )
+}
+
+impl Comparison {
+    /// What it asks, as its name says.
+    fn verb(self) -> &'static str
+        ensures { result.now ≡ comparison_verb self }
+    {
+        match self {
+            Comparison::GreaterThan => "-greater-than",
+            Comparison::GreaterThanOrEqual => "-greater-than-or-equal",
+            Comparison::LessThan => "-less-than",
+            Comparison::LessThanOrEqual => "-less-than-or-equal",
+        }
+    }
+}
+
+impl Arithmetic {
+    /// What it does, as its name says.
+    fn verb(self) -> &'static str
+        ensures { result.now ≡ arithmetic_verb self }
+    {
+        match self {
+            Arithmetic::Add => "-add",
+            Arithmetic::Multiply => "-multiply",
+            Arithmetic::Subtract => "-subtract",
+            Arithmetic::Divide => "-divide",
+            Arithmetic::Mod => "-mod",
+        }
+    }
+}
+
+impl Logic {
+    /// What it does, as its name says.
+    fn verb(self) -> &'static str
+        ensures { result.now ≡ logic_verb self }
+    {
+        match self {
+            Logic::Or => "or",
+            Logic::And => "and",
+            Logic::NOf => "n-of",
+            Logic::Not => "not",
+        }
+    }
+}
+
+impl TextPart {
+    /// What it asks, as its name says.
+    fn verb(self) -> &'static str
+        ensures { result.now ≡ part_verb self }
+    {
+        match self {
+            TextPart::StartsWith => "-starts-with",
+            TextPart::EndsWith => "-ends-with",
+            TextPart::Contains => "-contains",
+        }
+    }
+}
+
+impl PrintedType {
+    /// What a function that gives a string reads, as its name says.
+    fn verb(self) -> &'static str
+        ensures { result.now ≡ printed_verb self }
+    {
+        match self {
+            PrintedType::Boolean => "-from-boolean",
+            PrintedType::Integer => "-from-integer",
+            PrintedType::Date => "-from-date",
+            PrintedType::Time => "-from-time",
+            PrintedType::DateTime => "-from-dateTime",
+            PrintedType::AnyUri => "-from-anyURI",
+            PrintedType::DayTimeDuration => "-from-dayTimeDuration",
+            PrintedType::YearMonthDuration => "-from-yearMonthDuration",
+        }
+    }
+}
+
+impl BagFunction {
+    /// What it does, as its name says.
+    fn verb(self) -> &'static str
+        ensures { result.now ≡ bag_verb self }
+    {
+        match self {
+            BagFunction::OneAndOnly => "-one-and-only",
+            BagFunction::BagSize => "-bag-size",
+            BagFunction::IsIn => "-is-in",
+            BagFunction::Bag => "-bag",
+            BagFunction::Intersection => "-intersection",
+            BagFunction::Union => "-union",
+            BagFunction::AtLeastOneMemberOf => "-at-least-one-member-of",
+            BagFunction::Subset => "-subset",
+            BagFunction::SetEquals => "-set-equals",
+        }
+    }
+}
+
+/// The name of the equality of the type.
+fn equality_name(data_type: DataType) -> Name
+    ensures version { result.version.now ≡ (row_of (function_id.Equal data_type)).version }
+    ensures subject { result.subject.now ≡ (row_of (function_id.Equal data_type)).subject }
+    ensures verb { result.verb.now ≡ (row_of (function_id.Equal data_type)).verb }
+{
+    let version = if is_duration(data_type) { THIRD } else { FIRST };
+    Name::new(version, data_type.name(), "-equal")
+}
+
+/// The name of a function of texts.
+fn text_name(function: TextFunction) -> Name
+    ensures version { result.version.now ≡ (text_row function).version }
+    ensures subject { result.subject.now ≡ (text_row function).subject }
+    ensures verb { result.verb.now ≡ (text_row function).verb }
+{
+    match function {
+        TextFunction::NormalizeSpace => Name::new(FIRST, "string", "-normalize-space"),
+        TextFunction::Concatenate => Name::new(SECOND, "string", "-concatenate"),
+        TextFunction::Substring => Name::new(THIRD, "string", "-substring"),
+    }
+}
+
+/// The name of what moves a day or a moment.
+fn move_name(moved: Moved, direction: Direction) -> Name
+    ensures version { result.version.now ≡ (move_row moved direction).version }
+    ensures subject { result.subject.now ≡ (move_row moved direction).subject }
+    ensures verb { result.verb.now ≡ (move_row moved direction).verb }
+{
+    match (moved, direction) {
+        (Moved::DateTimeByDayTime, Direction::Add) => Name::new(
+            THIRD,
+            "dateTime",
+            "-add-dayTimeDuration",
+        ),
+        (Moved::DateTimeByDayTime, Direction::Subtract) => Name::new(
+            THIRD,
+            "dateTime",
+            "-subtract-dayTimeDuration",
+        ),
+        (Moved::DateTimeByYearMonth, Direction::Add) => Name::new(
+            THIRD,
+            "dateTime",
+            "-add-yearMonthDuration",
+        ),
+        (Moved::DateTimeByYearMonth, Direction::Subtract) => Name::new(
+            THIRD,
+            "dateTime",
+            "-subtract-yearMonthDuration",
+        ),
+        (Moved::DateByYearMonth, Direction::Add) => Name::new(
+            THIRD,
+            "date",
+            "-add-yearMonthDuration",
+        ),
+        (Moved::DateByYearMonth, Direction::Subtract) => Name::new(
+            THIRD,
+            "date",
+            "-subtract-yearMonthDuration",
+        ),
+    }
+}
+
+/// The name of a function of a function.
+fn higher_name(function: HigherOrder) -> Name
+    ensures version { result.version.now ≡ (higher_row function).version }
+    ensures subject { result.subject.now ≡ (higher_row function).subject }
+    ensures verb { result.verb.now ≡ (higher_row function).verb }
+{
+    match function {
+        HigherOrder::AnyOf => Name::new(THIRD, "", "any-of"),
+        HigherOrder::AllOf => Name::new(THIRD, "", "all-of"),
+        HigherOrder::AnyOfAny => Name::new(THIRD, "", "any-of-any"),
+        HigherOrder::Map => Name::new(THIRD, "", "map"),
+        HigherOrder::AllOfAny => Name::new(FIRST, "", "all-of-any"),
+        HigherOrder::AllOfAll => Name::new(FIRST, "", "all-of-all"),
     }
 }
 
 impl FuncId {
-    /// What its name begins with.
-    fn version(self) -> &'static str
-        ensures { result.now ≡ version_of self }
+    /// The function's name, in the version that brought it.
+    fn name(self) -> Name
+        ensures version { result.version.now ≡ (row_of self).version }
+        ensures subject { result.subject.now ≡ (row_of self).subject }
+        ensures verb { result.verb.now ≡ (row_of self).verb }
     {
         match self {
-            FuncId::Equal(data_type) => version_of_equal(data_type),
-            FuncId::Text(function) => version_of_text(function),
-            FuncId::Part(..) | FuncId::StringFrom(_) | FuncId::FromString(_) | FuncId::Move(..) =>
+            FuncId::Equal(data_type) => equality_name(data_type),
+            FuncId::Compare(comparison, ordered) => Name::new(
+                FIRST,
+                ordered.data_type().name(),
+                comparison.verb(),
+            ),
+            FuncId::Arithmetic(function) => Name::new(FIRST, "integer", function.verb()),
+            FuncId::IntegerAbs => Name::new(FIRST, "integer", "-abs"),
+            FuncId::Logic(function) => Name::new(FIRST, "", function.verb()),
+            FuncId::Text(function) => text_name(function),
+            FuncId::Part(part, text_type) => Name::new(
                 THIRD,
-            FuncId::TimeInRange => SECOND,
-            FuncId::HigherOrder(function) => version_of_higher(function),
-            _ => FIRST,
+                text_type.data_type().name(),
+                part.verb(),
+            ),
+            FuncId::StringFrom(printed) => Name::new(THIRD, "string", printed.verb()),
+            FuncId::FromString(printed) => Name::new(
+                THIRD,
+                printed.data_type().name(),
+                "-from-string",
+            ),
+            FuncId::Move(moved, direction) => move_name(moved, direction),
+            FuncId::TimeInRange => Name::new(SECOND, "", "time-in-range"),
+            FuncId::Bag(function, data_type) => Name::new(FIRST, data_type.name(), function.verb()),
+            FuncId::HigherOrder(function) => higher_name(function),
         }
     }
 
-    /// What it is of, as its name says.
-    fn subject(self) -> &'static str
-        ensures { result.now ≡ subject_of self }
-    {
-        match self {
-            FuncId::Equal(data_type) | FuncId::Bag(_, data_type) => data_type.name(),
-            FuncId::Compare(_, ordered) => ordered.data_type().name(),
-            FuncId::Arithmetic(_) | FuncId::IntegerAbs => "integer",
-            FuncId::Text(_) | FuncId::StringFrom(_) => "string",
-            FuncId::Part(_, text_type) => text_type.data_type().name(),
-            FuncId::FromString(printed) => printed.data_type().name(),
-            FuncId::Move(moved, _) => subject_of_moved(moved),
-            FuncId::Logic(_) | FuncId::TimeInRange | FuncId::HigherOrder(_) => "",
-        }
-    }
-
-    /// What it does, as its name says.
-    fn verb(self) -> &'static str
-        ensures { result.now ≡ verb_of self }
-    {
-        match self {
-            FuncId::Equal(_) => "-equal",
-            FuncId::Compare(comparison, _) => verb_of_comparison(comparison),
-            FuncId::Arithmetic(function) => verb_of_arithmetic(function),
-            FuncId::IntegerAbs => "-abs",
-            FuncId::Logic(function) => verb_of_logic(function),
-            FuncId::Text(function) => verb_of_text(function),
-            FuncId::Part(part, _) => verb_of_part(part),
-            FuncId::StringFrom(printed) => verb_of_printed(printed),
-            FuncId::FromString(_) => "-from-string",
-            FuncId::Move(moved, direction) => verb_of_move(moved, direction),
-            FuncId::TimeInRange => "time-in-range",
-            FuncId::Bag(function, _) => verb_of_bag(function),
-            FuncId::HigherOrder(function) => verb_of_higher(function),
-        }
-    }
-
-    /// Whether the text is the function's name in the version.
-    fn has_name(self, version: &str, uri: &str) -> bool
-        ensures { result ≡ bytes_eq uri.now (version.now ++ (subject_of self ++ verb_of self)) }
-    {
-        is_name(
-            uri.as_bytes(),
-            version.as_bytes(),
-            self.subject().as_bytes(),
-            self.verb().as_bytes(),
-        )
-    }
-
-    /// Whether it has a name in the third version beside its first one.
+    /// Whether it has a name in the third version beside that in the first.
     fn has_later_name(self) -> bool
         ensures { result ≡ has_later_name self }
     {
@@ -286,7 +295,8 @@ impl FuncId {
     fn is_named(self, uri: &str) -> bool
         ensures { result ≡ names uri.now self }
     {
-        self.has_name(self.version(), uri) || (self.has_later_name() && self.has_name(THIRD, uri))
+        let name = self.name();
+        name.is_written(name.version, uri) || (self.has_later_name() && name.is_written(THIRD, uri))
     }
 }
 
@@ -388,18 +398,9 @@ fn first_named(functions: &[FuncId], uri: &str) -> Option<FuncId>
     None
 }
 
-/// The function that stands alone and that the text names.
-#[tactic(auto, unfolding(crate::specs::Table::single_functions))]
-fn single_named(uri: &str) -> Option<FuncId>
-    ensures { result ≡ find (names uri.now) single_functions }
-{
-    first_named(&SINGLE, uri)
-}
-
 /// The equality that the text names.
-#[tactic(auto, unfolding(crate::specs::Table::equal_functions))]
-fn equal_named(uri: &str) -> Option<FuncId>
-    ensures { result ≡ find (names uri.now) equal_functions }
+fn equality_named(uri: &str) -> Option<FuncId>
+    ensures { result ≡ find (names uri.now) (map function_id.Equal DataType.ALL) }
 {
     DataType::ALL
         .iter()
@@ -407,9 +408,39 @@ fn equal_named(uri: &str) -> Option<FuncId>
         .find(|function| function.is_named(uri))
 }
 
-/// The first of these comparisons that the text names.
+/// The function to a string that the text names.
+fn string_from_named(uri: &str) -> Option<FuncId>
+    ensures { result ≡ find (names uri.now) (map function_id.StringFrom PrintedType.ALL) }
+{
+    PrintedType::ALL
+        .iter()
+        .map(|printed| FuncId::StringFrom(*printed))
+        .find(|function| function.is_named(uri))
+}
+
+/// The function from a string that the text names.
+fn from_string_named(uri: &str) -> Option<FuncId>
+    ensures { result ≡ find (names uri.now) (map function_id.FromString PrintedType.ALL) }
+{
+    PrintedType::ALL
+        .iter()
+        .map(|printed| FuncId::FromString(*printed))
+        .find(|function| function.is_named(uri))
+}
+
+/// The comparison of this sort that the text names.
+fn comparison_named(comparison: Comparison, uri: &str) -> Option<FuncId>
+    ensures { result ≡ find (names uri.now) (map (function_id.Compare comparison) OrderedType.ALL) }
+{
+    OrderedType::ALL
+        .iter()
+        .map(|ordered| FuncId::Compare(comparison, *ordered))
+        .find(|function| function.is_named(uri))
+}
+
+/// The comparison of one of these sorts that the text names.
 fn compare_named(comparisons: &[Comparison], uri: &str) -> Option<FuncId>
-    ensures { result ≡ find (names uri.now) (compare_functions comparisons.now) }
+    ensures { result ≡ find (names uri.now) (flat_map (λ c. map (function_id.Compare c) OrderedType.ALL) comparisons.now) }
 {
     for comparison in comparisons {
         match comparison_named(*comparison, uri) {
@@ -420,51 +451,19 @@ fn compare_named(comparisons: &[Comparison], uri: &str) -> Option<FuncId>
     None
 }
 
-/// The one of these comparisons that the text names.
-#[tactic(auto, unfolding(crate::specs::Table::compares_of))]
-fn comparison_named(comparison: Comparison, uri: &str) -> Option<FuncId>
-    ensures { result ≡ find (names uri.now) (compares_of comparison) }
+/// The function of this sort, of bags, that the text names.
+fn bag_function_named(function: BagFunction, uri: &str) -> Option<FuncId>
+    ensures { result ≡ find (names uri.now) (map (function_id.Bag function) DataType.ALL) }
 {
-    OrderedType::ALL
+    DataType::ALL
         .iter()
-        .map(|ordered| FuncId::Compare(comparison, *ordered))
-        .find(|function| function.is_named(uri))
+        .map(|data_type| FuncId::Bag(function, *data_type))
+        .find(|found| found.is_named(uri))
 }
 
-/// The function to or from a string that the text names.
-#[tactic(auto, using(crate::proofs::NameLemmas::find_append), unfolding(crate::specs::Table::printed_functions))]
-fn printed_named(uri: &str) -> Option<FuncId>
-    ensures { result ≡ find (names uri.now) printed_functions }
-{
-    if let Some(function) = string_from_named(uri) {
-        return Some(function);
-    }
-    from_string_named(uri)
-}
-
-/// The function to a string that the text names.
-fn string_from_named(uri: &str) -> Option<FuncId>
-    ensures { result ≡ find (names uri.now) (map function_id.StringFrom all_printed) }
-{
-    PrintedType::ALL
-        .iter()
-        .map(|printed| FuncId::StringFrom(*printed))
-        .find(|function| function.is_named(uri))
-}
-
-/// The function from a string that the text names.
-fn from_string_named(uri: &str) -> Option<FuncId>
-    ensures { result ≡ find (names uri.now) (map function_id.FromString all_printed) }
-{
-    PrintedType::ALL
-        .iter()
-        .map(|printed| FuncId::FromString(*printed))
-        .find(|function| function.is_named(uri))
-}
-
-/// The first of these functions of bags that the text names.
+/// The function of one of these sorts, of bags, that the text names.
 fn bag_named(functions: &[BagFunction], uri: &str) -> Option<FuncId>
-    ensures { result ≡ find (names uri.now) (bag_functions functions.now) }
+    ensures { result ≡ find (names uri.now) (flat_map (λ f. map (function_id.Bag f) DataType.ALL) functions.now) }
 {
     for function in functions {
         match bag_function_named(*function, uri) {
@@ -475,52 +474,26 @@ fn bag_named(functions: &[BagFunction], uri: &str) -> Option<FuncId>
     None
 }
 
-/// The one of these functions of bags that the text names.
-#[tactic(auto, unfolding(crate::specs::Table::bags_of))]
-fn bag_function_named(function: BagFunction, uri: &str) -> Option<FuncId>
-    ensures { result ≡ find (names uri.now) (bags_of function) }
-{
-    DataType::ALL
-        .iter()
-        .map(|data_type| FuncId::Bag(function, *data_type))
-        .find(|found| found.is_named(uri))
-}
-
-/// The comparison that the text names.
-#[tactic(auto, unfolding(crate::specs::Table::all_compare_functions))]
-fn any_compare_named(uri: &str) -> Option<FuncId>
-    ensures { result ≡ find (names uri.now) all_compare_functions }
-{
-    compare_named(&Comparison::ALL, uri)
-}
-
-/// The function of bags that the text names.
-#[tactic(auto, unfolding(crate::specs::Table::all_bag_functions))]
-fn any_bag_named(uri: &str) -> Option<FuncId>
-    ensures { result ≡ find (names uri.now) all_bag_functions }
-{
-    bag_named(&BagFunction::ALL, uri)
-}
-
 impl FuncId {
     /// The function that the URI names.
-    #[tactic(auto, using(crate::proofs::NameLemmas::find_append, crate::proofs::TableLemmas::is_table), unfolding(crate::specs::Table::function_named))]
     pub fn from_uri(uri: &str) -> Option<FuncId>
-        ensures value { result ≡ function_named uri.now }
-        ensures law { IsTable }
+        ensures { (f : FuncId) → (result ≡ Some f) ↔ IsTrue (names uri.now f) }
     {
-        if let Some(function) = single_named(uri) {
+        if let Some(function) = first_named(&SINGLE, uri) {
             return Some(function);
         }
-        if let Some(function) = equal_named(uri) {
+        if let Some(function) = equality_named(uri) {
             return Some(function);
         }
-        if let Some(function) = any_compare_named(uri) {
+        if let Some(function) = string_from_named(uri) {
             return Some(function);
         }
-        if let Some(function) = printed_named(uri) {
+        if let Some(function) = from_string_named(uri) {
             return Some(function);
         }
-        any_bag_named(uri)
+        if let Some(function) = compare_named(&Comparison::ALL, uri) {
+            return Some(function);
+        }
+        bag_named(&BagFunction::ALL, uri)
     }
 }

@@ -1,5 +1,6 @@
+//! What each function takes and gives.
 ghost use Rattle.std.specs.Prelude.{◌≡◌, slice_get};
-ghost use Rattle.xa_func.specs.Signature.{takes, kind_at, IsByPlaces, of_values, question, one, pair, integers, booleans, texts, moving, move_signature, bag_signature, signature_of};
+ghost use Rattle.xa_func.specs.Signature.{takes, kind_at, IsByPlaces, of_values, question, type_of_kind, of_each, result_type_of, one, pair, integers, booleans, texts, moving, move_signature, bag_signature, signature_of};
 
 use crate::func_id::{Arithmetic, BagFunction, FuncId, HigherOrder, Logic, Moved, TextFunction};
 use xa_value::DataType;
@@ -44,6 +45,36 @@ const INTEGER: Kind = Kind::Value(DataType::Integer);
 const STRING: Kind = Kind::Value(DataType::String);
 
 const TIME: Kind = Kind::Value(DataType::Time);
+
+impl Kind {
+    /// The data type of the value, or of the bag's values.
+    pub fn data_type(self) -> DataType
+        ensures { result ≡ type_of_kind self }
+    {
+        match self {
+            Kind::Value(data_type) | Kind::Bag(data_type) => data_type,
+        }
+    }
+
+    /// The kind of one of the values.
+    pub fn of_each(self) -> Kind
+        ensures { result ≡ of_each self }
+    {
+        Kind::Value(self.data_type())
+    }
+}
+
+impl Signature {
+    /// The type of what a function of the signature gives. A function that takes a function counts as one that gives a boolean.
+    pub fn result_type(self) -> DataType
+        ensures { result ≡ result_type_of self }
+    {
+        match self {
+            Signature::FirstOrder(_, kind) => kind.data_type(),
+            Signature::HigherOrder(_) => DataType::Boolean,
+        }
+    }
+}
 
 impl FuncId {
     /// What the function takes and gives.

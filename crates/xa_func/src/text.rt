@@ -1,8 +1,9 @@
-ghost use Rattle.std.specs.Prelude.{◌≡◌, ◌<◌, Ok, map, length, chars, encode_utf8_all, string_bytes, IfOk};
+//! Functions of texts.
+ghost use Rattle.std.specs.Prelude.{◌≡◌, ◌<◌, map, length, chars, encode_utf8_all, string_bytes, IfOk};
 ghost use Rattle.std.specs.List.{concat};
 ghost use Rattle.xa_value.specs.declared.data_type.DataType.TheVariants as data_type;
 ghost use Rattle.xa_func.specs.declared.signature.Kind.TheVariants as kind;
-ghost use Rattle.xa_func.specs.Fault.{Gives};
+ghost use Rattle.xa_value.specs.Gives.{Gives};
 ghost use Rattle.xa_func.specs.Signature.{kind_of, Every};
 ghost use Rattle.xa_func.specs.Arguments.{texts};
 ghost use Rattle.xa_func.specs.Text.{contains, has_part, end_of, is_range, substring};
@@ -11,7 +12,7 @@ use crate::arguments::string_of;
 use crate::fault::FuncFault;
 use crate::func_id::TextPart;
 use std::alloc::{AllocError, Global};
-use xa_value::{Text, Value};
+use xa_value::{OrMemory, Text, Value};
 
 /// Whether the part stands anywhere in the text.
 fn contains(text: &[u8], part: &[u8]) -> bool
@@ -39,9 +40,9 @@ pub(crate) fn has_part(place: TextPart, text: &[u8], part: &[u8]) -> bool
 }
 
 /// The texts in a row.
-pub(crate) fn concatenated(alloc: Global, arguments: &[Value]) -> Result<Text, FuncFault>
+pub(crate) fn concatenation(alloc: Global, arguments: &[Value]) -> Result<Text, AllocError>
     requires { Every (kind.Value data_type.String) (map kind_of arguments.now) }
-    ensures { Gives result (Ok (concat (texts arguments.now))) }
+    ensures { IfOk result (λ text. text ≡ concat (texts arguments.now)) }
 {
     let mut text = String::new(alloc);
     for argument in arguments {
@@ -59,7 +60,7 @@ fn characters(alloc: Global, text: &str) -> Result<Vec<char>, AllocError>
 }
 
 /// The text of the characters.
-fn written(alloc: Global, characters: &[char]) -> Result<Text, AllocError>
+fn text_of_characters(alloc: Global, characters: &[char]) -> Result<Text, AllocError>
     ensures { IfOk result (λ t. t ≡ encode_utf8_all characters.now) }
 {
     let mut text = String::new(alloc);
@@ -89,14 +90,19 @@ fn is_range(begin: i64, end: i128, count: usize) -> bool
 
 /// The characters from one place up to another.
 #[tactic(auto, unfolding(crate::specs::Text::substring))]
-pub(crate) fn substring(alloc: Global, text: &str, begin: i64, end: i64) -> Result<Text, FuncFault>
+pub(crate) fn substring(
+    alloc: Global,
+    text: &str,
+    begin: i64,
+    end: i64,
+) -> Result<Text, OrMemory<FuncFault>>
     ensures { Gives result (substring text.now begin end) }
 {
     let characters = characters(alloc, text)?;
     let last = end_of(end, characters.len());
     if !is_range(begin, last, characters.len()) {
-        return Err(FuncFault::Position);
+        return Err(OrMemory::Error(FuncFault::Position));
     }
     let part = &characters[begin as usize..last as usize];
-    Ok(written(alloc, part)?)
+    Ok(text_of_characters(alloc, part)?)
 }

@@ -1,15 +1,17 @@
-use Rattle.std.proofs.Common.{sym, ◌∙◌}
+use Rattle.std.proofs.Common.{map, sym, ◌∙◌}
 use Rattle.xa_func.specs.declared.func_id.Comparison.TheVariants.{GreaterThan}
-use Rattle.xa_func.specs.Table.{names, compares_of}
+use Rattle.xa_func.specs.declared.func_id.FuncId.TheVariants.{Compare}
+use Rattle.xa_func.specs.declared.func_id.TheConstants.OrderedType.{ALL}
+use Rattle.xa_func.specs.Table.{names}
 use Rattle.xa_func.proofs.NameLemmas.{found_here, not_here}
 use Rattle.xa_func.proofs.names.compare_named.Goals as goal
 
 pub returns-in-Some : goal.returns-in-Some
 returns-in-Some c =
-    found_here (names c.args.uri.now) compares_of c.args.comparisons.now c.loop-comparison.comparison-index GreaterThan c.in-Some.function
+    found_here (names c.args.uri.now) (λ c. map (Compare c) ALL) c.args.comparisons.now c.loop-comparison.comparison-index GreaterThan c.in-Some.function
     c.loop-comparison-test.true c.in-Some.ensures c.loop-comparison.invariant
 
 pub loop-comparison-preserved : goal.loop-comparison-preserved
 loop-comparison-preserved c =
-    not_here (names c.args.uri.now) compares_of c.args.comparisons.now c.loop-comparison.comparison-index GreaterThan
+    not_here (names c.args.uri.now) (λ c. map (Compare c) ALL) c.args.comparisons.now c.loop-comparison.comparison-index GreaterThan
     c.loop-comparison-test.true (sym c.comparison_named.ensures ∙ c.in-None.is) c.loop-comparison.invariant

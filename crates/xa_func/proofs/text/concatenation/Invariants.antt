@@ -5,7 +5,7 @@ use Rattle.xa_value.specs.declared.data_type.DataType.TheVariants as data_type
 use Rattle.xa_func.specs.declared.signature.Kind.TheVariants as kind
 use Rattle.xa_func.specs.Signature.{kind_of, Every}
 use Rattle.xa_func.specs.Arguments.{texts}
-use Rattle.xa_func.proofs.text.concatenated.Given as goal
+use Rattle.xa_func.proofs.text.concatenation.Given as goal
 
 -- the rest are strings, and complete the text
 abbrev pub invariant-loop-argument : goal.invariant-loop-argument
