@@ -3,16 +3,35 @@ use Rattle.std.proofs.Common.{◌≡◌, refl, ap, sym, ◌∙◌, subst, Bool, 
 use Rattle.std.proofs.lemmas.List.{map-append}
 use Rattle.std.specs.Prelude.{Result, Ok, Err, flat_map, IsErrAnd}
 use mathlib.Core.Bool.{beq}
+use Rattle.xa_value.specs.declared.data_type.DataType.{DataType}
+use Rattle.xa_value.specs.declared.or_memory.OrMemory.{OrMemory}
+use Rattle.xa_value.specs.declared.or_memory.OrMemory.TheVariants.{Memory, Error}
 use Rattle.xa_value.specs.declared.value.Value.{Value}
+use Rattle.xa_value.specs.Gives.{Gives}
+use Rattle.xa_func.specs.Logic.{or_of, and_of}
 use Rattle.xa_bag.specs.declared.fault.BagFault.{BagFault}
-use Rattle.xa_bag.specs.declared.fault.BagFault.TheVariants.{Memory, NotOne, Inner}
-use Rattle.xa_bag.specs.Gives.{Gives}
 use Rattle.xa_bag.specs.Bag.{Contents, bag_of}
 use Rattle.xa_bag.specs.declared.value_or_bag.ValueOrBag.{ValueOrBag}
 use Rattle.xa_bag.specs.declared.value_or_bag.ValueOrBag.TheVariants as given
 use Rattle.xa_bag.specs.ValueOrBag.{values_of}
-use Rattle.xa_bag.specs.HigherOrder.{choices, EachInItsPlace, with_first, collected}
-use Rattle.xa_bag.specs.Joining.{stops_at, verdict, each_from, added}
+use Rattle.xa_bag.specs.HigherOrder.{choices, EachInItsPlace, holds, with_first, collected, as_bag}
+
+-- or where the join stops at True, and where it stops at False
+abbrev pub verdict : {F : Type 0} → Bool → List (Result Bool F) → Result Bool F
+verdict stop rs = if stop then or_of rs else and_of rs
+
+-- the boolean at which it stops
+abbrev pub stops_at : Bool → Bool → Bool
+stops_at true b = b
+stops_at false b = not b
+
+-- what is found for each choice that begins with those chosen
+abbrev pub each_from : {R : Type 0} → (List Value → R) → List Value → List ValueOrBag → List R
+each_from f chosen arguments = map (λ vs. f (chosen ++ vs)) (choices arguments)
+
+-- of each value with the values of another list
+abbrev pub each_with : {F : Type 0} → Bool → (List Value → Result Value F) → List Value → List Value → Result Bool (BagFault F)
+each_with stop f vs ws = verdict false (map (λ v. verdict stop (map (λ w. holds f (v ∷ w ∷ [])) ws)) vs)
 
 -- the first verdict, or the second where the first does not decide
 abbrev pub then_verdict : {F : Type 0} → Bool → Result Bool F → Result Bool F → Result Bool F
@@ -43,7 +62,7 @@ then_again false (Ok false) s t = refl
 then_again true (Err e) s t = refl
 then_again false (Err e) s t = refl
 
-then_last : {F : Type 0} (stop : Bool) (t : Result Bool F) → t ≡ then_verdict stop (Ok (not stop)) t
+then_last : {F : Type 0} (stop : Bool) (t : Result Bool F) → t ≡ then_verdict stop (verdict stop []) t
 then_last true t = refl
 then_last false t = refl
 
@@ -54,15 +73,14 @@ verdict_append stop (r ∷ rs) ss =
     ∙ then_again stop r (verdict stop rs) (verdict stop ss) ∙ ap (λ v. then_verdict stop v (verdict stop ss)) (sym (verdict_cons stop r rs))
 
 -- a fault of the first decides
-pub fault_first : {X Y F : Type 0} (e : BagFault F) (x : Result X (BagFault F)) (y : Result Y (BagFault F))
-    → ((d : BagFault F) → x ≡ Err d → y ≡ Err d) → Gives {X = X} (Err e) x → Gives {X = Y} (Err e) y
+pub fault_first : {X Y E : Type 0} (e : OrMemory E) (x : Result X E) (y : Result Y E)
+    → ((d : E) → x ≡ Err d → y ≡ Err d) → Gives {X = X} (Err e) x → Gives {X = Y} (Err e) y
 fault_first Memory x y through gives = tt
-fault_first NotOne x y through gives = through NotOne gives
-fault_first (Inner f) x y through gives = through (Inner f) gives
+fault_first (Error d) x y through gives = through d gives
 
 -- a fault that was passed on
-pub passed_on : {Y F : Type 0} (e : BagFault F) (r y : Result Y (BagFault F)) → IsErrAnd r (λ d. d ≡ e) → Gives {X = Y} (Err e) y → Gives r y
-passed_on {Y} {F} e (Err d) y same gives = let P : BagFault F → Type 0 = λ f. Gives {X = Y} (Err f) y in subst P (sym same) gives
+pub passed_on : {Y E : Type 0} (e : OrMemory E) (r : Result Y (OrMemory E)) (y : Result Y E) → IsErrAnd r (λ d. d ≡ e) → Gives {X = Y} (Err e) y → Gives r y
+passed_on {Y} {E} e (Err d) y same gives = let P : OrMemory E → Type 0 = λ f. Gives {X = Y} (Err f) y in subst P (sym same) gives
 passed_on e (Ok x) y same gives = absurd same
 
 -- the values of a walk from one value on, with several results each
@@ -78,7 +96,7 @@ taken_one stop h vs ws v whole taken so_far =
     sym (verdict_cons stop (h v) (map h ws)) ∙ sym (ap (λ us. verdict stop (map h us)) taken) ∙ so_far
 
 -- a fault here decides
-pub fault_decides : {F : Type 0} (stop : Bool) (here next whole r : Result Bool (BagFault F)) (e : BagFault F)
+pub fault_decides : {E : Type 0} (stop : Bool) (here next whole : Result Bool E) (r : Result Bool (OrMemory E)) (e : OrMemory E)
     → then_verdict stop here next ≡ whole → IsErrAnd r (λ d. d ≡ e) → Gives {X = Bool} (Err e) here → Gives r whole
 fault_decides stop here next whole r e so_far same gives =
     passed_on e r whole same (fault_first e here whole (λ d at. sym so_far ∙ ap (λ x. then_verdict stop x next) at) gives)
@@ -125,42 +143,78 @@ collected_append [] ss = appended_first (collected ss)
 collected_append (Ok x ∷ rs) ss = ap (with_first x) (collected_append rs ss) ∙ appended_with x (collected rs) (collected ss)
 collected_append (Err e ∷ rs) ss = refl
 
--- further values put to a bag that is given
-abbrev pub then_added : {F : Type 0} → Result Contents F → Result (List Value) F → Result Contents F
-then_added (Ok b) r = added b r
-then_added (Err e) r = Err e
+-- values alone are all given
+collected_all : {X F : Type 0} (xs : List X) → collected {F = F} (map Ok xs) ≡ Ok xs
+collected_all [] = refl
+collected_all (x ∷ xs) = ap (with_first x) (collected_all xs)
 
-added_appended : {F : Type 0} (b : Contents) (r s : Result (List Value) F) → added b (appended r s) ≡ then_added (added b r) s
-added_appended b (Ok vs) (Ok ws) = ap (λ us. Ok (bag_of b.data_type us)) (sym (append_assoc b.values vs ws))
-added_appended b (Ok vs) (Err e) = refl
-added_appended b (Err e) s = refl
+-- after values, what the further results are
+after_values : {X F : Type 0} (xs : List X) (rs : List (Result X F)) → collected (map Ok xs ++ rs) ≡ appended (Ok xs) (collected rs)
+after_values xs rs = collected_append (map Ok xs) rs ∙ ap (λ r. appended r (collected rs)) (collected_all xs)
 
--- the values of a walk from one value on
-pub added_next : {F : Type 0} (b : Contents) (g : Value → List (Result Value F)) (vs ws : List Value) (v : Value) (whole : Result Contents F)
-    → vs ≡ v ∷ ws → added b (collected (flat_map g vs)) ≡ whole → then_added (added b (collected (g v))) (collected (flat_map g ws)) ≡ whole
-added_next b g vs ws v whole taken so_far =
-    sym (ap (added b) (collected_append (g v) (flat_map g ws)) ∙ added_appended b (collected (g v)) (collected (flat_map g ws)))
-    ∙ sym (ap (λ us. added b (collected (flat_map g us))) taken) ∙ so_far
+-- one more value, or a fault
+collected_put : {F : Type 0} (vs : List Value) (v : Value) → collected {F = F} (map Ok vs ++ Ok v ∷ []) ≡ Ok (vs ++ v ∷ [])
+collected_put vs v = after_values vs (Ok v ∷ [])
+
+collected_fault : {F : Type 0} (vs : List Value) (e : F) → collected (map Ok vs ++ Err e ∷ []) ≡ Err e
+collected_fault vs e = after_values vs (Err e ∷ [])
 
 -- nothing more
-pub added_none : {F : Type 0} (b : Contents) → added {F = F} b (Ok []) ≡ Ok b
-added_none b = ap (λ vs. Ok (bag_of b.data_type vs)) (append-nil b.values)
+collected_none : {F : Type 0} (vs : List Value) → collected {F = F} (map Ok vs ++ []) ≡ Ok vs
+collected_none vs = ap collected (append-nil (map Ok vs)) ∙ collected_all vs
 
--- the type stays
-pub added_type : {F : Type 0} (b c : Contents) (r : Result (List Value) F) → added b r ≡ Ok c → c.data_type ≡ b.data_type
-added_type b c (Ok vs) same = cc
-added_type b c (Err e) same = cc
+-- the bag has the type, and the values
+pub as_bag_type : {F : Type 0} (t : DataType) (r : Result (List Value) F) (b : Contents) → as_bag t r ≡ Ok b → b.data_type ≡ t
+as_bag_type t (Ok vs) b same = cc
+as_bag_type t (Err e) b same = cc
+
+as_bag_values : {F : Type 0} (t : DataType) (r : Result (List Value) F) (b : Contents) → as_bag t r ≡ Ok b → r ≡ Ok b.values
+as_bag_values t (Ok vs) b same = let P : bag_of t vs ≡ b = cc in ap (λ c. Ok c.values) P
+as_bag_values t (Err e) b same = cc
+
+as_bag_fault : {F : Type 0} (t : DataType) (r : Result (List Value) F) (e : F) → as_bag t r ≡ Err e → r ≡ Err e
+as_bag_fault t (Ok vs) e same = cc
+as_bag_fault t (Err d) e same = cc
+
+-- the values of a walk from one value on
+pub added_next : {F : Type 0} (xs : List Value) (g : Value → List (Result Value F)) (vs ws : List Value) (v : Value) (whole : Result (List Value) F)
+    → vs ≡ v ∷ ws → collected (map Ok xs ++ flat_map g vs) ≡ whole → collected ((map Ok xs ++ g v) ++ flat_map g ws) ≡ whole
+added_next xs g vs ws v whole taken so_far =
+    ap collected (append_assoc (map Ok xs) (g v) (flat_map g ws)) ∙ sym (ap (λ us. collected (map Ok xs ++ flat_map g us)) taken) ∙ so_far
 
 -- a fault here is the result
-pub fault_ends : {F : Type 0} (here whole r : Result Contents (BagFault F)) (next : Result (List Value) (BagFault F)) (e : BagFault F)
-    → then_added here next ≡ whole → IsErrAnd r (λ d. d ≡ e) → Gives {X = Contents} (Err e) here → Gives r whole
-fault_ends here whole r next e so_far same gives =
-    passed_on e r whole same (fault_first e here whole (λ d at. sym so_far ∙ ap (λ x. then_added x next) at) gives)
+pub fault_ends : {E : Type 0} (t : DataType) (here next : List (Result Value E)) (whole : Result (List Value) E) (r : Result Contents (OrMemory E)) (e : OrMemory E)
+    → collected (here ++ next) ≡ whole → IsErrAnd r (λ d. d ≡ e) → Gives {X = Contents} (Err e) (as_bag t (collected here)) → Gives r (as_bag t whole)
+fault_ends {E} t here next whole r e so_far same gives =
+    passed_on e r (as_bag t whole) same (fault_first e (as_bag t (collected here)) (as_bag t whole) through gives) where
+      through : (d : E) → as_bag t (collected here) ≡ Err d → as_bag t whole ≡ Err d
+      through d at =
+          ap (as_bag t) (sym so_far ∙ collected_append here next ∙ ap (λ x. appended x (collected next)) (as_bag_fault t (collected here) d at))
+
+-- with one result after the values, a fault is the result, and a value stands at the end
+pub fault_added : {E : Type 0} (t : DataType) (vs : List Value) (found : Result Value E) (r : Result Contents (OrMemory E)) (e : OrMemory E)
+    → IsErrAnd r (λ d. d ≡ e) → Gives {X = Value} (Err e) found → Gives r (as_bag t (collected (map Ok vs ++ found ∷ [])))
+fault_added {E} t vs found r e same gives =
+    passed_on e r (as_bag t (collected (map Ok vs ++ found ∷ []))) same (fault_first e found (as_bag t (collected (map Ok vs ++ found ∷ []))) through gives) where
+      through : (d : E) → found ≡ Err d → as_bag t (collected (map Ok vs ++ found ∷ [])) ≡ Err d
+      through d at = ap (λ x. as_bag t (collected (map Ok vs ++ x ∷ []))) at ∙ ap (as_bag t) (collected_fault vs d)
+
+pub value_added : {E : Type 0} (b next : Contents) (v : Value) (found : Result Value E)
+    → found ≡ Ok v → next ≡ bag_of b.data_type (b.values ++ v ∷ []) → as_bag b.data_type (collected (map Ok b.values ++ found ∷ [])) ≡ Ok next
+value_added b next v found at put =
+    ap (λ x. as_bag b.data_type (collected (map Ok b.values ++ x ∷ []))) at ∙ ap (as_bag b.data_type) (collected_put b.values v) ∙ ap Ok (sym put)
+
+-- where nothing is left, the values are all
+pub all_added : {E : Type 0} (t : DataType) (b : Contents) (g : Value → List (Result Value E)) (vs : List Value) (whole : Result (List Value) E)
+    → (b.data_type ≡ t) → vs ≡ [] → collected (map Ok b.values ++ flat_map g vs) ≡ whole → as_bag t whole ≡ Ok b
+all_added t b g vs whole type none so_far =
+    ap (as_bag t) (sym so_far ∙ ap (λ us. collected (map Ok b.values ++ flat_map g us)) none ∙ collected_none b.values) ∙ ap (λ s. Ok (bag_of s b.values)) (sym type)
 
 -- else the rest is still to be added
-pub rest_added : {F : Type 0} (b : Contents) (here whole : Result Contents F) (next : Result (List Value) F)
-    → then_added here next ≡ whole → here ≡ Ok b → added b next ≡ whole
-rest_added b here whole next so_far at = sym (ap (λ x. then_added x next) at) ∙ so_far
+pub rest_added : {E : Type 0} (t : DataType) (b : Contents) (here next : List (Result Value E)) (whole : Result (List Value) E)
+    → collected (here ++ next) ≡ whole → as_bag t (collected here) ≡ Ok b → collected (map Ok b.values ++ next) ≡ whole
+rest_added t b here next whole so_far at =
+    after_values b.values next ∙ sym (collected_append here next ∙ ap (λ x. appended x (collected next)) (as_bag_values t (collected here) b at)) ∙ so_far
 
 map_agrees : {X Y : Type 0} (f g : X → Y) → ((x : X) → f x ≡ g x) → (xs : List X) → map f xs ≡ map g xs
 map_agrees f g agree [] = refl
@@ -174,18 +228,22 @@ map_after : {X Y Z : Type 0} (f : Y → Z) (g : X → Y) (h : X → Z) → ((x :
 map_after f g h agree [] = refl
 map_after f g h agree (x ∷ xs) = rw (agree x, map_after f g h agree xs) refl
 
--- the choices that begin with those chosen
-each_after : {R : Type 0} (f : List Value → R) (chosen : List Value) (arguments : List ValueOrBag) → each_from f chosen arguments ≡ map (λ vs. f (chosen ++ vs)) (choices arguments)
-each_after f chosen [] = ap (λ vs. f vs ∷ []) (sym (append-nil chosen))
-each_after {R} f chosen (argument ∷ rest) =
+-- no further argument
+pub chosen_alone : {R : Type 0} (f : List Value → R) (chosen : List Value) → each_from f chosen [] ≡ f chosen ∷ []
+chosen_alone f chosen = ap (λ vs. f vs ∷ []) (append-nil chosen)
+
+-- the choices that begin with those chosen, by the value of the next argument
+chosen_next : {R : Type 0} (f : List Value → R) (chosen : List Value) (argument : ValueOrBag) (rest : List ValueOrBag)
+    → flat_map (λ v. each_from f (chosen ++ v ∷ []) rest) (values_of argument) ≡ each_from f chosen (argument ∷ rest)
+chosen_next f chosen argument rest =
     map_flat_map (λ vs. f (chosen ++ vs)) (λ v. map (λ vs. v ∷ vs) (choices rest)) (λ v. each_from f (chosen ++ v ∷ []) rest)
-    (λ v. each_after f (chosen ++ v ∷ []) rest
-    ∙ map_after (λ vs. f (chosen ++ vs)) (λ vs. v ∷ vs) (λ vs. f ((chosen ++ v ∷ []) ++ vs)) (λ vs. ap f (append_assoc chosen (v ∷ []) vs)) (choices rest))
+    (λ v. map_after (λ vs. f (chosen ++ vs)) (λ vs. v ∷ vs) (λ vs. f ((chosen ++ v ∷ []) ++ vs)) (λ vs. ap f (append_assoc chosen (v ∷ []) vs)) (choices rest))
     (values_of argument)
 
--- all choices
-pub each_choice : {R : Type 0} (f : List Value → R) (arguments : List ValueOrBag) → each_from f [] arguments ≡ map f (choices arguments)
-each_choice f arguments = each_after f [] arguments
+pub chosen_start : {R : Type 0} (f : List Value → R) (chosen : List Value) (arguments rest : List ValueOrBag) (argument : ValueOrBag) (vs : List Value)
+    → arguments ≡ argument ∷ rest → vs ≡ values_of argument → flat_map (λ v. each_from f (chosen ++ v ∷ []) rest) vs ≡ each_from f chosen arguments
+chosen_start f chosen arguments rest argument vs whole values =
+    ap (flat_map (λ v. each_from f (chosen ++ v ∷ []) rest)) values ∙ chosen_next f chosen argument rest ∙ ap (each_from f chosen) (sym whole)
 
 -- values alone have one choice
 one_choice : (vs : List Value) → choices (map given.Value vs) ≡ vs ∷ []

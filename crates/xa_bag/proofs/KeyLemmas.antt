@@ -1,6 +1,6 @@
 -- A set of keys finds what a walk over the values finds.
 use Rattle.std.proofs.Common.{◌≡◌, refl, ap, sym, ◌∙◌, Bool, true, false, not, cond, ◌||◌, List, [], ◌∷◌, ◌++◌, map}
-use Rattle.std.specs.BTreeSet.{BTreeSet, contains, Updates, IsOrdered}
+use Rattle.std.specs.BTreeSet.{BTreeSet, contains, Updates, IsOrdered, IsFromIterResult}
 use Rattle.std.proofs.lemmas.List.{map-append}
 use Rattle.std.proofs.lemmas.List.Folds.{list_any-append}
 use Rattle.std.specs.Set.{is_member}
@@ -11,9 +11,12 @@ use Rattle.xa_value.specs.Order.{NumberAndBytes, key_of, compare_keys, same, typ
 use Rattle.xa_value.proofs.OrderLemmas.{keys_equal, keys_match, keys_tell_apart, same_types}
 use Rattle.xa_bag.specs.Bag.{OfType}
 use Rattle.xa_bag.proofs.BagLemmas.{of_type_push}
-use Rattle.xa_bag.specs.Keys.{HasKeys}
-use Rattle.xa_bag.specs.Distinct.{with_new}
+use Rattle.xa_bag.proofs.SetLemmas.{with_new}
 use Rattle.xa_bag.specs.Sets.{is_among}
+
+-- the set has the keys of the values, and no others
+abbrev pub HasKeys : BTreeSet NumberAndBytes → List Value → Type 0
+HasKeys keys vs = IsFromIterResult compare_keys (map key_of vs) keys
 
 -- among values of its type, a value is found by its key
 found_by_key : (t : DataType) (vs : List Value) (v : Value) → OfType t vs → type_of v ≡ t → is_member (eq_by_cmp compare_keys) (map key_of vs) (key_of v) ≡ is_among vs v

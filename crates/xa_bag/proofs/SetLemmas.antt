@@ -1,5 +1,5 @@
 -- A list without doubles, made value by value.
-use Rattle.std.proofs.Common.{◌≡◌, refl, ap, sym, ◌∙◌, Bool, true, false, not, ◌&&◌, ◌||◌, cond, List, [], ◌∷◌, ◌++◌, append_assoc, append-nil, ℕ, suc, ◌+◌, ◌<◌, length, get_or, drop, add-one, drop-cons, subst}
+use Rattle.std.proofs.Common.{◌≡◌, refl, ap, sym, ◌∙◌, Bool, true, false, not, ◌&&◌, ◌||◌, cond, if◌then◌else◌, List, [], ◌∷◌, ◌++◌, map, append_assoc, append-nil, ℕ, suc, ◌+◌, ◌<◌, length, get_or, drop, add-one, drop-cons, subst}
 use Rattle.std.specs.Prelude.{filter}
 use Rattle.std.specs.List.{list_any}
 use Rattle.std.specs.Cmp.{IsEquivalence}
@@ -8,11 +8,24 @@ use Rattle.xa_value.specs.declared.data_type.DataType.{DataType}
 use Rattle.xa_value.specs.declared.value.Value.{Value}
 use Rattle.xa_value.specs.Order.{same}
 use Rattle.xa_value.proofs.OrderLemmas.{same_is_equivalence}
-use Rattle.xa_bag.specs.Distinct.{joined, with_new, with_shared}
+use Rattle.xa_func.specs.declared.signature.Kind.TheVariants as kind
+use Rattle.xa_func.specs.Signature.{Every, type_of_kind}
 use Rattle.xa_bag.specs.Sets.{is_among, distinct, all_values}
 use Rattle.xa_bag.specs.Bag.{Contents, bag_of, OfType}
 use Rattle.xa_bag.specs.declared.value_or_bag.ValueOrBag.{ValueOrBag}
-use Rattle.xa_bag.specs.ValueOrBag.{values_of, EachOf}
+use Rattle.xa_bag.specs.ValueOrBag.{values_of, type_of_each, kind_of_each}
+
+-- the values kept, and a further one that is not among them
+abbrev pub with_new : List Value → Value → List Value
+with_new kept v = if is_among kept v then kept else kept ++ v ∷ []
+
+-- the values kept, and those of the list that are not among them, without doubles
+abbrev pub joined : List Value → List Value → List Value
+joined kept vs = kept ++ filter (λ v. not (is_among kept v)) (distinct vs)
+
+-- the values kept, and a further one that is among the others and not among them
+abbrev pub with_shared : List Value → List Value → Value → List Value
+with_shared others kept v = if is_among others v then with_new kept v else kept
 
 -- a filter after another is one filter
 filter_filter : {X : Type 0} (p q r : X → Bool) → ((x : X) → r x ≡ (q x && p x)) → (xs : List X) → filter p (filter q xs) ≡ filter r xs
@@ -116,14 +129,21 @@ value_taken f t goal kept next new v vs rest taken put step type typed so_far =
 pub argument_taken : (f : List Value → List Value → List Value) → ((ks vs ws : List Value) → f ks (vs ++ ws) ≡ f (f ks vs) ws)
     → (t : DataType) (goal : List Value) (kept next : Contents) (a : ValueOrBag) (arguments rest : List ValueOrBag)
     → arguments ≡ a ∷ rest → next ≡ bag_of kept.data_type (f kept.values (values_of a))
-    → (kept.data_type ≡ t) → EachOf t arguments → f kept.values (all_values arguments) ≡ goal
-    → (next.data_type ≡ t) × EachOf t rest × (f next.values (all_values rest) ≡ goal)
+    → (kept.data_type ≡ t) → Every (kind.Value t) (map kind_of_each arguments) → f kept.values (all_values arguments) ≡ goal
+    → (next.data_type ≡ t) × Every (kind.Value t) (map kind_of_each rest) × (f next.values (all_values rest) ≡ goal)
 argument_taken f step t goal kept next a arguments rest taken put type typed so_far =
-    let P : List ValueOrBag → Type 0 = λ us. EachOf t us in (
+    let P : List ValueOrBag → Type 0 = λ us. Every (kind.Value t) (map kind_of_each us) in (
       ap (λ c. c.data_type) put ∙ type,
       (subst P taken typed).1,
       ap (λ c. f c.values (all_values rest)) put ∙ sym (step kept.values (values_of a) (all_values rest)) ∙ sym (ap (λ us. f kept.values (all_values us)) taken) ∙ so_far,
     )
+
+-- and that argument is of the bag's type
+pub argument_of_type : (t : DataType) (kept : Contents) (a : ValueOrBag) (arguments rest : List ValueOrBag)
+    → arguments ≡ a ∷ rest → (kept.data_type ≡ t) → Every (kind.Value t) (map kind_of_each arguments) → type_of_each a ≡ kept.data_type
+argument_of_type t kept a arguments rest taken type typed =
+    let P : List ValueOrBag → Type 0 = λ us. Every (kind.Value t) (map kind_of_each us) in
+    ap type_of_kind (subst P taken typed).0 ∙ sym type
 
 -- plain lists, put one after another
 pub put_lists : (ks vs ws : List Value) → ks ++ (vs ++ ws) ≡ (ks ++ vs) ++ ws

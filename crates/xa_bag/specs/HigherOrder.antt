@@ -75,5 +75,5 @@ as_bag t (Ok vs) = Ok (bag_of t vs)
 as_bag t (Err e) = Err e
 
 -- map: the bag of what it gives for each choice, the type being that of its values
-abbrev pub mapped : {F : Type 0} → DataType → (List Value → Result Value F) → List ValueOrBag → Result Contents (BagFault F)
-mapped t f arguments = as_bag t (collected (map (λ vs. outcome (f vs)) (choices arguments)))
+abbrev pub bag_of_results : {F : Type 0} → DataType → (List Value → Result Value F) → List ValueOrBag → Result Contents (BagFault F)
+bag_of_results t f arguments = as_bag t (collected (map (λ vs. outcome (f vs)) (choices arguments)))

@@ -1,10 +1,6 @@
 pub mod Applying
 pub mod Bag
-pub mod Distinct
-pub mod Function
-pub mod Gives
+pub mod Fault
 pub mod HigherOrder
-pub mod Joining
-pub mod Keys
 pub mod Sets
 pub mod ValueOrBag

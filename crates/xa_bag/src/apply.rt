@@ -1,37 +1,46 @@
 //! The bag, set and higher-order functions by their names, of arguments as expressions give them.
-ghost use Rattle.std.specs.Prelude.{◌≡◌, map};
-ghost use Rattle.xa_bag.specs.Gives.{Gives};
-ghost use Rattle.xa_bag.specs.ValueOrBag.{EachOf, kind_of_each};
-ghost use Rattle.xa_bag.specs.Applying.{bag_applied, boolean, the_one, the_size, whether_in, shared, whether_some, whether_subset, whether_equal, each_with_some, each_with_each, higher_order_applied};
+ghost use Rattle.std.specs.Prelude.{◌≡◌, false, map, IfOk};
+ghost use Rattle.xa_value.specs.declared.data_type.DataType.TheVariants as data_type_named;
+ghost use Rattle.xa_value.specs.Gives.{Gives, answered};
+ghost use Rattle.xa_func.specs.declared.func_id.BagFunction.TheVariants as bag_function;
+ghost use Rattle.xa_func.specs.declared.func_id.HigherOrder.TheVariants as higher;
+ghost use Rattle.xa_func.specs.declared.signature.Kind.TheVariants as kind;
+ghost use Rattle.xa_func.specs.Signature.{AcceptsKinds, bag_signature};
+ghost use Rattle.xa_bag.specs.HigherOrder.{EachInItsPlace};
+ghost use Rattle.xa_bag.specs.ValueOrBag.{kind_of_argument, kind_of_each};
+ghost use Rattle.xa_bag.specs.Applying.{bag_applied, grows, IsOfResultKind, boolean, higher_order_applied, kind_given};
 
+use crate::arguments::{one_bag, two_bags, value_and_bag};
 use crate::fault::BagFault;
 use crate::inner::Inner;
 use crate::value_or_bag::ValueOrBag;
 use crate::{higher_order, sets};
 use std::alloc::Global;
 use xa_func::{BagFunction, HigherOrder};
-use xa_value::{DataType, Value};
+use xa_value::{DataType, OrMemory, Value};
 
-/// What the function of the type gives for the arguments. Arguments that its signature does not take are NotOne.
+/// What the function of the type gives for arguments that its signature takes.
 pub fn apply_bag_function<F>(
     alloc: Global,
     function: BagFunction,
     data_type: DataType,
     arguments: &[ValueOrBag],
-) -> Result<ValueOrBag, BagFault<F>>
-    requires { EachOf data_type arguments.now }
-    ensures { Gives result (bag_applied function data_type arguments.now) }
+) -> Result<ValueOrBag, OrMemory<BagFault<F>>>
+    requires { AcceptsKinds (bag_signature function data_type) (map kind_of_argument arguments.now) }
+    ensures value { Gives result (bag_applied function data_type arguments.now) }
+    ensures exact { grows function ≡ false → result ≡ answered (bag_applied function data_type arguments.now) }
+    ensures typed { IfOk result (IsOfResultKind (bag_signature function data_type)) }
 {
     match function {
-        BagFunction::OneAndOnly => the_one(arguments),
-        BagFunction::BagSize => the_size(arguments),
-        BagFunction::IsIn => whether_in(arguments),
-        BagFunction::Bag => Ok(ValueOrBag::Bag(sets::bag_of(alloc, data_type, arguments)?)),
-        BagFunction::Intersection => shared(alloc, arguments),
-        BagFunction::Union => Ok(ValueOrBag::Bag(sets::union(alloc, data_type, arguments)?)),
-        BagFunction::AtLeastOneMemberOf => whether_some(arguments),
-        BagFunction::Subset => whether_subset(arguments),
-        BagFunction::SetEquals => whether_equal(arguments),
+        BagFunction::OneAndOnly => the_one(data_type, arguments),
+        BagFunction::BagSize => the_size(data_type, arguments),
+        BagFunction::IsIn => whether_in(data_type, arguments),
+        BagFunction::Bag => bag_of_all(alloc, data_type, arguments),
+        BagFunction::Intersection => intersection_of(alloc, data_type, arguments),
+        BagFunction::Union => union_of(alloc, data_type, arguments),
+        BagFunction::AtLeastOneMemberOf => whether_some(data_type, arguments),
+        BagFunction::Subset => whether_subset(data_type, arguments),
+        BagFunction::SetEquals => whether_equal(data_type, arguments),
     }
 }
 
@@ -43,93 +52,137 @@ fn boolean(answer: bool) -> ValueOrBag
 }
 
 /// The one value of a bag.
-fn the_one<F>(arguments: &[ValueOrBag]) -> Result<ValueOrBag, BagFault<F>>
-    ensures { Gives result (the_one arguments.now) }
+fn the_one<F>(
+    data_type: DataType,
+    arguments: &[ValueOrBag],
+) -> Result<ValueOrBag, OrMemory<BagFault<F>>>
+    requires { AcceptsKinds (bag_signature bag_function.OneAndOnly data_type) (map kind_of_argument arguments.now) }
+    ensures value { Gives result (bag_applied bag_function.OneAndOnly data_type arguments.now) }
+    ensures typed { IfOk result (IsOfResultKind (bag_signature bag_function.OneAndOnly data_type)) }
 {
-    match arguments {
-        [ValueOrBag::Bag(bag)] => Ok(ValueOrBag::Value(sets::one_and_only(bag)?)),
-        _ => Err(BagFault::NotOne),
-    }
+    let bag = one_bag(data_type, arguments);
+    Ok(ValueOrBag::Value(sets::one_and_only(bag)?))
 }
 
 /// How many values a bag has.
-fn the_size<F>(arguments: &[ValueOrBag]) -> Result<ValueOrBag, BagFault<F>>
-    ensures { Gives result (the_size arguments.now) }
+fn the_size<F>(
+    data_type: DataType,
+    arguments: &[ValueOrBag],
+) -> Result<ValueOrBag, OrMemory<BagFault<F>>>
+    requires { AcceptsKinds (bag_signature bag_function.BagSize data_type) (map kind_of_argument arguments.now) }
+    ensures value { result ≡ answered (bag_applied bag_function.BagSize data_type arguments.now) }
+    ensures typed { IfOk result (IsOfResultKind (bag_signature bag_function.BagSize data_type)) }
 {
-    match arguments {
-        [ValueOrBag::Bag(bag)] => Ok(ValueOrBag::Value(Value::Integer(sets::bag_size(bag)))),
-        _ => Err(BagFault::NotOne),
-    }
+    let bag = one_bag(data_type, arguments);
+    Ok(ValueOrBag::Value(Value::Integer(sets::bag_size(bag))))
 }
 
 /// Whether a value is in a bag.
-fn whether_in<F>(arguments: &[ValueOrBag]) -> Result<ValueOrBag, BagFault<F>>
-    ensures { Gives result (whether_in arguments.now) }
+fn whether_in<F>(
+    data_type: DataType,
+    arguments: &[ValueOrBag],
+) -> Result<ValueOrBag, OrMemory<BagFault<F>>>
+    requires { AcceptsKinds (bag_signature bag_function.IsIn data_type) (map kind_of_argument arguments.now) }
+    ensures value { result ≡ answered (bag_applied bag_function.IsIn data_type arguments.now) }
+    ensures typed { IfOk result (IsOfResultKind (bag_signature bag_function.IsIn data_type)) }
 {
-    match arguments {
-        [ValueOrBag::Value(value), ValueOrBag::Bag(bag)] => Ok(boolean(sets::is_in(value, bag))),
-        _ => Err(BagFault::NotOne),
-    }
+    let (value, bag) = value_and_bag(data_type, arguments);
+    Ok(boolean(sets::is_in(value, bag)))
+}
+
+/// The bag of the values.
+fn bag_of_all<F>(
+    alloc: Global,
+    data_type: DataType,
+    arguments: &[ValueOrBag],
+) -> Result<ValueOrBag, OrMemory<BagFault<F>>>
+    requires { AcceptsKinds (bag_signature bag_function.Bag data_type) (map kind_of_argument arguments.now) }
+    ensures value { Gives result (bag_applied bag_function.Bag data_type arguments.now) }
+    ensures typed { IfOk result (IsOfResultKind (bag_signature bag_function.Bag data_type)) }
+{
+    Ok(ValueOrBag::Bag(sets::bag_of(alloc, data_type, arguments)?))
 }
 
 /// The values that two bags share.
-fn shared<F>(alloc: Global, arguments: &[ValueOrBag]) -> Result<ValueOrBag, BagFault<F>>
-    ensures { Gives result (shared arguments.now) }
+fn intersection_of<F>(
+    alloc: Global,
+    data_type: DataType,
+    arguments: &[ValueOrBag],
+) -> Result<ValueOrBag, OrMemory<BagFault<F>>>
+    requires { AcceptsKinds (bag_signature bag_function.Intersection data_type) (map kind_of_argument arguments.now) }
+    ensures value { Gives result (bag_applied bag_function.Intersection data_type arguments.now) }
+    ensures typed { IfOk result (IsOfResultKind (bag_signature bag_function.Intersection data_type)) }
 {
-    match arguments {
-        [ValueOrBag::Bag(first), ValueOrBag::Bag(second)] => {
-            Ok(ValueOrBag::Bag(sets::intersection(alloc, first, second)?))
-        }
-        _ => Err(BagFault::NotOne),
-    }
+    let (first, second) = two_bags(data_type, arguments);
+    Ok(ValueOrBag::Bag(sets::intersection(alloc, first, second)?))
+}
+
+/// The values of all bags.
+fn union_of<F>(
+    alloc: Global,
+    data_type: DataType,
+    arguments: &[ValueOrBag],
+) -> Result<ValueOrBag, OrMemory<BagFault<F>>>
+    requires { AcceptsKinds (bag_signature bag_function.Union data_type) (map kind_of_argument arguments.now) }
+    ensures value { Gives result (bag_applied bag_function.Union data_type arguments.now) }
+    ensures typed { IfOk result (IsOfResultKind (bag_signature bag_function.Union data_type)) }
+{
+    Ok(ValueOrBag::Bag(sets::union(alloc, data_type, arguments)?))
 }
 
 /// Whether the second bag has a value of the first.
-fn whether_some<F>(arguments: &[ValueOrBag]) -> Result<ValueOrBag, BagFault<F>>
-    ensures { Gives result (whether_some arguments.now) }
+fn whether_some<F>(
+    data_type: DataType,
+    arguments: &[ValueOrBag],
+) -> Result<ValueOrBag, OrMemory<BagFault<F>>>
+    requires { AcceptsKinds (bag_signature bag_function.AtLeastOneMemberOf data_type) (map kind_of_argument arguments.now) }
+    ensures value { result ≡ answered (bag_applied bag_function.AtLeastOneMemberOf data_type arguments.now) }
+    ensures typed { IfOk result (IsOfResultKind (bag_signature bag_function.AtLeastOneMemberOf data_type)) }
 {
-    match arguments {
-        [ValueOrBag::Bag(first), ValueOrBag::Bag(second)] => {
-            Ok(boolean(sets::at_least_one_member_of(first, second)))
-        }
-        _ => Err(BagFault::NotOne),
-    }
+    let (first, second) = two_bags(data_type, arguments);
+    Ok(boolean(sets::at_least_one_member_of(first, second)))
 }
 
 /// Whether the second bag has all values of the first.
-fn whether_subset<F>(arguments: &[ValueOrBag]) -> Result<ValueOrBag, BagFault<F>>
-    ensures { Gives result (whether_subset arguments.now) }
+fn whether_subset<F>(
+    data_type: DataType,
+    arguments: &[ValueOrBag],
+) -> Result<ValueOrBag, OrMemory<BagFault<F>>>
+    requires { AcceptsKinds (bag_signature bag_function.Subset data_type) (map kind_of_argument arguments.now) }
+    ensures value { result ≡ answered (bag_applied bag_function.Subset data_type arguments.now) }
+    ensures typed { IfOk result (IsOfResultKind (bag_signature bag_function.Subset data_type)) }
 {
-    match arguments {
-        [ValueOrBag::Bag(first), ValueOrBag::Bag(second)] => Ok(boolean(sets::subset(
-            first, second,
-        ))),
-        _ => Err(BagFault::NotOne),
-    }
+    let (first, second) = two_bags(data_type, arguments);
+    Ok(boolean(sets::subset(first, second)))
 }
 
 /// Whether two bags have the same values.
-fn whether_equal<F>(arguments: &[ValueOrBag]) -> Result<ValueOrBag, BagFault<F>>
-    ensures { Gives result (whether_equal arguments.now) }
+fn whether_equal<F>(
+    data_type: DataType,
+    arguments: &[ValueOrBag],
+) -> Result<ValueOrBag, OrMemory<BagFault<F>>>
+    requires { AcceptsKinds (bag_signature bag_function.SetEquals data_type) (map kind_of_argument arguments.now) }
+    ensures value { result ≡ answered (bag_applied bag_function.SetEquals data_type arguments.now) }
+    ensures typed { IfOk result (IsOfResultKind (bag_signature bag_function.SetEquals data_type)) }
 {
-    match arguments {
-        [ValueOrBag::Bag(first), ValueOrBag::Bag(second)] => Ok(boolean(sets::set_equals(
-            first, second,
-        ))),
-        _ => Err(BagFault::NotOne),
-    }
+    let (first, second) = two_bags(data_type, arguments);
+    Ok(boolean(sets::set_equals(first, second)))
 }
 
-/// What the higher-order function gives for the inner function and the arguments after it. Arguments other than two bags
-/// are NotOne for all-of-any and all-of-all.
+/// What the higher-order function gives for the inner function and the arguments after it, of each of whose values the inner
+/// function takes one. Arguments other than two bags are NotOne for all-of-any and all-of-all. Clause `law`: where one argument
+/// is a bag, the inner function is given each of its values in the bag's place.
+#[tactic(auto, using(crate::proofs::JoiningLemmas::each_in_its_place))]
 pub fn apply_higher_order<F: Inner>(
     alloc: Global,
     higher_order: HigherOrder,
     function: &F,
     arguments: &[ValueOrBag],
-) -> Result<ValueOrBag, BagFault<F::Fault>>
+) -> Result<ValueOrBag, OrMemory<BagFault<F::Fault>>>
     requires { F.can function.now (map kind_of_each arguments.now) }
-    ensures { Gives result (higher_order_applied higher_order (F.result_type function.now) (F.gives function.now) arguments.now) }
+    ensures value { Gives result (higher_order_applied higher_order (F.result_type function.now) (F.gives function.now) arguments.now) }
+    ensures typed { IfOk result (λ given. kind_of_argument given ≡ kind_given higher_order (F.result_type function.now)) }
+    ensures law { EachInItsPlace }
 {
     match higher_order {
         HigherOrder::AnyOf => Ok(boolean(higher_order::any_of(alloc, function, arguments)?)),
@@ -146,15 +199,16 @@ fn each_with_some<F: Inner>(
     alloc: Global,
     function: &F,
     arguments: &[ValueOrBag],
-) -> Result<ValueOrBag, BagFault<F::Fault>>
+) -> Result<ValueOrBag, OrMemory<BagFault<F::Fault>>>
     requires { F.can function.now (map kind_of_each arguments.now) }
-    ensures { Gives result (each_with_some (F.gives function.now) arguments.now) }
+    ensures value { Gives result (higher_order_applied higher.AllOfAny (F.result_type function.now) (F.gives function.now) arguments.now) }
+    ensures typed { IfOk result (λ given. kind_of_argument given ≡ kind.Value data_type_named.Boolean) }
 {
     match arguments {
         [ValueOrBag::Bag(first), ValueOrBag::Bag(second)] => {
             Ok(boolean(higher_order::all_of_any(alloc, function, first, second)?))
         }
-        _ => Err(BagFault::NotOne),
+        _ => Err(OrMemory::Error(BagFault::NotOne)),
     }
 }
 
@@ -163,14 +217,15 @@ fn each_with_each<F: Inner>(
     alloc: Global,
     function: &F,
     arguments: &[ValueOrBag],
-) -> Result<ValueOrBag, BagFault<F::Fault>>
+) -> Result<ValueOrBag, OrMemory<BagFault<F::Fault>>>
     requires { F.can function.now (map kind_of_each arguments.now) }
-    ensures { Gives result (each_with_each (F.gives function.now) arguments.now) }
+    ensures value { Gives result (higher_order_applied higher.AllOfAll (F.result_type function.now) (F.gives function.now) arguments.now) }
+    ensures typed { IfOk result (λ given. kind_of_argument given ≡ kind.Value data_type_named.Boolean) }
 {
     match arguments {
         [ValueOrBag::Bag(first), ValueOrBag::Bag(second)] => {
             Ok(boolean(higher_order::all_of_all(alloc, function, first, second)?))
         }
-        _ => Err(BagFault::NotOne),
+        _ => Err(OrMemory::Error(BagFault::NotOne)),
     }
 }

@@ -1,4 +1,5 @@
-ghost use Rattle.std.specs.Prelude.{◌≡◌, ◌↔◌, [], ◌∷◌, ◌++◌, ◌<◌, ◌^◌, length, IsTrue, IfOk, OnOk, OnErr};
+//! A bag: values of one data type, in order.
+ghost use Rattle.std.specs.Prelude.{◌≡◌, ◌↔◌, [], ◌∷◌, ◌++◌, ◌<◌, ◌^◌, length, if◌then◌else◌, IsTrue, IfOk, OnOk, OnErr};
 ghost use Rattle.xa_value.specs.Order.{type_of};
 
 use std::alloc::{AllocError, Global};
@@ -78,13 +79,27 @@ impl Bag {
     }
 
     /// Puts a value of the bag's type at the end. Without memory nothing is changed.
-    pub fn push(&mut self, value: Value) -> Result<(), AllocError>
+    pub(crate) fn put(&mut self, value: Value) -> Result<(), AllocError>
         requires { type_of value ≡ self.old.data_type }
         ensures ok { OnOk result (self.new ≡ bag_of self.old.data_type (self.old.values ++ value ∷ [])) }
         ensures err { OnErr result (self.new ≡ self.old) }
     {
         self.values.push(value)?;
         Ok(())
+    }
+
+    /// Puts the value at the end and answers true, if it is of the bag's type; else answers false, and nothing is changed, nor
+    /// is it without memory.
+    pub fn push(&mut self, value: Value) -> Result<bool, AllocError>
+        ensures taken { IfOk result (λ taken. IsTrue taken ↔ (type_of value ≡ self.old.data_type)) }
+        ensures ok { IfOk result (λ taken. self.new ≡ (if taken then bag_of self.old.data_type (self.old.values ++ value ∷ []) else self.old)) }
+        ensures err { OnErr result (self.new ≡ self.old) }
+    {
+        if !self.takes(&value) {
+            return Ok(false);
+        }
+        self.put(value)?;
+        Ok(true)
     }
 }
 

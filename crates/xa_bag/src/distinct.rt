@@ -1,7 +1,8 @@
-ghost use Rattle.std.specs.Prelude.{◌≡◌, [], IfOk};
+//! A bag without doubles, as intersection and union make it, value by value.
+ghost use Rattle.std.specs.Prelude.{◌≡◌, not, [], ◌∷◌, ◌++◌, filter, if◌then◌else◌, IfOk};
 ghost use Rattle.xa_value.specs.Order.{type_of};
 ghost use Rattle.xa_bag.specs.Bag.{OfType, bag_of};
-ghost use Rattle.xa_bag.specs.Distinct.{joined, with_new, with_shared};
+ghost use Rattle.xa_bag.specs.Sets.{is_among, distinct};
 
 use crate::bag::Bag;
 use crate::members::{Members, ORDERED_FROM, is_among};
@@ -18,15 +19,16 @@ pub(crate) struct Distinct<'a> {
 }
 
 impl<'a> Model for Distinct<'a> {
-    ghost use Rattle.std.specs.Prelude.{IfSome};
+    ghost use Rattle.std.specs.Prelude.{IfSome, map};
+    ghost use Rattle.std.specs.BTreeSet.{IsFromIterResult};
+    ghost use Rattle.xa_value.specs.Order.{key_of, compare_keys};
     ghost use Rattle.xa_bag.specs.Bag.{Contents, OfType};
-    ghost use Rattle.xa_bag.specs.Keys.{HasKeys};
 
     ghost Value = { Contents };
 
     ghost view = { λ d. d.bag };
 
-    ghost invariant = { λ d. OfType d.bag.data_type d.bag.values × IfSome d.keys (λ keys. HasKeys keys d.bag.values) };
+    ghost invariant = { λ d. OfType d.bag.data_type d.bag.values × IfSome d.keys (λ keys. IsFromIterResult compare_keys (map key_of d.bag.values) keys) };
 }
 
 impl<'a> Distinct<'a> {
@@ -46,7 +48,7 @@ impl<'a> Distinct<'a> {
     /// The values, and the value at their end, unless it is among them.
     pub(crate) fn with(self, value: &'a Value) -> Result<Distinct<'a>, AllocError>
         requires { type_of value.now ≡ self.data_type }
-        ensures { IfOk result (λ d. d ≡ bag_of self.entry.data_type (with_new self.entry.values value.now)) }
+        ensures { IfOk result (λ d. d ≡ bag_of self.entry.data_type (if is_among self.entry.values value.now then self.entry.values else self.entry.values ++ value.now ∷ [])) }
     {
         let Distinct { mut bag, keys } = self;
         let Some(mut keys) = keys else {
@@ -59,7 +61,7 @@ impl<'a> Distinct<'a> {
                 keys: Some(keys),
             });
         }
-        bag.push(value.clone()?)?;
+        bag.put(value.clone()?)?;
         Ok(Distinct {
             bag,
             keys: Some(keys),
@@ -73,7 +75,7 @@ impl<'a> Distinct<'a> {
         value: &'a Value,
     ) -> Result<Distinct<'a>, AllocError>
         requires { type_of value.now ≡ self.data_type }
-        ensures { IfOk result (λ d. d ≡ bag_of self.entry.data_type (with_shared members.now.values self.entry.values value.now)) }
+        ensures { IfOk result (λ d. d ≡ bag_of self.entry.data_type (if is_among members.now.values value.now then (if is_among self.entry.values value.now then self.entry.values else self.entry.values ++ value.now ∷ []) else self.entry.values)) }
     {
         if !members.contains(value) {
             return Ok(self);
@@ -85,7 +87,7 @@ impl<'a> Distinct<'a> {
     #[tactic(auto, using(crate::proofs::SetLemmas::joined_more, crate::proofs::SetLemmas::joined_none))]
     pub(crate) fn with_all(self, values: &'a [Value]) -> Result<Distinct<'a>, AllocError>
         requires { OfType self.data_type values.now }
-        ensures { IfOk result (λ d. d ≡ bag_of self.entry.data_type (joined self.entry.values values.now)) }
+        ensures { IfOk result (λ d. d ≡ bag_of self.entry.data_type (self.entry.values ++ filter (λ v. not (is_among self.entry.values v)) (distinct values.now))) }
     {
         let mut all = self;
         for value in values {
@@ -105,10 +107,10 @@ impl<'a> Distinct<'a> {
 /// Puts the value at the end of the bag, unless it is there.
 fn push_new(bag: &mut Bag, value: &Value) -> Result<(), AllocError>
     requires { type_of value.now ≡ bag.old.data_type }
-    ensures { IfOk result (λ _. bag.new ≡ bag_of bag.old.data_type (with_new bag.old.values value.now)) }
+    ensures { IfOk result (λ _. bag.new ≡ bag_of bag.old.data_type (if is_among bag.old.values value.now then bag.old.values else bag.old.values ++ value.now ∷ [])) }
 {
     if !is_among(bag.values(), value) {
-        bag.push(value.clone()?)?;
+        bag.put(value.clone()?)?;
     }
     Ok(())
 }

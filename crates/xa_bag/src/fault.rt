@@ -1,18 +1,16 @@
+//! Why a function of bags gives no value, and the status code for which that stands.
 ghost use Rattle.std.specs.Prelude.{◌≡◌};
-ghost use Rattle.xa_bag.specs.Gives.{inner_fault};
-ghost use Rattle.xa_bag.specs.declared.fault.BagFault.TheVariants.{Memory};
+ghost use Rattle.xa_value.specs.declared.or_memory.OrMemory.TheVariants.{Error};
+ghost use Rattle.xa_bag.specs.Fault.{status_of};
 
-use std::alloc::{AllocError, AllocFailed};
 use thiserror::Error;
-use xa_func::FuncFault;
+use xa_func::{FuncFault, Status};
+use xa_value::OrMemory;
 
-/// Why a function of bags gave no value, where `F` says why a function of values gave none.
-#[derive(Debug, Drop, PartialEq, Eq, Error)]
+/// Why a function of bags gives no value, where `F` says why its inner function gives none.
+#[derive(Clone, Copy, Debug, PartialEq, Eq, Error)]
 pub enum BagFault<F> {
-    /// There was no memory.
-    #[error("out of memory")]
-    Memory,
-    /// The one value of a bag was asked for that has not one value.
+    /// The one value of a bag was asked for that does not have exactly one.
     #[error("the bag does not have exactly one value")]
     NotOne,
     /// The function that was applied to the values gave this fault.
@@ -20,29 +18,22 @@ pub enum BagFault<F> {
     Inner(F),
 }
 
-impl<F> From<AllocError> for BagFault<F> {
-    ghost from_gives = { λ _ e. e ≡ Memory };
-
-    fn from(_error: AllocError) -> BagFault<F> {
-        BagFault::Memory
-    }
-}
-
-impl<F, T: Drop> From<AllocFailed<T>> for BagFault<F> {
-    ghost from_gives = { λ _ e. e ≡ Memory };
-
-    fn from(_error: AllocFailed<T>) -> BagFault<F> {
-        BagFault::Memory
-    }
-}
-
-impl From<FuncFault> for BagFault<FuncFault> {
-    ghost from_gives = { λ fault e. e ≡ inner_fault fault };
-
-    fn from(fault: FuncFault) -> BagFault<FuncFault> {
-        match fault {
-            FuncFault::Memory => BagFault::Memory,
-            fault => BagFault::Inner(fault),
+impl BagFault<FuncFault> {
+    /// The status code of the fault.
+    pub fn status(self) -> Status
+        ensures { result ≡ status_of self }
+    {
+        match self {
+            BagFault::NotOne => Status::ProcessingError,
+            BagFault::Inner(fault) => fault.status(),
         }
+    }
+}
+
+impl<F> From<BagFault<F>> for OrMemory<BagFault<F>> {
+    ghost from_gives = { λ fault e. e ≡ Error fault };
+
+    fn from(fault: BagFault<F>) -> OrMemory<BagFault<F>> {
+        OrMemory::Error(fault)
     }
 }

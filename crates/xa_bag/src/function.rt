@@ -1,13 +1,11 @@
-ghost use Rattle.std.specs.Prelude.{◌≡◌};
+//! Functions of values by their names, as inner functions.
 ghost use Rattle.xa_func.specs.Application.{applied};
-ghost use Rattle.xa_func.specs.Signature.{signature_of};
-ghost use Rattle.xa_bag.specs.Function.{TakesKinds, type_given};
+ghost use Rattle.xa_func.specs.Signature.{TakesKinds, signature_of, result_type_of};
 
-use crate::fault::BagFault;
 use crate::inner::Inner;
 use std::alloc::Global;
-use xa_func::{FuncFault, FuncId, Kind, Signature};
-use xa_value::{DataType, Value};
+use xa_func::{FuncFault, FuncId, HasKind};
+use xa_value::{DataType, OrMemory, Value};
 
 /// A function of values, by its name.
 impl Inner for FuncId {
@@ -15,29 +13,19 @@ impl Inner for FuncId {
 
     ghost can = { TakesKinds };
 
-    ghost result_type = { λ function. type_given (signature_of function) };
+    ghost result_type = { λ function. result_type_of (signature_of function) };
 
     ghost gives = { applied };
 
-    fn takes(&self, kinds: &[Kind]) -> bool {
-        self.is_scalar() && self.signature().accepts(kinds)
+    fn takes_each<T: HasKind>(&self, arguments: &[T]) -> bool {
+        FuncId::takes_each(*self, arguments)
     }
 
     fn result_type(&self) -> DataType {
-        type_given(self.signature())
+        self.signature().result_type()
     }
 
-    fn call(&self, alloc: Global, arguments: &[Value]) -> Result<Value, BagFault<FuncFault>> {
-        Ok(self.apply(alloc, arguments)?)
-    }
-}
-
-/// The type of what a function of the signature gives. A function that takes a function is never an inner one.
-fn type_given(signature: Signature) -> DataType
-    ensures { result ≡ type_given signature }
-{
-    match signature {
-        Signature::FirstOrder(_, Kind::Value(data_type) | Kind::Bag(data_type)) => data_type,
-        Signature::HigherOrder(_) => DataType::Boolean,
+    fn call(&self, alloc: Global, arguments: &[Value]) -> Result<Value, OrMemory<FuncFault>> {
+        self.apply(alloc, arguments)
     }
 }

@@ -1,19 +1,20 @@
 //! The higher-order functions (XACML 3.0, core, appendix A.3.12), of any inner function. Each stops at the result that decides.
-ghost use Rattle.std.specs.Prelude.{◌≡◌, [], ◌∷◌, ◌++◌, map, not, IfOk};
+ghost use Rattle.std.specs.Prelude.{◌≡◌, List, [], ◌∷◌, ◌++◌, map, if◌then◌else◌, Ok, IfOk};
+ghost use Rattle.xa_value.specs.declared.value.Value.{Value};
+ghost use Rattle.xa_value.specs.Gives.{Gives};
 ghost use Rattle.xa_value.specs.Order.{type_of};
 ghost use Rattle.xa_func.specs.declared.signature.Kind.TheVariants as kind;
+ghost use Rattle.xa_func.specs.Logic.{or_of, and_of};
 ghost use Rattle.xa_func.specs.Signature.{kind_of};
-ghost use Rattle.xa_bag.specs.Gives.{Gives};
-ghost use Rattle.xa_bag.specs.HigherOrder.{is_true, holds, outcome, collected, EachInItsPlace, any_of, all_of, all_of_any, all_of_all, mapped};
+ghost use Rattle.xa_bag.specs.HigherOrder.{choices, is_true, holds, outcome, collected, as_bag, any_of, all_of, all_of_any, all_of_all, bag_of_results};
 ghost use Rattle.xa_bag.specs.ValueOrBag.{kind_of_each};
-ghost use Rattle.xa_bag.specs.Joining.{verdict, each_from, added, each_with, DropsLast};
 
 use crate::bag::Bag;
 use crate::fault::BagFault;
 use crate::inner::Inner;
 use crate::value_or_bag::ValueOrBag;
 use std::alloc::{AllocError, Global};
-use xa_value::Value;
+use xa_value::{OrMemory, Value};
 
 /// Whether the value is True.
 fn is_true(value: &Value) -> bool
@@ -22,16 +23,33 @@ fn is_true(value: &Value) -> bool
     matches!(value, Value::Boolean(true))
 }
 
+/// What the function gives for the arguments, its fault kept as an inner one.
+fn outcome<F: Inner>(
+    alloc: Global,
+    function: &F,
+    arguments: &[Value],
+) -> Result<Value, OrMemory<BagFault<F::Fault>>>
+    requires { F.can function.now (map kind_of arguments.now) }
+    ensures value { Gives result (outcome (F.gives function.now arguments.now)) }
+    ensures of_type { IfOk result (λ v. type_of v ≡ F.result_type function.now) }
+{
+    match function.call(alloc, arguments) {
+        Ok(value) => Ok(value),
+        Err(OrMemory::Memory) => Err(OrMemory::Memory),
+        Err(OrMemory::Error(fault)) => Err(OrMemory::Error(BagFault::Inner(fault))),
+    }
+}
+
 /// Whether the function gives True for the arguments.
 fn holds<F: Inner>(
     alloc: Global,
     function: &F,
     arguments: &[Value],
-) -> Result<bool, BagFault<F::Fault>>
+) -> Result<bool, OrMemory<BagFault<F::Fault>>>
     requires { F.can function.now (map kind_of arguments.now) }
     ensures { Gives result (holds (F.gives function.now) arguments.now) }
 {
-    let value = function.call(alloc, arguments)?;
+    let value = outcome(alloc, function, arguments)?;
     Ok(is_true(&value))
 }
 
@@ -45,21 +63,22 @@ fn push_copy(values: &mut Vec<Value>, value: &Value) -> Result<(), AllocError>
 
 /// Takes the last value away.
 fn drop_last(values: &mut Vec<Value>)
-    ensures { DropsLast values.old.items values.new.items }
+    ensures { (kept : List Value) (v : Value) → values.old.items ≡ kept ++ v ∷ [] → values.new.items ≡ kept }
 {
     values.pop();
 }
 
-/// Goes over the choices that begin with those chosen, up to the one where the function gives `stop` or a fault.
-fn decided<F: Inner>(
+/// Whether the function gives True for some of the choices that begin with those chosen, where `stop` is True, and for each of
+/// them, where it is False. No choice is tried after one for which it gives `stop` or a fault.
+fn verdict<F: Inner>(
     alloc: Global,
     function: &F,
     stop: bool,
     chosen: &mut Vec<Value>,
     arguments: &[ValueOrBag],
-) -> Result<bool, BagFault<F::Fault>>
+) -> Result<bool, OrMemory<BagFault<F::Fault>>>
     requires { F.can function.now (map kind_of chosen.old.items ++ map kind_of_each arguments.now) }
-    ensures value { Gives result (verdict stop (each_from (holds (F.gives function.now)) chosen.old.items arguments.now)) }
+    ensures value { let found = map (λ vs. holds (F.gives function.now) (chosen.old.items ++ vs)) (choices arguments.now) in Gives result (if stop then or_of found else and_of found) }
     ensures kept { IfOk result (λ _. chosen.new.items ≡ chosen.old.items) }
 {
     let [argument, rest @ ..] = arguments else {
@@ -67,7 +86,7 @@ fn decided<F: Inner>(
     };
     for value in argument.values() {
         push_copy(chosen, value)?;
-        let answer = decided(alloc, function, stop, chosen, rest)?;
+        let answer = verdict(alloc, function, stop, chosen, rest)?;
         drop_last(chosen);
         if answer == stop {
             return Ok(stop);
@@ -77,16 +96,17 @@ fn decided<F: Inner>(
 }
 
 /// Puts what the function gives for each of the choices that begin with those chosen, up to the first fault.
-fn collected<F: Inner>(
+fn results_of_choices<F: Inner>(
     alloc: Global,
     function: &F,
     chosen: &mut Vec<Value>,
     arguments: &[ValueOrBag],
     results: Bag,
-) -> Result<Bag, BagFault<F::Fault>>
+) -> Result<Bag, OrMemory<BagFault<F::Fault>>>
     requires can { F.can function.now (map kind_of chosen.old.items ++ map kind_of_each arguments.now) }
     requires of_type { results.data_type ≡ F.result_type function.now }
-    ensures value { Gives result (added results (collected (each_from (λ vs. outcome (F.gives function.now vs)) chosen.old.items arguments.now))) }
+    ensures value { Gives result (as_bag results.data_type (collected (map Ok results.values ++ map (λ vs. outcome (F.gives function.now (chosen.old.items ++ vs))) (choices arguments.now)))) }
+    ensures typed { IfOk result (λ bag. bag.data_type ≡ results.data_type) }
     ensures kept { IfOk result (λ _. chosen.new.items ≡ chosen.old.items) }
 {
     let [argument, further @ ..] = arguments else {
@@ -95,7 +115,7 @@ fn collected<F: Inner>(
     let mut results = results;
     for value in argument.values() {
         push_copy(chosen, value)?;
-        results = collected(alloc, function, chosen, further, results)?;
+        results = results_of_choices(alloc, function, chosen, further, results)?;
         drop_last(chosen);
     }
     Ok(results)
@@ -107,14 +127,15 @@ fn push_result<F: Inner>(
     function: &F,
     arguments: &[Value],
     results: Bag,
-) -> Result<Bag, BagFault<F::Fault>>
+) -> Result<Bag, OrMemory<BagFault<F::Fault>>>
     requires can { F.can function.now (map kind_of arguments.now) }
     requires of_type { results.data_type ≡ F.result_type function.now }
-    ensures { Gives result (added results (collected (outcome (F.gives function.now arguments.now) ∷ []))) }
+    ensures value { Gives result (as_bag results.data_type (collected (map Ok results.values ++ outcome (F.gives function.now arguments.now) ∷ []))) }
+    ensures typed { IfOk result (λ bag. bag.data_type ≡ results.data_type) }
 {
     let mut results = results;
-    let given = function.call(alloc, arguments)?;
-    results.push(given)?;
+    let given = outcome(alloc, function, arguments)?;
+    results.put(given)?;
     Ok(results)
 }
 
@@ -126,9 +147,9 @@ fn each_with<F: Inner>(
     stop: bool,
     first: &Bag,
     second: &Bag,
-) -> Result<bool, BagFault<F::Fault>>
+) -> Result<bool, OrMemory<BagFault<F::Fault>>>
     requires { F.can function.now (kind.Value first.now.data_type ∷ kind.Value second.now.data_type ∷ []) }
-    ensures { Gives result (each_with stop (F.gives function.now) first.now.values second.now.values) }
+    ensures { Gives result (and_of (map (λ v. let found = map (λ w. holds (F.gives function.now) (v ∷ w ∷ [])) second.now.values in if stop then or_of found else and_of found) first.now.values)) }
 {
     for value in first.values() {
         let answer = one_with(alloc, function, stop, value, second)?;
@@ -139,16 +160,17 @@ fn each_with<F: Inner>(
     Ok(true)
 }
 
-/// Goes over the second arguments, up to the one where the function gives `stop` or a fault.
+/// Whether the function gives True for the value with some value of the bag, where `stop` is True, and with each, where it is
+/// False.
 fn one_with<F: Inner>(
     alloc: Global,
     function: &F,
     stop: bool,
     value: &Value,
     second: &Bag,
-) -> Result<bool, BagFault<F::Fault>>
+) -> Result<bool, OrMemory<BagFault<F::Fault>>>
     requires { F.can function.now (kind_of value.now ∷ kind.Value second.now.data_type ∷ []) }
-    ensures { Gives result (verdict stop (map (λ w. holds (F.gives function.now) (value.now ∷ w ∷ [])) second.now.values)) }
+    ensures { let found = map (λ w. holds (F.gives function.now) (value.now ∷ w ∷ [])) second.now.values in Gives result (if stop then or_of found else and_of found) }
 {
     for other in second.values() {
         let found = holds_of_both(alloc, function, value, other)?;
@@ -165,7 +187,7 @@ fn holds_of_both<F: Inner>(
     function: &F,
     value: &Value,
     other: &Value,
-) -> Result<bool, BagFault<F::Fault>>
+) -> Result<bool, OrMemory<BagFault<F::Fault>>>
     requires { F.can function.now (kind_of value.now ∷ kind_of other.now ∷ []) }
     ensures { Gives result (holds (F.gives function.now) (value.now ∷ other.now ∷ [])) }
 {
@@ -176,41 +198,37 @@ fn holds_of_both<F: Inner>(
 }
 
 /// Any-of: whether the function gives True with some value of the bag in the bag's place, where one argument is a bag.
-#[tactic(auto, using(crate::proofs::JoiningLemmas::each_choice))]
-pub fn any_of<F: Inner>(
+pub(crate) fn any_of<F: Inner>(
     alloc: Global,
     function: &F,
     arguments: &[ValueOrBag],
-) -> Result<bool, BagFault<F::Fault>>
+) -> Result<bool, OrMemory<BagFault<F::Fault>>>
     requires { F.can function.now (map kind_of_each arguments.now) }
-    ensures value { Gives result (any_of (F.gives function.now) arguments.now) }
-    ensures law { EachInItsPlace }
+    ensures { Gives result (any_of (F.gives function.now) arguments.now) }
 {
     let mut chosen = Vec::new(alloc);
-    decided(alloc, function, true, &mut chosen, arguments)
+    verdict(alloc, function, true, &mut chosen, arguments)
 }
 
 /// All-of: whether the function gives True with each value of the bag in the bag's place, where one argument is a bag.
-#[tactic(auto, using(crate::proofs::JoiningLemmas::each_choice))]
-pub fn all_of<F: Inner>(
+pub(crate) fn all_of<F: Inner>(
     alloc: Global,
     function: &F,
     arguments: &[ValueOrBag],
-) -> Result<bool, BagFault<F::Fault>>
+) -> Result<bool, OrMemory<BagFault<F::Fault>>>
     requires { F.can function.now (map kind_of_each arguments.now) }
-    ensures value { Gives result (all_of (F.gives function.now) arguments.now) }
-    ensures law { EachInItsPlace }
+    ensures { Gives result (all_of (F.gives function.now) arguments.now) }
 {
     let mut chosen = Vec::new(alloc);
-    decided(alloc, function, false, &mut chosen, arguments)
+    verdict(alloc, function, false, &mut chosen, arguments)
 }
 
 /// Any-of-any: whether the function gives True for some choice of a value of each argument, the last argument fastest.
-pub fn any_of_any<F: Inner>(
+pub(crate) fn any_of_any<F: Inner>(
     alloc: Global,
     function: &F,
     arguments: &[ValueOrBag],
-) -> Result<bool, BagFault<F::Fault>>
+) -> Result<bool, OrMemory<BagFault<F::Fault>>>
     requires { F.can function.now (map kind_of_each arguments.now) }
     ensures { Gives result (any_of (F.gives function.now) arguments.now) }
 {
@@ -218,28 +236,27 @@ pub fn any_of_any<F: Inner>(
 }
 
 /// Map: the bag of what the function gives with each value of the bag in the bag's place, where one argument is a bag.
-#[tactic(auto, using(crate::proofs::JoiningLemmas::each_choice))]
-pub fn map<F: Inner>(
+pub(crate) fn map<F: Inner>(
     alloc: Global,
     function: &F,
     arguments: &[ValueOrBag],
-) -> Result<Bag, BagFault<F::Fault>>
+) -> Result<Bag, OrMemory<BagFault<F::Fault>>>
     requires { F.can function.now (map kind_of_each arguments.now) }
-    ensures value { Gives result (mapped (F.result_type function.now) (F.gives function.now) arguments.now) }
-    ensures law { EachInItsPlace }
+    ensures value { Gives result (bag_of_results (F.result_type function.now) (F.gives function.now) arguments.now) }
+    ensures of_type { IfOk result (λ bag. bag.data_type ≡ F.result_type function.now) }
 {
     let mut chosen = Vec::new(alloc);
     let results = Bag::new(alloc, function.result_type());
-    collected(alloc, function, &mut chosen, arguments, results)
+    results_of_choices(alloc, function, &mut chosen, arguments, results)
 }
 
 /// All-of-any: whether for each value of the first bag the function gives True with some value of the second.
-pub fn all_of_any<F: Inner>(
+pub(crate) fn all_of_any<F: Inner>(
     alloc: Global,
     function: &F,
     first: &Bag,
     second: &Bag,
-) -> Result<bool, BagFault<F::Fault>>
+) -> Result<bool, OrMemory<BagFault<F::Fault>>>
     requires { F.can function.now (kind.Value first.now.data_type ∷ kind.Value second.now.data_type ∷ []) }
     ensures { Gives result (all_of_any (F.gives function.now) first.now.values second.now.values) }
 {
@@ -247,12 +264,12 @@ pub fn all_of_any<F: Inner>(
 }
 
 /// All-of-all: whether for each value of the first bag the function gives True with each value of the second.
-pub fn all_of_all<F: Inner>(
+pub(crate) fn all_of_all<F: Inner>(
     alloc: Global,
     function: &F,
     first: &Bag,
     second: &Bag,
-) -> Result<bool, BagFault<F::Fault>>
+) -> Result<bool, OrMemory<BagFault<F::Fault>>>
     requires { F.can function.now (kind.Value first.now.data_type ∷ kind.Value second.now.data_type ∷ []) }
     ensures { Gives result (all_of_all (F.gives function.now) first.now.values second.now.values) }
 {

@@ -1,16 +1,15 @@
+//! The functions that a higher-order function may be given.
 ghost use Rattle.std.specs.Prelude.{◌≡◌, ◌↔◌, List, Result, map, IsTrue, IfOk};
 ghost use Rattle.xa_value.specs.declared.data_type.DataType.{DataType};
 ghost use Rattle.xa_value.specs.declared.value.Value.{Value};
+ghost use Rattle.xa_value.specs.Gives.{Gives};
 ghost use Rattle.xa_value.specs.Order.{type_of};
 ghost use Rattle.xa_func.specs.declared.signature.Kind.{Kind};
-ghost use Rattle.xa_func.specs.Signature.{kind_of};
-ghost use Rattle.xa_bag.specs.Gives.{Gives};
-ghost use Rattle.xa_bag.specs.HigherOrder.{outcome};
+ghost use Rattle.xa_func.specs.Signature.{kind_of, of_each};
 
-use crate::fault::BagFault;
 use std::alloc::Global;
-use xa_func::Kind;
-use xa_value::{DataType, Value};
+use xa_func::HasKind;
+use xa_value::{DataType, OrMemory, Value};
 
 /// A function of values, as a higher-order function takes it: any function from arguments to a value of one type, or a fault.
 pub trait Inner {
@@ -26,17 +25,17 @@ pub trait Inner {
     /// What it gives.
     ghost gives: { Self → List Value → Result Value Self.Fault };
 
-    /// Whether the function takes arguments of these kinds.
-    fn takes(&self, kinds: &[Kind]) -> bool
-        ensures { IsTrue result ↔ can self.now kinds.now };
+    /// Whether the function takes one of the values of each argument.
+    fn takes_each<T: HasKind>(&self, arguments: &[T]) -> bool
+        ensures { IsTrue result ↔ can self.now (map (λ a. of_each (T.kind_of a)) arguments.now) };
 
     /// The type of the function's values.
     fn result_type(&self) -> DataType
         ensures { result ≡ result_type self.now };
 
     /// What the function gives for the arguments.
-    fn call(&self, alloc: Global, arguments: &[Value]) -> Result<Value, BagFault<Self::Fault>>
+    fn call(&self, alloc: Global, arguments: &[Value]) -> Result<Value, OrMemory<Self::Fault>>
         requires { can self.now (map kind_of arguments.now) }
-        ensures value { Gives result (outcome (gives self.now arguments.now)) }
+        ensures value { Gives result (gives self.now arguments.now) }
         ensures of_type { IfOk result (λ v. type_of v ≡ result_type self.now) };
 }

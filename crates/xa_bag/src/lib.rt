@@ -2,6 +2,7 @@
 #![tactic(auto)]
 
 mod apply;
+mod arguments;
 mod bag;
 mod distinct;
 mod fault;
@@ -17,10 +18,8 @@ mod value_or_bag;
 pub use apply::{apply_bag_function, apply_higher_order};
 pub use bag::Bag;
 pub use fault::BagFault;
-pub use higher_order::{all_of, all_of_all, all_of_any, any_of, any_of_any, map};
 pub use inner::Inner;
 pub use sets::{
-    at_least_one_member_of, bag_of, bag_size, intersection, is_in, one_and_only, set_equals,
-    subset, union,
+    at_least_one_member_of, bag_size, intersection, is_in, one_and_only, set_equals, subset,
 };
 pub use value_or_bag::ValueOrBag;

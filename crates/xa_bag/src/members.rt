@@ -1,6 +1,7 @@
-ghost use Rattle.std.specs.Prelude.{◌≡◌, ◌↔◌, IsTrue, IfOk};
-ghost use Rattle.xa_value.specs.Order.{type_of};
-ghost use Rattle.xa_bag.specs.Keys.{HasKeys};
+//! The values of a bag, to be searched many times.
+ghost use Rattle.std.specs.Prelude.{◌≡◌, ◌↔◌, map, IsTrue, IfOk};
+ghost use Rattle.std.specs.BTreeSet.{IsFromIterResult};
+ghost use Rattle.xa_value.specs.Order.{type_of, key_of, compare_keys};
 ghost use Rattle.xa_bag.specs.Sets.{is_among};
 
 use crate::bag::Bag;
@@ -21,15 +22,16 @@ pub(crate) struct Members<'a> {
 }
 
 impl<'a> Model for Members<'a> {
-    ghost use Rattle.std.specs.Prelude.{IfSome};
+    ghost use Rattle.std.specs.Prelude.{IfSome, map};
+    ghost use Rattle.std.specs.BTreeSet.{IsFromIterResult};
+    ghost use Rattle.xa_value.specs.Order.{key_of, compare_keys};
     ghost use Rattle.xa_bag.specs.Bag.{Contents, OfType, bag_of};
-    ghost use Rattle.xa_bag.specs.Keys.{HasKeys};
 
     ghost Value = { Contents };
 
     ghost view = { λ m. bag_of m.data_type m.values.now };
 
-    ghost invariant = { λ m. OfType m.data_type m.values.now × IfSome m.keys (λ keys. HasKeys keys m.values.now) };
+    ghost invariant = { λ m. OfType m.data_type m.values.now × IfSome m.keys (λ keys. IsFromIterResult compare_keys (map key_of m.values.now) keys) };
 }
 
 impl<'a> Members<'a> {
@@ -77,7 +79,7 @@ pub(crate) fn is_among(values: &[Value], value: &Value) -> bool
 
 /// The keys of the values.
 fn keys_of<'a>(alloc: Global, values: &'a [Value]) -> Result<BTreeSet<SortKey<'a>>, AllocError>
-    ensures { IfOk result (λ keys. HasKeys keys values.now) }
+    ensures { IfOk result (λ keys. IsFromIterResult compare_keys (map key_of values.now) keys) }
 {
     values.iter().map(|value| value.sort_key()).collect(alloc)
 }

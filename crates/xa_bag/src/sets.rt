@@ -1,12 +1,13 @@
 //! The bag and set functions (XACML 3.0, core, appendix A.3.10 and A.3.11), one definition for all data types.
-ghost use Rattle.std.specs.Prelude.{◌≡◌, ◌++◌, length, pos, IfOk};
+ghost use Rattle.std.specs.Prelude.{◌≡◌, ◌++◌, length, map, pos, IfOk};
+ghost use Rattle.xa_value.specs.Gives.{Gives};
 ghost use Rattle.xa_value.specs.Order.{type_of};
+ghost use Rattle.xa_func.specs.declared.signature.Kind.TheVariants as kind;
+ghost use Rattle.xa_func.specs.Signature.{Every};
 ghost use Rattle.xa_bag.specs.Bag.{bag_of as contents};
-ghost use Rattle.xa_bag.specs.Gives.{Gives};
-ghost use Rattle.xa_bag.specs.Distinct.{with_new, with_shared, joined};
 ghost use Rattle.xa_bag.specs.Sets.{one_and_only, is_among, at_least_one, subset, set_equals, all_values};
 ghost use Rattle.xa_bag.specs.Sets as sets;
-ghost use Rattle.xa_bag.specs.ValueOrBag.{values_of, type_of_each, EachOf};
+ghost use Rattle.xa_bag.specs.ValueOrBag.{values_of, type_of_each, kind_of_each};
 
 use crate::bag::Bag;
 use crate::distinct::Distinct;
@@ -14,15 +15,16 @@ use crate::fault::BagFault;
 use crate::members::{Members, is_among};
 use crate::value_or_bag::ValueOrBag;
 use std::alloc::{AllocError, Global};
-use xa_value::{DataType, Value};
+use xa_value::{DataType, OrMemory, Value};
 
 /// The value of a bag that has exactly one.
-pub fn one_and_only<F>(bag: &Bag) -> Result<Value, BagFault<F>>
-    ensures { Gives result (one_and_only bag.now.values) }
+pub fn one_and_only<F>(bag: &Bag) -> Result<Value, OrMemory<BagFault<F>>>
+    ensures value { Gives result (one_and_only bag.now.values) }
+    ensures of_type { IfOk result (λ v. type_of v ≡ bag.now.data_type) }
 {
     match bag.values() {
         [value] => Ok(value.clone()?),
-        _ => Err(BagFault::NotOne),
+        _ => Err(OrMemory::Error(BagFault::NotOne)),
     }
 }
 
@@ -88,12 +90,12 @@ pub fn intersection<'a>(alloc: Global, first: &'a Bag, second: &'a Bag) -> Resul
 
 /// The bag of the arguments' values, in order.
 #[tactic(auto, using(crate::proofs::SetLemmas::put_lists, crate::proofs::SetLemmas::put_none))]
-pub fn bag_of(
+pub(crate) fn bag_of(
     alloc: Global,
     data_type: DataType,
     arguments: &[ValueOrBag],
 ) -> Result<Bag, AllocError>
-    requires { EachOf data_type arguments.now }
+    requires { Every (kind.Value data_type) (map kind_of_each arguments.now) }
     ensures { IfOk result (λ bag. bag ≡ contents data_type (all_values arguments.now)) }
 {
     let mut all = Bag::new(alloc, data_type);
@@ -113,12 +115,12 @@ fn count_values(arguments: &[ValueOrBag]) -> usize {
 
 /// The values of all arguments, each once, at its first appearance.
 #[tactic(auto, using(crate::proofs::SetLemmas::joined_lists, crate::proofs::SetLemmas::joined_none, crate::proofs::SetLemmas::joined_all))]
-pub fn union(
+pub(crate) fn union(
     alloc: Global,
     data_type: DataType,
     arguments: &[ValueOrBag],
 ) -> Result<Bag, AllocError>
-    requires { EachOf data_type arguments.now }
+    requires { Every (kind.Value data_type) (map kind_of_each arguments.now) }
     ensures { IfOk result (λ bag. bag ≡ contents data_type (sets.union arguments.now)) }
 {
     let mut all = Distinct::new(alloc, data_type, count_values(arguments));
@@ -135,7 +137,7 @@ fn push_all(bag: &mut Bag, argument: &ValueOrBag) -> Result<(), AllocError>
     ensures { IfOk result (λ _. bag.new ≡ contents bag.old.data_type (bag.old.values ++ values_of argument.now)) }
 {
     for value in argument.values() {
-        bag.push(value.clone()?)?;
+        bag.put(value.clone()?)?;
     }
     Ok(())
 }

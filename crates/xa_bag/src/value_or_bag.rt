@@ -1,6 +1,7 @@
-ghost use Rattle.std.specs.Prelude.{◌≡◌, ◌↔◌, IsTrue};
+//! What an expression gives, and so what a function takes as an argument: a value or a bag.
+ghost use Rattle.std.specs.Prelude.{◌≡◌};
 ghost use Rattle.xa_bag.specs.Bag.{OfType};
-ghost use Rattle.xa_bag.specs.ValueOrBag.{values_of, type_of_each, kind_of_each, kind_of_argument, EachOf, TakesEachOf};
+ghost use Rattle.xa_bag.specs.ValueOrBag.{values_of, type_of_each, kind_of_argument};
 
 use crate::bag::Bag;
 use std::slice;
@@ -36,35 +37,6 @@ impl ValueOrBag {
             ValueOrBag::Value(value) => value.data_type(),
             ValueOrBag::Bag(bag) => bag.data_type(),
         }
-    }
-
-    /// The kind of the values: what an inner function takes one of them as.
-    pub fn kind_of_each(&self) -> Kind
-        ensures { result ≡ kind_of_each self.now }
-    {
-        Kind::Value(self.data_type())
-    }
-
-    /// Whether the value is of the type, or the bag is one of it.
-    pub fn is_of(&self, data_type: DataType) -> bool
-        ensures { IsTrue result ↔ (type_of_each self.now ≡ data_type) }
-    {
-        self.data_type() == data_type
-    }
-
-    /// Whether every argument is of the type, or a bag of it. Clause `law`: arguments that the signature of a bag function
-    /// takes are so.
-    #[tactic(auto, using(crate::proofs::ArgumentLemmas::takes_each_of))]
-    pub fn each_of(arguments: &[ValueOrBag], data_type: DataType) -> bool
-        ensures each { IsTrue result ↔ EachOf data_type arguments.now }
-        ensures law { TakesEachOf }
-    {
-        for argument in arguments {
-            if !argument.is_of(data_type) {
-                return false;
-            }
-        }
-        true
     }
 }
 

@@ -1,7 +1,7 @@
 use Rattle.std.proofs.Common.{◌∙◌, ap, refl, [], ◌∷◌, map, true, false}
 use Rattle.std.specs.Prelude.{Ok}
 use Rattle.xa_bag.specs.HigherOrder.{holds}
-use Rattle.xa_bag.specs.Joining.{verdict}
+use Rattle.xa_bag.proofs.JoiningLemmas.{verdict}
 use Rattle.xa_bag.proofs.SetLemmas.{walked}
 use Rattle.xa_bag.proofs.BagLemmas.{of_type_at, can_take}
 use Rattle.xa_func.specs.declared.signature.Kind.TheVariants as kind

@@ -1,5 +1,5 @@
 use Rattle.std.proofs.Common.{◌≡◌, drop}
-use Rattle.xa_bag.specs.Joining.{each_with}
+use Rattle.xa_bag.proofs.JoiningLemmas.{each_with}
 use Rattle.xa_bag.proofs.higher_order.each_with.Given as goal
 
 -- the rest of the values decide for all

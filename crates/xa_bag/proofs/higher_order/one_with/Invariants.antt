@@ -1,6 +1,6 @@
 use Rattle.std.proofs.Common.{◌≡◌, [], ◌∷◌, map, drop}
 use Rattle.xa_bag.specs.HigherOrder.{holds}
-use Rattle.xa_bag.specs.Joining.{verdict}
+use Rattle.xa_bag.proofs.JoiningLemmas.{verdict}
 use Rattle.xa_bag.proofs.higher_order.one_with.Given as goal
 
 -- the rest of the values decide for all

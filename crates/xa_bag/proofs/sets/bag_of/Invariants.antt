@@ -1,5 +1,7 @@
-use Rattle.std.proofs.Common.{◌≡◌, ◌++◌, drop}
-use Rattle.xa_bag.specs.ValueOrBag.{EachOf}
+use Rattle.std.proofs.Common.{◌≡◌, ◌++◌, drop, map}
+use Rattle.xa_func.specs.declared.signature.Kind.TheVariants as kind
+use Rattle.xa_func.specs.Signature.{Every}
+use Rattle.xa_bag.specs.ValueOrBag.{kind_of_each}
 use Rattle.xa_bag.specs.Sets.{all_values}
 use Rattle.xa_bag.proofs.sets.bag_of.Given as goal
 
@@ -7,5 +9,5 @@ use Rattle.xa_bag.proofs.sets.bag_of.Given as goal
 abbrev pub invariant-loop-argument : goal.invariant-loop-argument
 invariant-loop-argument l =
     (l.all.data_type ≡ l.fn.data_type)
-    × EachOf l.fn.data_type (drop l.argument-index l.arguments)
+    × Every (kind.Value l.fn.data_type) (map kind_of_each (drop l.argument-index l.arguments))
     × (l.all.values ++ all_values (drop l.argument-index l.arguments) ≡ all_values l.arguments)

@@ -1,6 +1,6 @@
 use Rattle.std.proofs.Common.{◌+◌, drop}
 use Rattle.std.specs.Prelude.{filter}
-use Rattle.xa_bag.specs.Distinct.{joined}
+use Rattle.xa_bag.proofs.SetLemmas.{joined}
 use Rattle.xa_bag.specs.Sets.{is_among}
 use Rattle.xa_bag.proofs.SetLemmas.{walked, value_taken, joined_shared}
 use Rattle.xa_bag.proofs.sets.intersection.Goals as goal

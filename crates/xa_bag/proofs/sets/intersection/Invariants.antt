@@ -1,7 +1,7 @@
 use Rattle.std.proofs.Common.{◌≡◌, drop}
 use Rattle.std.specs.Prelude.{filter}
 use Rattle.xa_bag.specs.Bag.{OfType}
-use Rattle.xa_bag.specs.Distinct.{joined}
+use Rattle.xa_bag.proofs.SetLemmas.{joined}
 use Rattle.xa_bag.specs.Sets.{is_among, intersection}
 use Rattle.xa_bag.proofs.sets.intersection.Given as goal
 

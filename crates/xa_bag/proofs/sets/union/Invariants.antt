@@ -1,6 +1,8 @@
-use Rattle.std.proofs.Common.{◌≡◌, drop}
-use Rattle.xa_bag.specs.ValueOrBag.{EachOf}
-use Rattle.xa_bag.specs.Distinct.{joined}
+use Rattle.std.proofs.Common.{◌≡◌, drop, map}
+use Rattle.xa_func.specs.declared.signature.Kind.TheVariants as kind
+use Rattle.xa_func.specs.Signature.{Every}
+use Rattle.xa_bag.specs.ValueOrBag.{kind_of_each}
+use Rattle.xa_bag.proofs.SetLemmas.{joined}
 use Rattle.xa_bag.specs.Sets.{union, all_values}
 use Rattle.xa_bag.proofs.sets.union.Given as goal
 
@@ -8,5 +10,5 @@ use Rattle.xa_bag.proofs.sets.union.Given as goal
 abbrev pub invariant-loop-argument : goal.invariant-loop-argument
 invariant-loop-argument l =
     (l.all.data_type ≡ l.fn.data_type)
-    × EachOf l.fn.data_type (drop l.argument-index l.arguments)
+    × Every (kind.Value l.fn.data_type) (map kind_of_each (drop l.argument-index l.arguments))
     × (joined l.all.values (all_values (drop l.argument-index l.arguments)) ≡ union l.arguments)

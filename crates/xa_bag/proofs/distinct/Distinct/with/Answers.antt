@@ -1,8 +1,8 @@
 use Rattle.std.proofs.Common.{rules, ◌≡◌, sym, ap, subst, ◌∙◌, ◌∷◌, [], ◌++◌, IfSome}
 use Rattle.xa_value.specs.Order.{type_of}
 use Rattle.xa_bag.specs.Bag.{bag_of}
-use Rattle.xa_bag.specs.Distinct.{with_new}
-use Rattle.xa_bag.specs.Keys.{HasKeys}
+use Rattle.xa_bag.proofs.SetLemmas.{with_new}
+use Rattle.xa_bag.proofs.KeyLemmas.{HasKeys}
 use Rattle.xa_bag.proofs.BagLemmas.{of_type_push}
 use Rattle.xa_bag.proofs.KeyLemmas.{key_put, kept_as_it_is, put_at_end, of_type_with_new}
 use Rattle.xa_bag.proofs.distinct.Distinct.with.Goals as goal
@@ -32,7 +32,7 @@ invariant_of-result-2 c =
     let keys = subst (λ o. IfSome o (λ keys. HasKeys keys d.bag.values)) c.in-Some.is has in
     let h = c.in_ok-insert.ensures in
     let copy : c.in_ok-clone.field-0 ≡ v = search rules in
-    let put : c.push.new.self ≡ bag_of d.bag.data_type (d.bag.values ++ v ∷ []) = c.in_ok-push.ensures.ok ∙ ap (λ w. bag_of d.bag.data_type (d.bag.values ++ w ∷ [])) copy in
+    let put : c.put.new.self ≡ bag_of d.bag.data_type (d.bag.values ++ v ∷ []) = c.in_ok-put.ensures.ok ∙ ap (λ w. bag_of d.bag.data_type (d.bag.values ++ w ∷ [])) copy in
     rw put (of_type_push _ _ _ c.self.invariant.0 is, key_put _ c.insert.new.self d.bag.values v _ keys c.sort_key.ensures.value h.updates h.ordered)
 
 pub returns : goal.returns
@@ -44,6 +44,6 @@ returns c =
     let keys = subst (λ o. IfSome o (λ keys. HasKeys keys d.bag.values)) c.in-Some.is has in
     let h = c.in_ok-insert.ensures in
     let copy : c.in_ok-clone.field-0 ≡ v = search rules in
-    let put : c.push.new.self ≡ bag_of d.bag.data_type (d.bag.values ++ v ∷ []) = c.in_ok-push.ensures.ok ∙ ap (λ w. bag_of d.bag.data_type (d.bag.values ++ w ∷ [])) copy in
+    let put : c.put.new.self ≡ bag_of d.bag.data_type (d.bag.values ++ v ∷ []) = c.in_ok-put.ensures.ok ∙ ap (λ w. bag_of d.bag.data_type (d.bag.values ++ w ∷ [])) copy in
     put ∙ ap (λ vs. bag_of d.bag.data_type vs) (put_at_end _ d.bag.data_type d.bag.values v _ _ keys c.self.invariant.0 is c.sort_key.ensures.value h.added c.if-not-branch.false)
     ∙ ap (λ b. bag_of b.data_type (with_new b.values v)) c.self.view_is

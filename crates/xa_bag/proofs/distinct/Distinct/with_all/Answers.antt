@@ -1,4 +1,4 @@
-use Rattle.xa_bag.specs.Distinct.{joined}
+use Rattle.xa_bag.proofs.SetLemmas.{joined}
 use Rattle.xa_bag.proofs.SetLemmas.{walked, value_taken, joined_more}
 use Rattle.xa_bag.proofs.distinct.Distinct.with_all.Goals as goal
 

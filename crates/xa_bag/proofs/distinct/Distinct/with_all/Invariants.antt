@@ -1,6 +1,6 @@
 use Rattle.std.proofs.Common.{◌≡◌, drop}
 use Rattle.xa_bag.specs.Bag.{OfType}
-use Rattle.xa_bag.specs.Distinct.{joined}
+use Rattle.xa_bag.proofs.SetLemmas.{joined}
 use Rattle.xa_bag.proofs.distinct.Distinct.with_all.Given as goal
 
 -- the rest are of the type, and are still to join the values kept

@@ -1,6 +1,6 @@
 use Rattle.std.proofs.Common.{◌≡◌, sym, subst, ap, ◌∙◌, IfSome}
 use Rattle.xa_value.specs.Order.{type_of}
-use Rattle.xa_bag.specs.Keys.{HasKeys}
+use Rattle.xa_bag.proofs.KeyLemmas.{HasKeys}
 use Rattle.xa_bag.specs.Sets.{is_among}
 use Rattle.xa_bag.proofs.KeyLemmas.{found, not_found}
 use Rattle.xa_bag.proofs.members.Members.contains.Goals as goal
