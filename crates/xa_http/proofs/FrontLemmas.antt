@@ -16,7 +16,7 @@ use Rattle.xa_http.specs.declared.message.Message.{Message}
 use Rattle.xa_http.specs.declared.front.Cause.{Cause}
 use Rattle.xa_http.specs.declared.front.Front.TheVariants.{Whole}
 use Rattle.xa_http.specs.Length.{body_length}
-use Rattle.xa_http.specs.Messages.{window, fields_of, BeginsWithHead, BeginsWithMessage, IsUnfinished, IsRefused}
+use Rattle.xa_http.specs.Messages.{window, fields_of, BeginsWithHead, BeginsWithMessage, IsUnfinished, IsFaulty}
 use Rattle.xa_http.specs.Front.{field_at, IsFront, IsHeadOf}
 
 -- a line end has a byte at least
@@ -55,15 +55,15 @@ too_many held room fits exceeds =
     omega (arith, fits, head_fits h, exceeds.5, length-take 16384 held, simp length-append at (ap length whole), simp length-append at (ap length read))
 
 -- so an error of the parser in that room says that no head begins like that
-pub refused_head : (held : List ℕ) (room : ℕ) (e : Error) → 8192 ≤ room → (e ≢ TooManyHeaders → NeverHasRequest (window held))
+pub never_a_head : (held : List ℕ) (room : ℕ) (e : Error) → 8192 ≤ room → (e ≢ TooManyHeaders → NeverHasRequest (window held))
     → (e ≡ TooManyHeaders → RequestExceeds room (window held)) → NeverHasRequest (window held)
-refused_head held room HeaderName fits never exceeds = never (λ e. cc)
-refused_head held room HeaderValue fits never exceeds = never (λ e. cc)
-refused_head held room NewLine fits never exceeds = never (λ e. cc)
-refused_head held room Status fits never exceeds = never (λ e. cc)
-refused_head held room Token fits never exceeds = never (λ e. cc)
-refused_head held room TooManyHeaders fits never exceeds = absurd (too_many held room fits (exceeds refl))
-refused_head held room Version fits never exceeds = never (λ e. cc)
+never_a_head held room HeaderName fits never exceeds = never (λ e. cc)
+never_a_head held room HeaderValue fits never exceeds = never (λ e. cc)
+never_a_head held room NewLine fits never exceeds = never (λ e. cc)
+never_a_head held room Status fits never exceeds = never (λ e. cc)
+never_a_head held room Token fits never exceeds = never (λ e. cc)
+never_a_head held room TooManyHeaders fits never exceeds = absurd (too_many held room fits (exceeds refl))
+never_a_head held room Version fits never exceeds = never (λ e. cc)
 
 -- the field line of a name and a value
 field_from : List ℕ × List ℕ → Field
@@ -109,11 +109,11 @@ body_open held head len n found announced short =
     let h = found.0 in
     inr (h, drop len held, n, begins held h len found.1 found.2, ap (λ (m : Message). body_length m.fields) (sym found.3) ∙ announced, short)
 
--- the head is whole, and what it announces is refused
-pub head_refused : (held : List ℕ) (head : Message) (len : ℕ) (cause : Cause) → IsHeadOf (window held) head len
-    → body_length head.fields ≡ Err cause → IsRefused held cause
-unfolding IsRefused
-head_refused held head len cause found announced =
+-- the head is whole, and the body that it announces is not taken
+pub head_faulty : (held : List ℕ) (head : Message) (len : ℕ) (cause : Cause) → IsHeadOf (window held) head len
+    → body_length head.fields ≡ Err cause → IsFaulty held cause
+unfolding IsFaulty
+head_faulty held head len cause found announced =
     let h = found.0 in
     inr (h, drop len held, begins held h len found.1 found.2, ap (λ (m : Message). body_length m.fields) (sym found.3) ∙ announced)
 

@@ -10,8 +10,8 @@ use Rattle.xa_http.specs.declared.front.Cause.{Cause}
 use Rattle.xa_http.specs.declared.front.Cause.TheVariants.{BadHead, HeadTooLarge, TransferCoding, BadLength, BodyTooLarge}
 use Rattle.xa_http.specs.declared.session.Next.TheVariants as next
 use Rattle.xa_http.specs.Length.{body_length}
-use Rattle.xa_http.specs.Messages.{Cuts, window, message_of, fields_of, BeginsWithHead, BeginsWithMessage, IsUnfinished, IsOpeningRefused, IsRefused}
-use Rattle.xa_http.specs.Laws.{KeepsMessages, KeepsRefusals, AnswersMessages, FeedsOn, TakesOn, HasOneCut}
+use Rattle.xa_http.specs.Messages.{Cuts, window, message_of, fields_of, BeginsWithHead, BeginsWithMessage, IsUnfinished, IsOpeningFaulty, IsFaulty}
+use Rattle.xa_http.specs.Laws.{KeepsMessages, KeepsFaults, AnswersMessages, FeedsOn, TakesOn, HasOneCut}
 
 -- the front of more bytes begins with the front of those
 front_of_more : (n : ℕ) (held more : List ℕ) → (rest : List ℕ) × (take n (held ++ more) ≡ take n held ++ rest)
@@ -45,7 +45,7 @@ head_in_window held h after b =
 head_not_open : (held : List ℕ) (h : RequestHead) (after : List ℕ) → BeginsWithHead held h after → HasNoRequest (window held) → ⊥
 head_not_open held h after b none = let w = head_in_window held h after b in none h w.0 w.1
 
--- and no refused one
+-- nor one that never can be
 head_not_never : (held : List ℕ) (h : RequestHead) (after : List ℕ) → BeginsWithHead held h after → NeverHasRequest (window held) → ⊥
 head_not_never held h after b never =
     let w = head_in_window held h after b in
@@ -72,7 +72,7 @@ keeps_messages held more message rest begins =
     let b = head_kept held more h (message.body ++ rest) begins.1 in
     (h, ((b.0.0, b.0.1 ∙ ap (λ (x : List ℕ). print_request h ++ x) (append_assoc message.body rest more)), b.1), begins.2, begins.3)
 
-opening_kept : (held more : List ℕ) (cause : Cause) → IsOpeningRefused held cause → IsOpeningRefused (held ++ more) cause
+opening_kept : (held more : List ℕ) (cause : Cause) → IsOpeningFaulty held cause → IsOpeningFaulty (held ++ more) cause
 opening_kept held more BadHead never = never_kept held more never
 opening_kept held more HeadTooLarge opened =
     let same = window_full held more opened.1 in
@@ -81,12 +81,12 @@ opening_kept held more TransferCoding none = absurd none
 opening_kept held more BadLength none = absurd none
 opening_kept held more BodyTooLarge none = absurd none
 
-pub keeps_refusals : KeepsRefusals
-unfolding IsRefused
-keeps_refusals held more cause (inl opening) = inl (opening_kept held more cause opening)
-keeps_refusals held more cause (inr head) = inr (head.0, head.1 ++ more, head_kept held more head.0 head.1 head.2, head.3)
+pub keeps_faults : KeepsFaults
+unfolding IsFaulty
+keeps_faults held more cause (inl opening) = inl (opening_kept held more cause opening)
+keeps_faults held more cause (inr head) = inr (head.0, head.1 ++ more, head_kept held more head.0 head.1 head.2, head.3)
 
-opening_not_whole : (held : List ℕ) (cause : Cause) (h : RequestHead) (after : List ℕ) → BeginsWithHead held h after → IsOpeningRefused held cause → ⊥
+opening_not_whole : (held : List ℕ) (cause : Cause) (h : RequestHead) (after : List ℕ) → BeginsWithHead held h after → IsOpeningFaulty held cause → ⊥
 opening_not_whole held BadHead h after b never = head_not_never held h after b never
 opening_not_whole held HeadTooLarge h after b opened = head_not_open held h after b opened.0.0
 opening_not_whole held TransferCoding h after b none = none
@@ -116,10 +116,10 @@ whole_not_unfinished held m r x (inr opened) =
     let l : length m.body ≡ opened.2 = cc in
     omega (arith, l, opened.5, ap length s.1, length-append m.body r)
 
-whole_not_refused : (held : List ℕ) (m : Message) (r : List ℕ) (cause : Cause) → BeginsWithMessage held m r → IsRefused held cause → ⊥
-unfolding BeginsWithMessage IsRefused
-whole_not_refused held m r cause x (inl opening) = opening_not_whole held cause x.0 (m.body ++ r) x.1 opening
-whole_not_refused held m r cause x (inr head) =
+whole_not_faulty : (held : List ℕ) (m : Message) (r : List ℕ) (cause : Cause) → BeginsWithMessage held m r → IsFaulty held cause → ⊥
+unfolding BeginsWithMessage IsFaulty
+whole_not_faulty held m r cause x (inl opening) = opening_not_whole held cause x.0 (m.body ++ r) x.1 opening
+whole_not_faulty held m r cause x (inr head) =
     let s = same_head held x.0 head.0 (m.body ++ r) head.1 x.1 head.2 in
     let both : Ok (length m.body) ≡ Err cause = sym x.2 ∙ ap (λ (h : RequestHead). body_length (fields_of h)) s.0 ∙ head.3 in
     cc
@@ -130,7 +130,7 @@ answers_messages held message rest (next.Message other) after begins is =
     (ap (λ (m : Message). next.Message m) (sym s.0), λ i. record { held = sym s.1 i; ended = is.2 i })
 answers_messages held message rest next.More after begins is = absurd (whole_not_unfinished held message rest begins is.1)
 answers_messages held message rest (next.Fault f) after begins is =
-    absurd (whole_not_refused held message rest is.1.0 begins is.1.1)
+    absurd (whole_not_faulty held message rest is.1.0 begins is.1.1)
 answers_messages held message rest next.Ended after begins is = absurd (false≢true is.0)
 
 pub feeds_on : FeedsOn

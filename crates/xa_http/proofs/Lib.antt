@@ -1,4 +1,3 @@
-pub mod DigitLemmas
 pub mod NumberLemmas
 pub mod FrontLemmas
 pub mod RouteLemmas

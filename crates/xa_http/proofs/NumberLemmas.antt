@@ -1,14 +1,32 @@
 -- Digits that write the same number.
-use Rattle.std.proofs.Common.{◌≡◌, ℕ, ◌+◌, ◌*◌, ◌-◌, ◌≤◌, Bool, true, false, cond, List, [], ◌∷◌, length, refl, sym, ap, ◌∙◌, suc, zero, arith, eqb, ◌⊎◌, inl, inr}
-use Rattle.std.specs.List.{list_all}
+use Rattle.std.proofs.Common.{◌≡◌, ℕ, ◌+◌, ◌*◌, ◌-◌, ◌≤◌, Bool, true, false, cond, List, [], ◌∷◌, length, drop, refl, sym, ap, ◌∙◌, suc, zero, arith, eqb, add_comm, add-one, ◌⊎◌, inl, inr}
+use Rattle.std.specs.List.{list_all, prefix_len}
 use Rattle.std.specs.Char.{is_ascii_digit, digit_value}
+use Rattle.std.specs.Prelude.{◌==◌, if◌then◌else◌}
 use Rattle.std.specs.Str.{bytes_eq}
 use Rattle.std.specs.Str.Parse.{digits_value, digits_value_after}
 use Rattle.std.proofs.lemmas.Bool.Decides.{nat_tests, same_from_decides, Decides-eqb}
 use Rattle.std.proofs.lemmas.Bool.{false≢true}
 use Rattle.std.proofs.lemmas.Slice.Eq.{bytes_eq-Decides}
-use Rattle.xa_http.specs.Digits.{is_number}
-use Rattle.xa_http.specs.Zeros.{skip_zeros}
+use Rattle.xa_value.specs.Digits.{is_number}
+
+-- the digits from the first that is no zero
+abbrev pub skip_zeros : List ℕ → List ℕ
+skip_zeros [] = []
+skip_zeros (c ∷ cs) = if c == 48 then skip_zeros cs else c ∷ cs
+
+-- the same by how many zeros there are
+skipped : (cs : List ℕ) → drop (prefix_len (λ c. c == 48) cs) cs ≡ skip_zeros cs
+skipped [] = refl
+skipped (c ∷ cs) = by_test (skipped cs) (eqb c 48)
+  where
+    one_more : (n : ℕ) → drop (1 + n) (c ∷ cs) ≡ drop n cs
+    one_more n = rw (add_comm 1 n, add-one) refl
+
+    by_test : drop (prefix_len (λ d. d == 48) cs) cs ≡ skip_zeros cs → (b : Bool)
+        → drop (cond b (1 + prefix_len (λ d. d == 48) cs) 0) (c ∷ cs) ≡ cond b (skip_zeros cs) (c ∷ cs)
+    by_test later true = one_more (prefix_len (λ d. d == 48) cs) ∙ later
+    by_test later false = refl
 
 -- a digit and the digits after it
 pub digit_first : (c : ℕ) (cs : List ℕ) → list_all is_ascii_digit (c ∷ cs) ≡ true → (48 ≤ c) × (c ≤ 57) × (list_all is_ascii_digit cs ≡ true) × (digit_value c ≡ c - 48)
@@ -35,7 +53,7 @@ same_length m n (x ∷ xs) (y ∷ ys) dx dy l e =
     let u = r.1 in
     (omega (arith, a, b, c, d, s, v, w), cc)
 
--- so many zeros before the digits
+-- k zeros before the digits
 pad : ℕ → List ℕ → List ℕ
 pad zero xs = xs
 pad (suc k) xs = 48 ∷ pad k xs
@@ -117,12 +135,17 @@ same_skipped ds es da db e =
     by_length (inl l) same = longer _ (skip_zeros ds) es (digits-skip_zeros ds da) (digits-skip_zeros es db) l same
     by_length (inr l) same = sym (longer _ (skip_zeros es) ds (digits-skip_zeros es db) (digits-skip_zeros ds da) l (sym same))
 
-pub same_number : (ds es : List ℕ) → is_number ds ≡ true → is_number es ≡ true
+same_skip : (ds es : List ℕ) → is_number ds ≡ true → is_number es ≡ true
     → bytes_eq (skip_zeros ds) (skip_zeros es) ≡ eqb (digits_value 10 ds) (digits_value 10 es)
-same_number ds es a b =
+same_skip ds es a b =
     let da : list_all is_ascii_digit ds ≡ true = grind (arith, nat_tests) in
     let db : list_all is_ascii_digit es ≡ true = grind (arith, nat_tests) in
     same_from_decides (bytes_eq (skip_zeros ds) (skip_zeros es)) (eqb (digits_value 10 ds) (digits_value 10 es)) (bytes_eq-Decides _ _) (
       λ t. same_skipped ds es da db ((Decides-eqb _ _).0 t),
       λ e. (Decides-eqb _ _).1 (sym (number-skip_zeros ds) ∙ ap (digits_value 10) e ∙ number-skip_zeros es),
     )
+
+pub same_number : (ds es : List ℕ) → is_number ds ≡ true → is_number es ≡ true
+    → bytes_eq (drop (prefix_len (λ c. c == 48) ds) ds) (drop (prefix_len (λ c. c == 48) es) es)
+    ≡ eqb (digits_value 10 ds) (digits_value 10 es)
+same_number ds es a b = rw (skipped ds, skipped es) (same_skip ds es a b)

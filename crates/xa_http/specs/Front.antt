@@ -6,8 +6,8 @@ use Rattle.httparse.specs.declared.spans.HeaderSpan.{HeaderSpan}
 use Rattle.xa_http.specs.declared.message.Field.{Field}
 use Rattle.xa_http.specs.declared.message.Message.{Message}
 use Rattle.xa_http.specs.declared.front.Front.{Front}
-use Rattle.xa_http.specs.declared.front.Front.TheVariants.{Whole, More, Refused}
-use Rattle.xa_http.specs.Messages.{message_of, BeginsWithMessage, IsUnfinished, IsRefused}
+use Rattle.xa_http.specs.declared.front.Front.TheVariants.{Whole, More, Fault}
+use Rattle.xa_http.specs.Messages.{message_of, BeginsWithMessage, IsUnfinished, IsFaulty}
 
 -- the field line that the spans cover
 abbrev pub field_at : List ℕ → HeaderSpan → Field
@@ -22,4 +22,4 @@ IsHeadOf bytes head len =
 abbrev pub IsFront : List ℕ → Front → Type 0
 IsFront held (Whole message len) = (len ≤ length held) × BeginsWithMessage held message (drop len held)
 IsFront held More = IsUnfinished held
-IsFront held (Refused cause) = IsRefused held cause
+IsFront held (Fault cause) = IsFaulty held cause

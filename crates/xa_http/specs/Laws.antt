@@ -5,7 +5,7 @@ use Rattle.xa_http.specs.declared.front.Cause.{Cause}
 use Rattle.xa_http.specs.declared.session.Next.{Next}
 use Rattle.xa_http.specs.declared.session.Next.TheVariants as next
 use Rattle.xa_http.specs.Stream.{Stream}
-use Rattle.xa_http.specs.Messages.{BeginsWithMessage, Cuts, IsRefused, IsNext}
+use Rattle.xa_http.specs.Messages.{BeginsWithMessage, Cuts, IsFaulty, IsNext}
 
 -- bytes that follow leave the message at the front as it was
 abbrev pub KeepsMessages : Type 0
@@ -13,9 +13,9 @@ KeepsMessages =
     (held more : List ℕ) (message : Message) (rest : List ℕ)
     → BeginsWithMessage held message rest → BeginsWithMessage (held ++ more) message (rest ++ more)
 
--- and a refusal
-abbrev pub KeepsRefusals : Type 0
-KeepsRefusals = (held more : List ℕ) (cause : Cause) → IsRefused held cause → IsRefused (held ++ more) cause
+-- and a fault there
+abbrev pub KeepsFaults : Type 0
+KeepsFaults = (held more : List ℕ) (cause : Cause) → IsFaulty held cause → IsFaulty (held ++ more) cause
 
 -- where a message stands at the front, it is the only answer, and what follows it stays
 abbrev pub AnswersMessages : Type 0

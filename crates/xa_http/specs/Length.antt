@@ -1,13 +1,12 @@
--- How many bytes of body a head announces, or why the message is refused (RFC 9112, section 6).
+-- How many bytes of body a head announces, or why the message is not taken (RFC 9112, section 6).
 use Rattle.std.specs.Prelude.{ℕ, Bool, ◌&&◌, List, [], ◌∷◌, length, map, nat_lt, nat_le, ◌==◌, if◌then◌else◌, Result, Ok, Err, codes}
 use Rattle.std.specs.List.{filter, list_all, list_any}
 use Rattle.std.specs.Str.{str_eq_ignore_ascii_case}
 use Rattle.std.specs.Str.Parse.{digits_value}
-use Rattle.xa_http.specs.Digits.{is_number}
+use Rattle.xa_value.specs.Digits.{is_number}
 use Rattle.xa_http.specs.declared.message.Field.{Field}
 use Rattle.xa_http.specs.declared.front.Cause.{Cause}
 use Rattle.xa_http.specs.declared.front.Cause.TheVariants.{HeadTooLarge, TransferCoding, BadLength, BodyTooLarge}
-use Rattle.xa_http.specs.declared.limits.TheConstants.{MAX_FIELDS, MAX_BODY_BYTES}
 
 -- the field has that name; names compare without letter case
 abbrev pub is_named : List ℕ → Field → Bool
@@ -17,9 +16,9 @@ is_named name f = str_eq_ignore_ascii_case f.name name
 abbrev pub values_of : List ℕ → List Field → List (List ℕ)
 values_of name fields = map (λ f. f.value) (filter (is_named name) fields)
 
--- a body of that many bytes is taken, if there are not too many
+-- a body of that many bytes is taken, up to 262,144 bytes
 abbrev pub within_limit : ℕ → Result ℕ Cause
-within_limit n = if nat_le n MAX_BODY_BYTES then Ok n else Err BodyTooLarge
+within_limit n = if nat_le n 262144 then Ok n else Err BodyTooLarge
 
 -- the text is digits alone, and writes the number that the digits do
 abbrev pub writes_same : List ℕ → List ℕ → Bool
@@ -31,9 +30,10 @@ agreed_length [] = Ok 0
 agreed_length (first ∷ others) =
     if is_number first && list_all (writes_same first) others then within_limit (digits_value 10 first) else Err BadLength
 
--- the length of the body after a head of those fields, or the first of the reasons to refuse it
+-- the length of the body after a head of those fields, or the first reason why the message is not taken: more than 64 fields,
+-- a transfer coding, a Content-Length that isn't a number or differs from another, a body that is too large
 unfoldable pub body_length : List Field → Result ℕ Cause
 body_length fields =
-    if nat_lt MAX_FIELDS (length fields) then Err HeadTooLarge else (
+    if nat_lt 64 (length fields) then Err HeadTooLarge else (
     if list_any (is_named (codes "Transfer-Encoding")) fields then Err TransferCoding else
     agreed_length (values_of (codes "Content-Length") fields))

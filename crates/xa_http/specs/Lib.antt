@@ -1,7 +1,5 @@
 pub mod Stream
-pub mod Digits
 pub mod Length
-pub mod Zeros
 pub mod Messages
 pub mod Front
 pub mod Routes

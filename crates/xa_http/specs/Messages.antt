@@ -10,7 +10,6 @@ use Rattle.xa_http.specs.declared.session.Next.{Next}
 use Rattle.xa_http.specs.declared.session.Next.TheVariants as next
 use Rattle.xa_http.specs.declared.session.SessionFault.{SessionFault}
 use Rattle.xa_http.specs.declared.session.SessionFault.TheVariants as fault
-use Rattle.xa_http.specs.declared.limits.TheConstants.{MAX_HEAD_BYTES}
 use Rattle.xa_http.specs.Length.{body_length}
 use Rattle.xa_http.specs.Stream.{Stream}
 
@@ -26,13 +25,13 @@ fields_of h = map field_of h.fields
 abbrev pub message_of : RequestHead → List ℕ → Message
 message_of h body = record { method = h.method; target = h.target; fields = fields_of h; body = body }
 
--- the bytes in which a head is looked for
+-- the bytes in which a head is looked for: it has at most 16,384
 unfoldable pub window : List ℕ → List ℕ
-window held = take MAX_HEAD_BYTES held
+window held = take 16384 held
 
 -- the bytes begin with the head h, of no more bytes than a head may have, and after is what follows it
 abbrev pub BeginsWithHead : List ℕ → RequestHead → List ℕ → Type 0
-BeginsWithHead held h after = ReadsRequest held h after × (length (print_request h) ≤ MAX_HEAD_BYTES)
+BeginsWithHead held h after = ReadsRequest held h after × (length (print_request h) ≤ 16384)
 
 -- the bytes begin with that message, and rest is what follows it
 unfoldable pub BeginsWithMessage : List ℕ → Message → List ℕ → Type 0
@@ -57,24 +56,24 @@ IsBodyOpen held =
 
 -- more bytes may make a message of what is held
 unfoldable pub IsUnfinished : List ℕ → Type 0
-IsUnfinished held = (IsHeadOpen held × (length held < MAX_HEAD_BYTES)) ⊎ IsBodyOpen held
+IsUnfinished held = (IsHeadOpen held × (length held < 16384)) ⊎ IsBodyOpen held
 
--- no head is whole, and what is held is refused for it
-abbrev pub IsOpeningRefused : List ℕ → Cause → Type 0
-IsOpeningRefused held BadHead = NeverHasRequest (window held)
-IsOpeningRefused held HeadTooLarge = IsHeadOpen held × (MAX_HEAD_BYTES ≤ length held)
-IsOpeningRefused held cause = ⊥
+-- no head is whole, and none can be of what is held: none begins like that, or it has more bytes than a head may have
+abbrev pub IsOpeningFaulty : List ℕ → Cause → Type 0
+IsOpeningFaulty held BadHead = NeverHasRequest (window held)
+IsOpeningFaulty held HeadTooLarge = IsHeadOpen held × (16384 ≤ length held)
+IsOpeningFaulty held cause = ⊥
 
--- a head is whole, and what it announces is refused
-abbrev pub IsHeadRefused : List ℕ → Cause → Type 0
-IsHeadRefused held cause =
+-- a head is whole, and it has too many fields, or the body that it announces is not taken
+abbrev pub IsHeadFaulty : List ℕ → Cause → Type 0
+IsHeadFaulty held cause =
     (h : RequestHead) × (after : List ℕ) × BeginsWithHead held h after × (body_length (fields_of h) ≡ Err cause)
 
--- what is held is refused for that cause
-unfoldable pub IsRefused : List ℕ → Cause → Type 0
-IsRefused held cause = IsOpeningRefused held cause ⊎ IsHeadRefused held cause
+-- no message stands at the front of what is held, however it goes on, for that cause
+unfoldable pub IsFaulty : List ℕ → Cause → Type 0
+IsFaulty held cause = IsOpeningFaulty held cause ⊎ IsHeadFaulty held cause
 
--- how a refusal is answered
+-- the fault that a session answers for a cause
 abbrev pub fault_of : Cause → SessionFault
 fault_of cause = fault.BadHead
 
@@ -84,6 +83,6 @@ IsNext old (next.Message message) new =
     (old.ended ≡ false) × BeginsWithMessage old.held message new.held × (new.ended ≡ false)
 IsNext old next.More new = (old.ended ≡ false) × IsUnfinished old.held × (new ≡ old)
 IsNext old (next.Fault f) new =
-    (old.ended ≡ false) × ((cause : Cause) × IsRefused old.held cause × (f ≡ fault_of cause))
+    (old.ended ≡ false) × ((cause : Cause) × IsFaulty old.held cause × (f ≡ fault_of cause))
     × (new ≡ record old { ended = true })
 IsNext old next.Ended new = (old.ended ≡ true) × (new ≡ old)

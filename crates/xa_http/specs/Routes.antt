@@ -1,5 +1,5 @@
 -- What a message asks for: the path that its target names, the place at that path, and the method.
-use Rattle.std.specs.Prelude.{◌≡◌, ℕ, ◌-◌, Bool, ◌&&◌, not, List, [], ◌∷◌, length, take, drop, nat_lt, ◌==◌, if◌then◌else◌, Option, Some, None, Result, Ok, Err, codes, bytes_eq}
+use Rattle.std.specs.Prelude.{ℕ, ◌-◌, Bool, ◌&&◌, not, List, [], ◌∷◌, length, take, drop, nat_lt, ◌==◌, if◌then◌else◌, Option, Some, None, Result, Ok, Err, codes, bytes_eq}
 use Rattle.std.specs.List.{list_any}
 use Rattle.std.specs.Option.{option_and_then}
 use Rattle.std.specs.Str.{is_utf8}
@@ -7,7 +7,7 @@ use Rattle.xa_http.specs.declared.message.Message.{Message}
 use Rattle.xa_http.specs.declared.route.Route.{Route}
 use Rattle.xa_http.specs.declared.route.Route.TheVariants.{Decide}
 use Rattle.xa_http.specs.declared.route.RouteFault.{RouteFault}
-use Rattle.xa_http.specs.declared.route.RouteFault.TheVariants.{NoRoute, BadMethod, Memory}
+use Rattle.xa_http.specs.declared.route.RouteFault.TheVariants.{NoRoute, BadMethod}
 
 -- the bytes before the first b, or all of them
 abbrev pub before : ℕ → List ℕ → List ℕ
@@ -38,33 +38,33 @@ path_of_plain target =
 unfoldable pub path_of : List ℕ → Option (List ℕ)
 path_of target = if is_utf8 target then path_of_plain (before 63 target) else None
 
--- a part of a path: not empty, and without a slash
-abbrev pub is_part : List ℕ → Bool
-is_part part = nat_lt 0 (length part) && not (list_any (λ b. b == 47) part)
+-- a segment of a path that is not empty (RFC 3986, section 3.3): it has no slash
+abbrev pub is_segment : List ℕ → Bool
+is_segment segment = nat_lt 0 (length segment) && not (list_any (λ b. b == 47) segment)
 
--- the part itself, if it is one
-abbrev pub whole_part : List ℕ → Option (List ℕ)
-whole_part part = if is_part part then Some part else None
+-- the bytes themselves, if they are a segment
+abbrev pub segment_if : List ℕ → Option (List ℕ)
+segment_if bytes = if is_segment bytes then Some bytes else None
 
--- the domain part of a path /domains/{domain}/pdp
-unfoldable pub domain_part : List ℕ → Option (List ℕ)
-domain_part path =
-    option_and_then (λ rest. option_and_then whole_part (before_suffix (codes "/pdp") rest))
+-- the segment of a path /domains/{domain}/pdp that stands for a domain
+unfoldable pub domain_segment : List ℕ → Option (List ℕ)
+domain_segment path =
+    option_and_then (λ rest. option_and_then segment_if (before_suffix (codes "/pdp") rest))
     (after_prefix (codes "/domains/") path)
 
 -- what is served at a path
 pub data Place : Type 0 where
-  -- the decisions of the domain that this part of the path names
+  -- the decisions of the domain that this segment names
   decisions : List ℕ → Place
 
--- the place with that domain part
+-- the place of that segment
 abbrev pub decisions_at : Option (List ℕ) → Option Place
 decisions_at None = None
 decisions_at (Some domain) = Some (decisions domain)
 
 -- the place that a target names
 unfoldable pub place_of : List ℕ → Option Place
-place_of target = decisions_at (option_and_then domain_part (path_of target))
+place_of target = decisions_at (option_and_then domain_segment (path_of target))
 
 -- what a method asks for at a place
 abbrev pub route_at : List ℕ → Option Place → Result Route RouteFault
@@ -72,13 +72,6 @@ route_at method None = Err NoRoute
 route_at method (Some (decisions domain)) =
     if bytes_eq method (codes "POST") then Ok (Decide domain) else Err BadMethod
 
--- what a message asks for, or why nothing answers to it
+-- what a message asks for, or why that is nothing that is served
 unfoldable pub route_of : Message → Result Route RouteFault
 route_of message = route_at message.method (place_of message.target)
-
--- the answer is the expected one, or memory ran out
-abbrev pub Gives : {X : Type 0} → Result X RouteFault → Result X RouteFault → Type 0
-Gives (Ok x) expected = expected ≡ Ok x
-Gives (Err NoRoute) expected = expected ≡ Err NoRoute
-Gives (Err BadMethod) expected = expected ≡ Err BadMethod
-Gives (Err Memory) expected = Unit {0}

@@ -1,3 +1,4 @@
+//! What stands at the front of a stream: a whole message, the beginning of one, or none that is taken.
 ghost use Rattle.std.specs.Prelude.{◌≡◌, ◌≤◌, length, IfOk};
 ghost use Rattle.httparse.specs.Grammar.{HasNoRequest, MayBecomeRequest};
 ghost use Rattle.xa_http.specs.Length as spec;
@@ -13,10 +14,10 @@ use httparse::spans::{HeaderSpan, parse_request};
 use std::alloc::{AllocError, Global};
 use xa_value::Items;
 
-/// The offsets of so many field lines are read. More don't fit into a head: each has a colon and a line end.
+/// The offsets of at most this many field lines are read. More don't fit into a head: each has a colon and a line end.
 pub const HEADER_ROOM: usize = 8_192;
 
-/// Why the bytes at the front of a stream are refused.
+/// Why the bytes at the front of a stream are no message that is taken.
 #[derive(Clone, Copy, Debug, PartialEq, Eq)]
 pub enum Cause {
     /// No head begins like that.
@@ -38,13 +39,13 @@ pub enum Front {
     /// Not yet a whole message.
     More,
     /// No message that is taken.
-    Refused(Cause),
+    Fault(Cause),
 }
 
 /// What stands at the front of the bytes.
-#[tactic(auto, unfolding(crate::specs::Messages::IsRefused))]
+#[tactic(auto, unfolding(crate::specs::Messages::IsFaulty))]
 pub fn read_front(alloc: Global, held: &[u8], room: &mut [HeaderSpan]) -> Result<Front, AllocError>
-    requires { HEADER_ROOM ≤ length room.old }
+    requires { 8192 ≤ length room.old }
     ensures { IfOk result (IsFront held.now) }
 {
     let window = window(held);
@@ -54,7 +55,7 @@ pub fn read_front(alloc: Global, held: &[u8], room: &mut [HeaderSpan]) -> Result
             with_head(alloc, held, head, spans.len)
         }
         Ok(Status::Partial) => Ok(open_head(held)),
-        Err(_) => Ok(Front::Refused(Cause::BadHead)),
+        Err(_) => Ok(Front::Fault(Cause::BadHead)),
     }
 }
 
@@ -69,7 +70,7 @@ fn window(held: &[u8]) -> &[u8]
 }
 
 /// The front of bytes in which no head is whole.
-#[tactic(auto, unfolding(crate::specs::Messages::IsUnfinished, crate::specs::Messages::IsRefused))]
+#[tactic(auto, unfolding(crate::specs::Messages::IsUnfinished, crate::specs::Messages::IsFaulty))]
 fn open_head(held: &[u8]) -> Front
     requires none { HasNoRequest (window held.now) }
     requires open { MayBecomeRequest (window held.now) }
@@ -78,11 +79,11 @@ fn open_head(held: &[u8]) -> Front
     if held.len() < MAX_HEAD_BYTES {
         Front::More
     } else {
-        Front::Refused(Cause::HeadTooLarge)
+        Front::Fault(Cause::HeadTooLarge)
     }
 }
 
-/// The front of bytes that begin with that head, of so many bytes.
+/// The front of bytes that begin with that head, which has `len` bytes.
 fn with_head(alloc: Global, held: &[u8], head: Message, len: usize) -> Result<Front, AllocError>
     requires head { IsHeadOf (window held.now) head len }
     requires within { len ≤ length held.now }
@@ -90,11 +91,11 @@ fn with_head(alloc: Global, held: &[u8], head: Message, len: usize) -> Result<Fr
 {
     match body_length(head.fields.as_slice()) {
         Ok(body_len) => with_body(alloc, held, head, len, body_len),
-        Err(cause) => Ok(Front::Refused(cause)),
+        Err(cause) => Ok(Front::Fault(cause)),
     }
 }
 
-/// The front of bytes that begin with that head, of so many bytes, which announces a body of so many bytes.
+/// The front of bytes that begin with that head, which has `len` bytes and announces a body of `body_len`.
 fn with_body(
     alloc: Global,
     held: &[u8],

@@ -1,3 +1,4 @@
+//! The head of a message, copied from where the parser's offsets point.
 ghost use Rattle.std.specs.Prelude.{◌≡◌, ◌≤◌, length, map, All, IfOk};
 ghost use Rattle.httparse.specs.Spans.{IsWithin, IsHeaderWithin, IsRequestWithin, IsRequestOf, span_bytes};
 ghost use Rattle.xa_http.specs.Front.{field_at, IsHeadOf};

@@ -1,10 +1,11 @@
-ghost use Rattle.xa_http.specs.Laws.{KeepsMessages, KeepsRefusals, AnswersMessages, FeedsOn, TakesOn, HasOneCut};
+//! The law of a stream: however it is cut into pieces, its messages are the same.
+ghost use Rattle.xa_http.specs.Laws.{KeepsMessages, KeepsFaults, AnswersMessages, FeedsOn, TakesOn, HasOneCut};
 
 /// However a stream is cut into pieces, its messages are the same: the contract says so, and the body does nothing.
 pub fn pieces_make_no_difference()
-    // Bytes that follow leave the message at the front, and a refusal, as they were.
+    // Bytes that follow leave a message at the front, and a fault there, as they were.
     ensures messages { KeepsMessages }
-    ensures refusals { KeepsRefusals }
+    ensures faults { KeepsFaults }
 
     // Where a message stands at the front, a session answers that message and nothing else.
     ensures answers { AnswersMessages }

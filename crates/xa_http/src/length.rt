@@ -1,14 +1,14 @@
-ghost use Rattle.std.specs.Prelude.{◌≡◌, ◌∷◌, [], IsTrue, MatchOption};
-ghost use Rattle.std.specs.List.{list_all, list_any};
+//! The length of a body, which the fields of its head announce (RFC 9112, section 6).
+ghost use Rattle.std.specs.Prelude.{◌≡◌, ◌==◌, ◌∷◌, [], drop, IsTrue, MatchOption};
+ghost use Rattle.std.specs.List.{list_all, list_any, prefix_len};
 ghost use Rattle.std.specs.Str.Parse.{digits_value};
-ghost use Rattle.xa_http.specs.Digits.{is_number};
+ghost use Rattle.xa_value.specs.Digits.{is_number};
 ghost use Rattle.xa_http.specs.Length.{is_named, values_of, writes_same, within_limit, agreed_length, body_length};
-ghost use Rattle.xa_http.specs.Zeros.{skip_zeros};
 
-use crate::digits::{is_number, number_up_to};
 use crate::front::Cause;
 use crate::limits::{MAX_BODY_BYTES, MAX_FIELDS};
 use crate::message::Field;
+use xa_value::{is_number, number_up_to};
 
 /// The length of the body after a head of those fields.
 #[tactic(auto, unfolding(crate::specs::Length::body_length))]
@@ -94,7 +94,7 @@ fn writes_same(text: &[u8], digits: &[u8]) -> bool
 
 /// The digits from the first that is no zero.
 fn without_zeros(digits: &[u8]) -> &[u8]
-    ensures { result.now ≡ skip_zeros digits.now }
+    ensures { result.now ≡ drop (prefix_len (λ c. c == 48) digits.now) digits.now }
 {
     for (i, digit) in digits.iter().enumerate() {
         if *digit != b'0' {

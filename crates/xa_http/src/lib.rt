@@ -1,7 +1,6 @@
 //! HTTP/1.x as this server speaks it: the messages of a stream, what a message's path asks for, and the bytes of a reply.
 #![tactic(auto)]
 
-mod digits;
 mod front;
 mod head;
 mod laws;
@@ -16,7 +15,6 @@ mod session;
 #[cfg(test)]
 mod tests;
 
-pub use digits::number_up_to;
 pub use laws::pieces_make_no_difference;
 pub use limits::{MAX_BODY_BYTES, MAX_FIELDS, MAX_HEAD_BYTES};
 pub use message::{Field, Message};

@@ -1,3 +1,4 @@
+//! A message as it was sent: its head and its body.
 use xa_value::Items;
 
 /// One field line of a head (RFC 9112, section 5): its name, and its value without the white space around it.

@@ -1,3 +1,4 @@
+//! The bytes of a reply.
 ghost use Rattle.std.specs.Prelude.{◌≡◌, ◌++◌, IfOk, OnOk};
 ghost use Rattle.xa_http.specs.Reply.{phrase, status_line, field_line, media_text, methods_text, extra_lines, http_bytes};
 
@@ -54,7 +55,7 @@ impl Methods {
     }
 }
 
-/// So many bytes hold any head of a reply.
+/// Any head of a reply fits into this many bytes.
 const HEAD_ROOM: usize = 256;
 
 /// The bytes of a reply.
@@ -79,7 +80,6 @@ pub fn reply(
     Ok(bytes)
 }
 
-/// Adds the status line.
 #[tactic(auto, unfolding(crate::specs::Reply::status_line))]
 fn push_status_line(bytes: &mut Vec<u8>, status: StatusCode) -> Result<(), AllocError>
     ensures { OnOk result (bytes.new.items ≡ bytes.old.items ++ status_line status) }
@@ -91,7 +91,6 @@ fn push_status_line(bytes: &mut Vec<u8>, status: StatusCode) -> Result<(), Alloc
     bytes.extend_from_slice(b"\r\n")
 }
 
-/// The phrase of the status code.
 #[tactic(auto, unfolding(crate::specs::Reply::phrase))]
 fn phrase(status: StatusCode) -> &'static str
     ensures { result.now ≡ phrase status }
@@ -99,7 +98,6 @@ fn phrase(status: StatusCode) -> &'static str
     status.canonical_reason().unwrap_or("")
 }
 
-/// Adds a field line.
 #[tactic(auto, unfolding(crate::specs::Reply::field_line))]
 fn push_field_line(bytes: &mut Vec<u8>, name: &str, value: &str) -> Result<(), AllocError>
     ensures { OnOk result (bytes.new.items ≡ bytes.old.items ++ field_line name.now value.now) }
@@ -110,7 +108,6 @@ fn push_field_line(bytes: &mut Vec<u8>, name: &str, value: &str) -> Result<(), A
     bytes.extend_from_slice(b"\r\n")
 }
 
-/// Adds the further field line.
 #[tactic(auto, unfolding(crate::specs::Reply::extra_lines))]
 fn push_extra_lines(bytes: &mut Vec<u8>, extra: Extra) -> Result<(), AllocError>
     ensures { OnOk result (bytes.new.items ≡ bytes.old.items ++ extra_lines extra) }

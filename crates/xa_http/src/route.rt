@@ -1,6 +1,9 @@
-use std::alloc::AllocError;
+//! What a message can ask for.
+ghost use Rattle.std.specs.Prelude.{◌≡◌};
+ghost use Rattle.xa_value.specs.declared.or_memory.OrMemory.TheVariants.{Error};
+
 use thiserror::Error;
-use xa_value::Items;
+use xa_value::{Items, OrMemory};
 
 /// What a message asks for.
 #[derive(Debug, Drop)]
@@ -18,18 +21,12 @@ pub enum RouteFault {
     /// What is served at the message's target isn't asked for by its method: 405.
     #[error("the method isn't allowed there")]
     BadMethod,
-    /// There is no memory for the answer.
-    #[error("out of memory")]
-    Memory,
 }
 
-impl From<AllocError> for RouteFault {
-    ghost use Rattle.std.specs.Prelude.{◌≡◌};
-    ghost use Rattle.xa_http.specs.declared.route.RouteFault.TheVariants.{Memory};
+impl From<RouteFault> for OrMemory<RouteFault> {
+    ghost from_gives = { λ fault e. e ≡ Error fault };
 
-    ghost from_gives = { λ _ fault. fault ≡ Memory };
-
-    fn from(_: AllocError) -> RouteFault {
-        RouteFault::Memory
+    fn from(fault: RouteFault) -> OrMemory<RouteFault> {
+        OrMemory::Error(fault)
     }
 }

@@ -1,33 +1,36 @@
-ghost use Rattle.std.specs.Prelude.{◌≡◌, option_map, option_and_then};
-ghost use Rattle.xa_http.specs.Routes.{before, from_first, path_of_plain, path_of, is_part, domain_part, route_of, Gives};
+//! The route of a message, by its target and its method.
+ghost use Rattle.std.specs.Prelude.{◌≡◌, IsErr, option_map, option_and_then};
+ghost use Rattle.xa_value.specs.Gives.{Gives, answered};
+ghost use Rattle.xa_http.specs.Routes.{before, from_first, path_of_plain, path_of, is_segment, domain_segment, route_of};
 
 use crate::message::Message;
 use crate::route::{Route, RouteFault};
 use std::alloc::Global;
 use std::str;
-use xa_value::Items;
+use xa_value::{Items, OrMemory};
 
 /// What the message asks for.
 #[tactic(auto, unfolding(crate::specs::Routes::route_of, crate::specs::Routes::place_of))]
-pub fn route(alloc: Global, message: &Message) -> Result<Route, RouteFault>
-    ensures { Gives result (route_of message.now) }
+pub fn route(alloc: Global, message: &Message) -> Result<Route, OrMemory<RouteFault>>
+    ensures route { Gives result (route_of message.now) }
+    ensures exact { IsErr (route_of message.now) → result ≡ answered (route_of message.now) }
 {
-    let Some(domain) = domain_at(message.target.as_slice()) else {
-        return Err(RouteFault::NoRoute);
+    let Some(domain) = segment_of_target(message.target.as_slice()) else {
+        return Err(OrMemory::Error(RouteFault::NoRoute));
     };
     if message.method.as_slice() != b"POST".as_slice() {
-        return Err(RouteFault::BadMethod);
+        return Err(OrMemory::Error(RouteFault::BadMethod));
     }
     Ok(Route::Decide {
         domain: Items::from_vec(Vec::from_slice(alloc, domain)?),
     })
 }
 
-/// The domain part of the path that the target names.
-fn domain_at(target: &[u8]) -> Option<&[u8]>
-    ensures { option_map (λ domain. domain.now) result ≡ option_and_then domain_part (path_of target.now) }
+/// The segment for a domain in the path that the target names.
+fn segment_of_target(target: &[u8]) -> Option<&[u8]>
+    ensures { option_map (λ domain. domain.now) result ≡ option_and_then domain_segment (path_of target.now) }
 {
-    domain_part(path_of(target)?)
+    domain_segment(path_of(target)?)
 }
 
 /// The path that the target names.
@@ -76,18 +79,22 @@ fn from_first(bytes: &[u8], byte: u8) -> Option<&[u8]>
     None
 }
 
-/// The domain part of the path, if decisions are made there.
-#[tactic(auto, unfolding(crate::specs::Routes::domain_part))]
-fn domain_part(path: &[u8]) -> Option<&[u8]>
-    ensures { option_map (λ domain. domain.now) result ≡ domain_part path.now }
+/// The segment of the path that stands for a domain, if decisions are made there.
+#[tactic(auto, unfolding(crate::specs::Routes::domain_segment))]
+fn domain_segment(path: &[u8]) -> Option<&[u8]>
+    ensures { option_map (λ domain. domain.now) result ≡ domain_segment path.now }
 {
     let domain = path.strip_prefix(b"/domains/")?.strip_suffix(b"/pdp")?;
-    if is_part(domain) { Some(domain) } else { None }
+    if is_segment(domain) {
+        Some(domain)
+    } else {
+        None
+    }
 }
 
-/// Whether the bytes are one part of a path.
-fn is_part(part: &[u8]) -> bool
-    ensures { result ≡ is_part part.now }
+/// Whether the bytes are one segment of a path.
+fn is_segment(segment: &[u8]) -> bool
+    ensures { result ≡ is_segment segment.now }
 {
-    !part.is_empty() && !part.contains(&b'/')
+    !segment.is_empty() && !segment.contains(&b'/')
 }

@@ -1,5 +1,7 @@
-ghost use Rattle.std.specs.Prelude.{◌≡◌, ◌≤◌, ◌++◌, [], true, false, length, drop, MatchResult, OnOk, OnErr};
+//! The session of one stream: its whole messages, in whatever pieces the bytes come.
+ghost use Rattle.std.specs.Prelude.{◌≡◌, ◌≤◌, ◌++◌, [], true, false, length, drop, MatchResult, Ok, OnOk, OnErr};
 ghost use Rattle.xa_http.specs.Messages.{IsNext, fault_of};
+ghost use Rattle.xa_http.specs.declared.session.Next.TheVariants.{Ended};
 
 use crate::front::{Cause, Front, HEADER_ROOM, read_front};
 use crate::message::Message;
@@ -64,8 +66,8 @@ impl Session {
         }
     }
 
-    /// Takes the next piece of the stream, also of a session that has ended, which never answers it. Without memory
-    /// nothing is taken.
+    /// Takes the next piece of the stream. A session that has ended takes it too, and answers nothing to it. Without
+    /// memory nothing is taken.
     pub fn feed(&mut self, piece: &[u8]) -> Result<(), AllocError>
         ensures ok { OnOk result (self.new ≡ record self.old { held = self.old.held ++ piece.now }) }
         ensures err { OnErr result (self.new ≡ self.old) }
@@ -76,7 +78,8 @@ impl Session {
 
     /// The next message of the stream, cut off its front. Without memory nothing is changed.
     pub fn next(&mut self) -> Result<Next, AllocError>
-        ensures { MatchResult result (λ answer. IsNext self.old answer self.new) (λ _. self.new ≡ self.old) }
+        ensures next { MatchResult result (λ answer. IsNext self.old answer self.new) (λ _. self.new ≡ self.old) }
+        ensures ended { self.old.ended ≡ true → result ≡ Ok Ended }
     {
         if self.ended {
             return Ok(Next::Ended);
@@ -88,7 +91,7 @@ impl Session {
                 Ok(Next::Message(message))
             }
             Front::More => Ok(Next::More),
-            Front::Refused(cause) => {
+            Front::Fault(cause) => {
                 self.ended = true;
                 Ok(Next::Fault(fault_of(cause)))
             }
@@ -96,7 +99,7 @@ impl Session {
     }
 }
 
-/// How the refusal is answered.
+/// The fault that a session answers for that cause.
 fn fault_of(cause: Cause) -> SessionFault
     ensures { result ≡ fault_of cause }
 {
@@ -125,7 +128,7 @@ fn compact(buffer: &mut Vec<u8>, start: &mut usize)
 
 /// Makes the room for the offsets of a head's field lines, once.
 fn make_room(room: &mut Vec<HeaderSpan>) -> Result<(), AllocError>
-    ensures { OnOk result (HEADER_ROOM ≤ length room.new.items) }
+    ensures { OnOk result (8192 ≤ length room.new.items) }
 {
     if room.len() < HEADER_ROOM {
         room.resize(HEADER_ROOM, EMPTY_HEADER_SPAN)?;

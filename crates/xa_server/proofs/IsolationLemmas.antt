@@ -5,8 +5,8 @@ use Rattle.std.proofs.lemmas.Bool.Decides.{not_from_Decides}
 use Rattle.std.proofs.lemmas.Slice.Eq.{bytes_eq-Decides}
 use Rattle.xa_server.specs.declared.replies.Reply.{Reply}
 use Rattle.xa_server.specs.declared.replies.Reply.TheVariants.{Sent, Refused}
-use Rattle.xa_server.specs.Alone.{Event, is_owner, is_own, own, alone, state_after}
-use Rattle.xa_server.specs.Isolation.{AllSent, IsAlone, IsIsolated, TwoWorldsAgree, answered, sent, replies_to}
+use Rattle.xa_server.specs.Alone.{Event, is_owner, is_own, own_events, replies_alone, state_after}
+use Rattle.xa_server.specs.Isolation.{AllSent, IsAlone, IsIsolated, TwoWorldsAgree, answered_events, replies_to, sent_replies}
 use Rattle.xa_server.specs.Machine.{step}
 use Rattle.xa_server.specs.Owner.{owner}
 use Rattle.xa_server.specs.Served.{IsRun, IsSent, IsUnmoved, state}
@@ -35,12 +35,12 @@ goes_before : (domain : List ℕ) (old mid new : World) (event : Event) (bytes :
     → state domain mid ≡ (step old.operator (state domain old) event.1 event.0).1 → mid.operator ≡ old.operator
     → IsAlone mid new events replies domain → IsAlone old new (event ∷ events) (Sent bytes ∷ replies) domain
 goes_before domain old mid new event bytes events replies owns reply next operator rest =
-    let told : replies_to domain events replies ≡ map Sent (alone old.operator (step old.operator (state domain old) event.1 event.0).1 (own domain events)) =
-    rest.told ∙ ap (λ op. map Sent (alone op (state domain mid) (own domain events))) operator
-    ∙ ap (λ s. map Sent (alone old.operator s (own domain events))) next in
-    let left : state domain new ≡ state_after old.operator (step old.operator (state domain old) event.1 event.0).1 (own domain events) =
-    rest.left ∙ ap (λ op. state_after op (state domain mid) (own domain events)) operator
-    ∙ ap (λ s. state_after old.operator s (own domain events)) next in
+    let told : replies_to domain events replies ≡ map Sent (replies_alone old.operator (step old.operator (state domain old) event.1 event.0).1 (own_events domain events)) =
+    rest.told ∙ ap (λ op. map Sent (replies_alone op (state domain mid) (own_events domain events))) operator
+    ∙ ap (λ s. map Sent (replies_alone old.operator s (own_events domain events))) next in
+    let left : state domain new ≡ state_after old.operator (step old.operator (state domain old) event.1 event.0).1 (own_events domain events) =
+    rest.left ∙ ap (λ op. state_after op (state domain mid) (own_events domain events)) operator
+    ∙ ap (λ s. state_after old.operator s (own_events domain events)) next in
     record {
       told = rw owns (ap (λ b. Sent b ∷ replies_to domain events replies) reply ∙ ap (λ rs. Sent (step old.operator (state domain old) event.1 event.0).0 ∷ rs) told);
       left = rw owns left;
@@ -63,25 +63,25 @@ by_owner domain old mid new event bytes events replies (Some name) e step' rest 
 
 -- the headline beside refusals, from a run
 pub isolated : (domain : List ℕ) (old new : World) (events : List Event) (replies : List Reply)
-    → IsRun old events replies new → IsAlone old new (answered events replies) (sent replies) domain
+    → IsRun old events replies new → IsAlone old new (answered_events events replies) (sent_replies replies) domain
 isolated domain old new [] [] run = record { told = refl; left = ap (state domain) run }
 isolated domain old new (event ∷ events) (Sent bytes ∷ replies) run =
-    by_owner domain old run.0 new event bytes (answered events replies) (sent replies) (owner event.1) refl run.1
+    by_owner domain old run.0 new event bytes (answered_events events replies) (sent_replies replies) (owner event.1) refl run.1
     (isolated domain run.0 new events replies run.2)
 isolated domain old new (event ∷ events) (Refused cause ∷ replies) run =
-    unmoved domain old run.0 new (answered events replies) (sent replies) run.1 (isolated domain run.0 new events replies run.2)
+    unmoved domain old run.0 new (answered_events events replies) (sent_replies replies) run.1 (isolated domain run.0 new events replies run.2)
 isolated domain old new [] (reply ∷ replies) run = elim run [ ]
 isolated domain old new (event ∷ events) [] run = elim run [ ]
 
 -- where nothing was refused, every message was answered
-pub all_answered : (old new : World) (events : List Event) (replies : List Reply) → IsRun old events replies new → AllSent replies → answered events replies ≡ events
+pub all_answered : (old new : World) (events : List Event) (replies : List Reply) → IsRun old events replies new → AllSent replies → answered_events events replies ≡ events
 all_answered old new [] [] run all = refl
 all_answered old new (event ∷ events) (Sent bytes ∷ replies) run all = ap (λ es. event ∷ es) (all_answered run.0 new events replies run.2 all)
 all_answered old new (event ∷ events) (Refused cause ∷ replies) run all = elim all [ ]
 all_answered old new [] (reply ∷ replies) run all = elim run [ ]
 all_answered old new (event ∷ events) [] run all = elim run [ ]
 
-pub all_sent : (replies : List Reply) → AllSent replies → sent replies ≡ replies
+pub all_sent : (replies : List Reply) → AllSent replies → sent_replies replies ≡ replies
 all_sent [] all = refl
 all_sent (Sent bytes ∷ replies) all = ap (λ rs. Sent bytes ∷ rs) (all_sent replies all)
 all_sent (Refused cause ∷ replies) all = elim all [ ]
@@ -90,7 +90,7 @@ all_sent (Refused cause ∷ replies) all = elim all [ ]
 pub headline : (old new : World) (events : List Event) (replies : List Reply) → IsRun old events replies new → IsIsolated old new events replies
 headline old new events replies run = λ all domain.
     subst (λ es. IsAlone old new es replies domain) (all_answered old new events replies run all)
-    (subst (λ rs. IsAlone old new (answered events replies) rs domain) (all_sent replies all) (isolated domain old new events replies run))
+    (subst (λ rs. IsAlone old new (answered_events events replies) rs domain) (all_sent replies all) (isolated domain old new events replies run))
 
 -- one operator, one state and the same messages have one machine's replies
 pub two_worlds : TwoWorldsAgree
@@ -98,13 +98,13 @@ two_worlds first first_after second second_after first_events second_events firs
     let here : IsAlone first first_after first_events first_replies domain = headline first first_after first_events first_replies one all_one domain in
     let there : IsAlone second second_after second_events second_replies domain = headline second second_after second_events second_replies other all_other domain in (
       here.told
-          ∙ ap (λ op. map Sent (alone op (state domain first) (own domain first_events))) agree.operator
-          ∙ ap (λ s. map Sent (alone second.operator s (own domain first_events))) agree.state
-          ∙ ap (λ es. map Sent (alone second.operator (state domain second) es)) agree.messages
+          ∙ ap (λ op. map Sent (replies_alone op (state domain first) (own_events domain first_events))) agree.operator
+          ∙ ap (λ s. map Sent (replies_alone second.operator s (own_events domain first_events))) agree.state
+          ∙ ap (λ es. map Sent (replies_alone second.operator (state domain second) es)) agree.messages
           ∙ sym there.told,
       here.left
-          ∙ ap (λ op. state_after op (state domain first) (own domain first_events)) agree.operator
-          ∙ ap (λ s. state_after second.operator s (own domain first_events)) agree.state
+          ∙ ap (λ op. state_after op (state domain first) (own_events domain first_events)) agree.operator
+          ∙ ap (λ s. state_after second.operator s (own_events domain first_events)) agree.state
           ∙ ap (λ es. state_after second.operator (state domain second) es) agree.messages
           ∙ sym there.left,
     )

@@ -4,4 +4,3 @@ pub mod MachineLemmas
 pub mod ReplyLemmas
 pub mod RequestLemmas
 pub mod ServedLemmas
-pub mod TotalLemmas

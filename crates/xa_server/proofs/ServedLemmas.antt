@@ -4,16 +4,17 @@ use Rattle.xa_http.specs.declared.message.Message.{Message}
 use Rattle.xa_server.specs.Alone.{Event}
 use Rattle.xa_server.specs.declared.replies.Reply.{Reply}
 use Rattle.xa_server.specs.declared.given.Given.{Given}
-use Rattle.xa_server.specs.Machine.{step, general}
+use Rattle.xa_server.specs.DomainState.{state_for}
+use Rattle.xa_server.specs.Machine.{step, general_reply}
 use Rattle.xa_server.specs.Owner.{owner}
-use Rattle.xa_server.specs.Served.{IsRun, IsSent, IsServed, state_for}
+use Rattle.xa_server.specs.Served.{IsRun, IsSent, IsServed}
 use Rattle.xa_server.specs.World.{World}
 
 -- a reply of the machine that leaves the state is the one that serving gives
 by_owner : (named : Option (List ℕ)) (world : World) (moment : ℤ) (message : Message) (bytes : List ℕ)
     → (bytes, state_for named world.domains) ≡ step world.operator (state_for named world.domains) message moment
     → IsSent world world moment message bytes named
-unfolding general
+unfolding general_reply
 by_owner None world moment message bytes e = record { reply = ap (λ p. p.0) e; same = record { states = λ domain. refl; operator = refl } }
 by_owner (Some domain) world moment message bytes e = record {
   reply = ap (λ p. p.0) e;

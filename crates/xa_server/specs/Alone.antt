@@ -14,18 +14,19 @@ abbrev pub is_owner : List ℕ → Option (List ℕ) → Bool
 is_owner domain None = false
 is_owner domain (Some name) = bytes_eq name domain
 
+-- so is the event
 abbrev pub is_own : List ℕ → Event → Bool
 is_own domain event = is_owner domain (owner event.1)
 
 -- the domain's own messages with their moments, in order
-abbrev pub own : List ℕ → List Event → List Event
-own domain events = filter (is_own domain) events
+abbrev pub own_events : List ℕ → List Event → List Event
+own_events domain events = filter (is_own domain) events
 
 -- the replies of its machine to those messages, from that state
-abbrev pub alone : List ℕ → Option DomainState → List Event → List (List ℕ)
-alone operator state [] = []
-alone operator state (event ∷ events) =
-    let next = step operator state event.1 event.0 in next.0 ∷ alone operator next.1 events
+abbrev pub replies_alone : List ℕ → Option DomainState → List Event → List (List ℕ)
+replies_alone operator state [] = []
+replies_alone operator state (event ∷ events) =
+    let next = step operator state event.1 event.0 in next.0 ∷ replies_alone operator next.1 events
 
 -- the state that they leave
 abbrev pub state_after : List ℕ → Option DomainState → List Event → Option DomainState

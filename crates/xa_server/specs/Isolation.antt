@@ -2,7 +2,7 @@
 use Rattle.std.specs.Prelude.{◌≡◌, ℕ, List, [], ◌∷◌, map, if◌then◌else◌}
 use Rattle.xa_server.specs.declared.replies.Reply.{Reply}
 use Rattle.xa_server.specs.declared.replies.Reply.TheVariants.{Sent, Refused}
-use Rattle.xa_server.specs.Alone.{Event, is_own, own, alone, state_after}
+use Rattle.xa_server.specs.Alone.{Event, is_own, own_events, replies_alone, state_after}
 use Rattle.xa_server.specs.Served.{IsRun, state}
 use Rattle.xa_server.specs.World.{World}
 
@@ -21,36 +21,36 @@ replies_to domain (event ∷ events) (reply ∷ replies) =
 
 -- the domain was told what its own machine, used by it alone, tells it, and is left in the state in which that leaves it
 pub record IsAlone (old new : World) (events : List Event) (replies : List Reply) (domain : List ℕ) : Type 0 where
-  pub told : replies_to domain events replies ≡ map Sent (alone old.operator (state domain old) (own domain events))
-  pub left : state domain new ≡ state_after old.operator (state domain old) (own domain events)
+  pub told : replies_to domain events replies ≡ map Sent (replies_alone old.operator (state domain old) (own_events domain events))
+  pub left : state domain new ≡ state_after old.operator (state domain old) (own_events domain events)
 
 -- the headline, of a run of which no message was refused
 abbrev pub IsIsolated : World → World → List Event → List Reply → Type 0
 IsIsolated old new events replies = AllSent replies → (domain : List ℕ) → IsAlone old new events replies domain
 
 -- the messages that were not refused
-abbrev pub answered : List Event → List Reply → List Event
-answered [] replies = []
-answered (event ∷ events) [] = []
-answered (event ∷ events) (Sent _ ∷ replies) = event ∷ answered events replies
-answered (event ∷ events) (Refused _ ∷ replies) = answered events replies
+abbrev pub answered_events : List Event → List Reply → List Event
+answered_events [] replies = []
+answered_events (event ∷ events) [] = []
+answered_events (event ∷ events) (Sent _ ∷ replies) = event ∷ answered_events events replies
+answered_events (event ∷ events) (Refused _ ∷ replies) = answered_events events replies
 
 -- the replies that were not refused
-abbrev pub sent : List Reply → List Reply
-sent [] = []
-sent (Sent bytes ∷ replies) = Sent bytes ∷ sent replies
-sent (Refused _ ∷ replies) = sent replies
+abbrev pub sent_replies : List Reply → List Reply
+sent_replies [] = []
+sent_replies (Sent bytes ∷ replies) = Sent bytes ∷ sent_replies replies
+sent_replies (Refused _ ∷ replies) = sent_replies replies
 
 -- with refusals: as if the refused messages had never come
 abbrev pub IsIsolatedBesideRefusals : World → World → List Event → List Reply → Type 0
 IsIsolatedBesideRefusals old new events replies =
-    (domain : List ℕ) → IsAlone old new (answered events replies) (sent replies) domain
+    (domain : List ℕ) → IsAlone old new (answered_events events replies) (sent_replies replies) domain
 
 -- two runs: one operator, one state of the domain as they begin, and its own messages the same
 pub record AgreeOn (domain : List ℕ) (first second : World) (first_events second_events : List Event) : Type 0 where
   pub operator : first.operator ≡ second.operator
   pub state : state domain first ≡ state domain second
-  pub messages : own domain first_events ≡ own domain second_events
+  pub messages : own_events domain first_events ≡ own_events domain second_events
 
 -- the consequence, in two worlds: however the other domains differ, the domain is told the same and is left in one state
 abbrev pub TwoWorldsAgree : Type 0

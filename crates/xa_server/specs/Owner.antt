@@ -13,19 +13,20 @@ begins_name c = is_ascii_lowercase c || is_ascii_digit c
 abbrev pub continues_name : ℕ → Bool
 continues_name c = begins_name c || (c == 45)
 
--- a domain name: up to 32 small letters, digits and dashes, of which the first is no dash
+-- a domain name: one to 32 small letters, digits and dashes, of which the first is no dash
 unfoldable pub is_domain_name : List ℕ → Bool
 is_domain_name [] = false
 is_domain_name (c ∷ cs) = nat_le (length cs) 31 && begins_name c && list_all continues_name cs
 
--- the part of the path that stands for a domain
-abbrev pub domain_part : Place → List ℕ
-domain_part (decisions part) = part
+-- the segment of the path that stands for a domain
+abbrev pub segment_of : Place → List ℕ
+segment_of (decisions segment) = segment
 
-abbrev pub named_by : Option Place → Option (List ℕ)
-named_by None = None
-named_by (Some place) = if is_domain_name (domain_part place) then Some (domain_part place) else None
+-- the domain that the segment names
+abbrev pub domain_of_place : Option Place → Option (List ℕ)
+domain_of_place None = None
+domain_of_place (Some place) = if is_domain_name (segment_of place) then Some (segment_of place) else None
 
 -- the domain that the message's path names, whether or not it exists
 unfoldable pub owner : Message → Option (List ℕ)
-owner message = named_by (place_of message.target)
+owner message = domain_of_place (place_of message.target)

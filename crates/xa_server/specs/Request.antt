@@ -1,10 +1,11 @@
 -- The request of a decision (JSON Profile of XACML 3.0, section 4), as far as it is read today: the
 -- subject, the resource and the action, each one object whose member Attribute lists texts.
-use Rattle.std.specs.Prelude.{◌≡◌, ℕ, ◌+◌, ◌==◌, Bool, false, List, [], ◌∷◌, map, filter, Option, Some, None, option_and_then, Result, Ok, Err, codes, if◌then◌else◌}
+use Rattle.std.specs.Prelude.{ℕ, ◌+◌, ◌==◌, Bool, false, List, [], ◌∷◌, map, filter, Option, Some, None, option_and_then, Result, Ok, Err, codes, if◌then◌else◌}
 use Rattle.std.specs.Str.{is_utf8, bytes_eq}
 use Rattle.serde_json.specs.Data.{Data, null, boolean, number, string, array, object, Items, no_items, item, Members, no_members, member}
 use Rattle.serde_json.specs.Read.{read}
 use Rattle.serde_json.specs.Find.{get, as_str, as_array}
+use Rattle.xa_value.specs.Gives.{◌>>=◌}
 use Rattle.xa_value.specs.declared.value.Value as value
 use Rattle.xa_value.specs.declared.value.Value.TheVariants.{String}
 use Rattle.xa_server.specs.declared.request.Member.{Member}
@@ -13,20 +14,7 @@ use Rattle.xa_server.specs.declared.request.Member.TheVariants as name
 use Rattle.xa_server.specs.declared.request.Attribute.{Attribute}
 use Rattle.xa_server.specs.declared.request.Request.{Request}
 use Rattle.xa_server.specs.declared.request.RequestError.{RequestError}
-use Rattle.xa_server.specs.declared.request.RequestError.TheVariants.{NotJson, NotProfile, Memory}
-
--- a result that is the expected one, or that met want of memory
-abbrev pub Gives : {X : Type 0} → Result X RequestError → Result X RequestError → Type 0
-Gives (Ok x) expected = expected ≡ Ok x
-Gives (Err NotJson) expected = expected ≡ Err NotJson
-Gives (Err NotProfile) expected = expected ≡ Err NotProfile
-Gives (Err Memory) expected = Unit {0}
-
-infixl 10 ◌>>=◌
--- go on with the value, if there is one
-abbrev pub ◌>>=◌ : {A B : Type 0} → Result A RequestError → (A → Result B RequestError) → Result B RequestError
-Ok x >>= f = f x
-Err e >>= f = Err e
+use Rattle.xa_server.specs.declared.request.RequestError.TheVariants.{NotJson, NotProfile}
 
 -- the name of a member
 unfoldable pub name_of : Member → List ℕ
@@ -56,7 +44,7 @@ abbrev pub count_of : Members → ℕ
 count_of no_members = 0
 count_of (member k d ms) = 1 + count_of ms
 
--- an object of exactly so many members
+-- an object of exactly n members
 abbrev pub is_object_of : ℕ → Data → Bool
 is_object_of n null = false
 is_object_of n (boolean b) = false
@@ -65,8 +53,9 @@ is_object_of n (string s) = false
 is_object_of n (array ds) = false
 is_object_of n (object ms) = count_of ms == n
 
-abbrev pub closed : ℕ → Data → Result (Unit {0}) RequestError
-closed n d = if is_object_of n d then Ok tt else Err NotProfile
+-- nothing more, where it is one
+abbrev pub check_object_of : ℕ → Data → Result (Unit {0}) RequestError
+check_object_of n d = if is_object_of n d then Ok tt else Err NotProfile
 
 -- the member of that name, a text
 unfoldable pub text_of : Member → Data → Result (List ℕ) RequestError
@@ -75,7 +64,7 @@ text_of name d = or_not_profile (option_and_then as_str (at name d))
 -- an attribute: an object of the texts AttributeId and Value alone
 unfoldable pub attribute_of : Data → Result Attribute RequestError
 attribute_of d = do
-  _ ← closed 2 d
+  _ ← check_object_of 2 d
   id ← text_of AttributeId d
   text ← text_of Value d
   Ok (record { id = id; value = String text })
@@ -92,19 +81,19 @@ attributes_in (item d ds) = do
 unfoldable pub category_of : Option Data → Result (List Attribute) RequestError
 category_of None = Ok []
 category_of (Some d) = do
-  _ ← closed 1 d
+  _ ← check_object_of 1 d
   items ← or_not_profile (option_and_then as_array (at name.Attribute d))
   attributes_in items
 
--- 1 where the member is there
-abbrev pub present : Option Data → ℕ
-present None = 0
-present (Some d) = 1
+-- how many members that is: 1 where it is there
+abbrev pub presence : Option Data → ℕ
+presence None = 0
+presence (Some d) = 1
 
 -- a request: an object of the three categories at most
 unfoldable pub categories_of : Data → Result Request RequestError
 categories_of d = do
-  _ ← closed (present (at AccessSubject d) + present (at Resource d) + present (at Action d)) d
+  _ ← check_object_of (presence (at AccessSubject d) + presence (at Resource d) + presence (at Action d)) d
   subject ← category_of (at AccessSubject d)
   resource ← category_of (at Resource d)
   action ← category_of (at Action d)
@@ -113,7 +102,7 @@ categories_of d = do
 -- the whole: an object of the member Request alone
 unfoldable pub request_in : Data → Result Request RequestError
 request_in d = do
-  _ ← closed 1 d
+  _ ← check_object_of 1 d
   request ← or_not_profile (at name.Request d)
   categories_of request
 

@@ -6,7 +6,7 @@ use Rattle.serde_json.specs.Written.{compact_text}
 use Rattle.xa_policy.specs.declared.decision.Decision.{Decision}
 use Rattle.xa_policy.specs.declared.decision.Decision.TheVariants.{Permit, Deny, NotApplicable, IndeterminatePermit, IndeterminateDeny, IndeterminateDenyPermit}
 use Rattle.xa_policy.specs.declared.evaluated.Evaluated.{Evaluated}
-use Rattle.xa_policy.specs.Status.{uri_of}
+use Rattle.xa_func.specs.Status.{uri_of}
 
 -- the four decisions that are shown (XACML 3.0, section 5.53)
 unfoldable pub decision_text : Decision → List ℕ

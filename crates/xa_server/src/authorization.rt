@@ -32,7 +32,7 @@ fn all_visible(text: &[u8]) -> bool
     text.iter().all(|c| 33 <= *c && *c <= 126)
 }
 
-/// Whether it has the shape of a token: 8 to 64 visible ASCII characters.
+/// Whether it is a token: 8 to 64 visible ASCII characters.
 #[tactic(auto, unfolding(crate::specs::Authorization::is_token))]
 pub fn is_token(text: &[u8]) -> bool
     ensures { result ≡ is_token text.now }

@@ -1,13 +1,15 @@
-//! The answers that refuse.
+//! The error answers: why a message is turned away, and the bytes of that reply.
 ghost use Rattle.std.specs.Prelude.{◌≡◌, IfOk};
-ghost use Rattle.xa_server.specs.ErrorCode.{error_body, error_reply, extra_of, status_of};
+ghost use Rattle.xa_value.specs.declared.or_memory.OrMemory.TheVariants.{Error};
+ghost use Rattle.xa_server.specs.ErrorCode.{code_of_route_fault, code_of_session_fault, error_body, error_reply, extra_of, status_of};
 
 use http::StatusCode;
 use std::alloc::{AllocError, Global};
 use thiserror::Error;
-use xa_http::{Extra, Media, Methods, reply};
+use xa_http::{Extra, Media, Methods, RouteFault, SessionFault, reply};
+use xa_value::OrMemory;
 
-/// Why a message is refused: the code that the body of the reply names (RFC 9110, section 15, has the statuses).
+/// Why a message is turned away: the code that the body of the reply names (RFC 9110, section 15, has the statuses).
 #[derive(Clone, Copy, Debug, PartialEq, Eq, Error)]
 pub enum ErrorCode {
     /// 404: nothing is served at the path.
@@ -25,9 +27,6 @@ pub enum ErrorCode {
     /// 400: the stream doesn't go on with a message that is taken.
     #[error("the stream doesn't go on with a message that is taken")]
     BadHead,
-    /// 503: there is no memory for the answer.
-    #[error("there is no memory for the answer")]
-    Unavailable,
 }
 
 impl ErrorCode {
@@ -39,7 +38,6 @@ impl ErrorCode {
             ErrorCode::BadMethod => StatusCode::METHOD_NOT_ALLOWED,
             ErrorCode::Unauthorized => StatusCode::UNAUTHORIZED,
             ErrorCode::NotJson | ErrorCode::BadHead => StatusCode::BAD_REQUEST,
-            ErrorCode::Unavailable => StatusCode::SERVICE_UNAVAILABLE,
         }
     }
 
@@ -49,8 +47,7 @@ impl ErrorCode {
         match self {
             ErrorCode::BadMethod => Extra::Allow(Methods::Post),
             ErrorCode::Unauthorized => Extra::Challenge,
-            ErrorCode::NoRoute | ErrorCode::NotJson | ErrorCode::BadHead | ErrorCode::Unavailable =>
-                Extra::Nothing,
+            ErrorCode::NoRoute | ErrorCode::NotJson | ErrorCode::BadHead => Extra::Nothing,
         }
     }
 
@@ -64,11 +61,10 @@ impl ErrorCode {
             ErrorCode::Unauthorized => b"{\"Error\":\"Unauthorized\"}",
             ErrorCode::NotJson => b"{\"Error\":\"NotJson\"}",
             ErrorCode::BadHead => b"{\"Error\":\"BadHead\"}",
-            ErrorCode::Unavailable => b"{\"Error\":\"Unavailable\"}",
         }
     }
 
-    /// The bytes of the reply that refuses.
+    /// The bytes of the error answer.
     #[tactic(auto, unfolding(crate::specs::ErrorCode::error_reply))]
     pub fn reply(self, alloc: Global) -> Result<Vec<u8>, AllocError>
         ensures { IfOk result (λ bytes. bytes.items ≡ error_reply self) }
@@ -77,13 +73,38 @@ impl ErrorCode {
     }
 }
 
-impl From<AllocError> for ErrorCode {
-    ghost use Rattle.std.specs.Prelude.{◌≡◌};
-    ghost use Rattle.xa_server.specs.declared.error_code.ErrorCode.TheVariants.{Unavailable};
+/// The bytes of the reply to a stream that ends by that fault.
+pub fn fault_reply(alloc: Global, fault: SessionFault) -> Result<Vec<u8>, AllocError>
+    ensures { IfOk result (λ bytes. bytes.items ≡ error_reply (code_of_session_fault fault)) }
+{
+    ErrorCode::from(fault).reply(alloc)
+}
 
-    ghost from_gives = { λ _ code. code ≡ Unavailable };
+impl From<RouteFault> for ErrorCode {
+    ghost from_gives = { λ fault code. code ≡ code_of_route_fault fault };
 
-    fn from(_: AllocError) -> ErrorCode {
-        ErrorCode::Unavailable
+    fn from(fault: RouteFault) -> ErrorCode {
+        match fault {
+            RouteFault::NoRoute => ErrorCode::NoRoute,
+            RouteFault::BadMethod => ErrorCode::BadMethod,
+        }
+    }
+}
+
+impl From<SessionFault> for ErrorCode {
+    ghost from_gives = { λ fault code. code ≡ code_of_session_fault fault };
+
+    fn from(fault: SessionFault) -> ErrorCode {
+        match fault {
+            SessionFault::BadHead => ErrorCode::BadHead,
+        }
+    }
+}
+
+impl From<ErrorCode> for OrMemory<ErrorCode> {
+    ghost from_gives = { λ code e. e ≡ Error code };
+
+    fn from(code: ErrorCode) -> OrMemory<ErrorCode> {
+        OrMemory::Error(code)
     }
 }

@@ -16,20 +16,20 @@ use xa_value::{Items, Text};
 pub struct Given {
     /// The domain's name.
     pub name: Text,
-    /// Its tokens; where a digest stands twice, the first role counts.
+    /// Its tokens; of two with the same digest, the role of the first counts.
     pub tokens: Items<Token>,
     /// The policy that decides.
     pub policy: Policy,
 }
 
-/// Why no server can be made of some domains.
+/// Why no server can be made of these domains.
 #[derive(Clone, Copy, Debug, PartialEq, Eq, Error)]
 pub enum GivenError {
-    /// A name isn't up to 32 small letters, digits and dashes, of which the first is no dash.
-    #[error("a name is no domain's")]
+    /// A name isn't one to 32 small letters, digits and dashes, of which the first is no dash.
+    #[error("a name isn't a domain name")]
     BadDomain,
-    /// All names are domains', and two domains have one.
-    #[error("two domains have one name")]
+    /// All names are domain names, and two are the same.
+    #[error("two domains have the same name")]
     Twice,
 }
 
@@ -60,7 +60,6 @@ pub(crate) fn all_apart(domains: &[Given]) -> bool
     true
 }
 
-/// The domain of that name.
 pub(crate) fn domain_of<'a>(name: &[u8], domains: &'a [Given]) -> Option<&'a Given>
     ensures { option_map (λ given. given.now) result ≡ domain_of name.now domains.now }
 {

@@ -1,4 +1,4 @@
-//! The decision server.
+//! The decision server: one message after another, each answered by the machine of its own domain.
 #![tactic(auto)]
 
 mod authorization;
@@ -15,9 +15,9 @@ mod tests;
 mod token;
 
 pub use authorization::is_token;
-pub use error_code::ErrorCode;
+pub use error_code::{ErrorCode, fault_reply};
 pub use given::{Given, GivenError};
 pub use owner::is_domain_name;
 pub use replies::{Refusal, Reply};
-pub use server::{Server, machine_answers, two_worlds_agree};
+pub use server::{Server, two_worlds_agree};
 pub use token::{Digest, Role, Token};

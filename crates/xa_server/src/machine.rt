@@ -1,15 +1,14 @@
-//! What one message is answered, from the domains as they are.
-ghost use Rattle.std.specs.Prelude.{◌≡◌, ℕ, List, Some, IfOk, option_map, option_and_then};
+//! The answer to one message, from the domains as they are.
+ghost use Rattle.std.specs.Prelude.{◌≡◌, ℕ, List, Some, Ok, Err, IfOk, IfErr, MatchResult, option_map, option_and_then};
 ghost use Rattle.xa_http.specs.Routes.{route_of};
-ghost use Rattle.xa_server.specs.DomainState.{nameless};
-ghost use Rattle.xa_server.specs.ErrorCode.{Gives};
-ghost use Rattle.xa_server.specs.Machine.{answer, decided, decision_reply, performed, role_shown, routed, step};
+ghost use Rattle.xa_value.specs.Gives.{Gives};
+ghost use Rattle.xa_server.specs.DomainState.{domain_of_route, state_for, state_of_given};
+ghost use Rattle.xa_server.specs.Machine.{answer, decision_on, decision_reply, effect_of, role_shown, route_or_error, step};
 ghost use Rattle.sha2.specs.Sha256.{sha256};
 ghost use Rattle.xa_server.specs.Authorization.{token_in};
 ghost use Rattle.xa_server.specs.Tokens.{role_of};
 ghost use Rattle.xa_server.specs.Owner.{owner};
 ghost use Rattle.xa_server.specs.Request.{request_of};
-ghost use Rattle.xa_server.specs.Served.{GivesAnswer, GivesReply, domain_at, state_for};
 
 use crate::authorization::token_in;
 use crate::error_code::ErrorCode;
@@ -20,10 +19,11 @@ use crate::response::response_body;
 use crate::token::{Digest, Role, Token, role_of};
 use http::StatusCode;
 use std::alloc::{AllocError, Global};
+use xa_func::Status;
 use xa_http::routes::route;
-use xa_http::{Extra, Field, Media, Message, Route, RouteFault, reply};
-use xa_policy::{Decision, Evaluated, Policy, Status, evaluate};
-use xa_value::{Items, Moment};
+use xa_http::{Extra, Media, Message, Route, reply};
+use xa_policy::{Decision, Evaluated, Policy, evaluate};
+use xa_value::{Moment, OrMemory};
 
 /// What a body that is no request of the JSON Profile is told.
 const SYNTAX_ERROR: Evaluated = Evaluated {
@@ -32,14 +32,18 @@ const SYNTAX_ERROR: Evaluated = Evaluated {
 };
 
 /// The decision on a body.
-fn decided(alloc: Global, policy: &Policy, body: &[u8]) -> Result<Evaluated, ErrorCode>
-    ensures { Gives result (decided policy.now (request_of body.now)) }
+fn decision_on(
+    alloc: Global,
+    policy: &Policy,
+    body: &[u8],
+) -> Result<Evaluated, OrMemory<ErrorCode>>
+    ensures { Gives result (decision_on policy.now (request_of body.now)) }
 {
     match Request::read(alloc, body) {
         Ok(request) => Ok(evaluate(alloc, policy, &request)?),
-        Err(RequestError::NotProfile) => Ok(SYNTAX_ERROR),
-        Err(RequestError::NotJson) => Err(ErrorCode::NotJson),
-        Err(RequestError::Memory) => Err(ErrorCode::Unavailable),
+        Err(OrMemory::Error(RequestError::NotProfile)) => Ok(SYNTAX_ERROR),
+        Err(OrMemory::Error(RequestError::NotJson)) => Err(OrMemory::Error(ErrorCode::NotJson)),
+        Err(OrMemory::Memory) => Err(OrMemory::Memory),
     }
 }
 
@@ -59,39 +63,39 @@ fn decision_reply(alloc: Global, evaluated: Evaluated) -> Result<Vec<u8>, AllocE
 }
 
 /// The route of the message, or 404 or 405.
-fn routed(alloc: Global, message: &Message) -> Result<Route, ErrorCode>
-    ensures { Gives result (routed (route_of message.now)) }
+fn route_or_error(alloc: Global, message: &Message) -> Result<Route, OrMemory<ErrorCode>>
+    ensures { Gives result (route_or_error (route_of message.now)) }
 {
     match route(alloc, message) {
         Ok(route) => Ok(route),
-        Err(RouteFault::NoRoute) => Err(ErrorCode::NoRoute),
-        Err(RouteFault::BadMethod) => Err(ErrorCode::BadMethod),
-        Err(RouteFault::Memory) => Err(ErrorCode::Unavailable),
+        Err(OrMemory::Error(fault)) => Err(OrMemory::Error(ErrorCode::from(fault))),
+        Err(OrMemory::Memory) => Err(OrMemory::Memory),
     }
 }
 
 /// What a message does that was let in.
-#[tactic(auto, unfolding(crate::specs::Machine::performed))]
-fn performed(
+#[tactic(auto, unfolding(crate::specs::Machine::effect_of))]
+fn effect_of(
     alloc: Global,
     route: &Route,
     domain: &Given,
     moment: Moment,
     message: &Message,
-) -> Result<Vec<u8>, ErrorCode>
-    ensures { GivesReply (nameless domain.now) result (performed route.now (nameless domain.now) message.now moment) }
+) -> Result<Vec<u8>, OrMemory<ErrorCode>>
+    ensures { MatchResult result (λ bytes. effect_of route.now (state_of_given domain.now) message.now moment ≡ Ok (bytes.items, state_of_given domain.now))
+        (λ e. Gives (Err e) (effect_of route.now (state_of_given domain.now) message.now moment)) }
 {
     match route {
         Route::Decide { .. } => {
-            let evaluated = decided(alloc, &domain.policy, message.body.as_slice())?;
+            let evaluated = decision_on(alloc, &domain.policy, message.body.as_slice())?;
             Ok(decision_reply(alloc, evaluated)?)
         }
     }
 }
 
-/// The domain that a route is in; a part of a path that is no domain's name names none.
-fn domain_at<'a>(route: &Route, domains: &'a [Given]) -> Option<&'a Given>
-    ensures { option_map (λ given. given.now) result ≡ domain_at route.now domains.now }
+/// The domain that a route is in. A segment that is no domain name stands for none.
+fn domain_of_route<'a>(route: &Route, domains: &'a [Given]) -> Option<&'a Given>
+    ensures { option_map (λ given. given.now) result ≡ domain_of_route route.now domains.now }
 {
     let Route::Decide { domain } = route;
     if is_domain_name(domain.as_slice()) {
@@ -111,24 +115,25 @@ fn role_shown(tokens: &[Token], message: &Message) -> Option<Role>
     }
 }
 
-/// What a message is answered, by the first question that it doesn't pass.
+/// The answer to a message, by the first question that it doesn't pass.
 #[tactic(auto, unfolding(crate::specs::Machine::answer))]
 fn answer(
     alloc: Global,
     domains: &[Given],
     moment: Moment,
     message: &Message,
-) -> Result<Vec<u8>, ErrorCode>
-    ensures { GivesAnswer (state_for (owner message.now) domains.now) result (answer (state_for (owner message.now) domains.now) message.now moment) }
+) -> Result<Vec<u8>, OrMemory<ErrorCode>>
+    ensures ok { IfOk result (λ bytes. (operator : List ℕ) → (bytes.items, state_for (owner message.now) domains.now) ≡ step operator (state_for (owner message.now) domains.now) message.now moment) }
+    ensures err { IfErr result (λ e. Gives (Err e) (answer (state_for (owner message.now) domains.now) message.now moment)) }
 {
-    let route = routed(alloc, message)?;
-    let Some(domain) = domain_at(&route, domains) else {
-        return Err(ErrorCode::Unauthorized);
+    let route = route_or_error(alloc, message)?;
+    let Some(domain) = domain_of_route(&route, domains) else {
+        return Err(OrMemory::Error(ErrorCode::Unauthorized));
     };
     let Some(_) = role_shown(domain.tokens.as_slice(), message) else {
-        return Err(ErrorCode::Unauthorized);
+        return Err(OrMemory::Error(ErrorCode::Unauthorized));
     };
-    performed(alloc, &route, domain, moment, message)
+    effect_of(alloc, &route, domain, moment, message)
 }
 
 /// The bytes of the reply to a message, by the machine of the domain that its path names.
@@ -143,7 +148,7 @@ pub(crate) fn reply_to(
 {
     match answer(alloc, domains, moment, message) {
         Ok(bytes) => Ok(bytes),
-        Err(ErrorCode::Unavailable) => Err(AllocError),
-        Err(code) => code.reply(alloc),
+        Err(OrMemory::Error(code)) => code.reply(alloc),
+        Err(OrMemory::Memory) => Err(AllocError),
     }
 }

@@ -1,4 +1,4 @@
-//! Names of domains.
+//! Which texts are names of domains.
 ghost use Rattle.std.specs.Prelude.{◌≡◌};
 ghost use Rattle.std.specs.List.{list_all};
 ghost use Rattle.xa_server.specs.Owner.{begins_name, continues_name, is_domain_name};
@@ -26,7 +26,7 @@ fn all_continue(bytes: &[u8]) -> bool
     bytes.iter().all(|byte| continues_name(*byte))
 }
 
-/// Whether it is a domain's name: up to 32 small letters, digits and dashes, of which the first is no dash.
+/// Whether it is a domain name: one to 32 small letters, digits and dashes, of which the first is no dash.
 #[tactic(auto, unfolding(crate::specs::Owner::is_domain_name))]
 pub fn is_domain_name(name: &[u8]) -> bool
     ensures { result ≡ is_domain_name name.now }

@@ -1,12 +1,10 @@
-//! What a message is answered.
+//! The replies of a server: bytes that it sent, or a refusal and its fixed 503.
 ghost use Rattle.std.specs.Prelude.{◌≡◌};
-ghost use Rattle.xa_server.specs.ErrorCode.{error_reply};
-ghost use Rattle.xa_server.specs.declared.error_code.ErrorCode.TheVariants.{Unavailable};
-ghost use Rattle.xa_server.specs.Replies.{bytes_of};
+ghost use Rattle.xa_server.specs.Replies.{bytes_of, unavailable_reply};
 
 use xa_value::Items;
 
-/// Why a message got no answer of its own. Nothing has changed.
+/// Why a message was refused: it got no answer of its own, and nothing has changed.
 #[derive(Clone, Copy, Debug, PartialEq, Eq)]
 pub enum Refusal {
     /// There was no memory for it.
@@ -33,14 +31,14 @@ impl Reply {
     {
         match self {
             Reply::Sent(bytes) => bytes.as_slice(),
-            Reply::Refused(_) => unavailable(),
+            Reply::Refused(_) => unavailable_reply(),
         }
     }
 }
 
-#[tactic(auto, using(crate::proofs::ReplyLemmas::unavailable_reply))]
-fn unavailable() -> &'static [u8]
-    ensures { result.now ≡ error_reply Unavailable }
+#[tactic(auto, using(crate::proofs::ReplyLemmas::unavailable_is))]
+fn unavailable_reply() -> &'static [u8]
+    ensures { result.now ≡ unavailable_reply }
 {
     UNAVAILABLE
 }

@@ -1,16 +1,17 @@
-//! The request of a decision, read from its JSON.
-ghost use Rattle.std.specs.Prelude.{◌≡◌, ◌≢◌, ◌≤◌, Some, Ok, Err, option_map, option_and_then, MatchResult, IfOk};
+//! The request of a decision, read from its JSON, and the bags of its attributes.
+ghost use Rattle.std.specs.Prelude.{◌≡◌, ◌≤◌, Some, Ok, Err, option_map, option_and_then, MatchResult, IfOk};
 ghost use Rattle.serde_json.specs.Find.{as_str, as_array};
 ghost use Rattle.serde_json.specs.View.{view, items_view};
-ghost use Rattle.xa_server.specs.Request.{Gives, name_of, at, is_object_of, closed, text_of, attribute_of, attributes_in, category_of, categories_of, request_in, json, request_of, values_of, present};
+ghost use Rattle.xa_value.specs.Gives.{Gives};
+ghost use Rattle.xa_value.specs.declared.or_memory.OrMemory.TheVariants.{Error};
+ghost use Rattle.xa_server.specs.Request.{name_of, at, is_object_of, check_object_of, text_of, attribute_of, attributes_in, category_of, categories_of, request_in, json, request_of, values_of, presence};
 ghost use Rattle.xa_server.specs.Bags.{attributes_of};
-ghost use Rattle.xa_server.specs.declared.request.RequestError.TheVariants.{Memory};
 
 use serde_json::Value as Json;
-use std::alloc::{AllocError, AllocFailed, Global};
+use std::alloc::{AllocError, Global};
 use thiserror::Error;
 use xa_policy::{Designator, Lookup};
-use xa_value::{Items, Text, Value};
+use xa_value::{Items, OrMemory, Text, Value};
 
 /// The members that the reader knows, by their names.
 #[derive(Clone, Copy, Debug, PartialEq, Eq)]
@@ -42,21 +43,19 @@ impl Member {
 }
 
 /// Why a body is no request.
-#[derive(Debug, Drop, Error)]
+#[derive(Clone, Copy, Debug, PartialEq, Eq, Error)]
 pub(crate) enum RequestError {
     #[error("the body is not JSON")]
     NotJson,
     #[error("the body is not a request of the JSON Profile")]
     NotProfile,
-    #[error("out of memory")]
-    Memory,
 }
 
-impl From<AllocError> for RequestError {
-    ghost from_gives = { λ _ e. e ≡ Memory };
+impl From<RequestError> for OrMemory<RequestError> {
+    ghost from_gives = { λ error e. e ≡ Error error };
 
-    fn from(_: AllocError) -> RequestError {
-        RequestError::Memory
+    fn from(error: RequestError) -> OrMemory<RequestError> {
+        OrMemory::Error(error)
     }
 }
 
@@ -81,7 +80,7 @@ fn member_at(value: &Json, name: Member) -> Option<&Json>
     value.get(name.name())
 }
 
-/// Whether it is an object of exactly so many members.
+/// Whether it is an object of exactly `count` members.
 #[tactic(auto, using(crate::proofs::RequestLemmas::count_of_members_view))]
 fn is_object_of(value: &Json, count: usize) -> bool
     ensures { result ≡ is_object_of count (view value.now) }
@@ -92,9 +91,9 @@ fn is_object_of(value: &Json, count: usize) -> bool
     }
 }
 
-/// Nothing, of an object of exactly so many members.
-fn closed(value: &Json, count: usize) -> Result<(), RequestError>
-    ensures { result ≡ closed count (view value.now) }
+/// Nothing, of an object of exactly `count` members.
+fn check_object_of(value: &Json, count: usize) -> Result<(), RequestError>
+    ensures { result ≡ check_object_of count (view value.now) }
 {
     if is_object_of(value, count) {
         Ok(())
@@ -114,20 +113,20 @@ fn text_at(value: &Json, name: Member) -> Option<&str>
 
 /// A copy of the member of that name, a text.
 #[tactic(auto, unfolding(crate::specs::Request::text_of))]
-fn text_of(alloc: Global, value: &Json, name: Member) -> Result<Text, RequestError>
+fn text_of(alloc: Global, value: &Json, name: Member) -> Result<Text, OrMemory<RequestError>>
     ensures { Gives result (text_of name (view value.now)) }
 {
     match text_at(value, name) {
         Some(text) => Ok(Text::new(alloc, text)?),
-        None => Err(RequestError::NotProfile),
+        None => Err(OrMemory::Error(RequestError::NotProfile)),
     }
 }
 
 #[tactic(auto, unfolding(crate::specs::Request::attribute_of))]
-fn attribute_of(alloc: Global, value: &Json) -> Result<Attribute, RequestError>
+fn attribute_of(alloc: Global, value: &Json) -> Result<Attribute, OrMemory<RequestError>>
     ensures { Gives result (attribute_of (view value.now)) }
 {
-    closed(value, 2)?;
+    check_object_of(value, 2)?;
     let id = text_of(alloc, value, Member::AttributeId)?;
     let text = text_of(alloc, value, Member::Value)?;
     Ok(Attribute {
@@ -136,7 +135,7 @@ fn attribute_of(alloc: Global, value: &Json) -> Result<Attribute, RequestError>
     })
 }
 
-fn attributes_in(alloc: Global, values: &[Json]) -> Result<Items<Attribute>, RequestError>
+fn attributes_in(alloc: Global, values: &[Json]) -> Result<Items<Attribute>, OrMemory<RequestError>>
     ensures { Gives result (attributes_in (items_view values.now)) }
 {
     let mut attributes = Items::new(alloc);
@@ -157,29 +156,35 @@ fn array_at(value: &Json, name: Member) -> Option<&Vec<Json>>
 
 /// The attributes of a category that is there.
 #[tactic(auto, unfolding(crate::specs::Request::category_of))]
-fn listed(alloc: Global, value: &Json) -> Result<Items<Attribute>, RequestError>
+fn category_attributes(
+    alloc: Global,
+    value: &Json,
+) -> Result<Items<Attribute>, OrMemory<RequestError>>
     ensures { Gives result (category_of (Some (view value.now))) }
 {
-    closed(value, 1)?;
+    check_object_of(value, 1)?;
     match array_at(value, Member::Attribute) {
         Some(values) => attributes_in(alloc, values),
-        None => Err(RequestError::NotProfile),
+        None => Err(OrMemory::Error(RequestError::NotProfile)),
     }
 }
 
 #[tactic(auto, unfolding(crate::specs::Request::category_of))]
-fn category_of(alloc: Global, value: Option<&Json>) -> Result<Items<Attribute>, RequestError>
+fn category_of(
+    alloc: Global,
+    value: Option<&Json>,
+) -> Result<Items<Attribute>, OrMemory<RequestError>>
     ensures { Gives result (category_of (option_map (λ v. view v.now) value.entry)) }
 {
     match value {
-        Some(value) => listed(alloc, value),
+        Some(value) => category_attributes(alloc, value),
         None => Ok(Items::new(alloc)),
     }
 }
 
-/// 1 where the member is there.
-fn present(value: &Json, name: Member) -> usize
-    ensures counted { result ≡ present (at name (view value.now)) }
+/// How many members that is: 1 where it is there.
+fn presence(value: &Json, name: Member) -> usize
+    ensures counted { result ≡ presence (at name (view value.now)) }
     ensures small { result ≤ 1 }
 {
     match member_at(value, name) {
@@ -190,13 +195,13 @@ fn present(value: &Json, name: Member) -> usize
 
 /// The attributes of the three categories, where there are no other members.
 #[tactic(auto, unfolding(crate::specs::Request::categories_of))]
-fn categories_of(alloc: Global, value: &Json) -> Result<Request, RequestError>
+fn categories_of(alloc: Global, value: &Json) -> Result<Request, OrMemory<RequestError>>
     ensures { Gives result (categories_of (view value.now)) }
 {
-    let known = present(value, Member::AccessSubject)
-        + present(value, Member::Resource)
-        + present(value, Member::Action);
-    closed(value, known)?;
+    let known = presence(value, Member::AccessSubject)
+        + presence(value, Member::Resource)
+        + presence(value, Member::Action);
+    check_object_of(value, known)?;
     let access_subject = category_of(alloc, member_at(value, Member::AccessSubject))?;
     let resource = category_of(alloc, member_at(value, Member::Resource))?;
     let action = category_of(alloc, member_at(value, Member::Action))?;
@@ -208,32 +213,32 @@ fn categories_of(alloc: Global, value: &Json) -> Result<Request, RequestError>
 }
 
 #[tactic(auto, unfolding(crate::specs::Request::request_in))]
-fn request_in(alloc: Global, value: &Json) -> Result<Request, RequestError>
+fn request_in(alloc: Global, value: &Json) -> Result<Request, OrMemory<RequestError>>
     ensures { Gives result (request_in (view value.now)) }
 {
-    closed(value, 1)?;
+    check_object_of(value, 1)?;
     match member_at(value, Member::Request) {
         Some(request) => categories_of(alloc, request),
-        None => Err(RequestError::NotProfile),
+        None => Err(OrMemory::Error(RequestError::NotProfile)),
     }
 }
 
 /// The JSON of a body.
 #[tactic(auto, unfolding(crate::specs::Request::json))]
-fn json(alloc: Global, body: &[u8]) -> Result<Json, RequestError>
-    ensures { MatchResult result (λ v. json body.now ≡ Ok (view v)) (λ e. e ≢ Memory → json body.now ≡ Err e) }
+fn json(alloc: Global, body: &[u8]) -> Result<Json, OrMemory<RequestError>>
+    ensures { MatchResult result (λ v. json body.now ≡ Ok (view v)) (λ e. Gives (Err e) (json body.now)) }
 {
     match Json::from_slice(alloc, body) {
         Ok(value) => Ok(value),
-        Err(error) if error.is_memory() => Err(RequestError::Memory),
-        Err(_) => Err(RequestError::NotJson),
+        Err(error) if error.is_memory() => Err(OrMemory::Memory),
+        Err(_) => Err(OrMemory::Error(RequestError::NotJson)),
     }
 }
 
 impl Request {
     /// The request that a body is (JSON Profile of XACML 3.0, section 4).
     #[tactic(auto, unfolding(crate::specs::Request::request_of))]
-    pub(crate) fn read(alloc: Global, body: &[u8]) -> Result<Request, RequestError>
+    pub(crate) fn read(alloc: Global, body: &[u8]) -> Result<Request, OrMemory<RequestError>>
         ensures { Gives result (request_of body.now) }
     {
         let value = json(alloc, body)?;

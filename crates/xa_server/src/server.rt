@@ -1,8 +1,7 @@
 //! The server: its domains, one message after another.
 ghost use Rattle.std.specs.Prelude.{◌≡◌, Ok, Err, IfOk, OnErr, MatchResult};
-ghost use Rattle.xa_server.specs.Given.{accepted};
+ghost use Rattle.xa_server.specs.Given.{server_domains};
 ghost use Rattle.xa_server.specs.Isolation.{TwoWorldsAgree};
-ghost use Rattle.xa_server.specs.Machine.{MachineAnswers};
 
 use crate::given::{Given, GivenError, all_apart, all_named};
 use crate::machine::reply_to;
@@ -33,12 +32,12 @@ impl Server {
     ghost use Rattle.xa_server.specs.Isolation.{IsIsolated, IsIsolatedBesideRefusals};
     ghost use Rattle.xa_server.specs.Served.{IsRun, IsServed};
 
-    /// A server over these domains, with the digest of the operator's token. Each name has to be a domain's, and none may
-    /// stand twice.
-    #[tactic(auto, unfolding(crate::specs::Given::accepted))]
+    /// A server over these domains, with the digest of the operator's token. Each name has to be a domain name, and no two
+    /// may be the same.
+    #[tactic(auto, unfolding(crate::specs::Given::server_domains))]
     pub fn given(alloc: Global, domains: Vec<Given>, operator: Digest) -> Result<Server, GivenError>
-        ensures { MatchResult result (λ server. (accepted domains.items ≡ Ok server.domains) × (server.operator ≡ operator))
-            (λ error. accepted domains.items ≡ Err error) }
+        ensures { MatchResult result (λ server. (server_domains domains.items ≡ Ok server.domains) × (server.operator ≡ operator))
+            (λ error. server_domains domains.items ≡ Err error) }
     {
         if !all_named(&domains) {
             return Err(GivenError::BadDomain);
@@ -85,9 +84,4 @@ impl Server {
 /// own give it the same replies, however the other domains differ.
 pub fn two_worlds_agree()
     ensures { TwoWorldsAgree }
-{}
-
-/// Law: the machine answers each message, and never for want of memory; only a server can refuse so.
-pub fn machine_answers()
-    ensures { MachineAnswers }
 {}

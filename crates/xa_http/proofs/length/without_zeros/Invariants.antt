@@ -1,6 +1,9 @@
 use Rattle.std.proofs.Common.{◌≡◌, drop}
-use Rattle.xa_http.specs.Zeros.{skip_zeros}
+use Rattle.std.specs.Prelude.{◌==◌}
+use Rattle.std.specs.List.{prefix_len}
 use Rattle.xa_http.proofs.length.without_zeros.Given as goal
 
 abbrev pub invariant-loop-i : goal.invariant-loop-i
-invariant-loop-i l = skip_zeros l.digits ≡ skip_zeros (drop l.i l.digits)
+invariant-loop-i l =
+    drop (prefix_len (λ c. c == 48) l.digits) l.digits
+    ≡ drop (prefix_len (λ c. c == 48) (drop l.i l.digits)) (drop l.i l.digits)
