@@ -13,12 +13,12 @@ status_of Usage = 2
 status_of Malformed = 3
 status_of Memory = 6
 
--- how it ends where standard input or output fails so
-abbrev pub failed_by : ErrorKind → Exit
-failed_by OutOfMemory = Memory
-failed_by _ = Failed
+-- how it ends where standard input or output fails with that kind of error
+abbrev pub exit_of : ErrorKind → Exit
+exit_of OutOfMemory = Memory
+exit_of _ = Failed
 
--- it ends so in the middle of a transcript
+-- the exits in the middle of a transcript
 abbrev pub breaks_off : Exit → Bool
 breaks_off Done = false
 breaks_off Usage = false

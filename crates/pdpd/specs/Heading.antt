@@ -1,10 +1,9 @@
 -- The line before an entry of a transcript: a connection, a moment and a count, with one space between.
-use Rattle.std.specs.Prelude.{ℕ, ◌-◌, ℤ, pos, neg_ℤ, ◌==◌, if◌then◌else◌, List, [], ◌∷◌, Option, None, option_map}
+use Rattle.std.specs.Prelude.{ℕ, ℤ, pos, neg_ℤ, ◌==◌, if◌then◌else◌, List, [], ◌∷◌, Option, None, option_map}
 use Rattle.std.specs.List.{slice_split}
 use Rattle.std.specs.Option.{option_and_then}
-use Rattle.xa_http.specs.Digits.{number_up_to}
+use Rattle.xa_value.specs.Digits.{number_up_to}
 use Rattle.pdpd.specs.declared.heading.Heading.{Heading}
-use Rattle.pdpd.specs.declared.heading.TheConstants.{CONNECTIONS, MAX_ENTRY_BYTES}
 
 -- the moment that plain digits write in seconds since 1970, after a `-` in seconds before: in the years 0001 to 9999
 unfoldable pub moment_of : List ℕ → Option ℤ
@@ -13,21 +12,21 @@ moment_of (c ∷ cs) =
     if c == 45 then option_map (λ n. neg_ℤ (pos n)) (number_up_to 62_135_596_800 cs)
     else option_map pos (number_up_to 253_402_300_799 (c ∷ cs))
 
--- what three parts say
-unfoldable pub said : List ℕ → List ℕ → List ℕ → Option Heading
-said connection moment count =
+-- the heading of three parts: a connection from 0 to 63, a moment, and a count of at most 1,048,576 bytes
+unfoldable pub heading_of_three : List ℕ → List ℕ → List ℕ → Option Heading
+heading_of_three connection moment count =
     option_and_then (λ c. option_and_then (λ m. option_map (λ n. record { connection = c; moment = m; count = n })
-    (number_up_to MAX_ENTRY_BYTES count)) (moment_of moment)) (number_up_to (CONNECTIONS - 1) connection)
+    (number_up_to 1_048_576 count)) (moment_of moment)) (number_up_to 63 connection)
 
--- what the parts of a line say: they are three
-abbrev pub said_by : List (List ℕ) → Option Heading
-said_by (connection ∷ moment ∷ count ∷ []) = said connection moment count
-said_by _ = None
+-- the heading of the parts of a line: there are three
+abbrev pub heading_of_parts : List (List ℕ) → Option Heading
+heading_of_parts (connection ∷ moment ∷ count ∷ []) = heading_of_three connection moment count
+heading_of_parts _ = None
 
 -- the parts of a line, a space between two
 abbrev pub parts_of : List ℕ → List (List ℕ)
 parts_of line = slice_split (λ c. c == 32) line
 
--- what a line says, if it is well-formed
+-- the heading that a line writes, if it is well-formed
 abbrev pub heading_of : List ℕ → Option Heading
-heading_of line = said_by (parts_of line)
+heading_of line = heading_of_parts (parts_of line)

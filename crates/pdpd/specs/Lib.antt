@@ -1,3 +1,5 @@
-pub mod Heading
+pub mod CommandLine
+pub mod Entry
 pub mod Exit
 pub mod FirstDomain
+pub mod Heading

@@ -1,38 +1,40 @@
 //! How the program ends.
 ghost use Rattle.std.specs.Prelude.{◌≡◌};
+ghost use Rattle.std.specs.Process.{exit_status};
 ghost use Rattle.pdpd.specs.Exit.{status_of};
 
 use std::alloc::{AllocError, AllocFailed};
 use std::fmt;
 use std::io::{self, ErrorKind};
+use std::process::ExitCode;
 
-/// How the program ends, which its status tells.
+/// How the program ends, which its exit status tells.
 #[derive(Clone, Copy, Debug, PartialEq, Eq)]
 pub enum Exit {
     /// All was answered.
     Done,
     /// Standard input or output failed.
     Failed,
-    /// The command line isn't `pdpd replay` and a token.
+    /// The command line isn't `pdpd replay OPERATOR-TOKEN`, or the token is malformed.
     Usage,
     /// The transcript is malformed or cut. The replies of the entries before are written.
     Malformed,
-    /// There was no memory.
+    /// There was no memory for it.
     Memory,
 }
 
 impl Exit {
     /// The status with which the program ends.
-    pub fn status(self) -> u8
-        ensures { result ≡ status_of self }
+    pub fn status(self) -> ExitCode
+        ensures { exit_status result ≡ status_of self }
     {
-        match self {
+        ExitCode::from(match self {
             Exit::Done => 0,
             Exit::Failed => 1,
             Exit::Usage => 2,
             Exit::Malformed => 3,
             Exit::Memory => 6,
-        }
+        })
     }
 }
 
@@ -42,7 +44,7 @@ impl fmt::Display for Exit {
             Exit::Done => "pdpd: done",
             Exit::Failed => "pdpd: standard input or output failed",
             Exit::Usage =>
-                "pdpd: usage: pdpd replay OPERATOR-TOKEN (8 to 64 visible ASCII characters)",
+                "usage: pdpd replay OPERATOR-TOKEN (the token: 8 to 64 visible ASCII characters)",
             Exit::Malformed => "pdpd: the transcript is malformed or cut",
             Exit::Memory => "pdpd: out of memory",
         };
@@ -75,9 +77,9 @@ impl<T: Drop> From<AllocFailed<T>> for Exit {
 impl From<io::Error> for Exit {
     ghost use Rattle.std.specs.Prelude.{◌≡◌};
     ghost use Rattle.std.specs.IoError.{error_kind};
-    ghost use Rattle.pdpd.specs.Exit.{failed_by};
+    ghost use Rattle.pdpd.specs.Exit.{exit_of};
 
-    ghost from_gives = { λ error exit. exit ≡ failed_by (error_kind error) };
+    ghost from_gives = { λ error exit. exit ≡ exit_of (error_kind error) };
 
     fn from(error: io::Error) -> Exit {
         match error.kind() {

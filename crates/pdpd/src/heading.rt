@@ -1,10 +1,9 @@
 //! The line before an entry: `CONNECTION MOMENT COUNT`.
 ghost use Rattle.std.specs.Prelude.{◌≡◌, ◌-◌, ◌^◌, ◌∷◌, [], MatchOption, option_map, pos};
-ghost use Rattle.xa_http.specs.Digits.{number_up_to};
-ghost use Rattle.pdpd.specs.Heading.{heading_of, moment_of, parts_of, said};
+ghost use Rattle.xa_value.specs.Digits.{number_up_to};
+ghost use Rattle.pdpd.specs.Heading.{heading_of, heading_of_three, moment_of, parts_of};
 
-use xa_http::number_up_to;
-use xa_value::Moment;
+use xa_value::{Moment, number_up_to};
 
 /// How many connections a transcript may hold at once.
 pub const CONNECTIONS: usize = 64;
@@ -12,10 +11,10 @@ pub const CONNECTIONS: usize = 64;
 /// The most bytes of an entry.
 pub const MAX_ENTRY_BYTES: usize = 1_048_576;
 
-/// What the line of an entry says.
+/// What stands in the line before an entry.
 #[derive(Clone, Copy, Debug)]
 pub struct Heading {
-    /// The connection, below 64.
+    /// The connection, from 0 to 63.
     pub connection: usize,
     /// The moment at which the entry's messages are answered.
     pub moment: Moment,
@@ -43,7 +42,7 @@ fn moment_of(text: &[u8]) -> Option<Moment>
 
 /// The text before the first space, and the text after it.
 #[tactic(auto, using(crate::proofs::PartLemmas::no_space_more))]
-fn cut(text: &[u8]) -> Option<(&[u8], &[u8])>
+fn split_once_at_space(text: &[u8]) -> Option<(&[u8], &[u8])>
     ensures { MatchOption result (parts_of text.now ≡ text.now ∷ []) (λ found. parts_of text.now ≡ found.0.now ∷ parts_of found.1.now) }
 {
     for (i, byte) in text.iter().enumerate() {
@@ -54,10 +53,10 @@ fn cut(text: &[u8]) -> Option<(&[u8], &[u8])>
     None
 }
 
-/// What three parts say.
-#[tactic(auto, unfolding(crate::specs::Heading::said))]
-fn said(connection: &[u8], moment: &[u8], count: &[u8]) -> Option<Heading>
-    ensures { result ≡ said connection.now moment.now count.now }
+/// The heading of three parts.
+#[tactic(auto, unfolding(crate::specs::Heading::heading_of_three))]
+fn heading_of_three(connection: &[u8], moment: &[u8], count: &[u8]) -> Option<Heading>
+    ensures { result ≡ heading_of_three connection.now moment.now count.now }
 {
     let connection = number_up_to(CONNECTIONS - 1, connection)?;
     let moment = moment_of(moment)?;
@@ -69,15 +68,15 @@ fn said(connection: &[u8], moment: &[u8], count: &[u8]) -> Option<Heading>
     })
 }
 
-/// What a line says, if it is well-formed.
+/// The heading that a line writes, if it is well-formed.
 #[tactic(auto, using(crate::proofs::PartLemmas::more_parts))]
 pub fn heading_of(line: &[u8]) -> Option<Heading>
     ensures { result ≡ heading_of line.now }
 {
-    let (connection, rest) = cut(line)?;
-    let (moment, count) = cut(rest)?;
-    match cut(count) {
+    let (connection, rest) = split_once_at_space(line)?;
+    let (moment, count) = split_once_at_space(rest)?;
+    match split_once_at_space(count) {
         Some(_) => None,
-        None => said(connection, moment, count),
+        None => heading_of_three(connection, moment, count),
     }
 }

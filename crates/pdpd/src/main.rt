@@ -1,41 +1,50 @@
 //! `pdpd replay OPERATOR-TOKEN`: answers the messages of a transcript.
 #![tactic(auto)]
 
+mod answers;
+mod command_line;
+mod connection;
 mod exit;
 mod first_domain;
 mod heading;
+mod open_stream;
 mod replay;
 #[cfg(test)]
 mod tests;
 mod transcript;
+mod writing;
 
+use command_line::operator_token;
 use exit::Exit;
-use std::env::{self, Env};
+use std::env;
+use std::io::ErrorKind;
 use std::process::ExitCode;
 
-/// The operator's token, of a command line `pdpd replay OPERATOR-TOKEN`.
-fn token_argument<R: Env + Alloc>(rt: &R) -> Option<String<R::A>> {
-    let mut arguments = env::args(rt).ok()?.skip(1);
-    let command = arguments.next()?;
-    let token = arguments.next()?;
-    if command.as_str() != "replay" || arguments.next().is_some() {
-        return None;
+/// The words of the command line, the program's name first.
+fn words(rt: &HostRuntime) -> Result<Vec<String>, Exit> {
+    match env::args(rt) {
+        Ok(words) => Ok(words.collect(rt.alloc())?),
+        Err(error) if error.kind() == ErrorKind::OutOfMemory => Err(Exit::Memory),
+        Err(_) => Err(Exit::Usage),
     }
-    Some(token)
+}
+
+/// Replays standard input, where the command line asks for it.
+fn run(rt: &HostRuntime) -> Exit {
+    let words = match words(rt) {
+        Ok(words) => words,
+        Err(exit) => return exit,
+    };
+    match operator_token(&words) {
+        Some(token) => replay::replay(rt.alloc(), &mut rt.stdin(), &mut rt.stdout(), token),
+        None => Exit::Usage,
+    }
 }
 
 fn main(rt: HostRuntime) -> ExitCode {
-    let exit = match token_argument(&rt) {
-        Some(token) => replay::replay(
-            rt.alloc(),
-            &mut rt.stdin(),
-            &mut rt.stdout(),
-            token.as_str(),
-        ),
-        None => Exit::Usage,
-    };
+    let exit = run(&rt);
     if exit != Exit::Done {
         let _ = rt.eprintln(exit);
     }
-    ExitCode::from(exit.status())
+    exit.status()
 }

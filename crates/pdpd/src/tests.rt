@@ -174,27 +174,3 @@ fn broken_streams_and_bad_tokens(rt: HostRuntime) -> Result<(), Fail> {
     }
     Ok(())
 }
-
-#[test]
-fn statuses_and_their_texts(rt: HostRuntime) -> Result<(), Fail> {
-    let known = [
-        (Exit::Done, 0, "pdpd: done"),
-        (Exit::Failed, 1, "pdpd: standard input or output failed"),
-        (
-            Exit::Usage,
-            2,
-            "pdpd: usage: pdpd replay OPERATOR-TOKEN (8 to 64 visible ASCII characters)",
-        ),
-        (
-            Exit::Malformed,
-            3,
-            "pdpd: the transcript is malformed or cut",
-        ),
-        (Exit::Memory, 6, "pdpd: out of memory"),
-    ];
-    for (exit, status, text) in known {
-        assert_eq!(rt; exit.status(), status);
-        assert_eq!(rt; exit.to_string(rt.alloc())?.as_str(), text);
-    }
-    Ok(())
-}

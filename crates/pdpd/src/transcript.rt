@@ -1,4 +1,4 @@
-//! Transcripts: entries of a line `CONNECTION MOMENT COUNT`, so many bytes, and a line feed.
+//! Transcripts: entries of a line `CONNECTION MOMENT COUNT`, as many bytes as it counts, and a line feed.
 ghost use Rattle.std.specs.Prelude.{◌≡◌, ◌<◌, ◌≤◌, IsTrue, IfOk, IfErr, vec_len};
 ghost use Rattle.pdpd.specs.Exit.{breaks_off};
 ghost use Rattle.pdpd.specs.declared.exit.Exit.TheVariants.{Memory};
@@ -17,7 +17,7 @@ const PIECE_BYTES: usize = 65_536;
 /// How often the transcript is read before that counts as a failed read.
 const MAX_READS: u32 = 1_000_000_000;
 
-/// What is read of a transcript, a piece at a time.
+/// A transcript, which is read a piece at a time.
 #[derive(Drop)]
 pub struct Transcript<'a, R> {
     reader: &'a mut R,
@@ -64,7 +64,7 @@ impl<'a, R: Read> Transcript<'a, R> {
         Err(Exit::Failed)
     }
 
-    /// Reads on where all that was read is taken. Whether the transcript goes on.
+    /// Whether the transcript goes on. It reads on where all that was read is taken.
     fn goes_on(&mut self) -> Result<bool, Exit>
         ensures more { IfOk result (λ more. IsTrue more → self.new.start < self.new.end) }
         ensures err { IfErr result (λ exit. IsTrue (breaks_off exit)) }
@@ -87,8 +87,8 @@ impl<'a, R: Read> Transcript<'a, R> {
         Ok(Some(byte))
     }
 
-    /// Moves at most so many bytes of the transcript to the end of `bytes`. Whether it goes on.
-    fn take(&mut self, most: usize, bytes: &mut Vec<u8>) -> Result<bool, Exit>
+    /// Moves at most `most` bytes of the transcript to the end of `bytes`, if it goes on. Whether it does.
+    fn append_to(&mut self, bytes: &mut Vec<u8>, most: usize) -> Result<bool, Exit>
         ensures { IfErr result (λ exit. IsTrue (breaks_off exit)) }
     {
         if !self.goes_on()? {
@@ -100,7 +100,7 @@ impl<'a, R: Read> Transcript<'a, R> {
         Ok(true)
     }
 
-    /// The line of the next entry, if there is one.
+    /// The heading of the next entry, if there is one.
     pub fn heading(&mut self) -> Result<Option<Heading>, Exit>
         ensures { IfErr result (λ exit. IsTrue (breaks_off exit)) }
     {
@@ -129,7 +129,7 @@ impl<'a, R: Read> Transcript<'a, R> {
             if wanted == 0 {
                 break;
             }
-            if !self.take(wanted, bytes)? {
+            if !self.append_to(bytes, wanted)? {
                 return Err(Exit::Malformed);
             }
         }

@@ -29,5 +29,5 @@ deny_overrides decisions =
     else NotApplicable
 
 -- the decision of a combining algorithm on the decisions of the children
-abbrev pub combined : Alg → List Decision → Decision
-combined DenyOverrides = deny_overrides
+abbrev pub combined_decision : Alg → List Decision → Decision
+combined_decision DenyOverrides = deny_overrides

@@ -5,9 +5,9 @@ use Rattle.xa_policy.specs.declared.decision.Decision.TheVariants.{Indeterminate
 use Rattle.xa_policy.specs.declared.combining.Alg.{Alg}
 use Rattle.xa_policy.specs.declared.evaluated.Evaluated.{Evaluated}
 use Rattle.xa_policy.specs.declared.policy.Policy.{Policy}
-use Rattle.xa_policy.specs.declared.status.Status.{Status}
-use Rattle.xa_policy.specs.declared.status.Status.TheVariants.{Ok}
-use Rattle.xa_policy.specs.Combining.{combined}
+use Rattle.xa_func.specs.declared.status.Status.{Status}
+use Rattle.xa_func.specs.declared.status.Status.TheVariants.{Ok}
+use Rattle.xa_policy.specs.Combining.{combined_decision}
 use Rattle.xa_policy.specs.Rule.{rule_value}
 use Rattle.xa_policy.specs.Status.{first_fault}
 use Rattle.xa_policy.specs.Target.{Bags}
@@ -34,7 +34,7 @@ status_of decision faults = if is_indeterminate decision then first_fault faults
 -- the decision that the algorithm makes of the children's, with its status
 abbrev pub combination : Alg → List Evaluated → Evaluated
 combination algorithm children =
-    let decision = combined algorithm (map decision_of children) in
+    let decision = combined_decision algorithm (map decision_of children) in
     record { decision = decision; status = status_of decision (map fault_of children) }
 
 -- what a policy decides

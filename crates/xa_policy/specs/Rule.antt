@@ -6,17 +6,17 @@ use Rattle.xa_policy.specs.declared.evaluated.Evaluated.{Evaluated}
 use Rattle.xa_policy.specs.declared.matching.Matching.{Matching}
 use Rattle.xa_policy.specs.declared.matching.Matching.TheVariants.{Match, NoMatch, Indeterminate}
 use Rattle.xa_policy.specs.declared.rule.Rule.{Rule}
-use Rattle.xa_policy.specs.declared.status.Status.TheVariants.{Ok}
+use Rattle.xa_func.specs.declared.status.Status.TheVariants.{Ok}
 use Rattle.xa_policy.specs.Target.{Bags, target_value}
 
 -- what a rule of this effect decides, by the value of its target
-abbrev pub effected : Effect → Matching → Evaluated
-effected Permit Match = record { decision = decision.Permit; status = Ok }
-effected Deny Match = record { decision = decision.Deny; status = Ok }
-effected _ NoMatch = record { decision = decision.NotApplicable; status = Ok }
-effected Permit (Indeterminate fault) = record { decision = decision.IndeterminatePermit; status = fault }
-effected Deny (Indeterminate fault) = record { decision = decision.IndeterminateDeny; status = fault }
+abbrev pub outcome : Effect → Matching → Evaluated
+outcome Permit Match = record { decision = decision.Permit; status = Ok }
+outcome Deny Match = record { decision = decision.Deny; status = Ok }
+outcome _ NoMatch = record { decision = decision.NotApplicable; status = Ok }
+outcome Permit (Indeterminate fault) = record { decision = decision.IndeterminatePermit; status = fault }
+outcome Deny (Indeterminate fault) = record { decision = decision.IndeterminateDeny; status = fault }
 
 -- what a rule decides
 abbrev pub rule_value : Bags → Rule → Evaluated
-rule_value bag_of rule = effected rule.effect (target_value bag_of rule.target)
+rule_value bag_of rule = outcome rule.effect (target_value bag_of rule.target)

@@ -8,8 +8,8 @@ use Rattle.xa_policy.specs.declared.designator.Designator.{Designator}
 use Rattle.xa_policy.specs.declared.match_.Match.{Match}
 use Rattle.xa_policy.specs.declared.matching.Matching.{Matching}
 use Rattle.xa_policy.specs.declared.matching.Matching.TheVariants as matching
-use Rattle.xa_policy.specs.declared.status.Status.{Status}
-use Rattle.xa_policy.specs.declared.status.Status.TheVariants as status
+use Rattle.xa_func.specs.declared.status.Status.{Status}
+use Rattle.xa_func.specs.declared.status.Status.TheVariants as status
 use Rattle.xa_policy.specs.declared.target.AllOf.{AllOf}
 use Rattle.xa_policy.specs.declared.target.AnyOf.{AnyOf}
 use Rattle.xa_policy.specs.declared.target.Target.{Target}
@@ -40,13 +40,13 @@ abbrev pub some_equal : Value → List Value → Bool
 some_equal literal bag = list_any (string_equal literal) bag
 
 -- a match on what its designator gives (7.6): Indeterminate at a fault, else whether some value of the bag equals the literal
-abbrev pub matched : Value → Result (List Value) Status → Matching
-matched literal (Err fault) = matching.Indeterminate fault
-matched literal (Ok bag) = if some_equal literal bag then matching.Match else matching.NoMatch
+abbrev pub matching_of : Value → Result (List Value) Status → Matching
+matching_of literal (Err fault) = matching.Indeterminate fault
+matching_of literal (Ok bag) = if some_equal literal bag then matching.Match else matching.NoMatch
 
 -- the value of a match
 abbrev pub match_value : Bags → Match → Matching
-match_value bag_of m = matched m.value (attribute bag_of m.designator)
+match_value bag_of m = matching_of m.value (attribute bag_of m.designator)
 
 -- Match; of a single match the standard says True
 abbrev pub is_match : Matching → Bool

@@ -1,5 +1,6 @@
+//! Combining algorithms.
 ghost use Rattle.std.specs.Prelude.{◌≡◌, [], ◌∷◌};
-ghost use Rattle.xa_policy.specs.Combining.{combined, deny_overrides};
+ghost use Rattle.xa_policy.specs.Combining.{combined_decision, deny_overrides};
 
 use crate::decision::Decision;
 
@@ -12,7 +13,7 @@ pub enum Alg {
 
 /// The decision that the algorithm makes of the decisions of the children, in their order.
 pub fn combine(algorithm: Alg, decisions: &[Decision]) -> Decision
-    ensures { result ≡ combined algorithm decisions.now }
+    ensures { result ≡ combined_decision algorithm decisions.now }
 {
     match algorithm {
         Alg::DenyOverrides => deny_overrides(decisions),
@@ -26,7 +27,7 @@ fn deny_overrides(decisions: &[Decision]) -> Decision
 {
     let mut so_far = Decision::NotApplicable;
     for decision in decisions {
-        so_far = joined(so_far, *decision);
+        so_far = deny_overrides_of_two(so_far, *decision);
         if so_far == Decision::Deny {
             return Decision::Deny;
         }
@@ -36,7 +37,7 @@ fn deny_overrides(decisions: &[Decision]) -> Decision
 
 /// Deny-overrides of two.
 #[tactic(auto, unfolding(crate::specs::Combining::deny_overrides))]
-pub(crate) fn joined(first: Decision, second: Decision) -> Decision
+pub(crate) fn deny_overrides_of_two(first: Decision, second: Decision) -> Decision
     ensures { result ≡ deny_overrides (first ∷ second ∷ []) }
 {
     match (first, second) {

@@ -1,3 +1,5 @@
+//! Effects and decisions.
+
 /// What a rule gives where it applies (XACML 3.0, section 5.22).
 #[derive(Clone, Copy, Debug, PartialEq, Eq)]
 pub enum Effect {

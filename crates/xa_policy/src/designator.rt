@@ -1,3 +1,4 @@
+//! Attribute designators.
 use xa_value::Text;
 
 /// An attribute designator (XACML 3.0, section 5.29). The data type is string for now, and there is no issuer:

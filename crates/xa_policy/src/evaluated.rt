@@ -1,5 +1,6 @@
+//! A decision, and why.
 use crate::decision::Decision;
-use crate::status::Status;
+use xa_func::Status;
 
 /// A decision with its status (XACML 3.0, section 5.48).
 #[derive(Clone, Copy, Debug, PartialEq, Eq)]

@@ -1,15 +1,16 @@
+//! What a policy decides.
 ghost use Rattle.std.specs.Prelude.{◌≡◌, [], ◌∷◌, map, IfOk};
 ghost use Rattle.xa_policy.specs.Evaluation.{evaluation, combination, fault_of, is_indeterminate, status_of};
 ghost use Rattle.xa_policy.specs.Rule.{rule_value};
 
-use crate::combining::{Alg, joined};
+use crate::combining::{Alg, deny_overrides_of_two};
 use crate::decision::Decision;
 use crate::evaluated::Evaluated;
 use crate::lookup::Lookup;
 use crate::policy::Policy;
 use crate::rule::Rule;
-use crate::status::Status;
 use std::alloc::{AllocError, Global};
+use xa_func::Status;
 
 /// What the policy decides (XACML 3.0, section 7.12), and why where that is Indeterminate: the status of the first
 /// rule that is. Want of memory is the only error.
@@ -39,7 +40,7 @@ fn deny_overrides<L: Lookup>(
     let mut fault = None;
     for rule in rules {
         let child = rule.evaluate(alloc, lookup)?;
-        decision = joined(decision, child.decision);
+        decision = deny_overrides_of_two(decision, child.decision);
         fault = fault.or(fault_of(child));
         if decision == Decision::Deny {
             return Ok(Evaluated {

@@ -11,7 +11,6 @@ mod match_;
 mod matching;
 mod policy;
 mod rule;
-mod status;
 mod target;
 
 pub use combining::{Alg, combine};
@@ -23,7 +22,6 @@ pub use lookup::Lookup;
 pub use match_::Match;
 pub use policy::Policy;
 pub use rule::Rule;
-pub use status::Status;
 pub use target::{AllOf, AnyOf, Target};
 
 #[cfg(test)]

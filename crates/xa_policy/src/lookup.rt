@@ -1,3 +1,4 @@
+//! Where the values of attributes come from.
 ghost use Rattle.std.specs.Prelude.{◌≡◌, List, IfOk};
 ghost use Rattle.xa_value.specs.declared.value.Value.{Value};
 ghost use Rattle.xa_policy.specs.declared.designator.Designator.{Designator};

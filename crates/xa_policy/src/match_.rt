@@ -1,11 +1,12 @@
+//! Matches of a literal against the values of an attribute.
 ghost use Rattle.std.specs.Prelude.{◌≡◌, IfOk};
 ghost use Rattle.xa_policy.specs.Target.{match_value, some_equal, string_equal};
 
 use crate::designator::Designator;
 use crate::lookup::Lookup;
 use crate::matching::Matching;
-use crate::status::Status;
 use std::alloc::{AllocError, Global};
+use xa_func::Status;
 use xa_value::Value;
 
 /// A match (XACML 3.0, section 5.9): whether some value of the designator's bag equals the literal, by string-equal.

@@ -1,7 +1,8 @@
+//! What targets and their parts come to.
 ghost use Rattle.std.specs.Prelude.{◌≡◌, [], ◌∷◌};
 ghost use Rattle.xa_policy.specs.Target.{all_match, some_match};
 
-use crate::status::Status;
+use xa_func::Status;
 
 /// What a target or a part of it comes to (XACML 3.0, sections 7.6 and 7.7). Of a single match the standard
 /// calls the first two True and False.

@@ -1,3 +1,4 @@
+//! Policies.
 use crate::combining::Alg;
 use crate::rule::Rule;
 use xa_value::{Items, Text};

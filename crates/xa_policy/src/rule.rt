@@ -1,3 +1,4 @@
+//! Rules, and what each decides.
 ghost use Rattle.std.specs.Prelude.{◌≡◌, IfOk};
 ghost use Rattle.xa_policy.specs.Rule.{rule_value};
 
@@ -5,9 +6,9 @@ use crate::decision::{Decision, Effect};
 use crate::evaluated::Evaluated;
 use crate::lookup::Lookup;
 use crate::matching::Matching;
-use crate::status::Status;
 use crate::target::Target;
 use std::alloc::{AllocError, Global};
+use xa_func::Status;
 
 /// A rule (XACML 3.0, section 5.21), without conditions for now.
 #[derive(Debug, Drop, PartialEq, Eq)]

@@ -1,3 +1,4 @@
+//! Targets: to what a rule applies.
 ghost use Rattle.std.specs.Prelude.{◌≡◌, IfOk};
 ghost use Rattle.xa_policy.specs.Target.{all_of_value, any_of_value, target_value};
 

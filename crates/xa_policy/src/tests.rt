@@ -1,8 +1,10 @@
+//! Policies over lookups at a concrete type.
 ghost use Rattle.std.specs.Prelude.{◌≡◌};
 
 use crate::*;
 use std::alloc::{AllocError, Global};
 use std::test::Fail;
+use xa_func::Status;
 use xa_value::{Items, Text, Value};
 
 /// A lookup that gives the same bag to every designator.
@@ -23,13 +25,7 @@ impl Lookup for SameBag {
     }
 }
 
-fn no_values(alloc: Global) -> SameBag {
-    SameBag {
-        values: Items::new(alloc),
-    }
-}
-
-fn values(alloc: Global, texts: &[&str]) -> Result<SameBag, AllocError> {
+fn strings(alloc: Global, texts: &[&str]) -> Result<SameBag, AllocError> {
     let mut values = Items::new(alloc);
     for text in texts {
         values.push(Value::String(Text::new(alloc, text)?))?;
@@ -37,26 +33,11 @@ fn values(alloc: Global, texts: &[&str]) -> Result<SameBag, AllocError> {
     Ok(SameBag { values })
 }
 
-/// A policy of one Permit rule with this target.
-fn permit_where(alloc: Global, target: Target) -> Result<Policy, AllocError> {
-    let mut rules = Items::new(alloc);
-    rules.push(Rule {
-        effect: Effect::Permit,
-        target,
-    })?;
-    Ok(Policy {
-        id: Text::new(alloc, "urn:p")?,
-        version: Text::new(alloc, "1.0")?,
-        algorithm: Alg::DenyOverrides,
-        rules,
-    })
-}
-
-/// The target that the subject's id is `alice`.
-fn is_alice(alloc: Global, must_be_present: bool) -> Result<Target, AllocError> {
+/// The target that the subject's id is `name`.
+fn subject_is(alloc: Global, name: &str, must_be_present: bool) -> Result<Target, AllocError> {
     let mut matches = Items::new(alloc);
     matches.push(Match {
-        value: Value::String(Text::new(alloc, "alice")?),
+        value: Value::String(Text::new(alloc, name)?),
         designator: Designator {
             category: Text::new(
                 alloc,
@@ -73,21 +54,96 @@ fn is_alice(alloc: Global, must_be_present: bool) -> Result<Target, AllocError> 
     Ok(Target { any_of })
 }
 
+/// A policy of these rules.
+fn policy_of(alloc: Global, rules: Items<Rule>) -> Result<Policy, AllocError> {
+    Ok(Policy {
+        id: Text::new(alloc, "urn:p")?,
+        version: Text::new(alloc, "1.0")?,
+        algorithm: Alg::DenyOverrides,
+        rules,
+    })
+}
+
+/// What a policy decides on subjects of these ids that permits alice, and denies bob.
+fn alice_and_not_bob(
+    alloc: Global,
+    subjects: &[&str],
+    must_be_present: bool,
+) -> Result<Evaluated, AllocError> {
+    let mut rules = Items::new(alloc);
+    rules.push(Rule {
+        effect: Effect::Permit,
+        target: subject_is(alloc, "alice", must_be_present)?,
+    })?;
+    rules.push(Rule {
+        effect: Effect::Deny,
+        target: subject_is(alloc, "bob", must_be_present)?,
+    })?;
+    evaluate(alloc, &policy_of(alloc, rules)?, &strings(alloc, subjects)?)
+}
+
+fn decision(decision: Decision) -> Evaluated {
+    Evaluated {
+        decision,
+        status: Status::Ok,
+    }
+}
+
+#[test]
+fn two_rules(rt: HostRuntime) -> Result<(), Fail> {
+    let alloc = rt.alloc();
+    assert_eq!(rt;
+        alice_and_not_bob(alloc, &["alice"], true)?,
+        decision(Decision::Permit)
+    );
+    assert_eq!(rt;
+        alice_and_not_bob(alloc, &["carol", "alice"], true)?,
+        decision(Decision::Permit)
+    );
+    assert_eq!(rt;
+        alice_and_not_bob(alloc, &["alice", "bob"], true)?,
+        decision(Decision::Deny)
+    );
+    assert_eq!(rt;
+        alice_and_not_bob(alloc, &["carol"], true)?,
+        decision(Decision::NotApplicable)
+    );
+    assert_eq!(rt;
+        alice_and_not_bob(alloc, &[], false)?,
+        decision(Decision::NotApplicable)
+    );
+    assert_eq!(rt;
+        alice_and_not_bob(alloc, &[], true)?,
+        Evaluated {
+            decision: Decision::IndeterminateDenyPermit,
+            status: Status::MissingAttribute
+        }
+    );
+    Ok(())
+}
+
+#[test]
+fn rule_without_a_target(rt: HostRuntime) -> Result<(), Fail> {
+    let alloc = rt.alloc();
+    let mut rules = Items::new(alloc);
+    rules.push(Rule {
+        effect: Effect::Deny,
+        target: Target {
+            any_of: Items::new(alloc),
+        },
+    })?;
+    let policy = policy_of(alloc, rules)?;
+    assert_eq!(rt;
+        evaluate(alloc, &policy, &strings(alloc, &[])?)?,
+        decision(Decision::Deny)
+    );
+    Ok(())
+}
+
 #[test]
 fn deny_overrides_of_decisions(rt: HostRuntime) {
     let algorithm = Alg::DenyOverrides;
     assert_eq!(rt; combine(algorithm, &[]), Decision::NotApplicable);
-    let all = [
-        Decision::Permit,
-        Decision::Deny,
-        Decision::NotApplicable,
-        Decision::IndeterminatePermit,
-        Decision::IndeterminateDeny,
-        Decision::IndeterminateDenyPermit,
-    ];
-    for decision in all {
-        assert_eq!(rt; combine(algorithm, &[decision]), decision);
-    }
     assert_eq!(rt;
         combine(
             algorithm,
@@ -95,72 +151,18 @@ fn deny_overrides_of_decisions(rt: HostRuntime) {
         ),
         Decision::IndeterminateDenyPermit
     );
-    assert_eq!(rt; combine(algorithm, &all), Decision::Deny);
-}
-
-#[test]
-fn status_uris(rt: HostRuntime) {
-    assert_eq!(rt; Status::Ok.uri(), "urn:oasis:names:tc:xacml:1.0:status:ok");
     assert_eq!(rt;
-        Status::MissingAttribute.uri(),
-        "urn:oasis:names:tc:xacml:1.0:status:missing-attribute"
+        combine(
+            algorithm,
+            &[Decision::IndeterminatePermit, Decision::Permit]
+        ),
+        Decision::Permit
     );
     assert_eq!(rt;
-        Status::SyntaxError.uri(),
-        "urn:oasis:names:tc:xacml:1.0:status:syntax-error"
+        combine(
+            algorithm,
+            &[Decision::IndeterminateDenyPermit, Decision::Deny]
+        ),
+        Decision::Deny
     );
-    assert_eq!(rt;
-        Status::ProcessingError.uri(),
-        "urn:oasis:names:tc:xacml:1.0:status:processing-error"
-    );
-}
-
-#[test]
-fn permits_without_a_target(rt: HostRuntime) -> Result<(), Fail> {
-    let alloc = rt.alloc();
-    let target = Target {
-        any_of: Items::new(alloc),
-    };
-    let policy = permit_where(alloc, target)?;
-    let permit = Evaluated {
-        decision: Decision::Permit,
-        status: Status::Ok,
-    };
-    assert_eq!(rt; evaluate(alloc, &policy, &no_values(alloc))?, permit);
-    Ok(())
-}
-
-#[test]
-fn missing_attributes(rt: HostRuntime) -> Result<(), Fail> {
-    let alloc = rt.alloc();
-    let wanted = permit_where(alloc, is_alice(alloc, true)?)?;
-    let missing = Evaluated {
-        decision: Decision::IndeterminatePermit,
-        status: Status::MissingAttribute,
-    };
-    assert_eq!(rt; evaluate(alloc, &wanted, &no_values(alloc))?, missing);
-    let unwanted = permit_where(alloc, is_alice(alloc, false)?)?;
-    let not_applicable = Evaluated {
-        decision: Decision::NotApplicable,
-        status: Status::Ok,
-    };
-    assert_eq!(rt;
-        evaluate(alloc, &unwanted, &no_values(alloc))?,
-        not_applicable
-    );
-    Ok(())
-}
-
-#[test]
-fn some_value_is_alice(rt: HostRuntime) -> Result<(), Fail> {
-    let alloc = rt.alloc();
-    let policy = permit_where(alloc, is_alice(alloc, true)?)?;
-    let both = values(alloc, &["bob", "alice"])?;
-    assert_eq!(rt; evaluate(alloc, &policy, &both)?.decision, Decision::Permit);
-    let bob = values(alloc, &["bob"])?;
-    assert_eq!(rt;
-        evaluate(alloc, &policy, &bob)?.decision,
-        Decision::NotApplicable
-    );
-    Ok(())
 }

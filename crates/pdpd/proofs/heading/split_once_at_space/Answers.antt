@@ -1,7 +1,7 @@
 use Rattle.std.proofs.Common.{◌≡◌, ◌+◌, ◌-◌, length, take, drop, length-drop, arith}
 use Rattle.std.proofs.lemmas.List.{take_all}
 use Rattle.pdpd.proofs.PartLemmas.{first_part, one_part}
-use Rattle.pdpd.proofs.heading.cut.Goals as goal
+use Rattle.pdpd.proofs.heading.split_once_at_space.Goals as goal
 
 pub returns-then-byte-eq32 : goal.returns-then-byte-eq32
 returns-then-byte-eq32 c =
