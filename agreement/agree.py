@@ -1,38 +1,26 @@
-"""Makes random calls, lets the program answer them, and compares its answers with those of the model beside this file.
+"""Makes random rows, and compares the answers of the program xa_trials with those of the model beside this file.
 
-usage: agree.py calls FILE SEED COUNT      writes the calls
+usage: agree.py rows FILE SEED COUNT       writes the rows
        agree.py compare FILE SEED COUNT    compares the program's answers, read from FILE, with the model's
 """
 import collections
 import sys
 
-from functions import BAG_FUNCTIONS, DURATIONS, FUNCTIONS, HIGHER_ORDER, V1, V3, higher_order
+from answers import answer
+from exchanges import Exchanges
+from functions import BAG_FUNCTIONS, DURATIONS, FUNCTIONS, HIGHER_ORDER, V1, V3
+from rows import encoded, line
 from texts import Texts
-from values import Fault, read, to_text
-
-CALL, FIELD, ITEM = "\x1e", "\x1f", "\x1d"
+from values import Fault, read
 
 
-def shown(given, data_type=None):
-    """A value as `type=text`; a bag as `type:` and its texts."""
-    if isinstance(given, list):
-        return f"{data_type}:" + "".join(ITEM + to_text(value) for value in given)
-    return f"{given[0]}={to_text(given)}"
-
-
-def answer(meaning, data_type=None):
-    try:
-        return shown(meaning(), data_type)
-    except Fault as fault:
-        return "!" + str(fault)
-
-
-class Calls:
-    """Random calls, each with the answer that the model gives."""
+class Rows:
+    """Random rows."""
 
     def __init__(self, seed):
         self.texts = Texts(seed)
         self.random = self.texts.random
+        self.exchanges = Exchanges(self.random)
 
     def sound(self, data_type, name=""):
         """A text that reads, and that the named function is likely to take."""
@@ -58,30 +46,41 @@ class Calls:
             types += [data_type.rstrip("*")] * (self.random.randrange(4) if more else 1)
         return types
 
+    def value(self, data_type, name=""):
+        return f"{data_type}:{encoded(self.sound(data_type, name))}"
+
     def read(self):
         data_type = self.texts.data_type()
-        text = self.texts.of(data_type, loose=True)
-        return ["read", data_type, text], answer(lambda: read(data_type, text))
+        return ["read", data_type, encoded(self.texts.of(data_type, loose=True))]
+
+    def compare(self):
+        left = self.texts.data_type()
+        right = self.texts.data_type() if self.texts.seldom(0.1) else left
+        return [self.random.choice(["same", "order"]), self.value(left), self.value(right)]
+
+    def moment(self):
+        end = self.random.choice([0, -62_135_596_800, 253_402_300_799])
+        return ["moment", str(self.random.choice([end + self.random.randint(-2, 2), self.random.randint(-7 * 10**10, 3 * 10**11)]))]
 
     def apply(self):
         name = self.random.choice(list(FUNCTIONS))
         types = self.takes(name)
-        texts = [self.sound(data_type, name) for data_type in types]
-        if len(texts) == 2 and types[0] == types[1] and self.texts.seldom(0.2):
-            texts[1] = texts[0]
-        values = [read(*pair) for pair in zip(types, texts)]
-        fields = [field for pair in zip(types, texts) for field in pair]
-        return ["apply", name, *fields], answer(lambda: FUNCTIONS[name][2](*values))
+        fields = [self.value(data_type, name) for data_type in types]
+        if len(fields) == 2 and types[0] == types[1] and self.texts.seldom(0.2):
+            fields[1] = fields[0]
+        if self.texts.seldom(0.03):
+            fields.append(self.value(self.texts.data_type()))
+        return ["apply", name, *fields]
 
     def arguments(self, arguments):
-        """The fields of the arguments, each a type and a text or a list of texts, and the lists of their values."""
-        fields, values = [], []
+        """The fields of the arguments, each a type and a text or a list of texts."""
+        fields = []
         for data_type, held in arguments:
-            texts = held if isinstance(held, list) else [held]
-            is_bag = isinstance(held, list)
-            fields += ["bag", data_type, "".join(ITEM + text for text in texts)] if is_bag else ["value", data_type, held]
-            values.append([read(data_type, text) for text in texts])
-        return fields, values
+            if isinstance(held, list):
+                fields += [f"bag:{data_type}"] + ["+" + encoded(text) for text in held]
+            else:
+                fields.append(f"{data_type}:{encoded(held)}")
+        return fields
 
     def some(self, pool, counts):
         return [self.random.choice(pool) for _ in range(self.random.choice(counts))]
@@ -107,10 +106,10 @@ class Calls:
             given = [(data_type, text) for text in self.some(pool, range(6))]
         else:
             given = [bag() for _ in range(self.random.choice([2, 3, 4]) if name == "union" else 2)]
-        fields, values = self.arguments(given)
+        if self.texts.seldom(0.03):
+            given.append(value)
         beginning = self.random.choice([V1, V3]) if data_type in DURATIONS else V1
-        wanted = answer(lambda: BAG_FUNCTIONS[name](*values), data_type)
-        return ["bags", beginning + data_type + "-" + name, *fields], wanted
+        return ["apply", beginning + data_type + "-" + name, *self.arguments(given)]
 
     def inner(self, name):
         """A function of values that the higher-order function takes, and the types of its arguments."""
@@ -118,44 +117,46 @@ class Calls:
             inner = self.random.choice(list(FUNCTIONS))
             types, gives = self.takes(inner), FUNCTIONS[inner][1]
             if (name == "map" or gives == "boolean") and (len(types) == 2 or types and not name.startswith("all-of-")):
-                return inner, types, gives
+                return inner, types
 
     def higher(self):
         uri, name = self.random.choice(list(HIGHER_ORDER.items()))
-        inner, types, gives = self.inner(name)
+        inner, types = self.inner(name)
         the_bag, given = self.random.randrange(len(types)), []
         for place, data_type in enumerate(types):
             pool = [self.sound(data_type, inner) for _ in range(3)]
             is_bag = place == the_bag if name in ("any-of", "all-of", "map") else name != "any-of-any" or self.texts.seldom(0.6)
             given.append((data_type, self.some(pool, range(5)) if is_bag else pool[0]))
-        fields, values = self.arguments(given)
-        wanted = answer(lambda: higher_order(name, FUNCTIONS[inner][2], values), gives)
-        return ["higher", uri, inner, *fields], wanted
+        return ["higher", uri, inner, *self.arguments(given)]
+
+    def exchange(self):
+        return self.exchanges.next()
 
     def next(self):
-        return self.random.choice([self.read, self.apply, self.bags, self.higher])()
+        return self.random.choice([self.read, self.apply, self.bags, self.higher] * 3 + [self.compare, self.moment, self.exchange])()
 
 
-def compare(path, calls):
+def compare(path, rows):
     with open(path, encoding="utf-8", newline="") as it:
-        answers = it.read().split(CALL)[:-1]
-    differ = [(fields, wanted, found) for (fields, wanted), found in zip(calls, answers) if wanted != found]
-    for fields, wanted, found in differ[:20]:
-        print(f"{fields!r}\n    wanted {wanted!r}\n    found  {found!r}")
-    faults = collections.Counter(wanted for _, wanted in calls if wanted.startswith("!"))
-    print(f"{len(answers)} of {len(calls)} calls answered, {len(differ)} otherwise than the model; faults: "
+        answers = it.read().split("\n")[:-1]
+    wanted = [line(answer(fields))[:-1] for fields in rows]
+    differ = [it for it in zip(rows, wanted, answers) if it[1] != it[2]]
+    for fields, by_model, found in differ[:20]:
+        print(f"{line(fields)[:2000].rstrip()}\n    model    {by_model[:2000]}\n    program  {found[:2000]}")
+    faults = collections.Counter(by_model.split("\t")[0][:40] for by_model in wanted if by_model.startswith("!"))
+    print(f"{len(answers)} of {len(rows)} rows answered, {len(differ)} otherwise than the model; refusals: "
           + ", ".join(f"{fault[1:]} {count}" for fault, count in sorted(faults.items())))
-    return 0 if len(answers) == len(calls) and not differ else 1
+    return 0 if len(answers) == len(rows) and not differ else 1
 
 
 def main():
     verb, path, seed, count = sys.argv[1], sys.argv[2], int(sys.argv[3]), int(sys.argv[4])
-    source = Calls(seed)
-    calls = [source.next() for _ in range(count)]
+    source = Rows(seed)
+    rows = [source.next() for _ in range(count)]
     if verb == "compare":
-        return compare(path, calls)
-    with open(path, "w", encoding="utf-8", newline="") as it:
-        it.write(CALL.join(FIELD.join(fields) for fields, _ in calls))
+        return compare(path, rows)
+    with open(path, "w", encoding="ascii", newline="") as it:
+        it.writelines(line(fields) for fields in rows)
     return 0
 
 

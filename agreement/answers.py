@@ -1,0 +1,198 @@
+"""What the model answers to a row, as the program writes it; None for a kind of row that the model doesn't know."""
+import messages
+from functions import BAG_FUNCTIONS, FUNCTIONS, HIGHER_ORDER, higher_order
+from names import NAMES
+from rows import decoded, encoded
+from values import TYPES, Fault, date_of, day_number, key, print_clock, print_date, read, to_text
+
+NAMESPACE = "http://www.w3.org/2001/XMLSchema#"
+STATUS = "urn:oasis:names:tc:xacml:1.0:status:"
+ORDERED = ("integer", "string", "time", "date", "dateTime")
+FIRST_MOMENT, LAST_MOMENT = -62_135_596_800, 253_402_300_799
+SUBJECTS = "urn:oasis:names:tc:xacml:1.0:subject-category:"
+OTHERS = "urn:oasis:names:tc:xacml:3.0:attribute-category:"
+CATEGORIES = {
+    "AccessSubject": SUBJECTS + "access-subject", "RecipientSubject": SUBJECTS + "recipient-subject",
+    "IntermediarySubject": SUBJECTS + "intermediary-subject", "Codebase": SUBJECTS + "codebase",
+    "RequestingMachine": SUBJECTS + "requesting-machine", "Resource": OTHERS + "resource", "Action": OTHERS + "action",
+    "Environment": OTHERS + "environment",
+}
+
+
+def text_of(field):
+    return decoded(field).decode()
+
+
+def value_of(field):
+    data_type, text = field.split(":", 1)
+    return read(data_type, text_of(text))
+
+
+def shown(value):
+    return f"{value[0]}:{encoded(to_text(value))}"
+
+
+def arguments_of(fields):
+    """The arguments, each a value or a bag: its type and the list of its values."""
+    arguments = []
+    for field in fields:
+        if field.startswith("+"):
+            data_type, held = arguments[-1]
+            held.append(read(data_type, text_of(field[1:])))
+        elif field.startswith("bag:"):
+            arguments.append((field[4:], []))
+        else:
+            arguments.append(value_of(field))
+    return arguments
+
+
+def is_bag(argument):
+    return isinstance(argument[1], list)
+
+
+def kind_of(argument):
+    return ("bag " if is_bag(argument) else "") + argument[0]
+
+
+def fits(takes, kinds):
+    """Whether arguments of these kinds fit; `a*` at the end stands for any number of them."""
+    last = takes[-1] if takes and takes[-1].endswith("*") else None
+    needed = takes[:-1] if last else takes
+    return kinds[:len(needed)] == list(needed) and all(last and kind == last.rstrip("*") for kind in kinds[len(needed):])
+
+
+BAGS = {
+    "one-and-only": ["bag T"], "bag-size": ["bag T"], "is-in": ["T", "bag T"], "bag": ["T*"], "intersection": ["bag T", "bag T"],
+    "union": ["bag T", "bag T", "bag T*"], "at-least-one-member-of": ["bag T", "bag T"], "subset": ["bag T", "bag T"],
+    "set-equals": ["bag T", "bag T"],
+}
+
+
+def lists(arguments):
+    return [argument[1] if is_bag(argument) else [argument] for argument in arguments]
+
+
+def given(meaning, data_type):
+    """The answer that shows what the meaning gives, with bags of the type, or its fault with its status."""
+    try:
+        found = meaning()
+    except Fault as fault:
+        code = "syntax-error" if str(fault) == "BadText" else "processing-error"
+        return ["!" + str(fault), STATUS + code]
+    if isinstance(found, list):
+        return ["bag:" + data_type] + ["+" + encoded(to_text(value)) for value in found]
+    return [shown(found)]
+
+
+def apply(name, *fields):
+    arguments = arguments_of(fields)
+    kinds = [kind_of(argument) for argument in arguments]
+    if name in FUNCTIONS:
+        takes, _, meaning = FUNCTIONS[name]
+        return given(lambda: meaning(*arguments), None) if fits(takes, kinds) else ["!Refused"]
+    if name not in NAMES or not NAMES[name][0].startswith("Bag("):
+        return ["!Refused"]
+    held = name.rsplit(":", 1)[1]
+    data_type = next(t for t in TYPES if held.startswith(t + "-") and held[len(t) + 1:] in BAG_FUNCTIONS)
+    verb = held[len(data_type) + 1:]
+    if not fits([kind.replace("T", data_type) for kind in BAGS[verb]], kinds):
+        return ["!Refused"]
+    return given(lambda: BAG_FUNCTIONS[verb](*lists(arguments)), data_type)
+
+
+def higher(name, inner, *fields):
+    arguments = arguments_of(fields)
+    if name not in HIGHER_ORDER or inner not in FUNCTIONS:
+        return ["!Refused"]
+    verb, (takes, gives, meaning) = HIGHER_ORDER[name], FUNCTIONS[inner]
+    if not fits(takes, [argument[0] for argument in arguments]):
+        return ["!Refused"]
+    if verb.startswith("all-of-") and [is_bag(argument) for argument in arguments] != [True, True]:
+        return ["!NotOne", STATUS + "processing-error"]
+    return given(lambda: higher_order(verb, meaning, lists(arguments)), gives)
+
+
+def read_row(data_type, text):
+    try:
+        return [shown(read(data_type, text_of(text)))]
+    except Fault as fault:
+        return ["!" + str(fault)]
+
+
+def type_row(name=""):
+    short = name.removeprefix(NAMESPACE)
+    return [short, NAMESPACE + short, str(TYPES.index(short))] if short in TYPES else ["!None"]
+
+
+def category_row(name=""):
+    return [CATEGORIES[name], "true" if CATEGORIES[name].startswith(SUBJECTS) else "false"] if name in CATEGORIES else [name]
+
+
+def numbered(number):
+    return [TYPES[int(number)] if int(number) < len(TYPES) else "!None"]
+
+
+def plain(data_type, member):
+    word, text = member.split(":", 1)
+    if word != "text" and word != data_type:
+        return ["!NotThisType"]
+    found = read_row(data_type, text)
+    if found[0].startswith("!"):
+        return found
+    written = found[0].split(":", 1)[1]
+    return found + [{"boolean": f"plain:boolean:{written}", "integer": f"plain:integer:{written}"}.get(data_type, f"plain:text:{written}")]
+
+
+def same(left, right):
+    left, right = value_of(left), value_of(right)
+    return ["true" if left[0] == right[0] and key(left) == key(right) else "false"]
+
+
+def order(left, right):
+    left, right = value_of(left), value_of(right)
+    if left[0] != right[0] or left[0] not in ORDERED:
+        return ["!None"]
+    return ["Less" if key(left) < key(right) else "Equal" if key(left) == key(right) else "Greater"]
+
+
+def moment(seconds):
+    seconds = int(seconds)
+    if not FIRST_MOMENT <= seconds <= LAST_MOMENT:
+        return ["!None"]
+    days, rest = divmod(seconds, 86400)
+    date, clock = print_date(date_of(day_number(1970, 1, 1) + days)), print_clock(rest * 10**9)
+    return [f"date:{date}Z", f"time:{clock}Z", f"dateTime:{date}T{clock}Z"]
+
+
+def function(name=""):
+    return list(NAMES.get(name, ["!None"]))
+
+
+def token(text=""):
+    held = decoded(text)
+    return ["true" if 8 <= len(held) <= 64 and all(0x21 <= byte <= 0x7E for byte in held) else "false"]
+
+
+def domain(text=""):
+    held = decoded(text)
+    letters = b"abcdefghijklmnopqrstuvwxyz0123456789"
+    sound = 1 <= len(held) <= 32 and held[0] in letters and all(byte in letters + b"-" for byte in held)
+    return ["true" if sound else "false"]
+
+
+def number(most, text=""):
+    held = decoded(text)
+    digits = held and all(byte in b"0123456789" for byte in held)
+    return [str(int(held))] if digits and int(held) <= int(most) else ["!None"]
+
+
+KINDS = {
+    "read": read_row, "type": type_row, "category": category_row, "numbered": numbered, "plain": plain, "same": same, "order": order, "moment": moment, "function": function,
+    "apply": apply, "higher": higher, "token": token, "domain": domain, "number": number,
+    "server": messages.server, "stream": messages.stream, "route": messages.route, "combine": messages.combine,
+}
+
+
+def answer(fields):
+    meaning = KINDS.get(fields[0])
+    return meaning(*fields[1:]) if meaning else None

@@ -1,0 +1,87 @@
+"""The rows of the program xa_trials as text: a row is a line of fields with a tab between, and so is its answer.
+
+In a field a backslash begins an escape: \\n, \\r, \\t, \\\\, \\xHH for a byte, and \\{COUNT,TEXT\\} for so many times the text.
+Sources may also write \\u{HEX} for a character, letters beyond ASCII as they are, and \\(NAME) for a text that a line
+`define NAME TEXT` gave before; two spaces or more part fields too, and fields between `[COUNT` and `]` stand so often.
+"""
+import re
+
+TOKEN = re.compile(rb"\\u\{([0-9a-fA-F]+)\}|\\x([0-9a-fA-F]{2})|\\\{([0-9]+),|\\(.)|([^\\])", re.DOTALL)
+LETTERS = {b"n": b"\n", b"r": b"\r", b"t": b"\t"}
+SHORT = {9: "\\t", 10: "\\n", 13: "\\r", 92: "\\\\"}
+
+
+def decoded(field):
+    """The bytes that the text of a field stands for."""
+    done, start, count = b"", 0, 1
+    for found in TOKEN.finditer(field.encode()):
+        letter, byte, times, escaped, plain = found.groups()
+        if letter:
+            done += chr(int(letter, 16)).encode()
+        elif byte:
+            done += bytes([int(byte, 16)])
+        elif times:
+            start, count = len(done), int(times)
+        elif escaped == b"}":
+            done = done[:start] + done[start:] * count
+        elif escaped:
+            done += LETTERS.get(escaped, escaped)
+        else:
+            done += plain
+    return done
+
+
+def encoded(held):
+    """The text of the field that stands for the bytes or the text."""
+    held = held.encode() if isinstance(held, str) else held
+    return "".join(SHORT.get(byte) or (chr(byte) if 32 <= byte < 127 else f"\\x{byte:02x}") for byte in held)
+
+
+def as_input(field):
+    """The field of a source as the program reads it: escapes of bytes alone."""
+    written = ""
+    for found in TOKEN.finditer(field.encode()):
+        letter, _, _, _, plain = found.groups()
+        held = chr(int(letter, 16)).encode() if letter else plain
+        written += encoded(held) if held else found.group(0).decode()
+    return written
+
+
+def line(fields):
+    """The line of the fields."""
+    return "\t".join(fields) + "\n"
+
+
+def repeated(fields):
+    """The fields, where those between a field `[COUNT` and a field `]` stand so often."""
+    if "]" not in fields:
+        return fields
+    end = fields.index("]")
+    start = next(place for place, field in enumerate(fields) if re.fullmatch(r"\[\d+", field))
+    return fields[:start] + fields[start + 1:end] * int(fields[start][1:]) + fields[end + 1:]
+
+
+class Source:
+    """The rows of a source, each with its answer: comments, definitions, and lines `FIELD FIELD => FIELD FIELD`."""
+
+    def __init__(self, path):
+        self.path, self.defined = path, {}
+        self.rows = []
+        with open(path, encoding="utf-8", newline="") as it:
+            for number, text in enumerate(it.read().split("\n"), 1):
+                self.take(number, text.strip())
+
+    def take(self, number, text):
+        if not text or text.startswith("#"):
+            return
+        text = re.sub(r"\\\((\w+)\)", lambda found: self.defined[found.group(1)], text)
+        if text.startswith("define "):
+            _, name, held = text.split(None, 2)
+            self.defined[name] = held
+            return
+        fields = re.split(r"\t+| {2,}", text)
+        if "=>" not in fields:
+            raise SystemExit(f"{self.path}:{number}: a row has no answer")
+        fields = repeated(fields)
+        at = fields.index("=>")
+        self.rows.append((f"{self.path}:{number}", fields[:at], fields[at + 1:]))

@@ -1,0 +1,151 @@
+//! Rows of functions: what a name names, and what a function gives for its arguments.
+use crate::answer::Answer;
+use crate::arguments::{arguments, values};
+use crate::field::text_of;
+use crate::no_answer::NoAnswer;
+use std::fmt::Debug;
+use xa_bag::{BagFault, ValueOrBag, apply_bag_function, apply_higher_order};
+use xa_func::{BagFunction, FuncFault, FuncId, HigherOrder, Status};
+use xa_value::{DataType, OrMemory, Value};
+
+/// The function that the name names, and its signature.
+pub fn function(answer: &mut Answer, field: &str) -> Result<(), NoAnswer> {
+    let name = text_of(answer.alloc(), field)?;
+    let Some(function) = FuncId::from_uri(name.as_str()) else {
+        return Ok(answer.word("!None")?);
+    };
+    answer.debug(&function)?;
+    answer.debug(&function.signature())?;
+    Ok(())
+}
+
+/// A refusal, with its status.
+fn fault(answer: &mut Answer, fault: &impl Debug, status: Status) -> Result<(), NoAnswer> {
+    answer.refusal(fault)?;
+    answer.word(status.uri())?;
+    Ok(())
+}
+
+/// The value or the bag.
+fn given(answer: &mut Answer, given: &ValueOrBag) -> Result<(), NoAnswer> {
+    match given {
+        ValueOrBag::Value(value) => answer.value(value)?,
+        ValueOrBag::Bag(bag) => {
+            answer.field("bag:", bag.data_type().name().as_bytes())?;
+            members(answer, bag.values())?;
+        }
+    }
+    Ok(())
+}
+
+fn members(answer: &mut Answer, values: &[Value]) -> Result<(), NoAnswer> {
+    for value in values {
+        let text = value.to_text(answer.alloc())?;
+        answer.field("+", text.as_bytes())?;
+    }
+    Ok(())
+}
+
+/// What a function of values gave.
+fn outcome(
+    answer: &mut Answer,
+    outcome: Result<Value, OrMemory<FuncFault>>,
+) -> Result<(), NoAnswer> {
+    match outcome {
+        Ok(value) => Ok(answer.value(&value)?),
+        Err(OrMemory::Error(found)) => fault(answer, &found, found.status()),
+        Err(OrMemory::Memory) => Err(NoAnswer::Memory),
+    }
+}
+
+/// What a function of bags or of a function gave.
+fn bag_outcome(
+    answer: &mut Answer,
+    outcome: Result<ValueOrBag, OrMemory<BagFault<FuncFault>>>,
+) -> Result<(), NoAnswer> {
+    match outcome {
+        Ok(found) => given(answer, &found),
+        Err(OrMemory::Error(BagFault::Inner(found))) => fault(answer, &found, found.status()),
+        Err(OrMemory::Error(found)) => fault(answer, &found, found.status()),
+        Err(OrMemory::Memory) => Err(NoAnswer::Memory),
+    }
+}
+
+/// What the function of values gives.
+fn apply_to_values(
+    answer: &mut Answer,
+    function: FuncId,
+    arguments: Vec<ValueOrBag>,
+) -> Result<(), NoAnswer> {
+    match values(answer.alloc(), arguments)? {
+        Some(values) if function.takes(values.as_slice()) => {
+            outcome(answer, function.apply(answer.alloc(), values.as_slice()))
+        }
+        _ => Ok(answer.word("!Refused")?),
+    }
+}
+
+/// What the function of bags of the type gives.
+fn apply_to_bags(
+    answer: &mut Answer,
+    function: BagFunction,
+    data_type: DataType,
+    arguments: &[ValueOrBag],
+) -> Result<(), NoAnswer> {
+    let alloc = answer.alloc();
+    let signature = FuncId::Bag(function, data_type).signature();
+    if signature.accepts(arguments) {
+        bag_outcome(
+            answer,
+            apply_bag_function(alloc, function, data_type, arguments),
+        )
+    } else {
+        Ok(answer.word("!Refused")?)
+    }
+}
+
+/// What the function of that name gives for the arguments.
+pub fn apply(answer: &mut Answer, name: &str, fields: &[&str]) -> Result<(), NoAnswer> {
+    let arguments = arguments(answer.alloc(), fields)?;
+    match FuncId::from_uri(name) {
+        Some(FuncId::Bag(function, data_type)) => {
+            apply_to_bags(answer, function, data_type, arguments.as_slice())
+        }
+        Some(function) => apply_to_values(answer, function, arguments),
+        None => Ok(answer.word("!Refused")?),
+    }
+}
+
+/// What the function of a function gives.
+fn apply_each(
+    answer: &mut Answer,
+    function: HigherOrder,
+    inner: FuncId,
+    arguments: &[ValueOrBag],
+) -> Result<(), NoAnswer> {
+    let alloc = answer.alloc();
+    if inner.takes_each(arguments) {
+        bag_outcome(
+            answer,
+            apply_higher_order(alloc, function, &inner, arguments),
+        )
+    } else {
+        Ok(answer.word("!Refused")?)
+    }
+}
+
+/// What the higher-order function gives for the inner function of that name and the arguments.
+pub fn higher(
+    answer: &mut Answer,
+    name: &str,
+    inner: &str,
+    fields: &[&str],
+) -> Result<(), NoAnswer> {
+    let arguments = arguments(answer.alloc(), fields)?;
+    match (FuncId::from_uri(name), FuncId::from_uri(inner)) {
+        (Some(FuncId::HigherOrder(function)), Some(inner)) => {
+            apply_each(answer, function, inner, arguments.as_slice())
+        }
+        _ => Ok(answer.word("!Refused")?),
+    }
+}

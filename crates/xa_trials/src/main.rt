@@ -1,0 +1,67 @@
+//! Answers rows: each line of standard input is a row of fields with a tab between, and its answer is a line of standard output.
+#![tactic(auto)]
+
+mod answer;
+mod arguments;
+mod decisions;
+mod domains;
+mod field;
+mod functions;
+mod messages;
+mod no_answer;
+mod plain;
+mod server;
+mod targets;
+mod values;
+
+use answer::Answer;
+use no_answer::NoAnswer;
+use std::alloc::{AllocError, Global};
+use std::io::{self, BufRead, BufReader, BufWriter, Write};
+
+/// Answers a row, whose first field says what is asked.
+fn answer_row(answer: &mut Answer, fields: &[&str]) -> Result<(), NoAnswer> {
+    match fields {
+        ["type", name] => values::data_type(answer, name),
+        ["numbered", number] => values::numbered(answer, number),
+        ["category", name] => values::category(answer, name),
+        ["plain", data_type, member] => plain::plain(answer, data_type, member),
+        ["read", data_type, text] => values::read(answer, data_type, text),
+        ["same", left, right] => values::same(answer, left, right),
+        ["order", left, right] => values::order(answer, left, right),
+        ["moment", seconds] => values::moment(answer, seconds),
+        ["number", most, digits] => values::number(answer, most, digits),
+        ["function", name] => functions::function(answer, name),
+        ["apply", name, arguments @ ..] => functions::apply(answer, name, arguments),
+        ["higher", name, inner, arguments @ ..] => functions::higher(
+            answer, name, inner, arguments,
+        ),
+        ["combine", "deny-overrides", decisions @ ..] => decisions::combination(answer, decisions),
+        ["stream", pieces @ ..] => messages::stream(answer, pieces),
+        ["route", method, target] => messages::routing(answer, method, target),
+        ["token", text] => messages::token(answer, text),
+        ["domain", name] => messages::domain(answer, name),
+        ["server", fields @ ..] => server::server(answer, fields),
+        _ => Err(NoAnswer::Malformed),
+    }
+}
+
+/// The answer to a line.
+fn answer_to(alloc: Global, line: &str) -> Result<Answer, AllocError> {
+    let mut answer = Answer::new(alloc);
+    let fields: Vec<&str> = line.split('\t').collect(alloc)?;
+    if let Err(error) = answer_row(&mut answer, &fields) {
+        answer.refusal(&error)?;
+    }
+    Ok(answer)
+}
+
+fn main(rt: HostRuntime) -> io::Result<()> {
+    let alloc = rt.alloc();
+    let mut writer = BufWriter::new(alloc, io::writer(&rt))?;
+    for line in BufReader::new(alloc, rt.reader())?.lines(alloc) {
+        let answer = answer_to(alloc, line?.as_str())?;
+        writeln!(writer, "{}", answer.line())?;
+    }
+    writer.flush()
+}

@@ -1,0 +1,76 @@
+//! Rows of streams and their parts: the messages of a stream, where a message's target leads, and which texts are tokens and names.
+use crate::answer::Answer;
+use crate::field::bytes_of;
+use crate::no_answer::NoAnswer;
+use std::alloc::Global;
+use xa_http::routes::route;
+use xa_http::{Message, Next, Route, Session};
+use xa_server::{is_domain_name, is_token};
+use xa_value::{Items, OrMemory};
+
+/// The messages of a stream that comes in these pieces, with what it answers after each of them.
+pub fn stream(answer: &mut Answer, pieces: &[&str]) -> Result<(), NoAnswer> {
+    let mut session = Session::new(answer.alloc());
+    for piece in pieces {
+        let bytes = bytes_of(answer.alloc(), piece)?;
+        session.feed(&bytes)?;
+        take_all(answer, &mut session)?;
+    }
+    Ok(())
+}
+
+fn take_all(answer: &mut Answer, session: &mut Session) -> Result<(), NoAnswer> {
+    for _ in 0..u64::MAX {
+        match session.next()? {
+            Next::Message(message) => push_message(answer, &message)?,
+            Next::More => return Ok(answer.word("More")?),
+            Next::Fault(fault) => return Ok(answer.refusal(&fault)?),
+            Next::Ended => return Ok(answer.word("!Ended")?),
+        }
+    }
+    Ok(())
+}
+
+/// Adds a message: its method, its target, its field lines and its body.
+fn push_message(answer: &mut Answer, message: &Message) -> Result<(), NoAnswer> {
+    answer.field("method:", message.method.as_slice())?;
+    answer.field("target:", message.target.as_slice())?;
+    for field in message.fields.as_slice() {
+        answer.field("name:", field.name.as_slice())?;
+        answer.field("value:", field.value.as_slice())?;
+    }
+    answer.field("body:", message.body.as_slice())?;
+    Ok(())
+}
+
+/// The message of that method and target alone.
+fn message_of(alloc: Global, method: &str, target: &str) -> Result<Message, NoAnswer> {
+    Ok(Message {
+        method: Items::from_vec(bytes_of(alloc, method)?),
+        target: Items::from_vec(bytes_of(alloc, target)?),
+        fields: Items::new(alloc),
+        body: Items::new(alloc),
+    })
+}
+
+/// What a message of that method and target asks for.
+pub fn routing(answer: &mut Answer, method: &str, target: &str) -> Result<(), NoAnswer> {
+    let message = message_of(answer.alloc(), method, target)?;
+    match route(answer.alloc(), &message) {
+        Ok(Route::Decide { domain }) => Ok(answer.field("decide:", domain.as_slice())?),
+        Err(OrMemory::Error(fault)) => Ok(answer.refusal(&fault)?),
+        Err(OrMemory::Memory) => Err(NoAnswer::Memory),
+    }
+}
+
+/// Whether the text has the shape of a token.
+pub fn token(answer: &mut Answer, field: &str) -> Result<(), NoAnswer> {
+    let text = bytes_of(answer.alloc(), field)?;
+    Ok(answer.debug(&is_token(&text))?)
+}
+
+/// Whether the text is a domain's name.
+pub fn domain(answer: &mut Answer, field: &str) -> Result<(), NoAnswer> {
+    let text = bytes_of(answer.alloc(), field)?;
+    Ok(answer.debug(&is_domain_name(&text))?)
+}

@@ -1,0 +1,23 @@
+//! Why a row gets no answer.
+use std::alloc::{AllocError, AllocFailed};
+
+/// Why a row gets no answer.
+#[derive(Clone, Copy, Debug)]
+pub enum NoAnswer {
+    /// There was no memory.
+    Memory,
+    /// The row is none of those that the program knows.
+    Malformed,
+}
+
+impl From<AllocError> for NoAnswer {
+    fn from(_error: AllocError) -> NoAnswer {
+        NoAnswer::Memory
+    }
+}
+
+impl<T: Drop> From<AllocFailed<T>> for NoAnswer {
+    fn from(_error: AllocFailed<T>) -> NoAnswer {
+        NoAnswer::Memory
+    }
+}

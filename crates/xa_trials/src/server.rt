@@ -1,0 +1,136 @@
+//! Rows of messages: what a given server answers to a stream. After the domains stand `moment:SECONDS`, which dates what follows,
+//! `piece:BYTES`, the next piece of the stream, and `close`, after which the stream is another.
+use crate::answer::Answer;
+use crate::domains::domains;
+use crate::field::bytes_of;
+use crate::no_answer::NoAnswer;
+use std::alloc::Global;
+use xa_http::{Message, Next, Session};
+use xa_server::{Digest, Reply, Server, fault_reply};
+use xa_value::Moment;
+
+/// A server at a moment, with the stream whose messages it answers.
+#[derive(Drop)]
+struct Trial {
+    alloc: Global,
+    server: Server,
+    session: Session,
+    moment: Moment,
+}
+
+/// Adds each reply, and of equal ones in a row the first and how many there are, as `*COUNT`.
+fn push_replies(answer: &mut Answer, replies: &[Reply]) -> Result<(), NoAnswer> {
+    let mut before: &[u8] = &[];
+    let mut count = 0usize;
+    for reply in replies {
+        if count > 0 && reply.bytes() == before {
+            count = count.saturating_add(1);
+        } else {
+            push_count(answer, count)?;
+            answer.field("", reply.bytes())?;
+            before = reply.bytes();
+            count = 1;
+        }
+    }
+    push_count(answer, count)
+}
+
+fn push_count(answer: &mut Answer, count: usize) -> Result<(), NoAnswer> {
+    if count > 1 {
+        let text = count.to_string(answer.alloc())?;
+        answer.field("*", text.as_bytes())?;
+    }
+    Ok(())
+}
+
+/// Takes the whole messages off the stream, each with the moment. What the stream answers next.
+fn take_messages(
+    session: &mut Session,
+    moment: Moment,
+    messages: &mut Vec<(Moment, Message)>,
+) -> Result<Next, NoAnswer> {
+    for _ in 0..u64::MAX {
+        match session.next()? {
+            Next::Message(message) => messages.push((moment, message))?,
+            next => return Ok(next),
+        }
+    }
+    Ok(Next::More)
+}
+
+impl Trial {
+    /// Answers the messages that are whole after the piece.
+    fn piece(&mut self, answer: &mut Answer, field: &str) -> Result<(), NoAnswer> {
+        let bytes = bytes_of(self.alloc, field)?;
+        self.session.feed(&bytes)?;
+        let mut messages = Vec::new(self.alloc);
+        let next = take_messages(&mut self.session, self.moment, &mut messages)?;
+        let replies = self.server.run(&messages)?;
+        push_replies(answer, &replies)?;
+        push_end(answer, next, replies.is_empty())
+    }
+
+    /// Dates what follows.
+    fn date(&mut self, text: &str) -> Result<(), NoAnswer> {
+        let Ok(seconds) = text.parse::<i64>() else {
+            return Err(NoAnswer::Malformed);
+        };
+        self.moment = Moment::new(seconds).ok_or(NoAnswer::Malformed)?;
+        Ok(())
+    }
+
+    /// Does what the field says, where it says what happens.
+    fn step(&mut self, answer: &mut Answer, field: &str) -> Result<(), NoAnswer> {
+        match field.split_once(':') {
+            Some(("piece", bytes)) => self.piece(answer, bytes),
+            Some(("moment", seconds)) => self.date(seconds),
+            Some(("close", _)) => {
+                self.session = Session::new(self.alloc);
+                Ok(())
+            }
+            _ => Ok(()),
+        }
+    }
+}
+
+/// Adds what the stream answers after its messages.
+fn push_end(answer: &mut Answer, next: Next, is_first: bool) -> Result<(), NoAnswer> {
+    match next {
+        Next::Fault(fault) => {
+            let bytes = fault_reply(answer.alloc(), fault)?;
+            answer.field("", &bytes)?;
+            answer.word("!Ended")?;
+        }
+        Next::Ended => answer.word("!Ended")?,
+        Next::More if is_first => answer.word("More")?,
+        Next::More | Next::Message(_) => {}
+    }
+    Ok(())
+}
+
+/// What the server over the fields' domains answers to the stream of their pieces.
+pub fn server(answer: &mut Answer, fields: &[&str]) -> Result<(), NoAnswer> {
+    let alloc = answer.alloc();
+    match Server::given(
+        alloc,
+        domains(alloc, fields)?,
+        Digest::of("operator-token-1".as_bytes()),
+    ) {
+        Ok(server) => stream(answer, server, fields),
+        Err(error) => Ok(answer.refusal(&error)?),
+    }
+}
+
+fn stream(answer: &mut Answer, server: Server, fields: &[&str]) -> Result<(), NoAnswer> {
+    let alloc = answer.alloc();
+    let mut trial = Trial {
+        alloc,
+        server,
+        session: Session::new(alloc),
+        moment: Moment::new(0).ok_or(NoAnswer::Malformed)?,
+    };
+    for field in fields {
+        trial.step(answer, field)?;
+    }
+    Ok(())
+}
