@@ -1,31 +1,55 @@
-# make run          builds the proved pdpd and lets it answer the stored transcript
-# make test         the gate: every proof from nothing, the must-fail edits, the tests and the stored run
-# make check NAME   proves one crate, over what earlier checks kept
-# make bench        messages per second and peak memory of the proved pdpd
-# make agreement    answers random calls of values and functions by the crates and by a model in Python, and compares
+# `make` alone lists the targets, each with the line after its `##`. `try`, `check` and `edits` take a crate's name as their next word.
+
+SHELL := bash
+.SHELLFLAGS := -euo pipefail -c
+.DEFAULT_GOAL := help
 
 NAME ?= $(word 2,$(MAKECMDGOALS))
+crate = $(or $(NAME),$(error make $@ NAME: the name of a crate is missing, one of $(notdir $(wildcard crates/*))))
 
-.PHONY: run test check bench agreement
+.PHONY: help run pdpd try check test edits fmt rows agreement bench
 
-run:
-	cd crates/pdpd && rt run -- replay operator-token-1 < stdin
+help:
+	@awk -F ':.*## ' '/^[a-z]+:.*## / { printf "  make %-12s %s\n", $$1 ($$1 ~ /^(try|check|edits)$$/ ? " NAME" : ""), $$2 }' Makefile
 
-test:
-	rt ci
+run: ## answers one stored request; compiles without proving, in under a minute
+	@echo '# Compiled without proving, in about 40 s (rt try); `make test` proves it.'
+	@echo '# The request, an entry of a transcript: a line with connection, moment and length, then the bytes.'
+	@cat crates/pdpd/stdin
+	@echo '# The reply: a line with connection and length, then the bytes.'
+	@cd crates/pdpd; log=$$(mktemp); trap 'rm -f "$$log"' EXIT; \
+	rt try -- $$(cat args) < stdin 2> "$$log" || { cat "$$log" >&2; exit 1; }
 
-check:
-	cd crates/$(NAME) && rt check
-
-bench:
-	cd crates/pdpd && rt run -- replay operator-token-1 < stdin > /dev/null
-	bench/replay
-
-agreement:
-	agreement/run
-
-# the second word of `make check NAME` is no target of its own
-ifeq (check,$(firstword $(MAKECMDGOALS)))
+# the word after `try`, `check` or `edits` is a crate's name, and no target
+ifneq (,$(filter try check edits,$(firstword $(MAKECMDGOALS))))
 $(wordlist 2,2,$(MAKECMDGOALS)):
 	@:
+else
+pdpd: ## proves pdpd and what it stands on, and leaves the program in build/pdpd
+	cd crates/pdpd; rt run -- $$(cat args) < stdin | cmp - stdout
+	install -D crates/pdpd/out/pdpd build/pdpd
 endif
+
+try: ## runs a crate's tests, or a program on its stored input, without proving
+	@cd crates/$(crate); if [ -f src/main.rt ]; then rt try -- $$(cat args 2> /dev/null) < stdin; else rt try --test; fi
+
+check: ## proves a crate, over what earlier checks kept
+	@cd crates/$(crate); rt check
+
+test: ## the gate: every proof from nothing, the must-fail edits, the tests and the stored runs
+	rt ci
+
+edits: ## tries the further wrong bodies in edits/NAME, each of which the prover must reject
+	@edits/run $(crate)
+
+fmt: ## lays out the files of all crates
+	@for crate in crates/*/; do (cd "$$crate"; rt fmt); done
+
+rows: ## writes the stored input and output of xa_trials anew, from trials/*.rows
+	trials/write
+
+agreement: ## answers random rows by xa_trials and by a model in Python, and compares
+	agreement/run
+
+bench: pdpd ## proves and builds pdpd, and runs all benchmarks
+	bench/all
