@@ -28,7 +28,7 @@ fn whole_messages(
             Next::Ended => unreachable!(),
         }
     }
-    // A vector has no room for so many.
+    // A vector has no room for this many.
     Err(AllocError)
 }
 

@@ -89,7 +89,7 @@ fn malformed_and_cut_transcripts(rt: HostRuntime) -> Result<(), Fail> {
         "+0 0 1\nx\n",
         "0 0 1\nxx",
         "0 0 1",
-        "0 0 00000000000000000000000000000000000000000000000000000000000001\nx\n",
+        "0 0 0000000000000000000000000000000000000000000000000000000000001\nx\n",
         "\n",
     ];
     for last in malformed {
@@ -105,7 +105,7 @@ fn entries_of_a_connection(rt: HostRuntime) -> Result<(), Fail> {
     let bad = "1 0 1\n:\n";
     let more = "1 253402300799 3\nabc\n";
     let close = "1 -62135596800 0\n\n";
-    let padded = "00000000000000000000000000000000000000000000000000000000001 0 1\n:\n";
+    let padded = "000000000000000000000000000000000000000000000000000000000001 0 1\n:\n";
     // A fault ends the stream, further entries are passed over, and after a close the connection is new.
     expect(
         &rt,

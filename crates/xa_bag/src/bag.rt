@@ -88,8 +88,8 @@ impl Bag {
         Ok(())
     }
 
-    /// Puts the value at the end and answers true, if it is of the bag's type; else answers false, and nothing is changed, nor
-    /// is it without memory.
+    /// Puts the value at the end and answers true, if it is of the bag's type; else answers false, and nothing is changed.
+    /// Without memory nothing is changed either.
     pub fn push(&mut self, value: Value) -> Result<bool, AllocError>
         ensures taken { IfOk result (λ taken. IsTrue taken ↔ (type_of value ≡ self.old.data_type)) }
         ensures ok { IfOk result (λ taken. self.new ≡ (if taken then bag_of self.old.data_type (self.old.values ++ value ∷ []) else self.old)) }

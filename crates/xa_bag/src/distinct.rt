@@ -32,7 +32,7 @@ impl<'a> Model for Distinct<'a> {
 }
 
 impl<'a> Distinct<'a> {
-    /// No values, of the type. At most so many will be put, or the work grows.
+    /// No values, of the type. At most that many will be put, or the work grows.
     pub(crate) fn new(alloc: Global, data_type: DataType, most: usize) -> Distinct<'a>
         ensures { result ≡ bag_of data_type [] }
     {

@@ -10,7 +10,7 @@ use std::collections::BTreeSet;
 use std::marker::Model;
 use xa_value::{DataType, SortKey, Value};
 
-/// From so many values and so many searches on, the values are ordered by their keys; fewer are faster one after another.
+/// From this many values and this many searches on, the values are ordered by their keys; fewer are faster one after another.
 pub(crate) const ORDERED_FROM: usize = 32;
 
 /// The values of a bag, to be searched. Where there is no memory to order them, they are searched one after another.
@@ -35,7 +35,7 @@ impl<'a> Model for Members<'a> {
 }
 
 impl<'a> Members<'a> {
-    /// The values of the bag, for so many searches.
+    /// The values of the bag, for this many searches.
     pub(crate) fn new(bag: &'a Bag, searches: usize) -> Members<'a>
         ensures { result ≡ bag.now }
     {

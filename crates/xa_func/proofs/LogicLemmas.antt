@@ -91,7 +91,7 @@ after_one_false n rs rest false e =
     let room : suc n ≤ length rs = grind (arith, nat_tests) in
     n_places_false (suc n) rs room ∙ rest room
 
--- n of booleans: whether so many are True
+-- n of booleans: whether this many are True
 n_places_given : (n : ℕ) (bs : List Bool) → suc n ≤ length (given bs) → n_places (suc n) (given bs) ≡ Ok (nat_le (suc n) (true_count (given bs)))
 n_places_given n [] enough = absurd (omega arith)
 n_places_given zero (true ∷ bs) enough = let h : nat_le 1 (suc (true_count (given bs))) ≡ true = grind (arith, nat_tests) in rw h

@@ -2,7 +2,7 @@
 use Rattle.std.specs.Prelude.{unsigned_abs, Result, Ok, Err}
 use Rattle.jiff_core.specs.declared.civil.date.Date.{Date}
 use Rattle.xa_func.specs.declared.fault.FuncFault.{FuncFault}
-use Rattle.xa_func.specs.Dates.{Day}
+use Rattle.xa_value.specs.Days.{Day}
 
 -- the day of a civil date
 abbrev pub day_of : Date → Day

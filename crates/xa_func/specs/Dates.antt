@@ -1,9 +1,10 @@
 -- Days, times and durations (XACML 3.0, core, appendices A.3.7 and A.3.8; XML Schema, part 2, appendix E).
-use Rattle.std.specs.Prelude.{ℕ, zero, suc, ◌+◌, ◌-◌, ◌*◌, min, Bool, ◌&&◌, if◌then◌else◌, ℤ, pos, neg_ℤ, unsigned_abs, nat_le, int_le, ◌+ℤ◌, ◌-ℤ◌, ◌*ℤ◌, Option, Result, Ok, Err}
+use Rattle.std.specs.Prelude.{ℕ, ◌+◌, ◌-◌, ◌*◌, min, Bool, ◌&&◌, if◌then◌else◌, ℤ, pos, neg_ℤ, unsigned_abs, nat_le, int_le, ◌+ℤ◌, ◌-ℤ◌, ◌*ℤ◌, Option, Result, Ok, Err}
 use Rattle.std.specs.Int.{int_div_euclid, int_rem_euclid}
 use Rattle.std.specs.Option.{option_or}
 use Rattle.jiff_core.specs.Calendar.{days_in_month}
 use Rattle.xa_value.specs.Calendar.{CivilDate, CivilDateTime, day_number}
+use Rattle.xa_value.specs.Days.{Day, day_of_number}
 use Rattle.xa_value.specs.Instant.{local_nanos}
 use Rattle.xa_value.specs.Time.{ClockTime, day_nanos}
 use Rattle.xa_value.specs.Zone.{offset_of}
@@ -12,12 +13,6 @@ use Rattle.xa_func.specs.declared.func_id.Direction.TheVariants.{Add, Subtract}
 use Rattle.xa_func.specs.declared.fault.FuncFault.{FuncFault}
 use Rattle.xa_func.specs.declared.fault.FuncFault.TheVariants.{CalendarRange}
 use Rattle.xa_value.specs.Gives.{◌>>=◌}
-
--- a day of the calendar
-pub record Day : Type 0 where
-  pub year : ℕ
-  pub month : ℕ
-  pub day : ℕ
 
 -- a duration that is added, or subtracted
 abbrev pub directed : Direction → ℤ → ℤ
@@ -28,7 +23,7 @@ directed Subtract duration = neg_ℤ duration
 abbrev pub month_number : Day → ℤ
 month_number d = pos (d.year * 12 + (d.month - 1))
 
--- the year and the month of so many months
+-- the year and the month of this many months
 abbrev pub year_at : ℤ → ℤ
 year_at months = int_div_euclid months (pos 12)
 
@@ -46,25 +41,9 @@ day_in_month day months =
     then Ok (record { year = unsigned_abs (year_at months); month = month_at months; day = min day (days_in_month (year_at months) (month_at months)) })
     else Err CalendarRange
 
--- the day so many months later
+-- the day this many months later
 abbrev pub months_later : Day → ℤ → Result Day FuncFault
 months_later d months = day_in_month d.day (month_number d +ℤ months)
-
--- the greatest number up to a bound that passes the test
-unfoldable pub greatest : (ℕ → Bool) → ℕ → ℕ
-greatest test zero = zero
-greatest test (suc n) = if test (suc n) then suc n else greatest test n
-
--- the last year, and the last month of a year, that begins on the day of that number or before it
-unfoldable pub year_of_day : ℤ → ℕ
-year_of_day n = greatest (λ y. int_le (day_number y 1 1) n) 9999
-
-unfoldable pub month_of_day : ℕ → ℤ → ℕ
-month_of_day year n = greatest (λ m. int_le (day_number year m 1) n) 12
-
--- the day of that number in that month
-abbrev pub day_of_month : ℕ → ℕ → ℤ → Day
-day_of_month year month n = record { year = year; month = month; day = unsigned_abs (n -ℤ day_number year month 1) + 1 }
 
 -- from 0001-01-01 to 9999-12-31
 abbrev pub is_day_number : ℤ → Bool
@@ -72,9 +51,7 @@ is_day_number n = int_le (day_number 1 1 1) n && int_le n (day_number 9999 12 31
 
 -- the day of that number
 unfoldable pub day_at : ℤ → Result Day FuncFault
-day_at n =
-    if is_day_number n then Ok (day_of_month (year_of_day n) (month_of_day (year_of_day n) n) n)
-    else Err CalendarRange
+day_at n = if is_day_number n then Ok (day_of_number n) else Err CalendarRange
 
 -- the day, and a day with a time, in the zone as it was written
 abbrev pub date_on : Option ℤ → Day → CivilDate
@@ -97,7 +74,7 @@ date_after_months d months = months_later (day_of_date d) months >>= λ day. Ok 
 abbrev pub date_time_after_months : CivilDateTime → ℤ → Result CivilDateTime FuncFault
 date_time_after_months d months = months_later (day_of_date_time d) months >>= λ day. Ok (date_time_on d.nanos d.zone day)
 
--- the day and time of so many nanoseconds
+-- the day and time of this many nanoseconds
 abbrev pub date_time_at : ℤ → Option ℤ → Result CivilDateTime FuncFault
 date_time_at nanos zone =
     day_at (int_div_euclid nanos (pos day_nanos)) >>= λ day. Ok (date_time_on (unsigned_abs (int_rem_euclid nanos (pos day_nanos))) zone day)

@@ -48,7 +48,7 @@ abbrev pub true_count : {F : Type 0} → List (Result Bool F) → ℕ
 true_count [] = 0
 true_count (r ∷ rs) = if is_true r then suc (true_count rs) else true_count rs
 
--- with so many True before it and so many places after it, a place decides by a fault,
+-- with this many True before it and this many places after it, a place decides by a fault,
 -- by True as the nth True, and by False where too few places are left
 abbrev pub decision : {F : Type 0} → ℕ → ℕ → ℕ → Result Bool F → Option (Result Bool F)
 decision n before after (Err e) = Some (Err e)

@@ -97,7 +97,7 @@ signature_of function.TimeInRange = question (Three (kind.Value type.Time) (kind
 signature_of (function.Bag f t) = bag_signature f t
 signature_of (function.HigherOrder f) = HigherOrder f
 
--- the function takes so many arguments
+-- the function takes this many arguments
 abbrev pub takes : Parameters → ℕ → Bool
 takes (One k) n = n == 1
 takes (Two k l) n = n == 2
@@ -145,7 +145,7 @@ Fits (AtLeast least k) ks = (least ≤ length ks) × Every k ks
 Fits (OneAndMore k l) [] = ⊥
 Fits (OneAndMore k l) (m ∷ ms) = (m ≡ k) × Every l ms
 
--- there are so many arguments as the function takes, each of the kind that belongs at its place
+-- there are as many arguments as the function takes, each of the kind that belongs at its place
 pub record EachInPlace (parameters : Parameters) (ks : List Kind) : Type 0 where
   pub counted : IsTrue (takes parameters (length ks))
   pub placed : (place : ℕ) → place < length ks → kind_at parameters place ≡ slice_get ks place

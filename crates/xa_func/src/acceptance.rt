@@ -127,7 +127,7 @@ fn just_three<T: HasKind, W: Counting>(
     is_of::<T, W>(argument, first) && just_two::<T, W>(second, third, others)
 }
 
-/// Whether there are so many arguments of the kind, or more.
+/// Whether there are this many arguments of the kind, or more.
 fn at_least<T: HasKind, W: Counting>(least: usize, kind: Kind, arguments: &[T]) -> bool
     ensures { IsTrue result ↔ Fits (Parameters.AtLeast least kind) (map (λ a. W.counts_as (T.kind_of a)) arguments.now) }
 {

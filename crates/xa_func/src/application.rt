@@ -104,7 +104,7 @@ fn from_string(
     )
 }
 
-/// Whether one of the booleans, or each of them, or so many of them are true; or the negation of one.
+/// Whether one of the booleans, or each of them, or this many of them are true; or the negation of one.
 fn decide(function: Logic, arguments: &[Value]) -> Result<Value, FuncFault>
     requires { Accepts (signature_of (function_id.Logic function)) arguments.now }
     ensures value { result ≡ applied (function_id.Logic function) arguments.now }
@@ -118,7 +118,7 @@ fn decide(function: Logic, arguments: &[Value]) -> Result<Value, FuncFault>
     }
 }
 
-/// Whether so many of the booleans are true.
+/// Whether this many of the booleans are true.
 fn n_true(arguments: &[Value]) -> Result<Value, FuncFault>
     requires { Accepts (signature_of (function_id.Logic logic.NOf)) arguments.now }
     ensures value { result ≡ applied (function_id.Logic logic.NOf) arguments.now }

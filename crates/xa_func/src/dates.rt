@@ -62,7 +62,7 @@ fn day_in_month(day: u8, months: u32) -> Result<civil::Date, FuncFault>
     Ok(civil::Date::constrain(year as i16, month as u8, day))
 }
 
-/// The day so many months later.
+/// The day this many months later.
 #[tactic(auto, unfolding(crate::specs::Dates::day_in_month))]
 fn months_later(day: civil::Date, months: i32) -> Result<civil::Date, FuncFault>
     requires { IsMonths months }
@@ -100,7 +100,7 @@ fn day_at(number: i64) -> Result<civil::Date, FuncFault>
     }
 }
 
-/// The nanoseconds as written, so many later.
+/// The nanoseconds as written, this many later.
 fn nanos_later(moment: DateTime, nanos: i128) -> i128
     requires { IsNanos nanos }
     ensures value { result ≡ local_nanos moment +ℤ nanos }
@@ -109,7 +109,7 @@ fn nanos_later(moment: DateTime, nanos: i128) -> i128
     moment.local_nanos() + nanos
 }
 
-/// Whole days of so many nanoseconds.
+/// Whole days of this many nanoseconds.
 fn whole_days(nanos: i128) -> i64
     requires { IsWithin 2_000_000_000_000_000_000_000 nanos }
     ensures { result ≡ int_div_euclid nanos (pos day_nanos) }
@@ -117,7 +117,7 @@ fn whole_days(nanos: i128) -> i64
     nanos.div_euclid(i128::from(DAY_NANOS)) as i64
 }
 
-/// What is left of so many nanoseconds without whole days.
+/// What is left of this many nanoseconds without whole days.
 fn nanos_of_day(nanos: i128) -> u64
     ensures value { result ≡ unsigned_abs (int_rem_euclid nanos (pos day_nanos)) }
     ensures within { result < day_nanos }
@@ -125,7 +125,7 @@ fn nanos_of_day(nanos: i128) -> u64
     nanos.rem_euclid(i128::from(DAY_NANOS)) as u64
 }
 
-/// The day so many months later.
+/// The day this many months later.
 pub(crate) fn date_after_months(date: Date, months: i32) -> Result<Date, FuncFault>
     requires { IsMonths months }
     ensures { result ≡ date_after_months date months }
@@ -134,7 +134,7 @@ pub(crate) fn date_after_months(date: Date, months: i32) -> Result<Date, FuncFau
     Date::new(day, date.zone()).ok_or(FuncFault::CalendarRange)
 }
 
-/// The day and time so many months later, at the same time of day.
+/// The day and time this many months later, at the same time of day.
 pub(crate) fn date_time_after_months(moment: DateTime, months: i32) -> Result<DateTime, FuncFault>
     requires { IsMonths months }
     ensures { result ≡ date_time_after_months moment months }
@@ -143,7 +143,7 @@ pub(crate) fn date_time_after_months(moment: DateTime, months: i32) -> Result<Da
     DateTime::new(day, moment.nanos(), moment.zone()).ok_or(FuncFault::CalendarRange)
 }
 
-/// The day and time of so many nanoseconds.
+/// The day and time of this many nanoseconds.
 fn date_time_at(nanos: i128, zone: Option<Offset>) -> Result<DateTime, FuncFault>
     requires { IsWithin 2_000_000_000_000_000_000_000 nanos }
     ensures { result ≡ date_time_at nanos zone }
@@ -152,7 +152,7 @@ fn date_time_at(nanos: i128, zone: Option<Offset>) -> Result<DateTime, FuncFault
     DateTime::new(day, nanos_of_day(nanos), zone).ok_or(FuncFault::CalendarRange)
 }
 
-/// The day and time so many nanoseconds later, as written.
+/// The day and time this many nanoseconds later, as written.
 pub(crate) fn date_time_after_nanos(moment: DateTime, nanos: i128) -> Result<DateTime, FuncFault>
     requires { IsNanos nanos }
     ensures { result ≡ date_time_after_nanos moment nanos }

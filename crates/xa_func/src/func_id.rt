@@ -85,7 +85,7 @@ pub enum Logic {
     Or,
     /// Whether all are true.
     And,
-    /// Whether so many are true.
+    /// Whether this many are true.
     NOf,
     /// The negation.
     Not,

@@ -52,7 +52,7 @@ fn true_count(arguments: &[Value]) -> usize
     count
 }
 
-/// Whether so many of the booleans are true, where there are so many.
+/// Whether this many of the booleans are true, where there are this many.
 #[tactic(auto, using(crate::proofs::LogicLemmas::n_among_given, crate::proofs::LogicLemmas::n_among_short, crate::proofs::LogicLemmas::length_given))]
 fn n_among(wanted: usize, arguments: &[Value]) -> Result<bool, FuncFault>
     requires { Every (kind.Value data_type.Boolean) (map kind_of arguments.now) }
@@ -64,7 +64,7 @@ fn n_among(wanted: usize, arguments: &[Value]) -> Result<bool, FuncFault>
     Ok(wanted <= true_count(arguments))
 }
 
-/// Whether so many of the booleans are true.
+/// Whether this many of the booleans are true.
 pub(crate) fn n_of(wanted: i64, arguments: &[Value]) -> Result<bool, FuncFault>
     requires { Every (kind.Value data_type.Boolean) (map kind_of arguments.now) }
     ensures { result ≡ n_of Position wanted (given (booleans arguments.now)) }

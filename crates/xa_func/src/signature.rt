@@ -203,7 +203,7 @@ fn bag_signature(function: BagFunction, data_type: DataType) -> Signature
 }
 
 impl Parameters {
-    /// Whether the function takes so many arguments. Clause `law`: arguments fit exactly where their number does, and each of
+    /// Whether the function takes this many arguments. Clause `law`: arguments fit exactly where their number does, and each of
     /// them at its place.
     #[tactic(auto, using(crate::proofs::PlaceLemmas::by_places))]
     pub fn takes(self, count: usize) -> bool

@@ -1,4 +1,4 @@
--- The status of a decision (XACML 3.0, section 5.48).
+-- The status of a decision (XACML 3.0, sections 5.54 and 5.55). Which of several faults is shown is this project's choice: the first.
 use Rattle.std.specs.Prelude.{List, [], ◌∷◌, Option, unwrap_or}
 use Rattle.xa_func.specs.declared.status.Status.{Status}
 use Rattle.xa_func.specs.declared.status.Status.TheVariants.{Ok}

@@ -1,4 +1,4 @@
--- The token that a message shows (RFC 9110, section 11.6.2; RFC 6750, section 2.1).
+-- The token that a message shows (RFC 9110, section 11.6.2; RFC 6750, section 2.1). The token's own shape is this project's.
 use Rattle.std.specs.Prelude.{ℕ, ◌==◌, ◌&&◌, Bool, List, [], ◌∷◌, length, take, drop, nat_le, Option, Some, None, option_and_then, if◌then◌else◌, codes}
 use Rattle.std.specs.List.{list_all}
 use Rattle.std.specs.Str.{str_eq_ignore_ascii_case}

@@ -1,5 +1,6 @@
 -- The machine of one domain. It knows that domain and no other: from the operator's digest, the domain's state, a
--- message and the moment at which it is answered, it gives the bytes of the reply and the state after it.
+-- message and the moment at which it is answered, it gives the bytes of the reply and the state after it. The operator's digest and the
+-- moment are handed on for routes and policies to come: no answer depends on them yet.
 use Rattle.std.specs.Prelude.{ℕ, ℤ, List, Option, Some, None, option_and_then, Result, Ok, Err}
 use Rattle.sha2.specs.Sha256.{sha256}
 use Rattle.xa_value.specs.Gives.{◌>>=◌}

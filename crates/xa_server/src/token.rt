@@ -61,7 +61,7 @@ impl Eq for Digest {
 pub enum Role {
     /// Ask for decisions.
     Ask,
-    /// Everything.
+    /// Everything. There is nothing but asking yet, so it adds nothing.
     Admin,
 }
 
@@ -70,7 +70,7 @@ pub enum Role {
 pub struct Token {
     /// The token's digest.
     pub digest: Digest,
-    /// What it may do.
+    /// What it may do. No route looks at it yet.
     pub role: Role,
 }
 

@@ -114,7 +114,7 @@ fn digit(byte: u8) -> u8 {
     }
 }
 
-/// The bytes that the field stands for: `\n`, `\r`, `\t` and `\xHH` are a byte, `\{COUNT,TEXT\}` is so many times the text, and any
+/// The bytes that the field stands for: `\n`, `\r`, `\t` and `\xHH` are a byte, `\{COUNT,TEXT\}` is the text COUNT times, and any
 /// other letter after a backslash stands for itself.
 pub fn bytes_of(alloc: Global, field: &str) -> Result<Vec<u8>, AllocError> {
     let mut reader = Reader {

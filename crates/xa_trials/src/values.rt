@@ -66,7 +66,7 @@ pub fn order(answer: &mut Answer, left: &str, right: &str) -> Result<(), NoAnswe
     }
 }
 
-/// The moment that is so many seconds after 1970-01-01T00:00:00Z.
+/// The moment this many seconds after 1970-01-01T00:00:00Z.
 pub fn moment(answer: &mut Answer, seconds: &str) -> Result<(), NoAnswer> {
     let Ok(seconds) = seconds.parse::<i64>() else {
         return Err(NoAnswer::Malformed);

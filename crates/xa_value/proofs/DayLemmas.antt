@@ -27,7 +27,7 @@ lt_at : (a b : ℤ) (v : Bool) → int_le a b ≡ v → b <ℤ a → int_le a b 
 lt_at a b false e h = e
 lt_at a b true e h = absurd (omega (arith, signed_arith))
 
-test_lt : (a b : ℤ) → b <ℤ a → int_le a b ≡ false
+pub test_lt : (a b : ℤ) → b <ℤ a → int_le a b ≡ false
 test_lt a b h = lt_at a b (int_le a b) refl h
 
 -- the greatest number that passes a test, by what passes and what does not
@@ -50,10 +50,10 @@ greatest_is test (suc n) k within here above = at_last test n k within here abov
   ]
 
 -- earlier days have smaller numbers
-number_le_year : (y m d : ℕ) → 1 ≤ d → day_number y 1 1 ≤ℤ day_number y m d
+pub number_le_year : (y m d : ℕ) → 1 ≤ d → day_number y 1 1 ≤ℤ day_number y m d
 number_le_year y m d first = omega (arith, signed_arith, days_from_civil-day_count, day_count-day_of_year (pos y) m d first)
 
-number_lt_year : (y m d later : ℕ) → IsCivilDate (pos y) m d → y < later → day_number y m d <ℤ day_number later 1 1
+pub number_lt_year : (y m d later : ℕ) → IsCivilDate (pos y) m d → y < later → day_number y m d <ℤ day_number later 1 1
 number_lt_year y m d later h lt = omega (arith, signed_arith, days_from_civil-day_count, day_count-lt_year (pos y) m d (pos later) 1 1 h (omega arith) (omega (arith, signed_arith)))
 
 number_le_month : (y m d : ℕ) → 1 ≤ d → day_number y m 1 ≤ℤ day_number y m d
@@ -80,7 +80,7 @@ day_is y m d first =
     let since : day_number y m d -ℤ day_number y m 1 ≡ pos (d - 1) = omega (arith, signed_arith, days_from_civil-day (pos y) m d 1 first (omega arith)) in
     rw since (omega arith)
 
-at_number : (y m d : ℕ) → IsCivilDate (pos y) m d → 1 ≤ y → day_of_number (day_number y m d) ≡ record { year = y; month = m; day = d }
+pub at_number : (y m d : ℕ) → IsCivilDate (pos y) m d → 1 ≤ y → day_of_number (day_number y m d) ≡ record { year = y; month = m; day = d }
 at_number y m d h one = rw (year_is y m d h, month_is y m d h, day_is y m d h.2.0) refl
 
 -- of a date from the year 1 on

@@ -54,7 +54,7 @@ not_below n = grind (arith, nat_tests)
 abbrev YearMonthOf : List ℕ → ℤ → Type 0
 YearMonthOf = IsTreeOf ℤ YearMonth IsYearMonth print_year_month year_month_value is_year_month_in_range
 
--- the tree of so many months, not zero
+-- the tree of this many months, not zero
 months_tree : (b : Bool) (n : ℕ) → 0 < n → n ≤ most_months → YearMonthOf (print_minus b ++ codes "P" ++ part_text (n / 12) 89 ++ part_text (n % 12) 77) (with_sign b n)
 months_tree b n some h =
     let y = part_written 89 (n / 12) (omega arith) in
@@ -102,7 +102,7 @@ year_month_reads text z h =
 
 -- ---- days, hours, minutes and seconds
 
--- the seconds that so many nanoseconds print as
+-- the seconds that this many nanoseconds print as
 record SecondsWritten (n : ℕ) : Type 0 where
   seconds : Option Seconds
   valid : IsSeconds seconds
@@ -133,7 +133,7 @@ seconds_written n h = by_zero (n == 0) refl
 abbrev day : ℕ
 day = 86_400_000_000_000
 
--- the hours, minutes and seconds that so many nanoseconds print as
+-- the hours, minutes and seconds that this many nanoseconds print as
 record ClockWritten (n : ℕ) : Type 0 where
   clock : Option ClockPart
   valid : IsOptionalClockPart clock
@@ -179,7 +179,7 @@ clock_written n small = by_zero (n == 0) refl
 abbrev DayTimeOf : List ℕ → ℤ → Type 0
 DayTimeOf = IsTreeOf ℤ DayTime IsDayTime print_day_time day_time_value is_day_time_in_range
 
--- the tree of so many nanoseconds, not zero
+-- the tree of this many nanoseconds, not zero
 nanos_tree : (b : Bool) (n : ℕ) → 0 < n → n ≤ most_nanos → DayTimeOf (print_minus b ++ codes "P" ++ part_text (n / 86_400_000_000_000) 68 ++ clock_part_text (n % 86_400_000_000_000)) (with_sign b n)
 nanos_tree b n some h =
     let d = part_written 68 (n / 86_400_000_000_000) (omega arith) in

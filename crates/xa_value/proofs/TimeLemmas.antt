@@ -37,7 +37,7 @@ number_after_lt n (d ∷ ds) h =
     let le : (n * 10 + (d - 48) + 1) * 10 ^ length ds ≤ ((n + 1) * 10) * 10 ^ length ds = mul-le-mul_right (10 ^ length ds) (omega arith) in
     omega (arith, ap (λ x. (n + 1) * x) (pow-succ' 10 (length ds)), mul_assoc (n + 1) 10 (10 ^ length ds))
 
--- digits write a number of so many digits
+-- digits write a number of this many digits
 pub number_lt : (ds : List ℕ) → digit_count ds ≡ length ds → number ds < 10 ^ length ds
 number_lt ds h = omega (arith, number_after_lt 0 ds h)
 

@@ -60,7 +60,7 @@ significant_reads (suc count) n h = by_last (n % 10 == 0) refl (significant_read
     by_last true e ih = rw e (one_zero_more count n (significant_digits count (n / 10)) (eqb-true (n % 10) 0 e) ih)
     by_last false e ih = rw e (all_digits (suc count) n h (omega arith))
 
--- the fraction that so many nanoseconds print as
+-- the fraction that this many nanoseconds print as
 pub record FractionWritten (n : ℕ) : Type 0 where
   pub fraction : Option (List ℕ)
   pub valid : IsOptionalNumeral fraction

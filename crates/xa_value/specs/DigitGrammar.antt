@@ -9,7 +9,7 @@ use Rattle.xa_value.specs.Time.{nanoseconds}
 abbrev pub IsNumeral : List ℕ → Type 0
 IsNumeral digits = (0 < length digits) × IsTrue (list_all is_ascii_digit digits)
 
--- digits alone, so many
+-- digits alone, this many
 abbrev pub IsDigits : ℕ → List ℕ → Type 0
 IsDigits size digits = (length digits ≡ size) × IsTrue (list_all is_ascii_digit digits)
 

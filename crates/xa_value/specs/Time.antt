@@ -16,7 +16,7 @@ day_nanos = 86_400_000_000_000
 unfoldable pub nanoseconds : List ℕ → ℕ
 nanoseconds digits = number digits * 10 ^ (9 - length digits)
 
--- the digits of a number of nanoseconds as a fraction of so many digits, without zeros at its end
+-- the digits of a number of nanoseconds as a fraction of this many digits, without zeros at its end
 unfoldable pub significant_digits : ℕ → ℕ → List ℕ
 significant_digits zero n = []
 significant_digits (suc count) n = if n % 10 == 0 then significant_digits count (n / 10) else last_digits (suc count) n

@@ -37,7 +37,7 @@ impl Model for YearMonthDuration {
 }
 
 impl YearMonthDuration {
-    /// The duration of so many months, where they are at most 120,000 to either side.
+    /// The duration of this many months, where they are at most 120,000 to either side.
     pub fn new(months: i32) -> Option<YearMonthDuration>
         ensures { SomeIff result (IsMonths months) months }
     {
@@ -77,7 +77,7 @@ impl Model for DayTimeDuration {
 }
 
 impl DayTimeDuration {
-    /// The duration of so many nanoseconds, where they are at most 315,576,000,000 seconds to either side.
+    /// The duration of this many nanoseconds, where they are at most 315,576,000,000 seconds to either side.
     pub fn new(nanos: i128) -> Option<DayTimeDuration>
         ensures { SomeIff result (IsNanos nanos) nanos }
     {
@@ -118,7 +118,7 @@ fn part(unit: u8, text: &[u8]) -> u64
     number(&text[..part_length(unit, text)])
 }
 
-/// What follows a part of so many characters and its unit, where it is there.
+/// What follows a part of this many characters and its unit, where it is there.
 fn after(count: usize, text: &[u8]) -> &[u8]
     requires { count ≤ length text.now }
     ensures { result.now ≡ after count text.now }
@@ -184,7 +184,7 @@ fn is_years_and_months(text: &[u8]) -> bool
     !body.is_empty() && after_part(b'M', after_part(b'Y', body)).is_empty()
 }
 
-/// The duration of so many years and months, where it is in range.
+/// The duration of this many years and months, where it is in range.
 #[tactic(auto, unfolding(crate::specs::parsing::Duration::within))]
 fn months_within(negative: bool, years: u64, months: u64) -> Result<YearMonthDuration, ReadError>
     ensures { result ≡ within most_months negative (years * 12 + months) }
@@ -263,7 +263,7 @@ fn has_short_fraction(clock: &[u8]) -> bool
     fraction_length(seconds_fraction(seconds_of(clock))) <= 10
 }
 
-/// The duration of so many days, hours, minutes, seconds and nanoseconds, where it is in range.
+/// The duration of this many days, hours, minutes, seconds and nanoseconds, where it is in range.
 #[tactic(auto, unfolding(crate::specs::parsing::Duration::within))]
 fn total_within(
     negative: bool,
@@ -287,7 +287,7 @@ fn total_within(
     })
 }
 
-/// The duration of so many days and the hours, minutes and seconds of a clock part, where it is in range.
+/// The duration of this many days and the hours, minutes and seconds of a clock part, where it is in range.
 #[tactic(auto, using(crate::proofs::DurationLemmas::clock_capped), unfolding(crate::specs::parsing::Duration::nanos_of, crate::specs::parsing::Duration::has_short_fraction))]
 fn nanos_within(negative: bool, days: u64, clock: &[u8]) -> Result<DayTimeDuration, ReadError>
     requires { has_short_fraction clock.now ≡ true }

@@ -156,7 +156,7 @@ fn push_digit(text: &mut String, digit: u8) -> Result<(), AllocError>
     text.push(char::from(b'0' + digit))
 }
 
-/// Writes the last so many digits of the number.
+/// Writes a given number of the last digits of the number.
 #[tactic(auto, unfolding(crate::specs::Lexical::last_digits))]
 pub(crate) fn push_padded(text: &mut String, count: u8, number: u32) -> Result<(), AllocError>
     ensures { OnOk result (string_bytes text.new ≡ string_bytes text.old ++ last_digits count number) }

@@ -43,7 +43,7 @@ impl Model for Time {
 }
 
 impl Time {
-    /// The time of so many nanoseconds since midnight, where they are less than a day.
+    /// The time of this many nanoseconds since midnight, where they are less than a day.
     pub fn new(nanos: u64, zone: Option<Offset>) -> Option<Time>
         ensures { SomeIff result (nanos < day_nanos) record { nanos = nanos; zone = zone } }
     {

@@ -31,7 +31,7 @@ impl Offset {
     /// The greatest distance from UTC, in minutes.
     const MOST: i16 = 840;
 
-    /// The offset of so many minutes, where it is at most 14 hours.
+    /// The offset of this many minutes, where it is at most 14 hours.
     pub fn new(minutes: i16) -> Option<Offset>
         ensures { SomeIff result (IsOffset minutes) minutes }
     {

@@ -17,7 +17,7 @@ part_length unit text =
 abbrev pub part : ℕ → List ℕ → ℕ
 part unit text = number (take (part_length unit text) text)
 
--- what follows a part of so many characters and its unit, where it is there
+-- what follows a part of this many characters and its unit, where it is there
 abbrev pub after : ℕ → List ℕ → List ℕ
 after count text = if count == 0 then text else drop (count + 1) text
 
