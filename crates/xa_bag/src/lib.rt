@@ -11,8 +11,6 @@ mod higher_order;
 mod inner;
 mod members;
 mod sets;
-#[cfg(test)]
-mod tests;
 mod value_or_bag;
 
 pub use apply::{apply_bag_function, apply_higher_order};

@@ -4,3 +4,4 @@ pub mod NameLemmas
 pub mod PlaceLemmas
 pub mod TypingLemmas
 pub mod TableLemmas
+pub mod EveryFunctionLemmas

@@ -1,5 +1,5 @@
 -- A name is that of one function, and each function is among those that are searched.
-use Rattle.std.proofs.Common.{◌≡◌, List, [], ◌∷◌, ◌++◌, ℕ, ◌+◌, ◌*◌, ◌%◌, ◌==◌, Bool, true, false, if◌then◌else◌, map, refl, sym, ap, ◌∙◌, cond}
+use Rattle.std.proofs.Common.{◌≡◌, List, [], ◌∷◌, ℕ, ◌+◌, ◌*◌, ◌%◌, ◌==◌, Bool, true, false, if◌then◌else◌, map, refl, sym, ap, ◌∙◌, cond}
 use Rattle.std.specs.Prelude.{Option, Some, None, bytes_eq, find, flat_map, ◌||◌, ◌&&◌, ◌↔◌, IsTrue}
 use Rattle.std.specs.Option.{option_or}
 use Rattle.std.proofs.lemmas.List.Folds.{find-append}
@@ -434,7 +434,7 @@ passes_at : {X : Type 0} (p : X → Bool) (y : X) (ys : List X) (x : X) (v : Boo
 passes_at p y ys x true here rest e = cc
 passes_at p y ys x false other rest e = rest e
 
-find_passes : {X : Type 0} (p : X → Bool) (xs : List X) (x : X) → find p xs ≡ Some x → p x ≡ true
+pub find_passes : {X : Type 0} (p : X → Bool) (xs : List X) (x : X) → find p xs ≡ Some x → p x ≡ true
 find_passes p [] x e = cc
 find_passes p (y ∷ ys) x e = passes_at p y ys x (p y) refl (find_passes p ys x) e
 
@@ -443,7 +443,7 @@ pub found_is : (text : List ℕ) (fs : List FuncId) (g : FuncId) → Some g ≡ 
 found_is text fs g e f = (λ same. find_passes (names text) fs f (sym e ∙ same), λ named. one_function text g f (find_passes (names text) fs g (sym e)) named)
 
 -- of a list in which no function is named, each is not named
-abbrev Each : {X : Type 0} → (X → Type 0) → List X → Type 0
+abbrev pub Each : {X : Type 0} → (X → Type 0) → List X → Type 0
 Each P [] = Unit {0}
 Each P (x ∷ xs) = P x × Each P xs
 
@@ -451,21 +451,21 @@ not_at : {X : Type 0} (p : X → Bool) (y : X) (ys : List X) (v : Bool) → p y 
 not_at p y ys true here e = cc
 not_at p y ys false other e = (other, e)
 
-no_other : {X : Type 0} (p : X → Bool) (xs : List X) → find p xs ≡ None → Each (λ x. p x ≡ false) xs
+pub no_other : {X : Type 0} (p : X → Bool) (xs : List X) → find p xs ≡ None → Each (λ x. p x ≡ false) xs
 no_other p [] e = tt
 no_other p (y ∷ ys) e = let both = not_at p y ys (p y) refl e in (both.0, no_other p ys both.1)
 
-both_none : {Y : Type 0} (a b : Option Y) → option_or a b ≡ None → (a ≡ None) × (b ≡ None)
+pub both_none : {Y : Type 0} (a b : Option Y) → option_or a b ≡ None → (a ≡ None) × (b ≡ None)
 both_none None b e = (refl, e)
 both_none (Some x) b e = cc
 
-in_no_part : {X Y : Type 0} (p : Y → Bool) (g : X → List Y) (xs : List X) → find p (flat_map g xs) ≡ None → Each (λ x. find p (g x) ≡ None) xs
+pub in_no_part : {X Y : Type 0} (p : Y → Bool) (g : X → List Y) (xs : List X) → find p (flat_map g xs) ≡ None → Each (λ x. find p (g x) ≡ None) xs
 in_no_part p g [] e = tt
 in_no_part p g (x ∷ xs) e =
     let both = both_none (find p (g x)) (find p (flat_map g xs)) (sym (find-append p (g x) (flat_map g xs)) ∙ e) in
     (both.0, in_no_part p g xs both.1)
 
-of_no_type : (p : FuncId → Bool) (c : DataType → FuncId) → find p (map c data_type.ALL) ≡ None → (t : DataType) → p (c t) ≡ false
+pub of_no_type : (p : FuncId → Bool) (c : DataType → FuncId) → find p (map c data_type.ALL) ≡ None → (t : DataType) → p (c t) ≡ false
 of_no_type p c e type.String = (no_other p (map c data_type.ALL) e).0
 of_no_type p c e type.Boolean = (no_other p (map c data_type.ALL) e).1.0
 of_no_type p c e type.Integer = (no_other p (map c data_type.ALL) e).1.1.0
@@ -478,14 +478,14 @@ of_no_type p c e type.AnyUri = (no_other p (map c data_type.ALL) e).1.1.1.1.1.1.
 of_no_type p c e type.HexBinary = (no_other p (map c data_type.ALL) e).1.1.1.1.1.1.1.1.1.0
 of_no_type p c e type.Base64Binary = (no_other p (map c data_type.ALL) e).1.1.1.1.1.1.1.1.1.1.0
 
-of_no_ordered : (p : FuncId → Bool) (c : OrderedType → FuncId) → find p (map c ordered_constant.ALL) ≡ None → (t : OrderedType) → p (c t) ≡ false
+pub of_no_ordered : (p : FuncId → Bool) (c : OrderedType → FuncId) → find p (map c ordered_constant.ALL) ≡ None → (t : OrderedType) → p (c t) ≡ false
 of_no_ordered p c e ordered.Integer = (no_other p (map c ordered_constant.ALL) e).0
 of_no_ordered p c e ordered.String = (no_other p (map c ordered_constant.ALL) e).1.0
 of_no_ordered p c e ordered.Time = (no_other p (map c ordered_constant.ALL) e).1.1.0
 of_no_ordered p c e ordered.Date = (no_other p (map c ordered_constant.ALL) e).1.1.1.0
 of_no_ordered p c e ordered.DateTime = (no_other p (map c ordered_constant.ALL) e).1.1.1.1.0
 
-of_no_printed : (p : FuncId → Bool) (c : PrintedType → FuncId) → find p (map c printed_constant.ALL) ≡ None → (t : PrintedType) → p (c t) ≡ false
+pub of_no_printed : (p : FuncId → Bool) (c : PrintedType → FuncId) → find p (map c printed_constant.ALL) ≡ None → (t : PrintedType) → p (c t) ≡ false
 of_no_printed p c e printed.Boolean = (no_other p (map c printed_constant.ALL) e).0
 of_no_printed p c e printed.Integer = (no_other p (map c printed_constant.ALL) e).1.0
 of_no_printed p c e printed.Date = (no_other p (map c printed_constant.ALL) e).1.1.0
@@ -495,13 +495,13 @@ of_no_printed p c e printed.AnyUri = (no_other p (map c printed_constant.ALL) e)
 of_no_printed p c e printed.DayTimeDuration = (no_other p (map c printed_constant.ALL) e).1.1.1.1.1.1.0
 of_no_printed p c e printed.YearMonthDuration = (no_other p (map c printed_constant.ALL) e).1.1.1.1.1.1.1.0
 
-in_no_comparison : (p : FuncId → Bool) (g : Comparison → List FuncId) → find p (flat_map g comparison_constant.ALL) ≡ None → (c : Comparison) → find p (g c) ≡ None
+pub in_no_comparison : (p : FuncId → Bool) (g : Comparison → List FuncId) → find p (flat_map g comparison_constant.ALL) ≡ None → (c : Comparison) → find p (g c) ≡ None
 in_no_comparison p g e comparison.GreaterThan = (in_no_part p g comparison_constant.ALL e).0
 in_no_comparison p g e comparison.GreaterThanOrEqual = (in_no_part p g comparison_constant.ALL e).1.0
 in_no_comparison p g e comparison.LessThan = (in_no_part p g comparison_constant.ALL e).1.1.0
 in_no_comparison p g e comparison.LessThanOrEqual = (in_no_part p g comparison_constant.ALL e).1.1.1.0
 
-in_no_bag_function : (p : FuncId → Bool) (g : BagFunction → List FuncId) → find p (flat_map g bag_constant.ALL) ≡ None → (f : BagFunction) → find p (g f) ≡ None
+pub in_no_bag_function : (p : FuncId → Bool) (g : BagFunction → List FuncId) → find p (flat_map g bag_constant.ALL) ≡ None → (f : BagFunction) → find p (g f) ≡ None
 in_no_bag_function p g e bag.OneAndOnly = (in_no_part p g bag_constant.ALL e).0
 in_no_bag_function p g e bag.BagSize = (in_no_part p g bag_constant.ALL e).1.0
 in_no_bag_function p g e bag.IsIn = (in_no_part p g bag_constant.ALL e).1.1.0

@@ -7,6 +7,7 @@ pub mod Conversion
 pub mod Dates
 pub mod Fault
 pub mod Logic
+pub mod Names
 pub mod Signature
 pub mod Status
 pub mod Table

@@ -14,8 +14,6 @@ mod logic;
 mod names;
 mod signature;
 mod status;
-#[cfg(test)]
-mod tests;
 mod text;
 
 pub use acceptance::HasKind;

@@ -1,5 +1,6 @@
 //! The names of the functions: what each is called, and the function that a URI names.
 ghost use Rattle.std.specs.Prelude.{◌≡◌, ◌↔◌, ◌++◌, map, find, flat_map, bytes_eq, IsTrue, Option, Some};
+ghost use Rattle.xa_func.specs.Names.{function_named};
 ghost use Rattle.xa_func.specs.Table.{row_of, text_row, move_row, higher_row, comparison_verb, arithmetic_verb, logic_verb, part_verb, printed_verb, bag_verb, has_later_name, is_duration, names};
 ghost use Rattle.xa_func.specs.declared.func_id.FuncId.{FuncId};
 ghost use Rattle.xa_func.specs.declared.func_id.FuncId.TheVariants as function_id;
@@ -477,7 +478,8 @@ fn bag_named(functions: &[BagFunction], uri: &str) -> Option<FuncId>
 impl FuncId {
     /// The function that the URI names.
     pub fn from_uri(uri: &str) -> Option<FuncId>
-        ensures { (f : FuncId) → (result ≡ Some f) ↔ IsTrue (names uri.now f) }
+        ensures each { (f : FuncId) → (result ≡ Some f) ↔ IsTrue (names uri.now f) }
+        ensures named { result ≡ function_named uri.now }
     {
         if let Some(function) = first_named(&SINGLE, uri) {
             return Some(function);

@@ -12,8 +12,6 @@ mod route;
 /// The route of a message: its function, apart from the type of that name.
 pub mod routes;
 mod session;
-#[cfg(test)]
-mod tests;
 
 pub use laws::pieces_make_no_difference;
 pub use limits::{MAX_BODY_BYTES, MAX_FIELDS, MAX_HEAD_BYTES};

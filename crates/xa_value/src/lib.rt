@@ -23,8 +23,6 @@ mod reading;
 mod round_trip;
 mod shared;
 mod sort_key;
-#[cfg(test)]
-mod tests;
 mod text;
 mod time;
 mod value;

@@ -30,19 +30,33 @@ impl Value {
         ensures data_type { IfOk result (λ v. type_of v ≡ data_type) }
         ensures exact { grows data_type ≡ false → result ≡ answered (read data_type text.now) }
     {
-        let bytes = trimmed_bytes(text.as_bytes());
-        match data_type {
-            DataType::String => Ok(Value::String(Text::new(alloc, text)?)),
-            DataType::Boolean => Ok(Value::Boolean(read_boolean(bytes)?)),
-            DataType::Integer => Ok(Value::Integer(read_integer(bytes)?)),
-            DataType::Date => Ok(Value::Date(read_date(bytes)?)),
-            DataType::Time => Ok(Value::Time(read_clock(bytes)?)),
-            DataType::DateTime => Ok(Value::DateTime(read_date_time(bytes)?)),
-            DataType::DayTimeDuration => Ok(Value::DayTimeDuration(read_day_time(bytes)?)),
-            DataType::YearMonthDuration => Ok(Value::YearMonthDuration(read_year_month(bytes)?)),
-            DataType::AnyUri => Ok(Value::AnyUri(Text::new(alloc, trimmed_text(text))?)),
-            DataType::HexBinary => Ok(Value::HexBinary(read_hex(alloc, bytes)?)),
-            DataType::Base64Binary => Ok(Value::Base64Binary(read_base64(alloc, bytes)?)),
-        }
+        read_by_type(alloc, data_type, text)
+    }
+}
+
+/// The value of the text by the reader of its type.
+fn read_by_type(
+    alloc: Global,
+    data_type: DataType,
+    text: &str,
+) -> Result<Value, OrMemory<ReadError>>
+    ensures value { Gives result (read data_type text.now) }
+    ensures data_type { IfOk result (λ v. type_of v ≡ data_type) }
+    ensures exact { grows data_type ≡ false → result ≡ answered (read data_type text.now) }
+{
+    let raw = text.as_bytes();
+    let bytes = trimmed_bytes(raw);
+    match data_type {
+        DataType::String => Ok(Value::String(Text::new(alloc, text)?)),
+        DataType::Boolean => Ok(Value::Boolean(read_boolean(bytes)?)),
+        DataType::Integer => Ok(Value::Integer(read_integer(bytes)?)),
+        DataType::Date => Ok(Value::Date(read_date(bytes)?)),
+        DataType::Time => Ok(Value::Time(read_clock(bytes)?)),
+        DataType::DateTime => Ok(Value::DateTime(read_date_time(bytes)?)),
+        DataType::DayTimeDuration => Ok(Value::DayTimeDuration(read_day_time(bytes)?)),
+        DataType::YearMonthDuration => Ok(Value::YearMonthDuration(read_year_month(bytes)?)),
+        DataType::AnyUri => Ok(Value::AnyUri(Text::new(alloc, trimmed_text(text))?)),
+        DataType::HexBinary => Ok(Value::HexBinary(read_hex(alloc, bytes)?)),
+        DataType::Base64Binary => Ok(Value::Base64Binary(read_base64(alloc, bytes)?)),
     }
 }

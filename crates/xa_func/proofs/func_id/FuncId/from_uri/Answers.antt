@@ -1,30 +1,32 @@
-use Rattle.std.proofs.Common.{sym, ◌∙◌}
+use Rattle.std.specs.Prelude.{Some}
 use Rattle.xa_func.specs.declared.names.TheConstants.{SINGLE}
 use Rattle.xa_func.proofs.TableLemmas.{found_is, last_is, none_of, equalities, strings_from, from_strings, comparisons, of_bags}
+use Rattle.xa_func.proofs.EveryFunctionLemmas.{named_of}
 use Rattle.xa_func.proofs.func_id.FuncId.from_uri.Goals as goal
 
 pub returns-in-Some : goal.returns-in-Some
-returns-in-Some c = found_is c.args.uri.now SINGLE c.in-Some.function c.in-Some.ensures
+returns-in-Some c = let each = found_is c.args.uri.now SINGLE c.in-Some.function c.in-Some.ensures in record { each = each; named = named_of c.args.uri.now (Some c.in-Some.function) each }
 
 pub returns-in-Some-equality_named : goal.returns-in-Some-equality_named
-returns-in-Some-equality_named c = found_is c.args.uri.now equalities c.in-Some-equality_named.function c.in-Some-equality_named.ensures
+returns-in-Some-equality_named c = let each = found_is c.args.uri.now equalities c.in-Some-equality_named.function c.in-Some-equality_named.ensures in record { each = each; named = named_of c.args.uri.now (Some c.in-Some-equality_named.function) each }
 
 pub returns-in-Some-string_from_named : goal.returns-in-Some-string_from_named
-returns-in-Some-string_from_named c = found_is c.args.uri.now strings_from c.in-Some-string_from_named.function c.in-Some-string_from_named.ensures
+returns-in-Some-string_from_named c = let each = found_is c.args.uri.now strings_from c.in-Some-string_from_named.function c.in-Some-string_from_named.ensures in record { each = each; named = named_of c.args.uri.now (Some c.in-Some-string_from_named.function) each }
 
 pub returns-in-Some-from_string_named : goal.returns-in-Some-from_string_named
-returns-in-Some-from_string_named c = found_is c.args.uri.now from_strings c.in-Some-from_string_named.function c.in-Some-from_string_named.ensures
+returns-in-Some-from_string_named c = let each = found_is c.args.uri.now from_strings c.in-Some-from_string_named.function c.in-Some-from_string_named.ensures in record { each = each; named = named_of c.args.uri.now (Some c.in-Some-from_string_named.function) each }
 
 pub returns-in-Some-compare_named : goal.returns-in-Some-compare_named
-returns-in-Some-compare_named c = found_is c.args.uri.now comparisons c.in-Some-compare_named.function c.in-Some-compare_named.ensures
+returns-in-Some-compare_named c = let each = found_is c.args.uri.now comparisons c.in-Some-compare_named.function c.in-Some-compare_named.ensures in record { each = each; named = named_of c.args.uri.now (Some c.in-Some-compare_named.function) each }
 
 pub returns : goal.returns
 returns c =
-    last_is c.args.uri.now of_bags c.bag_named.result c.bag_named.ensures (λ last. record {
+    let each = last_is c.args.uri.now of_bags c.bag_named.result c.bag_named.ensures (λ last. record {
       single = none_of _ _ c.first_named.ensures c.in_default.not-Some;
       equality = none_of _ _ c.equality_named.ensures c.in_default-equality_named.not-Some;
       string_from = none_of _ _ c.string_from_named.ensures c.in_default-string_from_named.not-Some;
       from_string = none_of _ _ c.from_string_named.ensures c.in_default-from_string_named.not-Some;
       compare = none_of _ _ c.compare_named.ensures c.in_default-compare_named.not-Some;
       bag = last;
-    })
+    }) in
+    record { each = each; named = named_of c.args.uri.now c.bag_named.result each }
