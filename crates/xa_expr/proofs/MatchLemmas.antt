@@ -1,0 +1,67 @@
+-- What a match's function takes, and what equality makes of a match.
+use Rattle.std.proofs.Common.{◌≡◌, Bool, true, false, ◌&&◌, ◌||◌, List, [], ◌∷◌, map, refl, ap, sym, subst, ◌∙◌}
+use Rattle.std.specs.Prelude.{if◌then◌else◌, IsTrue, Ok}
+use Rattle.std.specs.List.{list_any}
+use Rattle.xa_value.specs.declared.data_type.DataType.{DataType}
+use Rattle.xa_value.specs.declared.value.Value.{Value}
+use Rattle.xa_value.specs.declared.value.Value.TheVariants as value
+use Rattle.xa_value.specs.Order.{type_of, same}
+use Rattle.xa_func.specs.declared.func_id.FuncId.TheVariants as function
+use Rattle.xa_func.specs.declared.signature.Kind.TheVariants as kind
+use Rattle.xa_func.specs.Application.{applied}
+use Rattle.xa_func.specs.Signature.{TakesKinds, kind_of, signature_of, result_type_of}
+use Rattle.xa_func.specs.Table.{is_scalar}
+use Rattle.xa_expr.specs.declared.designator.Designator.{Designator}
+use Rattle.xa_expr.specs.declared.matching.Matching.{Matching}
+use Rattle.xa_expr.specs.declared.matching.Matching.TheVariants as matching
+use Rattle.xa_expr.specs.Fault.{of_function}
+use Rattle.xa_expr.specs.Match.{Question, IsRight, argument_kinds}
+use Rattle.xa_expr.specs.Target.{answer, matching_of, some_match}
+use Rattle.xa_expr.specs.Typed.{accepted}
+use Rattle.xa_expr.proofs.KindLemmas.{accepts_of}
+
+first_of : (a b : Bool) → (a && b) ≡ true → a ≡ true
+first_of true b e = refl
+first_of false b e = e
+
+second_of : (a b : Bool) → (a && b) ≡ true → b ≡ true
+second_of true b e = e
+second_of false b e = cc
+
+-- a match's function takes the literal and a value of the designator's type
+pub takes_arguments : (q : Question) (v : Value) → IsRight q → type_of v ≡ q.designator.data_type → TakesKinds q.function (map kind_of (q.literal ∷ v ∷ []))
+takes_arguments q v right of_type =
+    let scalar : is_scalar q.function ≡ true = first_of _ _ right in
+    let accepts : accepted (signature_of q.function) (argument_kinds q.literal q.designator.data_type) ≡ true = first_of _ _ (second_of (is_scalar q.function) _ right) in
+    (scalar, accepts_of (signature_of q.function) _ (ap (λ t. accepted (signature_of q.function) (argument_kinds q.literal t)) of_type ∙ accepts))
+
+-- the same of a match that is seen as another
+pub takes_given : (q seen : Question) (v : Value) (vs : List Value)
+    → q ≡ seen → IsRight q → type_of v ≡ seen.designator.data_type → vs ≡ seen.literal ∷ v ∷ [] → TakesKinds q.function (map kind_of vs)
+takes_given q seen v vs is right of_type given =
+    let same_arguments : q.literal ∷ v ∷ [] ≡ vs = ap (λ r. r.literal ∷ v ∷ []) is ∙ sym given in
+    subst (λ us. TakesKinds q.function (map kind_of us)) same_arguments (takes_arguments q v right (of_type ∙ sym (ap (λ r. r.designator.data_type) is)))
+
+pub answer_given : (q seen : Question) (v : Value) (vs : List Value) (m : Matching)
+    → q ≡ seen → vs ≡ seen.literal ∷ v ∷ [] → m ≡ matching_of (of_function (applied q.function vs)) → m ≡ answer seen v
+answer_given q seen v vs m is given says =
+    says ∙ ap (λ us. matching_of (of_function (applied q.function us))) given ∙ ap (λ r. matching_of (of_function (applied r.function (seen.literal ∷ v ∷ [])))) is
+
+-- it matches, or it does not
+abbrev matching_where : Bool → Matching
+matching_where b = if b then matching.Match else matching.NoMatch
+
+one_more : (b c : Bool) (rest : List Matching) → some_match rest ≡ matching_where c → some_match (matching_of (Ok (value.Boolean b)) ∷ rest) ≡ matching_where (b || c)
+one_more true c rest so_far = refl
+one_more false c rest so_far = so_far
+
+answer_of_equal : (q : Question) (t : DataType) (v : Value) → q.function ≡ function.Equal t → answer q v ≡ matching_of (Ok (value.Boolean (same q.literal v)))
+answer_of_equal q t v is = ap (λ f. matching_of (of_function (applied f (q.literal ∷ v ∷ [])))) is
+
+-- a match of an equality matches where some value is the same as the literal
+pub equal_answers : (q : Question) (t : DataType) (vs : List Value)
+    → q.function ≡ function.Equal t → some_match (map (answer q) vs) ≡ (if list_any (same q.literal) vs then matching.Match else matching.NoMatch)
+equal_answers q t [] is = refl
+equal_answers q t (v ∷ vs) is =
+    ap (λ m. some_match (m ∷ map (answer q) vs)) (answer_of_equal q t v is)
+    ∙ one_more (same q.literal v) (list_any (same q.literal) vs) (map (answer q) vs) (equal_answers q t vs is)

@@ -1,0 +1,19 @@
+//! Where the values of attributes come from.
+ghost use Rattle.std.specs.Prelude.{◌≡◌, List, IfOk};
+ghost use Rattle.xa_value.specs.declared.value.Value.{Value};
+ghost use Rattle.xa_bag.specs.Bag.{bag_of};
+ghost use Rattle.xa_expr.specs.declared.designator.Designator.{Designator};
+
+use crate::designator::Designator;
+use std::alloc::{AllocError, Global};
+use xa_bag::Bag;
+
+/// Where the values of attributes come from (core, section 7.3): to each designator its bag, which is of the designator's type.
+pub trait Context {
+    /// The values of the designator's bag.
+    ghost values_of: { Self → Designator → List Value };
+
+    /// The bag of the designator, whether or not it must be present.
+    fn bag(&self, alloc: Global, designator: &Designator) -> Result<Bag, AllocError>
+        ensures { IfOk result (λ bag. bag ≡ bag_of designator.now.data_type (values_of self.now designator.now)) };
+}

@@ -1,0 +1,26 @@
+//! Expressions with their types and values, and targets (XACML 3.0, core, sections 5.5 to 5.9, 5.25 to 5.32 and 7.3 to 7.9).
+#![tactic(auto)]
+
+mod check_error;
+mod checking;
+mod context;
+mod designator;
+mod expr;
+mod fault;
+mod match_;
+mod matching;
+mod target;
+mod typed;
+mod variables;
+
+pub use check_error::CheckError;
+pub use checking::check;
+pub use context::Context;
+pub use designator::Designator;
+pub use expr::Expr;
+pub use fault::Fault;
+pub use match_::Match;
+pub use matching::Matching;
+pub use target::{AllOf, AnyOf, Target};
+pub use typed::Typed;
+pub use variables::{Definition, Variables};

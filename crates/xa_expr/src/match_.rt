@@ -1,0 +1,215 @@
+//! Matches of a literal against the values of an attribute.
+ghost use Rattle.std.specs.Prelude.{◌≡◌, [], ◌∷◌, ◌++◌, map, if◌then◌else◌, Some, Ok, IfOk};
+ghost use Rattle.std.specs.List.{list_any};
+ghost use Rattle.xa_value.specs.declared.data_type.DataType.TheVariants as type;
+ghost use Rattle.xa_value.specs.Order.{type_of, same};
+ghost use Rattle.xa_func.specs.Application.{applied};
+ghost use Rattle.xa_func.specs.Fault as func;
+ghost use Rattle.xa_func.specs.Signature.{TakesKinds, kind_of};
+ghost use Rattle.xa_bag.specs.Bag.{OfType};
+ghost use Rattle.xa_expr.specs.declared.matching.Matching.TheVariants as matching;
+ghost use Rattle.xa_expr.specs.Fault.{fault_with, of_function};
+ghost use Rattle.xa_expr.specs.Match.{argument_kinds, may_ask, matched, matched_by};
+ghost use Rattle.xa_expr.specs.Target.{answer, match_value, matching_of, some_match};
+ghost use Rattle.xa_expr.specs.Typed.{accepted, same_type};
+
+use crate::check_error::CheckError;
+use crate::context::Context;
+use crate::designator::Designator;
+use crate::fault::Fault;
+use crate::matching::Matching;
+use std::alloc::{AllocError, Global};
+use std::marker::Model;
+use xa_func::{FuncFault, FuncId, HasKind, Kind, Signature, Status};
+use xa_value::{DataType, OrMemory, Value};
+
+/// A match (core, section 5.9): whether the function is true of the literal and some value of the designator's bag. The function takes
+/// two such values and gives a boolean.
+#[derive(Debug, Drop)]
+pub struct Match {
+    function: FuncId,
+    literal: Value,
+    designator: Designator,
+}
+
+impl Model for Match {
+    ghost use Rattle.xa_expr.specs.Match.{Question, IsRight};
+
+    ghost Value = { Question };
+
+    ghost view = { λ m. record { function = m.function; literal = m.literal; designator = m.designator } };
+
+    ghost invariant = { λ m. IsRight (record { function = m.function; literal = m.literal; designator = m.designator }) };
+}
+
+impl Match {
+    /// The match of the function of that name. The literal is the function's first argument, each value of the bag its second.
+    pub fn new(function: &str, literal: Value, designator: Designator) -> Result<Match, CheckError>
+        ensures { result ≡ matched function.now literal designator }
+    {
+        match FuncId::from_uri(function) {
+            Some(function) => Match::of(function, literal, designator),
+            None => Err(CheckError::UnknownFunction),
+        }
+    }
+
+    /// The match of the function.
+    fn of(function: FuncId, literal: Value, designator: Designator) -> Result<Match, CheckError>
+        ensures { result ≡ matched_by (Some function) literal designator }
+    {
+        if !may_ask(function, &literal, designator.data_type) {
+            return Err(CheckError::WrongType);
+        }
+        Ok(Match {
+            function,
+            literal,
+            designator,
+        })
+    }
+
+    /// The value of the match (core, section 7.6).
+    pub(crate) fn matching<C: Context>(
+        &self,
+        alloc: Global,
+        context: &C,
+    ) -> Result<Matching, AllocError>
+        ensures { IfOk result (λ m. m ≡ match_value (C.values_of context.now) self.now) }
+    {
+        let bag = context.bag(alloc, &self.designator)?;
+        if bag.is_empty() && self.designator.must_be_present {
+            return Ok(Matching::Indeterminate(Fault::MissingAttribute));
+        }
+        self.true_of_some(alloc, bag.values())
+    }
+
+    /// Whether the function is true of one of the values. Equality looks at them where they are.
+    #[tactic(auto, using(crate::proofs::MatchLemmas::equal_answers))]
+    fn true_of_some(&self, alloc: Global, values: &[Value]) -> Result<Matching, AllocError>
+        requires { OfType self.now.designator.data_type values.now }
+        ensures { IfOk result (λ m. m ≡ some_match (map (answer self.now) values.now)) }
+    {
+        match self.function {
+            FuncId::Equal(_) => Ok(equal_to_some(&self.literal, values)),
+            _ => self.found_true(alloc, values),
+        }
+    }
+
+    /// Whether the function is true of one of the values. The first of which it is settles it.
+    #[tactic(auto, using(crate::proofs::TargetLemmas::some_match_joined, crate::proofs::TargetLemmas::some_match_single))]
+    fn found_true(&self, alloc: Global, values: &[Value]) -> Result<Matching, AllocError>
+        requires { OfType self.now.designator.data_type values.now }
+        ensures { IfOk result (λ m. m ≡ some_match (map (answer self.now) values.now)) }
+    {
+        let mut arguments = Vec::new(alloc);
+        push_copy(&mut arguments, &self.literal)?;
+        let mut so_far = Matching::NoMatch;
+        for value in values {
+            so_far = so_far.or(self.answer(alloc, &mut arguments, value)?);
+            if so_far == Matching::Match {
+                return Ok(Matching::Match);
+            }
+        }
+        Ok(so_far)
+    }
+
+    /// What the function says of the literal, which is the only argument yet, and the value.
+    fn answer(
+        &self,
+        alloc: Global,
+        arguments: &mut Vec<Value>,
+        value: &Value,
+    ) -> Result<Matching, AllocError>
+        requires literal { arguments.old.items ≡ self.now.literal ∷ [] }
+        requires of_type { type_of value.now ≡ self.now.designator.data_type }
+        ensures value { IfOk result (λ m. m ≡ answer self.now value.now) }
+        ensures kept { IfOk result (λ _. arguments.new.items ≡ arguments.old.items) }
+    {
+        push_copy(arguments, value)?;
+        let answer = answer_for(self.function, alloc, arguments.as_slice())?;
+        arguments.pop();
+        Ok(answer)
+    }
+}
+
+/// Whether the function may stand in a match: it is a function of values that takes the literal and a value of the type, and gives a
+/// boolean.
+fn may_ask(function: FuncId, literal: &Value, data_type: DataType) -> bool
+    ensures { result ≡ may_ask function (argument_kinds literal.now data_type) }
+{
+    let signature = function.signature();
+    function.is_scalar()
+        && takes_both(signature, literal.kind(), Kind::Value(data_type))
+        && is_boolean(signature.result_type())
+}
+
+/// Whether a function of the signature takes arguments of these two kinds.
+fn takes_both(signature: Signature, first: Kind, second: Kind) -> bool
+    ensures { result ≡ accepted signature (first ∷ second ∷ []) }
+{
+    signature.accepts(&[first, second])
+}
+
+fn is_boolean(data_type: DataType) -> bool
+    ensures { result ≡ same_type data_type type.Boolean }
+{
+    data_type == DataType::Boolean
+}
+
+/// Puts a copy of the value at the end.
+fn push_copy(values: &mut Vec<Value>, value: &Value) -> Result<(), AllocError>
+    ensures { IfOk result (λ _. values.new.items ≡ values.old.items ++ value.now ∷ []) }
+{
+    values.push(value.clone()?)?;
+    Ok(())
+}
+
+/// What the function says, of arguments that it takes.
+fn answer_for(function: FuncId, alloc: Global, arguments: &[Value]) -> Result<Matching, AllocError>
+    requires { TakesKinds function (map kind_of arguments.now) }
+    ensures { IfOk result (λ m. m ≡ matching_of (of_function (applied function arguments.now))) }
+{
+    match function.apply(alloc, arguments) {
+        Ok(value) => Ok(matching_of(&value)),
+        Err(OrMemory::Error(fault)) => Ok(Matching::Indeterminate(fault_of(fault))),
+        Err(OrMemory::Memory) => Err(AllocError),
+    }
+}
+
+/// Whether one of the values is equal to the literal.
+fn equal_to_some(literal: &Value, values: &[Value]) -> Matching
+    ensures { result ≡ (if list_any (same literal.now) values.now then matching.Match else matching.NoMatch) }
+{
+    if has_equal(literal, values) {
+        Matching::Match
+    } else {
+        Matching::NoMatch
+    }
+}
+
+fn has_equal(literal: &Value, values: &[Value]) -> bool
+    ensures { result ≡ list_any (same literal.now) values.now }
+{
+    values.iter().any(|value| literal.same(value))
+}
+
+/// What the boolean says of a match.
+fn matching_of(value: &Value) -> Matching
+    ensures { result ≡ matching_of (Ok value.now) }
+{
+    if matches!(value, Value::Boolean(true)) {
+        Matching::Match
+    } else {
+        Matching::NoMatch
+    }
+}
+
+/// The fault of a function, by its status code.
+fn fault_of(fault: FuncFault) -> Fault
+    ensures { result ≡ fault_with (func.status_of fault) }
+{
+    match fault.status() {
+        Status::MissingAttribute => Fault::MissingAttribute,
+        Status::SyntaxError => Fault::SyntaxError,
+        Status::Ok | Status::ProcessingError => Fault::ProcessingError,
+    }
+}

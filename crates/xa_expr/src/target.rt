@@ -1,0 +1,81 @@
+//! Targets: to what a policy or a rule applies.
+ghost use Rattle.std.specs.Prelude.{◌≡◌, IfOk};
+ghost use Rattle.xa_expr.specs.Target.{all_of_value, any_of_value, target_value};
+
+use crate::context::Context;
+use crate::match_::Match;
+use crate::matching::Matching;
+use std::alloc::{AllocError, Global};
+use xa_value::Items;
+
+/// Matches that must all be true (core, section 5.8).
+#[derive(Debug, Drop)]
+pub struct AllOf {
+    /// The matches, in order.
+    pub matches: Items<Match>,
+}
+
+/// Conjunctions of which one must match (core, section 5.7).
+#[derive(Debug, Drop)]
+pub struct AnyOf {
+    /// The alternatives, in order.
+    pub all_of: Items<AllOf>,
+}
+
+/// To what a policy or a rule applies (core, section 5.6). An empty target matches everything.
+#[derive(Debug, Drop)]
+pub struct Target {
+    /// The conditions, in order; without one it matches everything.
+    pub any_of: Items<AnyOf>,
+}
+
+impl AllOf {
+    /// Whether all matches are true. The first that is not settles it.
+    #[tactic(auto, using(crate::proofs::TargetLemmas::all_match_joined, crate::proofs::TargetLemmas::all_match_single))]
+    fn matching<C: Context>(&self, alloc: Global, context: &C) -> Result<Matching, AllocError>
+        ensures { IfOk result (λ m. m ≡ all_of_value (C.values_of context.now) self.now) }
+    {
+        let mut so_far = Matching::Match;
+        for child in self.matches.as_slice() {
+            so_far = so_far.and(child.matching(alloc, context)?);
+            if so_far == Matching::NoMatch {
+                return Ok(Matching::NoMatch);
+            }
+        }
+        Ok(so_far)
+    }
+}
+
+impl AnyOf {
+    /// Whether one of the conjunctions matches. The first that does settles it.
+    #[tactic(auto, using(crate::proofs::TargetLemmas::some_match_joined, crate::proofs::TargetLemmas::some_match_single))]
+    fn matching<C: Context>(&self, alloc: Global, context: &C) -> Result<Matching, AllocError>
+        ensures { IfOk result (λ m. m ≡ any_of_value (C.values_of context.now) self.now) }
+    {
+        let mut so_far = Matching::NoMatch;
+        for child in self.all_of.as_slice() {
+            so_far = so_far.or(child.matching(alloc, context)?);
+            if so_far == Matching::Match {
+                return Ok(Matching::Match);
+            }
+        }
+        Ok(so_far)
+    }
+}
+
+impl Target {
+    /// Whether every part of the target matches (core, section 7.7). The first that does not settles it.
+    #[tactic(auto, using(crate::proofs::TargetLemmas::all_match_joined, crate::proofs::TargetLemmas::all_match_single))]
+    pub fn matching<C: Context>(&self, alloc: Global, context: &C) -> Result<Matching, AllocError>
+        ensures { IfOk result (λ m. m ≡ target_value (C.values_of context.now) self.now) }
+    {
+        let mut so_far = Matching::Match;
+        for child in self.any_of.as_slice() {
+            so_far = so_far.and(child.matching(alloc, context)?);
+            if so_far == Matching::NoMatch {
+                return Ok(Matching::NoMatch);
+            }
+        }
+        Ok(so_far)
+    }
+}
