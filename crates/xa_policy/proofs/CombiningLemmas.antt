@@ -2,17 +2,16 @@
 use Rattle.std.proofs.Common.{◌≡◌, Bool, true, false, ◌&&◌, ◌||◌, List, [], ◌∷◌, refl}
 use Rattle.std.specs.Prelude.{if◌then◌else◌}
 use Rattle.std.specs.List.{list_any}
-use Rattle.std.proofs.lemmas.Grind.{common_steps}
 use Rattle.xa_policy.specs.declared.decision.Decision.{Decision}
 use Rattle.xa_policy.specs.declared.decision.Decision.TheVariants.{Permit, Deny, NotApplicable, IndeterminatePermit, IndeterminateDeny, IndeterminateDenyPermit}
 use Rattle.xa_policy.specs.Combining.{is, deny_overrides}
 
 -- some of the decisions is this one
-abbrev some : Decision → List Decision → Bool
+abbrev pub some : Decision → List Decision → Bool
 some decision among = list_any (is decision) among
 
 -- the lines of deny-overrides, by whether there is a Deny, a {DP}, a {D}, a {P}, a Permit
-abbrev lines : Bool → Bool → Bool → Bool → Bool → Decision
+abbrev pub lines : Bool → Bool → Bool → Bool → Bool → Decision
 lines deny deny_permit if_deny if_permit permit =
     if deny then Deny
     else if deny_permit then IndeterminateDenyPermit
@@ -128,10 +127,3 @@ deny_overrides_joined IndeterminateDenyPermit IndeterminateDenyPermit ds = lines
 pub deny_overrides_after_none : (ds : List Decision) → deny_overrides (NotApplicable ∷ ds) ≡ deny_overrides ds
 unfolding deny_overrides
 deny_overrides_after_none ds = refl
-
-pub deny_overrides_after_deny : (ds : List Decision) → deny_overrides (Deny ∷ ds) ≡ Deny
-unfolding deny_overrides
-deny_overrides_after_deny ds = refl
-
--- what the loop over the children goes by
-pub ruleset deny_overrides_steps = (common_steps, deny_overrides_joined, deny_overrides_single, deny_overrides_after_none, deny_overrides_after_deny)

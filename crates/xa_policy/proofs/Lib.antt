@@ -1,3 +1,6 @@
 pub mod CombiningLemmas
 pub mod EvaluationLemmas
-pub mod TargetLemmas
+pub mod FirstApplicableLemmas
+pub mod MirrorLemmas
+pub mod OnlyOneLemmas
+pub mod OverridingLemmas

@@ -1,42 +1,37 @@
--- Policies (XACML 3.0, section 7.12) and the status of a decision.
-use Rattle.std.specs.Prelude.{Bool, true, false, if◌then◌else◌, List, map, Option, Some, None}
+-- Policies (XACML 3.0, section 7.12).
+use Rattle.std.specs.Prelude.{List, map, Option}
 use Rattle.xa_policy.specs.declared.decision.Decision.{Decision}
-use Rattle.xa_policy.specs.declared.decision.Decision.TheVariants.{IndeterminatePermit, IndeterminateDeny, IndeterminateDenyPermit}
 use Rattle.xa_policy.specs.declared.combining.Alg.{Alg}
+use Rattle.xa_policy.specs.declared.combining.Alg.TheVariants.{OnlyOneApplicable}
+use Rattle.xa_policy.specs.declared.combining.Child.{Child}
 use Rattle.xa_policy.specs.declared.evaluated.Evaluated.{Evaluated}
 use Rattle.xa_policy.specs.declared.policy.Policy.{Policy}
+use Rattle.xa_policy.specs.declared.rule.Rule.{Rule}
 use Rattle.xa_func.specs.declared.status.Status.{Status}
-use Rattle.xa_func.specs.declared.status.Status.TheVariants.{Ok}
+use Rattle.xa_expr.specs.Evaluation.{Attributes}
+use Rattle.xa_expr.specs.Target.{target_value}
 use Rattle.xa_policy.specs.Combining.{combined_decision}
 use Rattle.xa_policy.specs.Rule.{rule_value}
-use Rattle.xa_policy.specs.Status.{first_fault}
-use Rattle.xa_policy.specs.Target.{Bags}
+use Rattle.xa_policy.specs.Status.{EvaluatedChild, fault_of, status_of, only_one_status}
 
--- one of the three kinds of Indeterminate
-abbrev pub is_indeterminate : Decision → Bool
-is_indeterminate IndeterminatePermit = true
-is_indeterminate IndeterminateDeny = true
-is_indeterminate IndeterminateDenyPermit = true
-is_indeterminate _ = false
+-- an evaluated child as it is combined
+abbrev pub child_of : EvaluatedChild → Child
+child_of child = record { decision = child.value.decision; target = child.target }
 
--- the status of an Indeterminate child
-abbrev pub fault_of : Evaluated → Option Status
-fault_of child = if is_indeterminate child.decision then Some child.status else None
-
--- the decision of a child
-abbrev pub decision_of : Evaluated → Decision
-decision_of child = child.decision
-
--- the status of a decision, by those of the children: of an Indeterminate that of the first that is, else `ok`
-abbrev pub status_of : Decision → List (Option Status) → Status
-status_of decision faults = if is_indeterminate decision then first_fault faults else Ok
+-- a decision with its status, by those of the children
+abbrev pub with_status : Decision → List (Option Status) → Evaluated
+with_status decision faults = record { decision = decision; status = status_of decision faults }
 
 -- the decision that the algorithm makes of the children's, with its status
-abbrev pub combination : Alg → List Evaluated → Evaluated
-combination algorithm children =
-    let decision = combined_decision algorithm (map decision_of children) in
-    record { decision = decision; status = status_of decision (map fault_of children) }
+unfoldable pub combination : Alg → List EvaluatedChild → Evaluated
+combination OnlyOneApplicable children =
+    record { decision = combined_decision OnlyOneApplicable (map child_of children); status = only_one_status children }
+combination algorithm children = with_status (combined_decision algorithm (map child_of children)) (map fault_of children)
+
+-- a rule as a child
+abbrev pub rule_child : Attributes → Rule → EvaluatedChild
+rule_child values_of rule = record { value = rule_value values_of rule; target = target_value values_of rule.target }
 
 -- what a policy decides
-abbrev pub evaluation : Bags → Policy → Evaluated
-evaluation bag_of policy = combination policy.algorithm (map (rule_value bag_of) policy.rules)
+abbrev pub evaluation : Attributes → Policy → Evaluated
+evaluation values_of policy = combination policy.algorithm (map (rule_child values_of) policy.rules)

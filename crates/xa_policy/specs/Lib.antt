@@ -1,5 +1,6 @@
 pub mod Combining
 pub mod Evaluation
+pub mod Mirror
+pub mod Overriding
 pub mod Rule
 pub mod Status
-pub mod Target

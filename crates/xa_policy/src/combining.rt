@@ -1,43 +1,102 @@
 //! Combining algorithms.
-ghost use Rattle.std.specs.Prelude.{◌≡◌, [], ◌∷◌};
-ghost use Rattle.xa_policy.specs.Combining.{combined_decision, deny_overrides};
+ghost use Rattle.std.specs.Prelude.{◌≡◌, [], ◌∷◌, map};
+ghost use Rattle.xa_expr.specs.declared.matching.Matching.TheVariants as target;
+ghost use Rattle.xa_policy.specs.Combining.{applies, combined_decision, decision_of, deny_overrides, first_applicable, may_apply, only_one_applicable, permit_overrides};
+ghost use Rattle.xa_policy.specs.Overriding.{otherwise, overrides};
 
-use crate::decision::Decision;
+use crate::decision::{Decision, Effect};
+use xa_expr::Matching;
 
-/// A combining algorithm (XACML 3.0, appendix C).
+/// A combining algorithm (XACML 3.0, appendix C). In the names, RULE stands for
+/// `urn:oasis:names:tc:xacml:3.0:rule-combining-algorithm` and POLICY for `urn:oasis:names:tc:xacml:3.0:policy-combining-algorithm`.
 #[derive(Clone, Copy, Debug, PartialEq, Eq)]
 pub enum Alg {
-    /// `urn:oasis:names:tc:xacml:3.0:rule-combining-algorithm:deny-overrides` (appendix C.2).
+    /// `RULE:deny-overrides`, `POLICY:deny-overrides` (appendix C.2).
     DenyOverrides,
+    /// `RULE:permit-overrides`, `POLICY:permit-overrides` (appendix C.4).
+    PermitOverrides,
+    /// `RULE:ordered-deny-overrides`, `POLICY:ordered-deny-overrides` (appendix C.3).
+    OrderedDenyOverrides,
+    /// `RULE:ordered-permit-overrides`, `POLICY:ordered-permit-overrides` (appendix C.5).
+    OrderedPermitOverrides,
+    /// `RULE:deny-unless-permit`, `POLICY:deny-unless-permit` (appendix C.6).
+    DenyUnlessPermit,
+    /// `RULE:permit-unless-deny`, `POLICY:permit-unless-deny` (appendix C.7).
+    PermitUnlessDeny,
+    /// `urn:oasis:names:tc:xacml:1.0:rule-combining-algorithm:first-applicable`,
+    /// `urn:oasis:names:tc:xacml:1.0:policy-combining-algorithm:first-applicable` (appendix C.8).
+    FirstApplicable,
+    /// `urn:oasis:names:tc:xacml:1.0:policy-combining-algorithm:only-one-applicable` (appendix C.9).
+    OnlyOneApplicable,
 }
 
-/// The decision that the algorithm makes of the decisions of the children, in their order.
-pub fn combine(algorithm: Alg, decisions: &[Decision]) -> Decision
-    ensures { result ≡ combined_decision algorithm decisions.now }
-{
-    match algorithm {
-        Alg::DenyOverrides => deny_overrides(decisions),
+/// A child of a policy or of a policy set, as it is combined.
+#[derive(Clone, Copy, Debug, PartialEq, Eq)]
+pub struct Child {
+    /// What it decides.
+    pub decision: Decision,
+    /// What its target comes to, by which only-one-applicable goes.
+    pub target: Matching,
+}
+
+impl Child {
+    /// Whether its target is Match.
+    fn applies(self) -> bool
+        ensures { result ≡ applies self }
+    {
+        matches!(self.target, Matching::Match)
+    }
+
+    /// Whether its target is Indeterminate.
+    fn may_apply(self) -> bool
+        ensures { result ≡ may_apply self }
+    {
+        matches!(self.target, Matching::Indeterminate(_))
     }
 }
 
-/// Deny-overrides. The first Deny settles it.
-#[tactic(auto, using(crate::proofs::CombiningLemmas::deny_overrides_steps))]
-fn deny_overrides(decisions: &[Decision]) -> Decision
-    ensures { result ≡ deny_overrides decisions.now }
+/// The decision that the algorithm makes of the children, in their order.
+pub fn combine(algorithm: Alg, children: &[Child]) -> Decision
+    ensures { result ≡ combined_decision algorithm children.now }
+{
+    match algorithm {
+        Alg::DenyOverrides | Alg::OrderedDenyOverrides => overrides(Effect::Deny, children),
+        Alg::PermitOverrides | Alg::OrderedPermitOverrides => overrides(Effect::Permit, children),
+        Alg::DenyUnlessPermit => otherwise(Effect::Permit, children),
+        Alg::PermitUnlessDeny => otherwise(Effect::Deny, children),
+        Alg::FirstApplicable => first_applicable(children),
+        Alg::OnlyOneApplicable => only_one_applicable(children),
+    }
+}
+
+/// Deny-overrides or permit-overrides. The first decision with the effect settles it.
+#[tactic(auto, using(crate::proofs::OverridingLemmas::overrides_steps))]
+fn overrides(effect: Effect, children: &[Child]) -> Decision
+    ensures { result ≡ overrides effect (map decision_of children.now) }
 {
     let mut so_far = Decision::NotApplicable;
-    for decision in decisions {
-        so_far = deny_overrides_of_two(so_far, *decision);
-        if so_far == Decision::Deny {
-            return Decision::Deny;
+    for child in children {
+        so_far = overrides_of_two(effect, so_far, child.decision);
+        if so_far.is(effect) {
+            return effect.decision();
         }
     }
     so_far
 }
 
+/// Deny-overrides or permit-overrides of two.
+pub(crate) fn overrides_of_two(effect: Effect, first: Decision, second: Decision) -> Decision
+    ensures { result ≡ overrides effect (first ∷ second ∷ []) }
+{
+    match effect {
+        Effect::Permit => permit_overrides_of_two(first, second),
+        Effect::Deny => deny_overrides_of_two(first, second),
+    }
+}
+
 /// Deny-overrides of two.
 #[tactic(auto, unfolding(crate::specs::Combining::deny_overrides))]
-pub(crate) fn deny_overrides_of_two(first: Decision, second: Decision) -> Decision
+fn deny_overrides_of_two(first: Decision, second: Decision) -> Decision
     ensures { result ≡ deny_overrides (first ∷ second ∷ []) }
 {
     match (first, second) {
@@ -58,4 +117,82 @@ pub(crate) fn deny_overrides_of_two(first: Decision, second: Decision) -> Decisi
         }
         (Decision::NotApplicable, Decision::NotApplicable) => Decision::NotApplicable,
     }
+}
+
+/// Permit-overrides of two, the mirror of deny-overrides.
+#[tactic(auto, using(crate::proofs::MirrorLemmas::permit_overrides_mirrors))]
+fn permit_overrides_of_two(first: Decision, second: Decision) -> Decision
+    ensures { result ≡ permit_overrides (first ∷ second ∷ []) }
+{
+    deny_overrides_of_two(first.mirrored(), second.mirrored()).mirrored()
+}
+
+/// Deny-unless-permit or permit-unless-deny. The first decision with the effect settles it.
+#[tactic(auto, using(crate::proofs::OverridingLemmas::otherwise_steps))]
+fn otherwise(effect: Effect, children: &[Child]) -> Decision
+    ensures { result ≡ otherwise effect (map decision_of children.now) }
+{
+    for child in children {
+        if child.decision.is(effect) {
+            return effect.decision();
+        }
+    }
+    effect.other().decision()
+}
+
+/// First-applicable.
+#[tactic(auto, using(crate::proofs::FirstApplicableLemmas::first_applicable_steps))]
+fn first_applicable(children: &[Child]) -> Decision
+    ensures { result ≡ first_applicable (map decision_of children.now) }
+{
+    for child in children {
+        if child.decision.is_applicable() {
+            return first_applicable_of_one(child.decision);
+        }
+    }
+    Decision::NotApplicable
+}
+
+/// First-applicable of one: an Indeterminate could have been either.
+#[tactic(auto, unfolding(crate::specs::Combining::first_applicable))]
+pub(crate) fn first_applicable_of_one(decision: Decision) -> Decision
+    ensures { result ≡ first_applicable (decision ∷ []) }
+{
+    match decision {
+        Decision::Permit => Decision::Permit,
+        Decision::Deny => Decision::Deny,
+        Decision::NotApplicable => Decision::NotApplicable,
+        Decision::IndeterminatePermit
+        | Decision::IndeterminateDeny
+        | Decision::IndeterminateDenyPermit => Decision::IndeterminateDenyPermit,
+    }
+}
+
+/// Only-one-applicable, by the targets in their order. The first that isn't No match leaves it to the others, or settles it.
+#[tactic(auto, using(crate::proofs::OnlyOneLemmas::only_one_steps))]
+fn only_one_applicable(children: &[Child]) -> Decision
+    ensures { result ≡ only_one_applicable children.now }
+{
+    for (place, child) in children.iter().enumerate() {
+        if child.applies() {
+            return unless_another_applies(child.decision, children.split_at(place + 1).1);
+        }
+        if child.may_apply() {
+            return Decision::IndeterminateDenyPermit;
+        }
+    }
+    Decision::NotApplicable
+}
+
+/// Only-one-applicable of an applicable child and the others behind it. The first target that isn't No match settles it.
+#[tactic(auto, using(crate::proofs::OnlyOneLemmas::only_one_steps))]
+fn unless_another_applies(decision: Decision, others: &[Child]) -> Decision
+    ensures { result ≡ only_one_applicable (record { decision = decision; target = target.Match } ∷ others.now) }
+{
+    for other in others {
+        if other.applies() || other.may_apply() {
+            return Decision::IndeterminateDenyPermit;
+        }
+    }
+    decision
 }

@@ -1,4 +1,9 @@
 //! Effects and decisions.
+ghost use Rattle.std.specs.Prelude.{◌≡◌, not};
+ghost use Rattle.xa_policy.specs.Combining.{is, is_indeterminate};
+ghost use Rattle.xa_policy.specs.declared.decision.Decision.TheVariants.{NotApplicable};
+ghost use Rattle.xa_policy.specs.Mirror.{mirrored};
+ghost use Rattle.xa_policy.specs.Overriding.{decision_with, other};
 
 /// What a rule gives where it applies (XACML 3.0, section 5.22).
 #[derive(Clone, Copy, Debug, PartialEq, Eq)]
@@ -24,4 +29,71 @@ pub enum Decision {
     IndeterminateDeny,
     /// Indeterminate{DP}: could have been Permit or Deny.
     IndeterminateDenyPermit,
+}
+
+impl Effect {
+    /// The decision with this effect.
+    pub(crate) fn decision(self) -> Decision
+        ensures { result ≡ decision_with self }
+    {
+        match self {
+            Effect::Permit => Decision::Permit,
+            Effect::Deny => Decision::Deny,
+        }
+    }
+
+    /// The other effect.
+    pub(crate) fn other(self) -> Effect
+        ensures { result ≡ other self }
+    {
+        match self {
+            Effect::Permit => Effect::Deny,
+            Effect::Deny => Effect::Permit,
+        }
+    }
+}
+
+impl Decision {
+    /// Whether it is the decision with this effect.
+    pub(crate) fn is(self, effect: Effect) -> bool
+        ensures { result ≡ is (decision_with effect) self }
+    {
+        matches!(
+            (effect, self),
+            (Effect::Permit, Decision::Permit) | (Effect::Deny, Decision::Deny)
+        )
+    }
+
+    /// Whether it is not NotApplicable.
+    pub(crate) fn is_applicable(self) -> bool
+        ensures { result ≡ not (is NotApplicable self) }
+    {
+        !matches!(self, Decision::NotApplicable)
+    }
+
+    /// Whether it is one of the three kinds of Indeterminate.
+    pub(crate) fn is_indeterminate(self) -> bool
+        ensures { result ≡ is_indeterminate self }
+    {
+        matches!(
+            self,
+            Decision::IndeterminatePermit
+                | Decision::IndeterminateDeny
+                | Decision::IndeterminateDenyPermit
+        )
+    }
+
+    /// The decision with Permit and Deny exchanged.
+    pub(crate) fn mirrored(self) -> Decision
+        ensures { result ≡ mirrored self }
+    {
+        match self {
+            Decision::Permit => Decision::Deny,
+            Decision::Deny => Decision::Permit,
+            Decision::NotApplicable => Decision::NotApplicable,
+            Decision::IndeterminatePermit => Decision::IndeterminateDeny,
+            Decision::IndeterminateDeny => Decision::IndeterminatePermit,
+            Decision::IndeterminateDenyPermit => Decision::IndeterminateDenyPermit,
+        }
+    }
 }

@@ -4,7 +4,7 @@ use crate::rule::Rule;
 use xa_value::{Items, Text};
 
 /// A policy (XACML 3.0, section 5.14), without a target of its own for now.
-#[derive(Debug, Drop, PartialEq, Eq)]
+#[derive(Debug, Drop)]
 pub struct Policy {
     /// The policy's id.
     pub id: Text,

@@ -4,14 +4,12 @@ ghost use Rattle.xa_policy.specs.Rule.{rule_value};
 
 use crate::decision::{Decision, Effect};
 use crate::evaluated::Evaluated;
-use crate::lookup::Lookup;
-use crate::matching::Matching;
-use crate::target::Target;
 use std::alloc::{AllocError, Global};
+use xa_expr::{Context, Matching, Target};
 use xa_func::Status;
 
 /// A rule (XACML 3.0, section 5.21), without conditions for now.
-#[derive(Debug, Drop, PartialEq, Eq)]
+#[derive(Debug, Drop)]
 pub struct Rule {
     /// What the rule gives where it applies.
     pub effect: Effect,
@@ -21,14 +19,14 @@ pub struct Rule {
 
 impl Rule {
     /// What the rule decides (XACML 3.0, section 7.11).
-    pub(crate) fn evaluate<L: Lookup>(
+    pub(crate) fn evaluate<C: Context>(
         &self,
         alloc: Global,
-        lookup: &L,
+        context: &C,
     ) -> Result<Evaluated, AllocError>
-        ensures { IfOk result (λ e. e ≡ rule_value (L.bag_of lookup.now) self.now) }
+        ensures { IfOk result (λ e. e ≡ rule_value (C.values_of context.now) self.now) }
     {
-        Ok(match (self.target.matching(alloc, lookup)?, self.effect) {
+        Ok(match (self.target.matching(alloc, context)?, self.effect) {
             (Matching::Match, Effect::Permit) => Evaluated {
                 decision: Decision::Permit,
                 status: Status::Ok,
@@ -41,13 +39,13 @@ impl Rule {
                 decision: Decision::NotApplicable,
                 status: Status::Ok,
             },
-            (Matching::Indeterminate(status), Effect::Permit) => Evaluated {
+            (Matching::Indeterminate(fault), Effect::Permit) => Evaluated {
                 decision: Decision::IndeterminatePermit,
-                status,
+                status: fault.status(),
             },
-            (Matching::Indeterminate(status), Effect::Deny) => Evaluated {
+            (Matching::Indeterminate(fault), Effect::Deny) => Evaluated {
                 decision: Decision::IndeterminateDeny,
-                status,
+                status: fault.status(),
             },
         })
     }

@@ -1,9 +1,0 @@
-use Rattle.std.proofs.Common.{◌≡◌, ◌∷◌, map, drop}
-use Rattle.xa_policy.specs.Target.{some_match, all_of_value}
-use Rattle.xa_policy.proofs.target.AnyOf.matching.Given as goal
-
--- what the children so far come to stands for them in front of the rest
-abbrev pub invariant-loop-child : goal.invariant-loop-child
-invariant-loop-child g l =
-    some_match (l.so_far ∷ map (all_of_value (g.L.Lookup.bag_of l.lookup)) (drop l.child-index l.child-items))
-    ≡ some_match (map (all_of_value (g.L.Lookup.bag_of l.lookup)) l.self.all_of)
