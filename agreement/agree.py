@@ -7,6 +7,7 @@ import collections
 import sys
 
 from answers import answer
+from combining import ALGORITHMS, DECISIONS
 from exchanges import Exchanges
 from functions import BAG_FUNCTIONS, DURATIONS, FUNCTIONS, HIGHER_ORDER, V1, V3
 from rows import encoded, line
@@ -129,11 +130,18 @@ class Rows:
             given.append((data_type, self.some(pool, range(5)) if is_bag else pool[0]))
         return ["higher", uri, inner, *self.arguments(given)]
 
+    def combine(self):
+        """A combining algorithm over few or many children, some of whose targets aren't Match."""
+        decisions = self.random.sample(DECISIONS, self.random.randint(1, len(DECISIONS)))
+        targets = self.random.choice([["Match"], ["Match", "NoMatch", "NoMatch", "NoMatch"], ["Match", "NoMatch", "NoMatch", "Indeterminate"]])
+        children = [f"{self.random.choice(decisions)}/{self.random.choice(targets)}" for _ in range(self.random.choice([0, 1, 2, 3, 5, 9]))]
+        return ["combine", self.random.choice(ALGORITHMS), *(child.removesuffix("/Match") for child in children)]
+
     def exchange(self):
         return self.exchanges.next()
 
     def next(self):
-        return self.random.choice([self.read, self.apply, self.bags, self.higher] * 3 + [self.compare, self.moment, self.exchange])()
+        return self.random.choice([self.read, self.apply, self.bags, self.higher] * 3 + [self.compare, self.moment, self.combine, self.exchange])()
 
 
 def compare(path, rows):

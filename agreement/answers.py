@@ -1,9 +1,12 @@
 """What the model answers to a row, as the program writes it; None for a kind of row that the model doesn't know."""
+import hashlib
+
+import combining
 import messages
 from functions import BAG_FUNCTIONS, FUNCTIONS, HIGHER_ORDER, higher_order
 from names import NAMES
 from rows import decoded, encoded
-from values import TYPES, Fault, date_of, day_number, key, print_clock, print_date, read, to_text
+from values import MAX_DAY_TIME, MAX_MONTHS, TYPES, Fault, date_of, day_number, key, print_clock, print_date, read, to_text
 
 NAMESPACE = "http://www.w3.org/2001/XMLSchema#"
 STATUS = "urn:oasis:names:tc:xacml:1.0:status:"
@@ -186,10 +189,36 @@ def number(most, text=""):
     return [str(int(held))] if digits and int(held) <= int(most) else ["!None"]
 
 
+def months(number):
+    return [shown(("yearMonthDuration", int(number)))] if abs(int(number)) <= MAX_MONTHS else ["!None"]
+
+
+def nanoseconds(number):
+    return [shown(("dayTimeDuration", int(number)))] if abs(int(number)) <= MAX_DAY_TIME else ["!None"]
+
+
+def held(field):
+    return [shown(value_of(field))]
+
+
+def keys(*texts):
+    return [encoded(text) for text in sorted({decoded(text) for text in texts})]
+
+
+def bag(data_type, *fields):
+    taken = [value_of(field)[0] == data_type for field in fields]
+    return ["true" if is_taken else "false" for is_taken in taken] + [str(sum(taken))]
+
+
+def digest(text, field):
+    return ["true" if hashlib.sha256(decoded(text)).digest() == decoded(field) else "false"]
+
+
 KINDS = {
     "read": read_row, "type": type_row, "category": category_row, "numbered": numbered, "plain": plain, "same": same, "order": order, "moment": moment, "function": function,
     "apply": apply, "higher": higher, "token": token, "domain": domain, "number": number,
-    "server": messages.server, "stream": messages.stream, "route": messages.route, "combine": messages.combine,
+    "months": months, "nanoseconds": nanoseconds, "held": held, "keys": keys, "bag": bag, "digest": digest,
+    "server": messages.server, "stream": messages.stream, "route": messages.route, "combine": combining.combine,
 }
 
 

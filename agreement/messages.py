@@ -4,6 +4,7 @@ A stream's bytes are looked at from their front: a message, more wanted, or a fa
 """
 import json
 
+from combining import deny_overrides
 from rows import decoded, encoded
 
 MAX_HEAD, MAX_FIELDS, MAX_BODY = 16_384, 64, 262_144
@@ -240,15 +241,6 @@ def target_value(text, request):
                       for any_of in text.split(";")]) if text else True
 
 
-def deny_overrides(found):
-    """The decision, where each is Permit, Deny, NotApplicable, {P}, {D} or {DP}."""
-    if "Deny" in found:
-        return "Deny"
-    if "{DP}" in found or "{D}" in found and ("{P}" in found or "Permit" in found):
-        return "{DP}"
-    return next((it for it in ("{D}", "Permit", "{P}") if it in found), "NotApplicable")
-
-
 def decided(rules, body):
     try:
         request = request_of(body)
@@ -357,7 +349,3 @@ def stream(*pieces):
 def route(method, target):
     name = domain_asked(decoded(target))
     return ["!NoRoute"] if name is None else ["decide:" + encoded(name)] if decoded(method) == b"POST" else ["!BadMethod"]
-
-
-def combine(algorithm, *decisions):
-    return [deny_overrides(decisions)]

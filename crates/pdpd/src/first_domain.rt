@@ -3,7 +3,8 @@ ghost use Rattle.std.specs.Prelude.{◌≡◌, IfOk};
 ghost use Rattle.pdpd.specs.FirstDomain.{acme, permit_all};
 
 use std::alloc::{AllocError, Global};
-use xa_policy::{Alg, Effect, Policy, Rule, Target};
+use xa_expr::Target;
+use xa_policy::{Alg, Effect, Policy, Rule};
 use xa_server::{Digest, Given, Role, Token};
 use xa_value::{Items, Text};
 

@@ -25,7 +25,7 @@ use Rattle.xa_server.specs.declared.request.RequestError.TheVariants as request
 use Rattle.xa_server.specs.declared.token.Role.{Role}
 use Rattle.xa_server.specs.declared.token.Token.{Token}
 use Rattle.xa_server.specs.Authorization.{token_in}
-use Rattle.xa_server.specs.Bags.{bag_of}
+use Rattle.xa_server.specs.Bags.{values_of}
 use Rattle.xa_server.specs.DomainState.{DomainState}
 use Rattle.xa_server.specs.Tokens.{role_of}
 use Rattle.xa_server.specs.ErrorCode.{code_of_route_fault, error_reply, or_error}
@@ -43,7 +43,7 @@ syntax_error = record { decision = IndeterminateDenyPermit; status = SyntaxError
 
 -- the decision on a body, by the request that it is; 400 where it is no JSON
 abbrev pub decision_on : Policy → Result Request RequestError → Result Evaluated ErrorCode
-decision_on policy (Ok asked) = Ok (evaluation (bag_of asked) policy)
+decision_on policy (Ok asked) = Ok (evaluation (values_of asked) policy)
 decision_on policy (Err request.NotProfile) = Ok syntax_error
 decision_on policy (Err request.NotJson) = Err NotJson
 

@@ -1,12 +1,11 @@
 -- The request of a decision (JSON Profile of XACML 3.0, section 4), as far as it is read today: the
 -- subject, the resource and the action, each one object whose member Attribute lists texts.
-use Rattle.std.specs.Prelude.{ℕ, ◌+◌, ◌==◌, Bool, false, List, [], ◌∷◌, map, filter, Option, Some, None, option_and_then, Result, Ok, Err, codes, if◌then◌else◌}
-use Rattle.std.specs.Str.{is_utf8, bytes_eq}
+use Rattle.std.specs.Prelude.{ℕ, ◌+◌, ◌==◌, Bool, false, List, [], ◌∷◌, Option, Some, None, option_and_then, Result, Ok, Err, codes, if◌then◌else◌}
+use Rattle.std.specs.Str.{is_utf8}
 use Rattle.serde_json.specs.Data.{Data, null, boolean, number, string, array, object, Items, no_items, item, Members, no_members, member}
 use Rattle.serde_json.specs.Read.{read}
 use Rattle.serde_json.specs.Find.{get, as_str, as_array}
 use Rattle.xa_value.specs.Gives.{◌>>=◌}
-use Rattle.xa_value.specs.declared.value.Value as value
 use Rattle.xa_value.specs.declared.value.Value.TheVariants.{String}
 use Rattle.xa_server.specs.declared.request.Member.{Member}
 use Rattle.xa_server.specs.declared.request.Member.TheVariants.{AccessSubject, Resource, Action, AttributeId, Value}
@@ -115,7 +114,3 @@ unfoldable pub request_of : List ℕ → Result Request RequestError
 request_of body = do
   d ← json body
   request_in d
-
--- the values of the attributes of that id, in request order (XACML 3.0, section 7.3.5)
-abbrev pub values_of : List ℕ → List Attribute → List value.Value
-values_of id attributes = map (λ a. a.value) (filter (λ a. bytes_eq a.id id) attributes)

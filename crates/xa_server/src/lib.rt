@@ -10,8 +10,6 @@ mod replies;
 mod request;
 mod response;
 mod server;
-#[cfg(test)]
-mod tests;
 mod token;
 
 pub use authorization::is_token;

@@ -1,17 +1,21 @@
 //! The request of a decision, read from its JSON, and the bags of its attributes.
-ghost use Rattle.std.specs.Prelude.{◌≡◌, ◌≤◌, Some, Ok, Err, option_map, option_and_then, MatchResult, IfOk};
+ghost use Rattle.std.specs.Prelude.{◌≡◌, ◌≤◌, [], ◌∷◌, ◌++◌, Some, Ok, Err, option_map, option_and_then, MatchResult, IfOk};
 ghost use Rattle.serde_json.specs.Find.{as_str, as_array};
 ghost use Rattle.serde_json.specs.View.{view, items_view};
 ghost use Rattle.xa_value.specs.Gives.{Gives};
+ghost use Rattle.xa_value.specs.Order.{type_of};
+ghost use Rattle.xa_bag.specs.Bag.{bag_of};
+ghost use Rattle.xa_expr.specs.Typed.{same_type};
 ghost use Rattle.xa_value.specs.declared.or_memory.OrMemory.TheVariants.{Error};
-ghost use Rattle.xa_server.specs.Request.{name_of, at, is_object_of, check_object_of, text_of, attribute_of, attributes_in, category_of, categories_of, request_in, json, request_of, values_of, presence};
-ghost use Rattle.xa_server.specs.Bags.{attributes_of};
+ghost use Rattle.xa_server.specs.Request.{name_of, at, is_object_of, check_object_of, text_of, attribute_of, attributes_in, category_of, categories_of, request_in, json, request_of, presence};
+ghost use Rattle.xa_server.specs.Bags.{attributes_of, is_named, named_values};
 
 use serde_json::Value as Json;
 use std::alloc::{AllocError, Global};
 use thiserror::Error;
-use xa_policy::{Designator, Lookup};
-use xa_value::{Items, OrMemory, Text, Value};
+use xa_bag::Bag;
+use xa_expr::{Context, Designator};
+use xa_value::{DataType, Items, OrMemory, Text, Value};
 
 /// The members that the reader knows, by their names.
 #[derive(Clone, Copy, Debug, PartialEq, Eq)]
@@ -273,29 +277,59 @@ impl Request {
     }
 }
 
-fn values_of(alloc: Global, id: &str, attributes: &[Attribute]) -> Result<Items<Value>, AllocError>
-    ensures { IfOk result (λ values. values ≡ values_of id.now attributes.now) }
+/// Whether the designator names the attribute, which has no issuer.
+fn is_named(designator: &Designator, attribute: &Attribute) -> bool
+    ensures { result ≡ is_named designator.now attribute.now }
 {
-    let mut values = Items::new(alloc);
-    for attribute in attributes {
-        if attribute.id.as_str() == id {
-            values.push(attribute.value.clone()?)?;
-        }
-    }
-    Ok(values)
+    designator.issuer.is_none()
+        && attribute.id.as_bytes() == designator.attribute_id.as_bytes()
+        && is_of_type(&attribute.value, designator.data_type)
 }
 
-impl Lookup for Request {
-    ghost use Rattle.xa_server.specs.Bags.{bag_of};
+fn is_of_type(value: &Value, data_type: DataType) -> bool
+    ensures { result ≡ same_type (type_of value.now) data_type }
+{
+    value.data_type() == data_type
+}
 
-    ghost bag_of = { bag_of };
+/// Puts the attribute's value at the end of the designator's bag, where the designator names it.
+fn push_named(
+    bag: &mut Bag,
+    designator: &Designator,
+    attribute: &Attribute,
+) -> Result<(), AllocError>
+    requires { bag.old.data_type ≡ designator.now.data_type }
+    ensures { IfOk result (λ _. bag.new ≡ bag_of bag.old.data_type (bag.old.values ++ named_values designator.now (attribute.now ∷ []))) }
+{
+    if is_named(designator, attribute) {
+        bag.push(attribute.value.clone()?)?;
+    }
+    Ok(())
+}
 
-    #[tactic(auto, unfolding(crate::specs::Bags::bag_of))]
-    fn bag(&self, alloc: Global, designator: &Designator) -> Result<Items<Value>, AllocError> {
-        values_of(
-            alloc,
-            designator.attribute_id.as_str(),
-            self.attributes_of(designator.category.as_str()),
-        )
+/// The bag of the values of those attributes that the designator names.
+fn bag_of(
+    alloc: Global,
+    designator: &Designator,
+    attributes: &[Attribute],
+) -> Result<Bag, AllocError>
+    ensures { IfOk result (λ bag. bag ≡ bag_of designator.now.data_type (named_values designator.now attributes.now)) }
+{
+    let mut bag = Bag::new(alloc, designator.data_type);
+    for attribute in attributes {
+        push_named(&mut bag, designator, attribute)?;
+    }
+    Ok(bag)
+}
+
+impl Context for Request {
+    ghost use Rattle.xa_server.specs.Bags.{values_of};
+
+    ghost values_of = { values_of };
+
+    #[tactic(auto, unfolding(crate::specs::Bags::values_of))]
+    fn bag(&self, alloc: Global, designator: &Designator) -> Result<Bag, AllocError> {
+        let attributes = self.attributes_of(designator.category.as_str());
+        bag_of(alloc, designator, attributes)
     }
 }

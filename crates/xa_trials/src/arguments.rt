@@ -6,7 +6,7 @@ use xa_bag::{Bag, ValueOrBag};
 use xa_value::{DataType, Value};
 
 /// The type of that name.
-fn type_named(name: &str) -> Result<DataType, NoAnswer> {
+pub fn type_named(name: &str) -> Result<DataType, NoAnswer> {
     DataType::from_uri(name).ok_or(NoAnswer::Malformed)
 }
 

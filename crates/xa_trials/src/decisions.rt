@@ -1,7 +1,8 @@
-//! Rows of combining: what an algorithm makes of the decisions of the children.
+//! Rows of combining: what an algorithm makes of the children.
 use crate::answer::Answer;
 use crate::no_answer::NoAnswer;
-use xa_policy::{Alg, Decision, combine};
+use xa_expr::{Fault, Matching};
+use xa_policy::{Alg, Child, Decision, combine};
 
 /// The decision of that name.
 fn decision_named(name: &str) -> Result<Decision, NoAnswer> {
@@ -28,12 +29,51 @@ fn name_of(decision: Decision) -> &'static str {
     }
 }
 
-/// What deny-overrides makes of the decisions.
-pub fn combination(answer: &mut Answer, names: &[&str]) -> Result<(), NoAnswer> {
-    let mut decisions = Vec::new(answer.alloc());
-    for name in names {
-        decisions.push(decision_named(name)?)?;
+/// The algorithm of that name, as it stands at the end of its URI.
+fn algorithm_named(name: &str) -> Result<Alg, NoAnswer> {
+    match name {
+        "deny-overrides" => Ok(Alg::DenyOverrides),
+        "permit-overrides" => Ok(Alg::PermitOverrides),
+        "ordered-deny-overrides" => Ok(Alg::OrderedDenyOverrides),
+        "ordered-permit-overrides" => Ok(Alg::OrderedPermitOverrides),
+        "deny-unless-permit" => Ok(Alg::DenyUnlessPermit),
+        "permit-unless-deny" => Ok(Alg::PermitUnlessDeny),
+        "first-applicable" => Ok(Alg::FirstApplicable),
+        "only-one-applicable" => Ok(Alg::OnlyOneApplicable),
+        _ => Err(NoAnswer::Malformed),
     }
-    answer.word(name_of(combine(Alg::DenyOverrides, &decisions)))?;
+}
+
+/// What a target of that name comes to.
+fn target_named(name: &str) -> Result<Matching, NoAnswer> {
+    match name {
+        "Match" => Ok(Matching::Match),
+        "NoMatch" => Ok(Matching::NoMatch),
+        "Indeterminate" => Ok(Matching::Indeterminate(Fault::ProcessingError)),
+        _ => Err(NoAnswer::Malformed),
+    }
+}
+
+/// The child DECISION, or DECISION/TARGET where its target isn't Match.
+fn child_of(field: &str) -> Result<Child, NoAnswer> {
+    match field.split_once('/') {
+        Some((decision, target)) => Ok(Child {
+            decision: decision_named(decision)?,
+            target: target_named(target)?,
+        }),
+        None => Ok(Child {
+            decision: decision_named(field)?,
+            target: Matching::Match,
+        }),
+    }
+}
+
+/// What the algorithm makes of the children.
+pub fn combination(answer: &mut Answer, algorithm: &str, fields: &[&str]) -> Result<(), NoAnswer> {
+    let mut children = Vec::new(answer.alloc());
+    for field in fields {
+        children.push(child_of(field)?)?;
+    }
+    answer.word(name_of(combine(algorithm_named(algorithm)?, &children)))?;
     Ok(())
 }

@@ -4,7 +4,8 @@ use crate::field::text_of;
 use crate::no_answer::NoAnswer;
 use crate::targets::target_of;
 use std::alloc::Global;
-use xa_policy::{Alg, Effect, Policy, Rule, Target};
+use xa_expr::Target;
+use xa_policy::{Alg, Effect, Policy, Rule};
 use xa_server::{Digest, Given, Role, Token};
 use xa_value::{Items, Text};
 

@@ -7,6 +7,7 @@ mod decisions;
 mod domains;
 mod field;
 mod functions;
+mod holders;
 mod messages;
 mod no_answer;
 mod plain;
@@ -22,25 +23,54 @@ use std::io::{self, BufRead, BufReader, BufWriter, Write};
 /// Answers a row, whose first field says what is asked.
 fn answer_row(answer: &mut Answer, fields: &[&str]) -> Result<(), NoAnswer> {
     match fields {
-        ["type", name] => values::data_type(answer, name),
-        ["numbered", number] => values::numbered(answer, number),
-        ["category", name] => values::category(answer, name),
-        ["plain", data_type, member] => plain::plain(answer, data_type, member),
         ["read", data_type, text] => values::read(answer, data_type, text),
         ["same", left, right] => values::same(answer, left, right),
         ["order", left, right] => values::order(answer, left, right),
         ["moment", seconds] => values::moment(answer, seconds),
+        ["months", number] => values::months(answer, number),
+        ["nanoseconds", number] => values::nanoseconds(answer, number),
+        ["plain", data_type, member] => plain::plain(answer, data_type, member),
+        _ => answer_to_names(answer, fields),
+    }
+}
+
+/// Answers a row of names and numbers.
+fn answer_to_names(answer: &mut Answer, fields: &[&str]) -> Result<(), NoAnswer> {
+    match fields {
+        ["type", name] => values::data_type(answer, name),
+        ["numbered", number] => values::numbered(answer, number),
+        ["category", name] => values::category(answer, name),
         ["number", most, digits] => values::number(answer, most, digits),
+        ["token", text] => messages::token(answer, text),
+        ["domain", name] => messages::domain(answer, name),
+        ["digest", text, bytes] => messages::digest(answer, text, bytes),
+        _ => answer_to_functions(answer, fields),
+    }
+}
+
+/// Answers a row of functions, and of what holds values.
+fn answer_to_functions(answer: &mut Answer, fields: &[&str]) -> Result<(), NoAnswer> {
+    match fields {
         ["function", name] => functions::function(answer, name),
         ["apply", name, arguments @ ..] => functions::apply(answer, name, arguments),
         ["higher", name, inner, arguments @ ..] => functions::higher(
             answer, name, inner, arguments,
         ),
-        ["combine", "deny-overrides", decisions @ ..] => decisions::combination(answer, decisions),
+        ["held", value] => holders::held(answer, value),
+        ["keys", texts @ ..] => holders::keys(answer, texts),
+        ["bag", data_type, values @ ..] => holders::bag(answer, data_type, values),
+        _ => answer_to_messages(answer, fields),
+    }
+}
+
+/// Answers a row of messages, and of what is decided.
+fn answer_to_messages(answer: &mut Answer, fields: &[&str]) -> Result<(), NoAnswer> {
+    match fields {
+        ["combine", algorithm, children @ ..] => decisions::combination(
+            answer, algorithm, children,
+        ),
         ["stream", pieces @ ..] => messages::stream(answer, pieces),
         ["route", method, target] => messages::routing(answer, method, target),
-        ["token", text] => messages::token(answer, text),
-        ["domain", name] => messages::domain(answer, name),
         ["server", fields @ ..] => server::server(answer, fields),
         _ => Err(NoAnswer::Malformed),
     }

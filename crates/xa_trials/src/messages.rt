@@ -5,7 +5,7 @@ use crate::no_answer::NoAnswer;
 use std::alloc::Global;
 use xa_http::routes::route;
 use xa_http::{Message, Next, Route, Session};
-use xa_server::{is_domain_name, is_token};
+use xa_server::{Digest, is_domain_name, is_token};
 use xa_value::{Items, OrMemory};
 
 /// The messages of a stream that comes in these pieces, with what it answers after each of them.
@@ -73,4 +73,14 @@ pub fn token(answer: &mut Answer, field: &str) -> Result<(), NoAnswer> {
 pub fn domain(answer: &mut Answer, field: &str) -> Result<(), NoAnswer> {
     let text = bytes_of(answer.alloc(), field)?;
     Ok(answer.debug(&is_domain_name(&text))?)
+}
+
+/// Whether the bytes are the digest of the text.
+pub fn digest(answer: &mut Answer, text: &str, field: &str) -> Result<(), NoAnswer> {
+    let text = bytes_of(answer.alloc(), text)?;
+    let bytes = bytes_of(answer.alloc(), field)?;
+    let Ok(bytes) = <[u8; 32]>::try_from(bytes.as_slice()) else {
+        return Err(NoAnswer::Malformed);
+    };
+    Ok(answer.debug(&(Digest::of(&text) == Digest::from_bytes(bytes)))?)
 }

@@ -2,8 +2,8 @@
 //! of resource and action go so too. Matches joined by `&` must all be true, of conjunctions joined by `|` one, and all of what `;` joins.
 use crate::no_answer::NoAnswer;
 use std::alloc::Global;
-use xa_policy::{AllOf, AnyOf, Designator, Match, Target};
-use xa_value::{Items, Text, Value};
+use xa_expr::{AllOf, AnyOf, CheckError, Designator, Match, Target};
+use xa_value::{DataType, Items, Text, Value};
 
 /// The category of the word, and the id of its attribute.
 fn attribute_named(word: &str) -> Result<(&'static str, &'static str), NoAnswer> {
@@ -24,6 +24,15 @@ fn attribute_named(word: &str) -> Result<(&'static str, &'static str), NoAnswer>
     }
 }
 
+/// The function that compares.
+const STRING_EQUAL: &str = "urn:oasis:names:tc:xacml:1.0:function:string-equal";
+
+impl From<CheckError> for NoAnswer {
+    fn from(_error: CheckError) -> NoAnswer {
+        NoAnswer::Malformed
+    }
+}
+
 /// The match of a word and a literal.
 fn match_with(
     alloc: Global,
@@ -32,14 +41,17 @@ fn match_with(
     must_be_present: bool,
 ) -> Result<Match, NoAnswer> {
     let (category, attribute_id) = attribute_named(word)?;
-    Ok(Match {
-        value: Value::String(Text::new(alloc, literal)?),
-        designator: Designator {
+    Ok(Match::new(
+        STRING_EQUAL,
+        Value::String(Text::new(alloc, literal)?),
+        Designator {
             category: Text::new(alloc, category)?,
             attribute_id: Text::new(alloc, attribute_id)?,
+            data_type: DataType::String,
             must_be_present,
+            issuer: None,
         },
-    })
+    )?)
 }
 
 fn match_of(alloc: Global, text: &str) -> Result<Match, NoAnswer> {

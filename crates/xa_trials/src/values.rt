@@ -3,7 +3,10 @@ use crate::answer::Answer;
 use crate::arguments::value;
 use crate::field::{bytes_of, text_of};
 use crate::no_answer::NoAnswer;
-use xa_value::{Category, DataType, Moment, OrMemory, Value, category_uri, number_up_to};
+use xa_value::{
+    Category, DataType, DayTimeDuration, Moment, OrMemory, Value, YearMonthDuration, category_uri,
+    number_up_to,
+};
 
 /// The type that the name names: its name, its URI and its number.
 pub fn data_type(answer: &mut Answer, field: &str) -> Result<(), NoAnswer> {
@@ -83,6 +86,28 @@ fn parts(answer: &mut Answer, moment: Moment) -> Result<(), NoAnswer> {
     answer.value(&Value::Time(moment.time()))?;
     answer.value(&Value::DateTime(moment.date_time()))?;
     Ok(())
+}
+
+/// The duration of so many months.
+pub fn months(answer: &mut Answer, number: &str) -> Result<(), NoAnswer> {
+    let Ok(number) = number.parse::<i32>() else {
+        return Err(NoAnswer::Malformed);
+    };
+    match YearMonthDuration::new(number) {
+        Some(duration) => Ok(answer.value(&Value::YearMonthDuration(duration))?),
+        None => Ok(answer.word("!None")?),
+    }
+}
+
+/// The duration of so many nanoseconds.
+pub fn nanoseconds(answer: &mut Answer, number: &str) -> Result<(), NoAnswer> {
+    let Ok(number) = number.parse::<i128>() else {
+        return Err(NoAnswer::Malformed);
+    };
+    match DayTimeDuration::new(number) {
+        Some(duration) => Ok(answer.value(&Value::DayTimeDuration(duration))?),
+        None => Ok(answer.word("!None")?),
+    }
 }
 
 /// The number of at most so much that the digits write.
