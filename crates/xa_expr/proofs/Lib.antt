@@ -1,6 +1,12 @@
+pub mod ArgumentLemmas
 pub mod CheckLemmas
+pub mod FunctionLemmas
 pub mod KindLemmas
 pub mod MatchLemmas
+pub mod PlaceLemmas
+pub mod ResultLemmas
 pub mod TargetLemmas
+pub mod TypedLemmas
 pub mod UnderLemmas
 pub mod VariableLemmas
+pub mod WorkingOutLemmas

@@ -67,13 +67,17 @@ n_of_places [] = Err ProcessingError
 n_of_places (Ok n ∷ rs) = n_of ProcessingError (number n) (map place rs)
 n_of_places (Err fault ∷ rs) = Err fault
 
+-- a function of values on all values of its arguments, or the first fault
+abbrev pub applied_to_values : FuncId → List Outcome → Outcome
+applied_to_values f rs = collected rs >>= (λ given. as_argument (of_function (func.applied f (map value_in given))))
+
 -- a function of values and bags on what its arguments come to: or, and, n-of by places over all of them; every other on all their values, or the first fault
 abbrev pub applied : FuncId → List Outcome → Outcome
 applied (function.Logic logic.Or) rs = as_boolean (or_of (map place rs))
 applied (function.Logic logic.And) rs = as_boolean (and_of (map place rs))
 applied (function.Logic logic.NOf) rs = as_boolean (n_of_places rs)
 applied (function.Bag f t) rs = collected rs >>= (λ given. of_bag_function (bag_applied f t given))
-applied f rs = collected rs >>= (λ given. as_argument (of_function (func.applied f (map value_in given))))
+applied f rs = applied_to_values f rs
 
 -- a higher-order function and its inner function on what the arguments after that come to (A.3.12)
 abbrev pub higher_applied : HigherOrder → FuncId → List Outcome → Outcome

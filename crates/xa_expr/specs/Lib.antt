@@ -1,6 +1,9 @@
+pub mod Arguments
 pub mod Evaluation
 pub mod Fault
 pub mod Match
+pub mod Results
+pub mod Stop
 pub mod Target
 pub mod Typed
 pub mod Typing

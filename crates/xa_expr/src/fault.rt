@@ -1,6 +1,6 @@
 //! Why an expression or a target has no value.
 ghost use Rattle.std.specs.Prelude.{◌≡◌};
-ghost use Rattle.xa_expr.specs.Fault.{status_of};
+ghost use Rattle.xa_expr.specs.Fault.{status_of, fault_with};
 
 use thiserror::Error;
 use xa_func::Status;
@@ -28,6 +28,17 @@ impl Fault {
             Fault::MissingAttribute => Status::MissingAttribute,
             Fault::SyntaxError => Status::SyntaxError,
             Fault::ProcessingError => Status::ProcessingError,
+        }
+    }
+
+    /// The fault that has the status code; no fault has `ok`.
+    pub(crate) fn with(status: Status) -> Fault
+        ensures { result ≡ fault_with status }
+    {
+        match status {
+            Status::MissingAttribute => Fault::MissingAttribute,
+            Status::SyntaxError => Fault::SyntaxError,
+            _ => Fault::ProcessingError,
         }
     }
 }

@@ -4,11 +4,10 @@ ghost use Rattle.std.specs.List.{list_any};
 ghost use Rattle.xa_value.specs.declared.data_type.DataType.TheVariants as type;
 ghost use Rattle.xa_value.specs.Order.{type_of, same};
 ghost use Rattle.xa_func.specs.Application.{applied};
-ghost use Rattle.xa_func.specs.Fault as func;
 ghost use Rattle.xa_func.specs.Signature.{TakesKinds, kind_of};
 ghost use Rattle.xa_bag.specs.Bag.{OfType};
 ghost use Rattle.xa_expr.specs.declared.matching.Matching.TheVariants as matching;
-ghost use Rattle.xa_expr.specs.Fault.{fault_with, of_function};
+ghost use Rattle.xa_expr.specs.Fault.{of_function};
 ghost use Rattle.xa_expr.specs.Match.{argument_kinds, may_ask, matched, matched_by};
 ghost use Rattle.xa_expr.specs.Target.{answer, match_value, matching_of, some_match};
 ghost use Rattle.xa_expr.specs.Typed.{accepted, same_type};
@@ -18,9 +17,10 @@ use crate::context::Context;
 use crate::designator::Designator;
 use crate::fault::Fault;
 use crate::matching::Matching;
+use crate::scope::attribute;
 use std::alloc::{AllocError, Global};
 use std::marker::Model;
-use xa_func::{FuncFault, FuncId, HasKind, Kind, Signature, Status};
+use xa_func::{FuncId, HasKind, Kind, Signature};
 use xa_value::{DataType, OrMemory, Value};
 
 /// A match (core, section 5.9): whether the function is true of the literal and some value of the designator's bag. The function takes
@@ -75,11 +75,11 @@ impl Match {
     ) -> Result<Matching, AllocError>
         ensures { IfOk result (λ m. m ≡ match_value (C.values_of context.now) self.now) }
     {
-        let bag = context.bag(alloc, &self.designator)?;
-        if bag.is_empty() && self.designator.must_be_present {
-            return Ok(Matching::Indeterminate(Fault::MissingAttribute));
+        match attribute(alloc, context, &self.designator) {
+            Ok(bag) => self.true_of_some(alloc, bag.values()),
+            Err(OrMemory::Error(fault)) => Ok(Matching::Indeterminate(fault)),
+            Err(OrMemory::Memory) => Err(AllocError),
         }
-        self.true_of_some(alloc, bag.values())
     }
 
     /// Whether the function is true of one of the values. Equality looks at them where they are.
@@ -170,7 +170,7 @@ fn answer_for(function: FuncId, alloc: Global, arguments: &[Value]) -> Result<Ma
 {
     match function.apply(alloc, arguments) {
         Ok(value) => Ok(matching_of(&value)),
-        Err(OrMemory::Error(fault)) => Ok(Matching::Indeterminate(fault_of(fault))),
+        Err(OrMemory::Error(fault)) => Ok(Matching::Indeterminate(Fault::with(fault.status()))),
         Err(OrMemory::Memory) => Err(AllocError),
     }
 }
@@ -200,16 +200,5 @@ fn matching_of(value: &Value) -> Matching
         Matching::Match
     } else {
         Matching::NoMatch
-    }
-}
-
-/// The fault of a function, by its status code.
-fn fault_of(fault: FuncFault) -> Fault
-    ensures { result ≡ fault_with (func.status_of fault) }
-{
-    match fault.status() {
-        Status::MissingAttribute => Fault::MissingAttribute,
-        Status::SyntaxError => Fault::SyntaxError,
-        Status::Ok | Status::ProcessingError => Fault::ProcessingError,
     }
 }

@@ -1,0 +1,313 @@
+//! The values of checked expressions (XACML 3.0, core, section 7.4), as far as they need no variable that was not worked out yet.
+ghost use Rattle.std.specs.Prelude.{◌≡◌, map, if◌then◌else◌, Some, IfOk};
+ghost use Rattle.xa_func.specs.declared.func_id.FuncId.TheVariants as function_id;
+ghost use Rattle.xa_func.specs.Logic.{or_of, and_of, n_among};
+ghost use Rattle.xa_func.specs.Signature.{AcceptsKinds, TakesKinds, kind_of, signature_of, bag_signature, of_each, result_type_of};
+ghost use Rattle.xa_bag.specs.Applying.{boolean, kind_given};
+ghost use Rattle.xa_bag.specs.HigherOrder.{collected};
+ghost use Rattle.xa_bag.specs.ValueOrBag.{kind_of_argument};
+ghost use Rattle.xa_expr.specs.declared.fault.Fault.TheVariants.{ProcessingError};
+ghost use Rattle.xa_expr.specs.Arguments.{AreTypedUnder, AreValueKinds, value_result};
+ghost use Rattle.xa_expr.specs.Evaluation.{applied, applied_to_values, higher_applied, n_of_places, number, place, truth, value_in, value_of};
+ghost use Rattle.xa_expr.specs.Results.{AreRight, IsMissing};
+ghost use Rattle.xa_expr.specs.Stop.{GivesOrWants};
+ghost use Rattle.xa_expr.specs.Typed.{kind_of_typed, kind_under, result_kind};
+ghost use Rattle.xa_expr.specs.Variables.{kinds};
+
+use crate::context::Context;
+use crate::fault::Fault;
+use crate::function::{of_bags, of_function, of_values};
+use crate::scope::{Scope, attribute};
+use crate::stop::Stop;
+use crate::typed::Typed;
+use std::alloc::Global;
+use xa_bag::ValueOrBag;
+use xa_func::{BagFunction, FuncId, HigherOrder, Logic};
+use xa_value::{DataType, Items, Value};
+
+/// What the expression comes to, or the variable that it needs first.
+#[cycle(evaluation)]
+pub(crate) fn evaluate<'a, C: Context>(
+    alloc: Global,
+    scope: &Scope<'a, C>,
+    expression: &Typed,
+) -> Result<ValueOrBag, Stop>
+    requires right { AreRight (C.values_of scope.now.context.now) scope.now.definitions.now scope.now.results.now }
+    requires typed { kind_under (kinds scope.now.definitions.now) expression.now ≡ Some (kind_of_typed expression.now) }
+    ensures value { GivesOrWants (IsMissing scope.now.definitions.now scope.now.results.now) result (value_of (C.values_of scope.now.context.now) scope.now.definitions.now expression.now) }
+    ensures typed { IfOk result (λ given. kind_of_argument given ≡ kind_of_typed expression.now) }
+{
+    match expression {
+        Typed::Literal(value) => Ok(ValueOrBag::Value(value.clone()?)),
+        Typed::Attribute(designator) => Ok(attribute(alloc, scope.context, designator)?),
+        Typed::Variable(place, _) => scope.variable(*place),
+        Typed::Apply(function, arguments) => apply(alloc, scope, *function, arguments.as_slice()),
+        Typed::HigherOrder(function, inner, arguments) => apply_higher_order(
+            alloc,
+            scope,
+            *function,
+            *inner,
+            arguments.as_slice(),
+        ),
+    }
+}
+
+/// What the function comes to on the arguments.
+#[cycle(evaluation)]
+fn apply<'a, C: Context>(
+    alloc: Global,
+    scope: &Scope<'a, C>,
+    function: FuncId,
+    arguments: &[Typed],
+) -> Result<ValueOrBag, Stop>
+    requires right { AreRight (C.values_of scope.now.context.now) scope.now.definitions.now scope.now.results.now }
+    requires typed { AreTypedUnder (kinds scope.now.definitions.now) arguments.now }
+    requires accepted { AcceptsKinds (signature_of function) (map kind_of_typed arguments.now) }
+    ensures value { GivesOrWants (IsMissing scope.now.definitions.now scope.now.results.now) result (applied function (map (value_of (C.values_of scope.now.context.now) scope.now.definitions.now) arguments.now)) }
+    ensures typed { IfOk result (λ given. kind_of_argument given ≡ result_kind (signature_of function)) }
+{
+    match function {
+        FuncId::Logic(function) => apply_logic(alloc, scope, function, arguments),
+        FuncId::Bag(function, data_type) => {
+            apply_to_bags(alloc, scope, function, data_type, arguments)
+        }
+        _ => apply_to_values(alloc, scope, function, arguments),
+    }
+}
+
+/// What the function of booleans comes to on the arguments.
+#[cycle(evaluation)]
+fn apply_logic<'a, C: Context>(
+    alloc: Global,
+    scope: &Scope<'a, C>,
+    function: Logic,
+    arguments: &[Typed],
+) -> Result<ValueOrBag, Stop>
+    requires right { AreRight (C.values_of scope.now.context.now) scope.now.definitions.now scope.now.results.now }
+    requires typed { AreTypedUnder (kinds scope.now.definitions.now) arguments.now }
+    requires accepted { AcceptsKinds (signature_of (function_id.Logic function)) (map kind_of_typed arguments.now) }
+    ensures value { GivesOrWants (IsMissing scope.now.definitions.now scope.now.results.now) result (applied (function_id.Logic function) (map (value_of (C.values_of scope.now.context.now) scope.now.definitions.now) arguments.now)) }
+    ensures typed { IfOk result (λ given. kind_of_argument given ≡ result_kind (signature_of (function_id.Logic function))) }
+{
+    match function {
+        Logic::Or => Ok(boolean(decide(alloc, scope, true, arguments)?)),
+        Logic::And => Ok(boolean(decide(alloc, scope, false, arguments)?)),
+        Logic::NOf => Ok(boolean(n_of(alloc, scope, arguments)?)),
+        Logic::Not => apply_to_values(alloc, scope, FuncId::Logic(function), arguments),
+    }
+}
+
+/// A boolean, as what an expression gives.
+fn boolean(answer: bool) -> ValueOrBag
+    ensures { result ≡ boolean answer }
+{
+    ValueOrBag::Value(Value::Boolean(answer))
+}
+
+/// Whether what an argument gives is True.
+fn truth(given: &ValueOrBag) -> bool
+    ensures { result ≡ truth given.now }
+{
+    match given {
+        ValueOrBag::Value(Value::Boolean(boolean)) => *boolean,
+        _ => false,
+    }
+}
+
+/// The number that an argument gives.
+fn number(given: &ValueOrBag) -> i64
+    ensures { result ≡ number given.now }
+{
+    match given {
+        ValueOrBag::Value(Value::Integer(number)) => *number,
+        _ => 0,
+    }
+}
+
+/// The value that an argument gives.
+fn value_in(given: ValueOrBag) -> Value
+    ensures { result ≡ value_in given }
+{
+    match given {
+        ValueOrBag::Value(value) => value,
+        ValueOrBag::Bag(_) => Value::Boolean(false),
+    }
+}
+
+/// Or, where `stop` is true, and and, where it is false: no argument is evaluated after one that gives `stop` or a fault.
+#[cycle(evaluation)]
+fn decide<'a, C: Context>(
+    alloc: Global,
+    scope: &Scope<'a, C>,
+    stop: bool,
+    arguments: &[Typed],
+) -> Result<bool, Stop>
+    requires right { AreRight (C.values_of scope.now.context.now) scope.now.definitions.now scope.now.results.now }
+    requires typed { AreTypedUnder (kinds scope.now.definitions.now) arguments.now }
+    ensures { let found = map place (map (value_of (C.values_of scope.now.context.now) scope.now.definitions.now) arguments.now) in GivesOrWants (IsMissing scope.now.definitions.now scope.now.results.now) result (if stop then or_of found else and_of found) }
+{
+    for argument in arguments {
+        let given = evaluate(alloc, scope, argument)?;
+        if truth(&given) == stop {
+            return Ok(stop);
+        }
+    }
+    Ok(!stop)
+}
+
+/// N-of: the number first, and then the booleans, as far as they are needed.
+#[cycle(evaluation)]
+fn n_of<'a, C: Context>(
+    alloc: Global,
+    scope: &Scope<'a, C>,
+    arguments: &[Typed],
+) -> Result<bool, Stop>
+    requires right { AreRight (C.values_of scope.now.context.now) scope.now.definitions.now scope.now.results.now }
+    requires typed { AreTypedUnder (kinds scope.now.definitions.now) arguments.now }
+    ensures { GivesOrWants (IsMissing scope.now.definitions.now scope.now.results.now) result (n_of_places (map (value_of (C.values_of scope.now.context.now) scope.now.definitions.now) arguments.now)) }
+{
+    let [first, booleans @ ..] = arguments else {
+        return Err(Stop::Fault(Fault::ProcessingError));
+    };
+    let given = evaluate(alloc, scope, first)?;
+    let wanted = number(&given);
+    if wanted < 0 {
+        return Err(Stop::Fault(Fault::ProcessingError));
+    }
+    n_among(alloc, scope, wanted.unsigned_abs() as usize, booleans)
+}
+
+/// Whether this many of the booleans are True, where there are this many: no argument is evaluated after the last of these, after
+/// the one with which too few are left, and after a fault.
+#[cycle(evaluation)]
+fn n_among<'a, C: Context>(
+    alloc: Global,
+    scope: &Scope<'a, C>,
+    wanted: usize,
+    booleans: &[Typed],
+) -> Result<bool, Stop>
+    requires right { AreRight (C.values_of scope.now.context.now) scope.now.definitions.now scope.now.results.now }
+    requires typed { AreTypedUnder (kinds scope.now.definitions.now) booleans.now }
+    ensures { GivesOrWants (IsMissing scope.now.definitions.now scope.now.results.now) result (n_among ProcessingError wanted (map place (map (value_of (C.values_of scope.now.context.now) scope.now.definitions.now) booleans.now))) }
+{
+    if wanted > booleans.len() {
+        return Err(Stop::Fault(Fault::ProcessingError));
+    }
+    if wanted == 0 {
+        return Ok(true);
+    }
+    let mut missing = wanted;
+    let mut left = booleans.len();
+    for boolean in booleans {
+        let given = evaluate(alloc, scope, boolean)?;
+        left -= 1;
+        if !truth(&given) {
+            if left < missing {
+                return Ok(false);
+            }
+            continue;
+        }
+        if missing == 1 {
+            return Ok(true);
+        }
+        missing -= 1;
+    }
+    Ok(false)
+}
+
+/// What a function of values comes to on the arguments.
+#[cycle(evaluation)]
+fn apply_to_values<'a, C: Context>(
+    alloc: Global,
+    scope: &Scope<'a, C>,
+    function: FuncId,
+    arguments: &[Typed],
+) -> Result<ValueOrBag, Stop>
+    requires right { AreRight (C.values_of scope.now.context.now) scope.now.definitions.now scope.now.results.now }
+    requires typed { AreTypedUnder (kinds scope.now.definitions.now) arguments.now }
+    requires takes { TakesKinds function (map kind_of_typed arguments.now) }
+    ensures value { GivesOrWants (IsMissing scope.now.definitions.now scope.now.results.now) result (applied_to_values function (map (value_of (C.values_of scope.now.context.now) scope.now.definitions.now) arguments.now)) }
+    ensures typed { IfOk result (λ given. kind_of_argument given ≡ result_kind (signature_of function)) }
+{
+    let values = all_values(alloc, scope, arguments)?;
+    Ok(of_values(alloc, function, values.as_slice())?)
+}
+
+/// What a function of bags comes to on the arguments.
+#[cycle(evaluation)]
+fn apply_to_bags<'a, C: Context>(
+    alloc: Global,
+    scope: &Scope<'a, C>,
+    function: BagFunction,
+    data_type: DataType,
+    arguments: &[Typed],
+) -> Result<ValueOrBag, Stop>
+    requires right { AreRight (C.values_of scope.now.context.now) scope.now.definitions.now scope.now.results.now }
+    requires typed { AreTypedUnder (kinds scope.now.definitions.now) arguments.now }
+    requires accepted { AcceptsKinds (bag_signature function data_type) (map kind_of_typed arguments.now) }
+    ensures value { GivesOrWants (IsMissing scope.now.definitions.now scope.now.results.now) result (applied (function_id.Bag function data_type) (map (value_of (C.values_of scope.now.context.now) scope.now.definitions.now) arguments.now)) }
+    ensures typed { IfOk result (λ given. kind_of_argument given ≡ result_kind (bag_signature function data_type)) }
+{
+    let given = all_given(alloc, scope, arguments)?;
+    Ok(of_bags(alloc, function, data_type, given.as_slice())?)
+}
+
+/// What a higher-order function comes to, with its inner function and the arguments after that.
+#[cycle(evaluation)]
+fn apply_higher_order<'a, C: Context>(
+    alloc: Global,
+    scope: &Scope<'a, C>,
+    function: HigherOrder,
+    inner: FuncId,
+    arguments: &[Typed],
+) -> Result<ValueOrBag, Stop>
+    requires right { AreRight (C.values_of scope.now.context.now) scope.now.definitions.now scope.now.results.now }
+    requires typed { AreTypedUnder (kinds scope.now.definitions.now) arguments.now }
+    requires takes { TakesKinds inner (map of_each (map kind_of_typed arguments.now)) }
+    ensures value { GivesOrWants (IsMissing scope.now.definitions.now scope.now.results.now) result (higher_applied function inner (map (value_of (C.values_of scope.now.context.now) scope.now.definitions.now) arguments.now)) }
+    ensures typed { IfOk result (λ given. kind_of_argument given ≡ kind_given function (result_type_of (signature_of inner))) }
+{
+    let given = all_given(alloc, scope, arguments)?;
+    Ok(of_function(alloc, function, inner, given.as_slice())?)
+}
+
+/// What the arguments come to, none of which is a bag, from the first to the last.
+#[cycle(evaluation)]
+fn all_values<'a, C: Context>(
+    alloc: Global,
+    scope: &Scope<'a, C>,
+    arguments: &[Typed],
+) -> Result<Items<Value>, Stop>
+    requires right { AreRight (C.values_of scope.now.context.now) scope.now.definitions.now scope.now.results.now }
+    requires typed { AreTypedUnder (kinds scope.now.definitions.now) arguments.now }
+    requires values { AreValueKinds (map kind_of_typed arguments.now) }
+    ensures value { GivesOrWants (IsMissing scope.now.definitions.now scope.now.results.now) result (collected (map value_result (map (value_of (C.values_of scope.now.context.now) scope.now.definitions.now) arguments.now))) }
+    ensures typed { IfOk result (λ values. map kind_of values ≡ map kind_of_typed arguments.now) }
+{
+    let mut values = Items::new(alloc);
+    for argument in arguments {
+        let given = evaluate(alloc, scope, argument)?;
+        values.push(value_in(given))?;
+    }
+    Ok(values)
+}
+
+/// What the arguments come to, from the first to the last.
+#[cycle(evaluation)]
+fn all_given<'a, C: Context>(
+    alloc: Global,
+    scope: &Scope<'a, C>,
+    arguments: &[Typed],
+) -> Result<Items<ValueOrBag>, Stop>
+    requires right { AreRight (C.values_of scope.now.context.now) scope.now.definitions.now scope.now.results.now }
+    requires typed { AreTypedUnder (kinds scope.now.definitions.now) arguments.now }
+    ensures value { GivesOrWants (IsMissing scope.now.definitions.now scope.now.results.now) result (collected (map (value_of (C.values_of scope.now.context.now) scope.now.definitions.now) arguments.now)) }
+    ensures typed { IfOk result (λ given. map kind_of_argument given ≡ map kind_of_typed arguments.now) }
+{
+    let mut all = Items::new(alloc);
+    for argument in arguments {
+        let given = evaluate(alloc, scope, argument)?;
+        all.push(given)?;
+    }
+    Ok(all)
+}

@@ -1,0 +1,124 @@
+//! The values of expressions under a policy's variables (XACML 3.0, core, sections 7.4 and 7.8).
+ghost use Rattle.std.specs.Prelude.{◌≡◌, Some, IfOk};
+ghost use Rattle.xa_value.specs.Gives.{Gives};
+ghost use Rattle.xa_bag.specs.ValueOrBag.{kind_of_argument};
+ghost use Rattle.xa_expr.specs.Evaluation.{value_of};
+ghost use Rattle.xa_expr.specs.Results.{AreRight};
+ghost use Rattle.xa_expr.specs.Typed.{kind_of_typed, kind_under};
+ghost use Rattle.xa_expr.specs.Variables.{AreTyped, kinds};
+
+use crate::context::Context;
+use crate::evaluation::evaluate;
+use crate::fault::Fault;
+use crate::scope::Scope;
+use crate::stop::Stop;
+use crate::typed::Typed;
+use crate::variables::{Definition, Variables};
+use crate::working_out::work_out;
+use std::alloc::Global;
+use std::marker::Model;
+use xa_bag::ValueOrBag;
+use xa_value::OrMemory;
+
+/// Expressions are evaluated in a context under the variables of a policy, each of which is worked out when an expression first
+/// needs it, and once at most. Clauses see the context and the definitions.
+#[derive(Drop)]
+pub struct Evaluator<'a, C: Context> {
+    context: &'a C,
+    variables: &'a Variables,
+    results: Vec<Option<Result<ValueOrBag, Fault>>>,
+}
+
+impl<'a, C: Context> Model for Evaluator<'a, C> {
+    ghost use Rattle.std.specs.Prelude.{List};
+    ghost use Rattle.std.specs.Coded.{codes};
+    ghost use Rattle.xa_expr.specs.contracts.typed.Typed as typed;
+    ghost use Rattle.xa_expr.specs.declared.variables.Definition.{Definition as Defined};
+    ghost use Rattle.xa_expr.specs.Results.{AreRight};
+
+    ghost Value = { C × List Defined };
+
+    ghost coded = { Prim.hlevel (codes, C.code, typed.the_row.coded) };
+
+    ghost view = { λ e. (e.context.now, e.variables.now) };
+
+    ghost invariant = { λ e. AreRight (C.values_of e.context.now) e.variables.now e.results.items };
+}
+
+/// What the expression comes to, and what is worked out for it, in the results.
+fn value_with<C: Context>(
+    alloc: Global,
+    context: &C,
+    definitions: &[Definition],
+    results: &mut Vec<Option<Result<ValueOrBag, Fault>>>,
+    expression: &Typed,
+) -> Result<ValueOrBag, OrMemory<Fault>>
+    requires right { AreRight (C.values_of context.now) definitions.now results.old.items }
+    requires variables { AreTyped definitions.now }
+    requires typed { kind_under (kinds definitions.now) expression.now ≡ Some (kind_of_typed expression.now) }
+    ensures value { Gives result (value_of (C.values_of context.now) definitions.now expression.now) }
+    ensures typed { IfOk result (λ given. kind_of_argument given ≡ kind_of_typed expression.now) }
+    ensures right { AreRight (C.values_of context.now) definitions.now results.new.items }
+{
+    loop {
+        let scope = Scope {
+            context,
+            definitions,
+            results: results.as_slice(),
+        };
+        match evaluate(alloc, &scope, expression) {
+            Ok(given) => return Ok(given),
+            Err(Stop::Memory) => return Err(OrMemory::Memory),
+            Err(Stop::Fault(fault)) => return Err(OrMemory::Error(fault)),
+            Err(Stop::Wanted(place)) => work_out(alloc, context, definitions, results, place)?,
+        }
+    }
+}
+
+impl<'a, C: Context> Evaluator<'a, C> {
+    /// Nothing is worked out yet, and nothing allocated.
+    pub fn new(alloc: Global, context: &'a C, variables: &'a Variables) -> Evaluator<'a, C>
+        ensures { result ≡ (context.now, variables.now) }
+    {
+        Evaluator {
+            context,
+            variables,
+            results: Vec::new(alloc),
+        }
+    }
+
+    /// What the expression comes to. After want of memory nothing that was worked out is lost.
+    pub fn value(
+        &mut self,
+        alloc: Global,
+        expression: &Typed,
+    ) -> Result<ValueOrBag, OrMemory<Fault>>
+        requires { kind_under (kinds self.old.1) expression.now ≡ Some (kind_of_typed expression.now) }
+        ensures value { Gives result (value_of (C.values_of self.old.0) self.old.1 expression.now) }
+        ensures typed { IfOk result (λ given. Some (kind_of_argument given) ≡ kind_under (kinds self.old.1) expression.now) }
+        ensures kept { self.new ≡ self.old }
+    {
+        let definitions = self.variables.definitions();
+        value_with(
+            alloc,
+            self.context,
+            definitions,
+            &mut self.results,
+            expression,
+        )
+    }
+}
+
+/// What the expression comes to under the variables.
+pub fn value<C: Context>(
+    alloc: Global,
+    context: &C,
+    variables: &Variables,
+    expression: &Typed,
+) -> Result<ValueOrBag, OrMemory<Fault>>
+    requires { kind_under (kinds variables.now) expression.now ≡ Some (kind_of_typed expression.now) }
+    ensures value { Gives result (value_of (C.values_of context.now) variables.now expression.now) }
+    ensures typed { IfOk result (λ given. Some (kind_of_argument given) ≡ kind_under (kinds variables.now) expression.now) }
+{
+    Evaluator::new(alloc, context, variables).value(alloc, expression)
+}

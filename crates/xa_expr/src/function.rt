@@ -1,0 +1,70 @@
+//! Functions of arguments that were worked out.
+ghost use Rattle.std.specs.Prelude.{◌≡◌, map, IfOk};
+ghost use Rattle.xa_value.specs.Gives.{Gives};
+ghost use Rattle.xa_func.specs.Application as func;
+ghost use Rattle.xa_func.specs.Signature.{AcceptsKinds, TakesKinds, kind_of, signature_of, bag_signature, result_type_of};
+ghost use Rattle.xa_bag.specs.Applying.{as_argument, bag_applied, higher_order_applied, kind_given};
+ghost use Rattle.xa_bag.specs.ValueOrBag.{kind_of_argument, kind_of_each};
+ghost use Rattle.xa_expr.specs.Fault.{of_function, of_bag_function};
+ghost use Rattle.xa_expr.specs.Typed.{result_kind};
+
+use crate::fault::Fault;
+use std::alloc::Global;
+use xa_bag::{ValueOrBag, apply_bag_function, apply_higher_order};
+use xa_func::{BagFunction, FuncId, HigherOrder};
+use xa_value::{DataType, OrMemory, Value};
+
+/// What a function of values gives.
+#[tactic(auto, using(crate::proofs::FunctionLemmas::result_typed))]
+pub(crate) fn of_values(
+    alloc: Global,
+    function: FuncId,
+    arguments: &[Value],
+) -> Result<ValueOrBag, OrMemory<Fault>>
+    requires { TakesKinds function (map kind_of arguments.now) }
+    ensures value { Gives result (as_argument (of_function (func.applied function arguments.now))) }
+    ensures typed { IfOk result (λ given. kind_of_argument given ≡ result_kind (signature_of function)) }
+{
+    match function.apply(alloc, arguments) {
+        Ok(value) => Ok(ValueOrBag::Value(value)),
+        Err(OrMemory::Memory) => Err(OrMemory::Memory),
+        Err(OrMemory::Error(fault)) => Err(OrMemory::Error(Fault::with(fault.status()))),
+    }
+}
+
+/// What a bag function of the type gives.
+#[tactic(auto, using(crate::proofs::FunctionLemmas::bag_result_typed))]
+pub(crate) fn of_bags(
+    alloc: Global,
+    function: BagFunction,
+    data_type: DataType,
+    arguments: &[ValueOrBag],
+) -> Result<ValueOrBag, OrMemory<Fault>>
+    requires { AcceptsKinds (bag_signature function data_type) (map kind_of_argument arguments.now) }
+    ensures value { Gives result (of_bag_function (bag_applied function data_type arguments.now)) }
+    ensures typed { IfOk result (λ given. kind_of_argument given ≡ result_kind (bag_signature function data_type)) }
+{
+    match apply_bag_function(alloc, function, data_type, arguments) {
+        Ok(given) => Ok(given),
+        Err(OrMemory::Memory) => Err(OrMemory::Memory),
+        Err(OrMemory::Error(fault)) => Err(OrMemory::Error(Fault::with(fault.status()))),
+    }
+}
+
+/// What a higher-order function gives, with its inner function and the arguments after that.
+pub(crate) fn of_function(
+    alloc: Global,
+    function: HigherOrder,
+    inner: FuncId,
+    arguments: &[ValueOrBag],
+) -> Result<ValueOrBag, OrMemory<Fault>>
+    requires { TakesKinds inner (map kind_of_each arguments.now) }
+    ensures value { Gives result (of_bag_function (higher_order_applied function (result_type_of (signature_of inner)) (func.applied inner) arguments.now)) }
+    ensures typed { IfOk result (λ given. kind_of_argument given ≡ kind_given function (result_type_of (signature_of inner))) }
+{
+    match apply_higher_order(alloc, function, &inner, arguments) {
+        Ok(given) => Ok(given),
+        Err(OrMemory::Memory) => Err(OrMemory::Memory),
+        Err(OrMemory::Error(fault)) => Err(OrMemory::Error(Fault::with(fault.status()))),
+    }
+}
