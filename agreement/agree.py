@@ -1,9 +1,12 @@
 """Makes random rows, and compares the answers of the program xa_trials with those of the model beside this file.
 
-usage: agree.py rows FILE SEED COUNT       writes the rows
-       agree.py compare FILE SEED COUNT    compares the program's answers, read from FILE, with the model's
+usage: agree.py rows FOLDER SEED COUNT      writes the rows, in files of at most 500
+       agree.py compare FILE SEED COUNT     compares the program's answers, read from FILE, with the model's
+
+Of the rows, two thirds ask for expressions and targets.
 """
 import collections
+import pathlib
 import sys
 
 from answers import answer
@@ -12,7 +15,12 @@ from exchanges import Exchanges
 from functions import BAG_FUNCTIONS, DURATIONS, FUNCTIONS, HIGHER_ORDER, V1, V3
 from rows import encoded, line
 from texts import Texts
+from trees import Trees
 from values import Fault, read
+
+
+# One run of `rt try` answers at most 1 MiB, and gives up after ten minutes.
+ROWS_A_FILE = 500
 
 
 class Rows:
@@ -22,6 +30,7 @@ class Rows:
         self.texts = Texts(seed)
         self.random = self.texts.random
         self.exchanges = Exchanges(self.random)
+        self.trees = Trees(self)
 
     def sound(self, data_type, name=""):
         """A text that reads, and that the named function is likely to take."""
@@ -137,23 +146,115 @@ class Rows:
         children = [f"{self.random.choice(decisions)}/{self.random.choice(targets)}" for _ in range(self.random.choice([0, 1, 2, 3, 5, 9]))]
         return ["combine", self.random.choice(ALGORITHMS), *(child.removesuffix("/Match") for child in children)]
 
-    def exchange(self):
-        return self.exchanges.next()
+    def next(self):
+        values = [self.read, self.apply, self.bags, self.higher] * 3 + [self.compare, self.moment, self.combine, self.exchanges.next]
+        return self.random.choice(values + [self.trees.evaluate] * 25 + [self.trees.target] * 5)()
+
+
+def answers_of(path):
+    """The program's answers; `rt try` writes a line `== NAME` before those to each file of rows."""
+    with open(path, encoding="utf-8", newline="") as it:
+        return [text for text in it.read().split("\n")[:-1] if not text.startswith("== ")]
+
+
+def compare(self):
+        left = self.texts.data_type()
+        right = self.texts.data_type() if self.texts.seldom(0.1) else left
+        return [self.random.choice(["same", "order"]), self.value(left), self.value(right)]
+
+    def moment(self):
+        end = self.random.choice([0, -62_135_596_800, 253_402_300_799])
+        return ["moment", str(self.random.choice([end + self.random.randint(-2, 2), self.random.randint(-7 * 10**10, 3 * 10**11)]))]
+
+    def apply(self):
+        name = self.random.choice(list(FUNCTIONS))
+        types = self.takes(name)
+        fields = [self.value(data_type, name) for data_type in types]
+        if len(fields) == 2 and types[0] == types[1] and self.texts.seldom(0.2):
+            fields[1] = fields[0]
+        if self.texts.seldom(0.03):
+            fields.append(self.value(self.texts.data_type()))
+        return ["apply", name, *fields]
+
+    def arguments(self, arguments):
+        """The fields of the arguments, each a type and a text or a list of texts."""
+        fields = []
+        for data_type, held in arguments:
+            if isinstance(held, list):
+                fields += [f"bag:{data_type}"] + ["+" + encoded(text) for text in held]
+            else:
+                fields.append(f"{data_type}:{encoded(held)}")
+        return fields
+
+    def some(self, pool, counts):
+        return [self.random.choice(pool) for _ in range(self.random.choice(counts))]
+
+    def pool(self, data_type):
+        """Texts to choose from, some of them of equal values."""
+        pool = [self.sound(data_type) for _ in range(self.random.choice([1, 2, 4, 40]))]
+        if data_type == "time":
+            pool += ["08:00:00Z", "09:00:00+01:00", "08:00:00", "07:00:00-01:00"]
+        if data_type == "dateTime":
+            pool += ["2024-01-01T00:00:00Z", "2023-12-31T23:00:00-01:00", "2024-01-01T00:00:00", "2024-01-01T05:30:00+05:30"]
+        return pool
+
+    def bags(self):
+        data_type, name = self.texts.data_type(), self.random.choice(list(BAG_FUNCTIONS))
+        pool, counts = self.pool(data_type), self.random.choice([[0, 1, 2, 3, 5], [31, 32, 33, 60]])
+        value, bag = (data_type, self.random.choice(pool)), lambda: (data_type, self.some(pool, counts))
+        if name in ("one-and-only", "bag-size"):
+            given = [(data_type, self.some(pool, [0, 1, 1, 2]))]
+        elif name == "is-in":
+            given = [value, bag()]
+        elif name == "bag":
+            given = [(data_type, text) for text in self.some(pool, range(6))]
+        else:
+            given = [bag() for _ in range(self.random.choice([2, 3, 4]) if name == "union" else 2)]
+        if self.texts.seldom(0.03):
+            given.append(value)
+        beginning = self.random.choice([V1, V3]) if data_type in DURATIONS else V1
+        return ["apply", beginning + data_type + "-" + name, *self.arguments(given)]
+
+    def inner(self, name):
+        """A function of values that the higher-order function takes, and the types of its arguments."""
+        while True:
+            inner = self.random.choice(list(FUNCTIONS))
+            types, gives = self.takes(inner), FUNCTIONS[inner][1]
+            if (name == "map" or gives == "boolean") and (len(types) == 2 or types and not name.startswith("all-of-")):
+                return inner, types
+
+    def higher(self):
+        uri, name = self.random.choice(list(HIGHER_ORDER.items()))
+        inner, types = self.inner(name)
+        the_bag, given = self.random.randrange(len(types)), []
+        for place, data_type in enumerate(types):
+            pool = [self.sound(data_type, inner) for _ in range(3)]
+            is_bag = place == the_bag if name in ("any-of", "all-of", "map") else name != "any-of-any" or self.texts.seldom(0.6)
+            given.append((data_type, self.some(pool, range(5)) if is_bag else pool[0]))
+        return ["higher", uri, inner, *self.arguments(given)]
 
     def next(self):
-        return self.random.choice([self.read, self.apply, self.bags, self.higher] * 3 + [self.compare, self.moment, self.combine, self.exchange])()
+        values = [self.read, self.apply, self.bags, self.higher] * 3 + [self.compare, self.moment, self.exchanges.next]
+        return self.random.choice(values + [self.trees.evaluate] * 25 + [self.trees.target] * 5)()
 
 
-def compare(path, rows):
+def answers_of(path):
+    """The program's answers: those to each file of rows follow a line `== NAME`."""
     with open(path, encoding="utf-8", newline="") as it:
-        answers = it.read().split("\n")[:-1]
+        lines = it.read().split("\n")
+    return [text for text in lines if text and not text.startswith(("== ", "case ", "checked: ", "run="))]
+
+
+def compare(answers, rows):
     wanted = [line(answer(fields))[:-1] for fields in rows]
     differ = [it for it in zip(rows, wanted, answers) if it[1] != it[2]]
     for fields, by_model, found in differ[:20]:
         print(f"{line(fields)[:2000].rstrip()}\n    model    {by_model[:2000]}\n    program  {found[:2000]}")
-    faults = collections.Counter(by_model.split("\t")[0][:40] for by_model in wanted if by_model.startswith("!"))
-    print(f"{len(answers)} of {len(rows)} rows answered, {len(differ)} otherwise than the model; refusals: "
-          + ", ".join(f"{fault[1:]} {count}" for fault, count in sorted(faults.items())))
+    faults = collections.Counter(field[:40] for by_model in wanted for field in by_model.split("\t") if field.startswith("!"))
+    kinds = collections.Counter(fields[0] for fields in rows)
+    print(f"{len(answers)} of {len(rows)} rows answered, {len(differ)} otherwise than the model")
+    print("rows: " + ", ".join(f"{kind} {count}" for kind, count in sorted(kinds.items())))
+    print("refusals: " + ", ".join(f"{fault[1:]} {count}" for fault, count in sorted(faults.items())))
     return 0 if len(answers) == len(rows) and not differ else 1
 
 
@@ -162,9 +263,10 @@ def main():
     source = Rows(seed)
     rows = [source.next() for _ in range(count)]
     if verb == "compare":
-        return compare(path, rows)
-    with open(path, "w", encoding="ascii", newline="") as it:
-        it.writelines(line(fields) for fields in rows)
+        return compare(answers_of(path), rows)
+    for start in range(0, count, ROWS_A_FILE):
+        held = "".join(line(fields) for fields in rows[start:start + ROWS_A_FILE])
+        pathlib.Path(path, f"{start:09}").write_text(held, encoding="ascii")
     return 0
 
 

@@ -3,10 +3,11 @@ import hashlib
 
 import combining
 import messages
-from functions import BAG_FUNCTIONS, FUNCTIONS, HIGHER_ORDER, higher_order
+import questions
+from functions import BAG_FUNCTIONS, BAG_SIGNATURES, FUNCTIONS, HIGHER_ORDER, bag_function_named, fits, higher_order
 from names import NAMES
-from rows import decoded, encoded
-from values import MAX_DAY_TIME, MAX_MONTHS, TYPES, Fault, date_of, day_number, key, print_clock, print_date, read, to_text
+from rows import bag_shown, decoded, encoded, shown, text_of, value_of
+from values import MAX_DAY_TIME, MAX_MONTHS, TYPES, Fault, date_of, day_number, key, print_clock, print_date, read
 
 NAMESPACE = "http://www.w3.org/2001/XMLSchema#"
 STATUS = "urn:oasis:names:tc:xacml:1.0:status:"
@@ -20,19 +21,6 @@ CATEGORIES = {
     "RequestingMachine": SUBJECTS + "requesting-machine", "Resource": OTHERS + "resource", "Action": OTHERS + "action",
     "Environment": OTHERS + "environment",
 }
-
-
-def text_of(field):
-    return decoded(field).decode()
-
-
-def value_of(field):
-    data_type, text = field.split(":", 1)
-    return read(data_type, text_of(text))
-
-
-def shown(value):
-    return f"{value[0]}:{encoded(to_text(value))}"
 
 
 def arguments_of(fields):
@@ -57,20 +45,6 @@ def kind_of(argument):
     return ("bag " if is_bag(argument) else "") + argument[0]
 
 
-def fits(takes, kinds):
-    """Whether arguments of these kinds fit; `a*` at the end stands for any number of them."""
-    last = takes[-1] if takes and takes[-1].endswith("*") else None
-    needed = takes[:-1] if last else takes
-    return kinds[:len(needed)] == list(needed) and all(last and kind == last.rstrip("*") for kind in kinds[len(needed):])
-
-
-BAGS = {
-    "one-and-only": ["bag T"], "bag-size": ["bag T"], "is-in": ["T", "bag T"], "bag": ["T*"], "intersection": ["bag T", "bag T"],
-    "union": ["bag T", "bag T", "bag T*"], "at-least-one-member-of": ["bag T", "bag T"], "subset": ["bag T", "bag T"],
-    "set-equals": ["bag T", "bag T"],
-}
-
-
 def lists(arguments):
     return [argument[1] if is_bag(argument) else [argument] for argument in arguments]
 
@@ -83,7 +57,7 @@ def given(meaning, data_type):
         code = "syntax-error" if str(fault) == "BadText" else "processing-error"
         return ["!" + str(fault), STATUS + code]
     if isinstance(found, list):
-        return ["bag:" + data_type] + ["+" + encoded(to_text(value)) for value in found]
+        return bag_shown((data_type, found))
     return [shown(found)]
 
 
@@ -93,12 +67,11 @@ def apply(name, *fields):
     if name in FUNCTIONS:
         takes, _, meaning = FUNCTIONS[name]
         return given(lambda: meaning(*arguments), None) if fits(takes, kinds) else ["!Refused"]
-    if name not in NAMES or not NAMES[name][0].startswith("Bag("):
+    found = bag_function_named(name)
+    if found is None:
         return ["!Refused"]
-    held = name.rsplit(":", 1)[1]
-    data_type = next(t for t in TYPES if held.startswith(t + "-") and held[len(t) + 1:] in BAG_FUNCTIONS)
-    verb = held[len(data_type) + 1:]
-    if not fits([kind.replace("T", data_type) for kind in BAGS[verb]], kinds):
+    verb, data_type = found
+    if not fits([kind.replace("T", data_type) for kind in BAG_SIGNATURES[verb][0]], kinds):
         return ["!Refused"]
     return given(lambda: BAG_FUNCTIONS[verb](*lists(arguments)), data_type)
 
@@ -217,6 +190,7 @@ def digest(text, field):
 KINDS = {
     "read": read_row, "type": type_row, "category": category_row, "numbered": numbered, "plain": plain, "same": same, "order": order, "moment": moment, "function": function,
     "apply": apply, "higher": higher, "token": token, "domain": domain, "number": number,
+    "evaluate": questions.evaluate, "target": questions.target,
     "months": months, "nanoseconds": nanoseconds, "held": held, "keys": keys, "bag": bag, "digest": digest,
     "server": messages.server, "stream": messages.stream, "route": messages.route, "combine": combining.combine,
 }

@@ -184,3 +184,35 @@ def higher_order(name, meaning, arguments):
 
 HIGHER_ORDER = {V3 + name: name for name in ("any-of", "all-of", "any-of-any", "map")}
 HIGHER_ORDER.update({V1 + name: name for name in ("all-of-any", "all-of-all")})
+
+
+# What the bag functions of a type T take and give; `bag T` is a bag, and `T*` at the end any number.
+BAG_SIGNATURES = {
+    "one-and-only": (["bag T"], "T"), "bag-size": (["bag T"], "integer"), "is-in": (["T", "bag T"], "boolean"), "bag": (["T*"], "bag T"),
+    "intersection": (["bag T", "bag T"], "bag T"), "union": (["bag T", "bag T", "bag T*"], "bag T"),
+    "at-least-one-member-of": (["bag T", "bag T"], "boolean"), "subset": (["bag T", "bag T"], "boolean"),
+    "set-equals": (["bag T", "bag T"], "boolean"),
+}
+
+
+def bag_function_named(name):
+    """The bag function of that name, and its type; of the durations each has two names."""
+    for data_type in TYPES:
+        for beginning in (V1, V3) if data_type in DURATIONS else (V1,):
+            verb = name.removeprefix(beginning + data_type + "-")
+            if verb != name and verb in BAG_FUNCTIONS:
+                return verb, data_type
+    return None
+
+
+def takes_so_many(takes, count):
+    """Whether the function takes so many arguments."""
+    more = bool(takes) and takes[-1].endswith("*")
+    return count >= len(takes) - 1 if more else count == len(takes)
+
+
+def fits(takes, kinds):
+    """Whether arguments of these kinds fit."""
+    last = takes[-1] if takes and takes[-1].endswith("*") else None
+    needed = takes[:-1] if last else takes
+    return kinds[:len(needed)] == list(needed) and all(last and kind == last.rstrip("*") for kind in kinds[len(needed):])

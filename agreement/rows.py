@@ -2,9 +2,12 @@
 
 In a field a backslash begins an escape: \\n, \\r, \\t, \\\\, \\xHH for a byte, and \\{COUNT,TEXT\\} for so many times the text.
 Sources may also write \\u{HEX} for a character, letters beyond ASCII as they are, and \\(NAME) for a text that a line
-`define NAME TEXT` gave before; two spaces or more part fields too, and fields between `[COUNT` and `]` stand so often.
+`define NAME TEXT` gave before, and \\[COUNT,TEXT\\] for so many times the text; two spaces or more part fields too, fields between
+`[COUNT` and `]` stand so often, and a field that begins with `(` or `<` is parted at spaces and before `)` and `>`.
 """
 import re
+
+from values import read, to_text
 
 TOKEN = re.compile(rb"\\u\{([0-9a-fA-F]+)\}|\\x([0-9a-fA-F]{2})|\\\{([0-9]+),|\\(.)|([^\\])", re.DOTALL)
 LETTERS = {b"n": b"\n", b"r": b"\r", b"t": b"\t"}
@@ -37,6 +40,27 @@ def encoded(held):
     return "".join(SHORT.get(byte) or (chr(byte) if 32 <= byte < 127 else f"\\x{byte:02x}") for byte in held)
 
 
+def text_of(field):
+    """The text that the field stands for."""
+    return decoded(field).decode()
+
+
+def value_of(field):
+    """The value of a field `TYPE:TEXT`."""
+    data_type, text = field.split(":", 1)
+    return read(data_type, text_of(text))
+
+
+def shown(value):
+    """The field of a value."""
+    return f"{value[0]}:{encoded(to_text(value))}"
+
+
+def bag_shown(bag):
+    """The fields of a bag: its type, and each of its values."""
+    return ["bag:" + bag[0]] + ["+" + encoded(to_text(value)) for value in bag[1]]
+
+
 def as_input(field):
     """The field of a source as the program reads it: escapes of bytes alone."""
     written = ""
@@ -61,6 +85,11 @@ def repeated(fields):
     return fields[:start] + fields[start + 1:end] * int(fields[start][1:]) + fields[end + 1:]
 
 
+def parted(field):
+    """The fields of an expression, or the field alone."""
+    return re.findall(r"[)>]|[^ )>]+", field) if field.startswith(("(", "<")) else [field]
+
+
 class Source:
     """The rows of a source, each with its answer: comments, definitions, and lines `FIELD FIELD => FIELD FIELD`."""
 
@@ -75,6 +104,7 @@ class Source:
         if not text or text.startswith("#"):
             return
         text = re.sub(r"\\\((\w+)\)", lambda found: self.defined[found.group(1)], text)
+        text = re.sub(r"\\\[(\d+),(.*?)\\\]", lambda found: found.group(2) * int(found.group(1)), text)
         if text.startswith("define "):
             _, name, held = text.split(None, 2)
             self.defined[name] = held
@@ -82,6 +112,6 @@ class Source:
         fields = re.split(r"\t+| {2,}", text)
         if "=>" not in fields:
             raise SystemExit(f"{self.path}:{number}: a row has no answer")
-        fields = repeated(fields)
+        fields = [part for field in repeated(fields) for part in parted(field)]
         at = fields.index("=>")
         self.rows.append((f"{self.path}:{number}", fields[:at], fields[at + 1:]))

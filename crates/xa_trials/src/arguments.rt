@@ -11,7 +11,7 @@ pub fn type_named(name: &str) -> Result<DataType, NoAnswer> {
 }
 
 /// The value that the field's text stands for.
-fn value_of(alloc: Global, data_type: DataType, field: &str) -> Result<Value, NoAnswer> {
+pub fn value_of(alloc: Global, data_type: DataType, field: &str) -> Result<Value, NoAnswer> {
     let text = text_of(alloc, field)?;
     Value::read(alloc, data_type, text.as_str()).map_err(|_| NoAnswer::Malformed)
 }

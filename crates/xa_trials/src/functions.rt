@@ -20,14 +20,14 @@ pub fn function(answer: &mut Answer, field: &str) -> Result<(), NoAnswer> {
 }
 
 /// A refusal, with its status.
-fn fault(answer: &mut Answer, fault: &impl Debug, status: Status) -> Result<(), NoAnswer> {
+pub fn fault(answer: &mut Answer, fault: &impl Debug, status: Status) -> Result<(), NoAnswer> {
     answer.refusal(fault)?;
     answer.word(status.uri())?;
     Ok(())
 }
 
 /// The value or the bag.
-fn given(answer: &mut Answer, given: &ValueOrBag) -> Result<(), NoAnswer> {
+pub fn given(answer: &mut Answer, given: &ValueOrBag) -> Result<(), NoAnswer> {
     match given {
         ValueOrBag::Value(value) => answer.value(value)?,
         ValueOrBag::Bag(bag) => {

@@ -3,8 +3,10 @@
 
 mod answer;
 mod arguments;
+mod attributes;
 mod decisions;
 mod domains;
+mod expressions;
 mod field;
 mod functions;
 mod holders;
@@ -63,7 +65,7 @@ fn answer_to_functions(answer: &mut Answer, fields: &[&str]) -> Result<(), NoAns
     }
 }
 
-/// Answers a row of messages, and of what is decided.
+/// Answers a row of messages, of expressions, and of what is decided.
 fn answer_to_messages(answer: &mut Answer, fields: &[&str]) -> Result<(), NoAnswer> {
     match fields {
         ["combine", algorithm, children @ ..] => decisions::combination(
@@ -72,6 +74,8 @@ fn answer_to_messages(answer: &mut Answer, fields: &[&str]) -> Result<(), NoAnsw
         ["stream", pieces @ ..] => messages::stream(answer, pieces),
         ["route", method, target] => messages::routing(answer, method, target),
         ["server", fields @ ..] => server::server(answer, fields),
+        ["evaluate", fields @ ..] => expressions::evaluate(answer, fields),
+        ["target", fields @ ..] => expressions::target(answer, fields),
         _ => Err(NoAnswer::Malformed),
     }
 }
