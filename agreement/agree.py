@@ -40,7 +40,7 @@ class Rows:
                 text = str(self.random.randint(-1, 4))
             if name.endswith("substring") and data_type == "integer":
                 text = str(self.random.randint(-2, 8))
-            if name.endswith("-from-string"):
+            if name.endswith("-from-string") and data_type == "string":
                 text = self.texts.of(name.rsplit(":", 1)[1].removesuffix("-from-string"), loose=True)
             try:
                 read(data_type, text)
@@ -155,94 +155,6 @@ def answers_of(path):
     """The program's answers; `rt try` writes a line `== NAME` before those to each file of rows."""
     with open(path, encoding="utf-8", newline="") as it:
         return [text for text in it.read().split("\n")[:-1] if not text.startswith("== ")]
-
-
-def compare(self):
-        left = self.texts.data_type()
-        right = self.texts.data_type() if self.texts.seldom(0.1) else left
-        return [self.random.choice(["same", "order"]), self.value(left), self.value(right)]
-
-    def moment(self):
-        end = self.random.choice([0, -62_135_596_800, 253_402_300_799])
-        return ["moment", str(self.random.choice([end + self.random.randint(-2, 2), self.random.randint(-7 * 10**10, 3 * 10**11)]))]
-
-    def apply(self):
-        name = self.random.choice(list(FUNCTIONS))
-        types = self.takes(name)
-        fields = [self.value(data_type, name) for data_type in types]
-        if len(fields) == 2 and types[0] == types[1] and self.texts.seldom(0.2):
-            fields[1] = fields[0]
-        if self.texts.seldom(0.03):
-            fields.append(self.value(self.texts.data_type()))
-        return ["apply", name, *fields]
-
-    def arguments(self, arguments):
-        """The fields of the arguments, each a type and a text or a list of texts."""
-        fields = []
-        for data_type, held in arguments:
-            if isinstance(held, list):
-                fields += [f"bag:{data_type}"] + ["+" + encoded(text) for text in held]
-            else:
-                fields.append(f"{data_type}:{encoded(held)}")
-        return fields
-
-    def some(self, pool, counts):
-        return [self.random.choice(pool) for _ in range(self.random.choice(counts))]
-
-    def pool(self, data_type):
-        """Texts to choose from, some of them of equal values."""
-        pool = [self.sound(data_type) for _ in range(self.random.choice([1, 2, 4, 40]))]
-        if data_type == "time":
-            pool += ["08:00:00Z", "09:00:00+01:00", "08:00:00", "07:00:00-01:00"]
-        if data_type == "dateTime":
-            pool += ["2024-01-01T00:00:00Z", "2023-12-31T23:00:00-01:00", "2024-01-01T00:00:00", "2024-01-01T05:30:00+05:30"]
-        return pool
-
-    def bags(self):
-        data_type, name = self.texts.data_type(), self.random.choice(list(BAG_FUNCTIONS))
-        pool, counts = self.pool(data_type), self.random.choice([[0, 1, 2, 3, 5], [31, 32, 33, 60]])
-        value, bag = (data_type, self.random.choice(pool)), lambda: (data_type, self.some(pool, counts))
-        if name in ("one-and-only", "bag-size"):
-            given = [(data_type, self.some(pool, [0, 1, 1, 2]))]
-        elif name == "is-in":
-            given = [value, bag()]
-        elif name == "bag":
-            given = [(data_type, text) for text in self.some(pool, range(6))]
-        else:
-            given = [bag() for _ in range(self.random.choice([2, 3, 4]) if name == "union" else 2)]
-        if self.texts.seldom(0.03):
-            given.append(value)
-        beginning = self.random.choice([V1, V3]) if data_type in DURATIONS else V1
-        return ["apply", beginning + data_type + "-" + name, *self.arguments(given)]
-
-    def inner(self, name):
-        """A function of values that the higher-order function takes, and the types of its arguments."""
-        while True:
-            inner = self.random.choice(list(FUNCTIONS))
-            types, gives = self.takes(inner), FUNCTIONS[inner][1]
-            if (name == "map" or gives == "boolean") and (len(types) == 2 or types and not name.startswith("all-of-")):
-                return inner, types
-
-    def higher(self):
-        uri, name = self.random.choice(list(HIGHER_ORDER.items()))
-        inner, types = self.inner(name)
-        the_bag, given = self.random.randrange(len(types)), []
-        for place, data_type in enumerate(types):
-            pool = [self.sound(data_type, inner) for _ in range(3)]
-            is_bag = place == the_bag if name in ("any-of", "all-of", "map") else name != "any-of-any" or self.texts.seldom(0.6)
-            given.append((data_type, self.some(pool, range(5)) if is_bag else pool[0]))
-        return ["higher", uri, inner, *self.arguments(given)]
-
-    def next(self):
-        values = [self.read, self.apply, self.bags, self.higher] * 3 + [self.compare, self.moment, self.exchanges.next]
-        return self.random.choice(values + [self.trees.evaluate] * 25 + [self.trees.target] * 5)()
-
-
-def answers_of(path):
-    """The program's answers: those to each file of rows follow a line `== NAME`."""
-    with open(path, encoding="utf-8", newline="") as it:
-        lines = it.read().split("\n")
-    return [text for text in lines if text and not text.startswith(("== ", "case ", "checked: ", "run="))]
 
 
 def compare(answers, rows):

@@ -13,6 +13,11 @@ for uri, (_, gives, _) in FUNCTIONS.items():
     BY_RESULT.setdefault(gives, []).append(uri)
 IN_MATCHES = {(a, b): [uri for uri, (takes, gives, _) in FUNCTIONS.items() if gives == "boolean" and fits(takes, [a, b])]
               for a in TYPES for b in TYPES}
+# Booleans that have none of the values, each for another reason.
+AT_FAULT = [(V3 + "boolean-from-string", ["string:x"]), (V1 + "boolean-one-and-only", ["some:boolean|c|none"]),
+            (V1 + "integer-equal", [(V1 + "integer-divide", ["integer:1", "integer:0"]), "integer:1"])]
+# Matches at fault, where the boolean attribute e of d is there.
+MATCHES_AT_FAULT = [(V1 + "string-equal", ["string:x", "some:string|c|none"]), (V1 + "n-of", ["integer:2", "some:boolean|d|e"])]
 PAIRS = [pair for pair, found in IN_MATCHES.items() if found]
 
 
@@ -77,7 +82,7 @@ class Trees:
         if kind.startswith("bag "):
             return self.bag_tree(kind.removeprefix("bag "), depth)
         makes = [self.function_tree] * 4 if kind in BY_RESULT else []
-        makes += [self.one_and_only] * 2 + [self.higher_tree, self.asked_of_bags] * (kind == "boolean")
+        makes += [self.one_and_only] * 2 + [self.higher_tree, self.asked_of_bags, self.logic] * (kind == "boolean")
         if kind == "integer":
             makes.append(lambda _, depth: self.bag_apply("bag-size", self.rows.texts.data_type(), depth))
         return self.one_of(makes)(kind, depth)
@@ -115,6 +120,14 @@ class Trees:
                 return self.higher_of(V3 + "map", inner, types, depth)
         return self.bag_apply(self.one_of(["bag", "bag", "intersection", "union"]), data_type, depth)
 
+    def logic(self, _, depth):
+        """Or, and, n-of over places that may be at fault."""
+        name, count = self.one_of(["or", "and", "n-of", "n-of"]), self.one_of([1, 2, 3, 4])
+        children = [self.one_of(["boolean:true", "boolean:false", self.one_of(AT_FAULT)]) for _ in range(count)]
+        children[self.random.randrange(count)] = self.tree("boolean", depth - 1)
+        first = [self.tree("integer", depth - 1) if self.seldom(0.1) else f"integer:{self.random.randint(-1, count + 1)}"]
+        return V1 + name, first * (name == "n-of") + children
+
     def higher_tree(self, _, depth):
         uri = self.one_of([uri for uri, verb in HIGHER_ORDER.items() if verb != "map"])
         return self.higher_of(uri, *self.rows.inner(HIGHER_ORDER[uri]), depth)
@@ -126,6 +139,16 @@ class Trees:
             is_bag = place == the_bag if verb in ("any-of", "all-of", "map") else verb != "any-of-any" or self.seldom(0.6)
             kinds.append(("bag " if is_bag else "") + data_type)
         return uri, [f"function:{inner}", *self.children(kinds, depth, inner)]
+
+    def loose_higher(self):
+        """A higher-order function of any function of values, and of values and bags where that one takes values."""
+        uri, inner = self.one_of(list(HIGHER_ORDER)), self.one_of([*FUNCTIONS, *[V1 + name for name in ("or", "and", "n-of", "not")] * 5])
+        kinds = [self.one_of(["", "bag "]) + data_type for data_type in self.rows.takes(inner)]
+        if self.seldom(0.2):
+            place = self.random.randrange(len(kinds) + 1)
+            kinds[place:place] = [self.kind()]
+        first = self.tree(self.kind(), 1) if self.seldom(0.1) else f"function:{inner}"
+        return uri, [first, *self.children(kinds, self.one_of([1, 2, 3]), inner)]
 
     def kind(self):
         return self.one_of(["", "", "bag "]) + self.one_of([*TYPES, *["boolean"] * 6])
@@ -153,13 +176,16 @@ class Trees:
     def slip(self, tree):
         """Something else in the place of an expression."""
         if self.seldom(0.15):
+            return self.loose_higher()
+        if self.seldom(0.15):
             return self.tree(self.kind(), self.one_of([1, 2, 3]))
         if self.seldom(0.15):
             return "function:" + self.name()
         if self.seldom(0.1):
             return "variable:" + self.one_of(["u", "v", "w", "x", "y", "", "\\xc3\\xa9"])
-        if self.seldom(0.15):
-            for _ in range(self.one_of([1, 2, 5, 22, 23, 24])):
+        if self.seldom(0.2):
+            tree = self.one_of([tree, (self.name(), []), (V3 + "any-of", ["integer:1"]), "function:" + self.name(), self.loose_higher()])
+            for _ in range(self.one_of([1, 2, 5, 21, 22, 23, 24])):
                 tree = self.one_of([V1 + "and", V1 + "or", V1 + "not"]), [tree]
             return tree
         if isinstance(tree, str):
@@ -172,8 +198,8 @@ class Trees:
         ])
 
     def expression(self, kind, faults):
-        tree = self.tree(kind, self.one_of([1, 2, 2, 2, 3, 3, 3, 4, 4, 5, 6, 8, self.one_of([12, 22, 23, 24, 25, 26])]))
-        for _ in range(faults):
+        tree = self.loose_higher() if faults and self.seldom(0.15) else self.tree(kind, self.one_of([1, 2, 2, 2, 3, 3, 3, 4, 4, 5, 6, 8, self.one_of([12, 22, 23, 24, 25, 26])]))
+        for _ in range(faults - self.seldom(0.2) if faults else 0):
             tree = self.changed(tree, self.one_of(self.places(tree)), self.slip)
         return tree
 
@@ -188,6 +214,8 @@ class Trees:
 
     def match(self):
         """The fields of a match."""
+        if self.seldom(0.2):
+            return fields_of(self.one_of(MATCHES_AT_FAULT), "<", ">")
         of_attributes = [(a, b) for a, b in PAIRS if any(place[0] == b for place, _ in self.attributes)]
         literal, data_type = self.one_of(of_attributes or PAIRS)
         name = self.one_of(IN_MATCHES[literal, data_type])
@@ -199,7 +227,7 @@ class Trees:
 
     def target(self):
         """A row of a target."""
-        fields = self.begin()
+        fields = self.begin() + ["has:boolean|d|e=true"]
         for _ in range(self.one_of([0, 1, 1, 2, 3])):
             for _ in range(self.one_of([1, 1, 2, 3])):
                 fields += [field for _ in range(self.one_of([1, 1, 2, 3])) for field in self.match()] + ["|"]
