@@ -1,11 +1,13 @@
 pub mod ArgumentLemmas
 pub mod CheckLemmas
+pub mod DesignatorLemmas
 pub mod FunctionLemmas
 pub mod KindLemmas
 pub mod MatchLemmas
 pub mod PlaceLemmas
 pub mod ResultLemmas
 pub mod TargetLemmas
+pub mod TimelessLemmas
 pub mod TypedLemmas
 pub mod UnderLemmas
 pub mod VariableLemmas

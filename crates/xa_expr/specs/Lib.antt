@@ -1,10 +1,12 @@
 pub mod Arguments
+pub mod Designators
 pub mod Evaluation
 pub mod Fault
 pub mod Match
 pub mod Results
 pub mod Stop
 pub mod Target
+pub mod Timeless
 pub mod Typed
 pub mod Typing
 pub mod Variables

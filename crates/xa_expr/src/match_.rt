@@ -67,6 +67,13 @@ impl Match {
         })
     }
 
+    /// The designator whose bag is looked at.
+    pub(crate) fn designator(&self) -> &Designator
+        ensures { result.now ≡ self.now.designator }
+    {
+        &self.designator
+    }
+
     /// The value of the match (core, section 7.6).
     pub(crate) fn matching<C: Context>(
         &self,

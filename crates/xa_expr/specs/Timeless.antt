@@ -1,0 +1,26 @@
+-- What asks for no attribute of the clock (XACML 3.0, core, appendix B.7).
+use Rattle.std.specs.Prelude.{◌≡◌, ℕ, Bool, false, ◌&&◌, ◌||◌, not, bytes_eq, codes, List}
+use Rattle.std.specs.List.{list_all}
+use Rattle.xa_value.specs.declared.category.Category.TheVariants.{Environment}
+use Rattle.xa_value.specs.Category.{uri_of}
+use Rattle.xa_expr.specs.declared.designator.Designator.{Designator}
+use Rattle.xa_expr.specs.Evaluation.{Attributes}
+
+-- the ids of the attributes that the clock gives
+unfoldable pub is_clock_id : List ℕ → Bool
+is_clock_id id =
+    bytes_eq id (codes "urn:oasis:names:tc:xacml:1.0:environment:current-time")
+    || (bytes_eq id (codes "urn:oasis:names:tc:xacml:1.0:environment:current-date")
+    || bytes_eq id (codes "urn:oasis:names:tc:xacml:1.0:environment:current-dateTime"))
+
+-- the designator names such an attribute, whatever its issuer and its type
+unfoldable pub names_the_clock : Designator → Bool
+names_the_clock d = bytes_eq d.category (uri_of Environment) && is_clock_id d.attribute_id
+
+-- none of the designators does
+abbrev pub is_timeless : List Designator → Bool
+is_timeless designators = list_all (λ d. not (names_the_clock d)) designators
+
+-- two sources of attributes differ in those of the clock alone, as at two moments
+abbrev pub SameButForTheClock : Attributes → Attributes → Type 0
+SameButForTheClock a b = (d : Designator) → names_the_clock d ≡ false → a d ≡ b d
