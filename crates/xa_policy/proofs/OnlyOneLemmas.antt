@@ -1,22 +1,25 @@
 -- What the loops of only-one-applicable go by.
-use Rattle.std.proofs.Common.{◌≡◌, Bool, true, false, List, [], ◌∷◌, map, refl, ap}
+use Rattle.std.proofs.Common.{◌≡◌, Bool, true, false, List, [], ◌∷◌, map, Option, Some, None, refl, ap, ap₂, ◌∙◌}
 use Rattle.std.specs.Prelude.{if◌then◌else◌, filter}
 use Rattle.std.specs.List.{list_any}
 use Rattle.std.proofs.lemmas.Grind.{common_steps}
 use Rattle.xa_expr.specs.declared.fault.Fault.{Fault}
+use Rattle.xa_expr.specs.declared.fault.Fault.TheVariants.{ProcessingError}
 use Rattle.xa_expr.specs.declared.matching.Matching.{Matching}
 use Rattle.xa_expr.specs.declared.matching.Matching.TheVariants.{Match, NoMatch, Indeterminate}
+use Rattle.xa_policy.specs.declared.combining.Alg.TheVariants.{OnlyOneApplicable}
 use Rattle.xa_policy.specs.declared.combining.Child.{Child}
 use Rattle.xa_policy.specs.declared.decision.Decision.{Decision}
 use Rattle.xa_policy.specs.declared.decision.Decision.TheVariants.{NotApplicable, IndeterminateDenyPermit}
-use Rattle.xa_expr.specs.Fault.{status_of}
-use Rattle.xa_func.specs.declared.status.Status.{Status}
-use Rattle.xa_func.specs.declared.status.Status.TheVariants.{Ok, ProcessingError}
-use Rattle.xa_policy.specs.declared.combining.Alg.TheVariants.{OnlyOneApplicable}
+use Rattle.xa_policy.specs.declared.decision.Effect.{Effect}
 use Rattle.xa_policy.specs.declared.evaluated.Evaluated.{Evaluated}
-use Rattle.xa_policy.specs.Evaluation.{child_of, combination}
-use Rattle.xa_policy.specs.Status.{EvaluatedChild, only_one_status}
 use Rattle.xa_policy.specs.Combining.{decision_of, applies, may_apply, the_only_one, only_one_applicable}
+use Rattle.xa_policy.specs.Duties.{effect_of, no_duties}
+use Rattle.xa_policy.specs.Evaluation.{child_of, combination, with_decision}
+use Rattle.xa_policy.specs.Rule.{not_applicable, undecided}
+use Rattle.xa_policy.specs.Status.{EvaluatedChild, only_one_status}
+use Rattle.xa_policy.proofs.DutyLemmas.{and_then_none}
+use Rattle.xa_policy.proofs.WalkCases.{is_itself}
 
 -- the child of this decision and this target
 abbrev child : Decision → Matching → Child
@@ -83,17 +86,18 @@ only_one_second d c cs h = second d c.decision c.target cs h
 -- what the loops go by
 pub ruleset only_one_steps = (common_steps, only_one_none, only_one_passed, only_one_open, only_one_taken, only_one_alone, only_one_behind, only_one_second, only_one_open_behind)
 
--- only-one-applicable of evaluated children, with its status
+-- only-one-applicable of evaluated children, with its status, obligations and advice
 abbrev pub evaluated : List EvaluatedChild → Evaluated
 evaluated children = combination OnlyOneApplicable children
 
 abbrev of : Evaluated → Matching → EvaluatedChild
 of value target = record { value = value; target = target }
 
-abbrev undecided : Status → Evaluated
-undecided status = record { decision = IndeterminateDenyPermit; status = status }
+-- obligations and advice come with a Permit or a Deny alone
+abbrev pub IsTidy : Evaluated → Type 0
+IsTidy e = effect_of e.decision ≡ None → e.duties ≡ no_duties
 
-pub evaluated_none : evaluated [] ≡ record { decision = NotApplicable; status = Ok }
+pub evaluated_none : evaluated [] ≡ not_applicable
 unfolding combination only_one_applicable only_one_status
 evaluated_none = refl
 
@@ -106,13 +110,17 @@ without v (Indeterminate fault) cs h = cc
 pub evaluated_passed : (c : EvaluatedChild) (cs : List EvaluatedChild) → c.target ≡ NoMatch → evaluated (c ∷ cs) ≡ evaluated cs
 evaluated_passed c cs h = without c.value c.target cs h
 
-pub evaluated_open : (c : EvaluatedChild) (cs : List EvaluatedChild) (fault : Fault) → c.target ≡ Indeterminate fault → evaluated (c ∷ cs) ≡ undecided (status_of fault)
+pub evaluated_open : (c : EvaluatedChild) (cs : List EvaluatedChild) (fault : Fault) → c.target ≡ Indeterminate fault → evaluated (c ∷ cs) ≡ undecided fault
 unfolding combination only_one_applicable only_one_status
 evaluated_open c cs fault h = rw h refl
 
-pub evaluated_alone : (c : EvaluatedChild) → c.target ≡ Match → evaluated (c ∷ []) ≡ c.value
+alone : (v : Evaluated) → IsTidy v → (o : Option Effect) → effect_of v.decision ≡ o → evaluated (of v Match ∷ []) ≡ v
 unfolding combination only_one_applicable only_one_status
-evaluated_alone c h = rw h refl
+alone v tidy None h = rw (h, ← tidy h) refl
+alone v tidy (Some e) h = rw (h, is_itself v.decision, and_then_none v.duties) refl
+
+pub evaluated_alone : (c : EvaluatedChild) → IsTidy c.value → c.target ≡ Match → evaluated (c ∷ []) ≡ c.value
+evaluated_alone c tidy h = ap (λ t. evaluated (of c.value t ∷ [])) h ∙ alone c.value tidy (effect_of c.value.decision) refl
 
 beside : (v w : Evaluated) (s t : Matching) (cs : List EvaluatedChild) → s ≡ Match → t ≡ NoMatch → evaluated (of v s ∷ of w t ∷ cs) ≡ evaluated (of v s ∷ cs)
 unfolding combination only_one_applicable only_one_status
@@ -125,16 +133,19 @@ beside v w (Indeterminate fault) t cs g h = cc
 pub evaluated_behind : (c d : EvaluatedChild) (cs : List EvaluatedChild) → c.target ≡ Match → d.target ≡ NoMatch → evaluated (c ∷ d ∷ cs) ≡ evaluated (c ∷ cs)
 evaluated_behind c d cs g h = beside c.value d.value c.target d.target cs g h
 
-pub evaluated_second : (c d : EvaluatedChild) (cs : List EvaluatedChild) → c.target ≡ Match → d.target ≡ Match → evaluated (c ∷ d ∷ cs) ≡ undecided ProcessingError
+both : (v w : Evaluated) (cs : List EvaluatedChild) → evaluated (of v Match ∷ of w Match ∷ cs) ≡ undecided ProcessingError
 unfolding combination only_one_applicable only_one_status
-evaluated_second c d cs g h =
-    rw (g, h) (ap (λ (e : Decision). let v : Evaluated = record { decision = e; status = ProcessingError } in v)
-    (either_way (list_any may_apply (map child_of cs)) c.value.decision d.value.decision (map decision_of (filter applies (map child_of cs)))))
+both v w cs =
+    ap (with_decision OnlyOneApplicable (of v Match ∷ of w Match ∷ cs))
+    (either_way (list_any may_apply (map child_of cs)) v.decision w.decision (map decision_of (filter applies (map child_of cs))))
+
+pub evaluated_second : (c d : EvaluatedChild) (cs : List EvaluatedChild) → c.target ≡ Match → d.target ≡ Match → evaluated (c ∷ d ∷ cs) ≡ undecided ProcessingError
+evaluated_second c d cs g h = ap₂ (λ s t. evaluated (of c.value s ∷ of d.value t ∷ cs)) g h ∙ both c.value d.value cs
 
 pub evaluated_open_behind : (c d : EvaluatedChild) (cs : List EvaluatedChild) (fault : Fault) → c.target ≡ Match → d.target ≡ Indeterminate fault →
-    evaluated (c ∷ d ∷ cs) ≡ undecided (status_of fault)
+    evaluated (c ∷ d ∷ cs) ≡ undecided fault
 unfolding combination only_one_applicable only_one_status
 evaluated_open_behind c d cs fault g h = rw (g, h) refl
 
--- what the loops over the rules go by
+-- what the loops over the rules and over the children go by
 pub ruleset evaluated_steps = (common_steps, evaluated_none, evaluated_passed, evaluated_open, evaluated_alone, evaluated_behind, evaluated_second, evaluated_open_behind)

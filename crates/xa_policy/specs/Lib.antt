@@ -1,6 +1,14 @@
+pub mod Checking
 pub mod Combining
+pub mod Designators
+pub mod Duties
 pub mod Evaluation
 pub mod Mirror
 pub mod Overriding
+pub mod Pattern
+pub mod Policy
+pub mod Room
 pub mod Rule
 pub mod Status
+pub mod Version
+pub mod Walk

@@ -11,6 +11,11 @@ abbrev pub decision_with : Effect → Decision
 decision_with Permit = decision.Permit
 decision_with Deny = decision.Deny
 
+-- the effect left open: {P} of Permit, {D} of Deny
+abbrev pub decision_left_open : Effect → Decision
+decision_left_open Permit = decision.IndeterminatePermit
+decision_left_open Deny = decision.IndeterminateDeny
+
 -- the other effect
 abbrev pub other : Effect → Effect
 other Permit = Deny

@@ -1,24 +1,73 @@
--- Rules (XACML 3.0, section 7.11).
-use Rattle.xa_policy.specs.declared.decision.Decision.TheVariants as decision
-use Rattle.xa_policy.specs.declared.decision.Effect.{Effect}
-use Rattle.xa_policy.specs.declared.decision.Effect.TheVariants.{Permit, Deny}
-use Rattle.xa_policy.specs.declared.evaluated.Evaluated.{Evaluated}
+-- Rules (XACML 3.0, core, sections 7.9 and 7.11).
+use Rattle.std.specs.Prelude.{Bool, true, false, List, Option, Some, None, Result, Ok, Err}
+use Rattle.xa_func.specs.declared.status.Status.{Status}
+use Rattle.xa_func.specs.declared.status.Status.TheVariants as status
+use Rattle.xa_expr.specs.declared.fault.Fault.{Fault}
 use Rattle.xa_expr.specs.declared.matching.Matching.{Matching}
 use Rattle.xa_expr.specs.declared.matching.Matching.TheVariants.{Match, NoMatch, Indeterminate}
-use Rattle.xa_expr.specs.Evaluation.{Attributes}
+use Rattle.xa_expr.specs.declared.typed.Typed.{Typed}
+use Rattle.xa_expr.specs.declared.variables.Definition.{Definition}
+use Rattle.xa_expr.specs.Evaluation.{Attributes, Outcome, place, value_of}
 use Rattle.xa_expr.specs.Fault.{status_of}
 use Rattle.xa_expr.specs.Target.{target_value}
+use Rattle.xa_policy.specs.declared.decision.Decision.{Decision}
+use Rattle.xa_policy.specs.declared.decision.Decision.TheVariants as decision
+use Rattle.xa_policy.specs.declared.decision.Effect.{Effect}
+use Rattle.xa_policy.specs.declared.duty.DutyExpressions.{DutyExpressions}
+use Rattle.xa_policy.specs.declared.evaluated.Evaluated.{Evaluated}
 use Rattle.xa_policy.specs.declared.rule.Rule.{Rule}
-use Rattle.xa_func.specs.declared.status.Status.TheVariants.{Ok}
+use Rattle.xa_policy.specs.Duties.{Found, and_then, effect_of, no_duties, own_duties}
+use Rattle.xa_policy.specs.Overriding.{decision_with, decision_left_open}
 
--- what a rule of this effect decides, by the value of its target
-abbrev pub outcome : Effect → Matching → Evaluated
-outcome Permit Match = record { decision = decision.Permit; status = Ok }
-outcome Deny Match = record { decision = decision.Deny; status = Ok }
-outcome _ NoMatch = record { decision = decision.NotApplicable; status = Ok }
-outcome Permit (Indeterminate fault) = record { decision = decision.IndeterminatePermit; status = status_of fault }
-outcome Deny (Indeterminate fault) = record { decision = decision.IndeterminateDeny; status = status_of fault }
+-- nothing applies
+abbrev pub not_applicable : Evaluated
+not_applicable = record { decision = decision.NotApplicable; status = status.Ok; duties = no_duties }
 
--- what a rule decides
-abbrev pub rule_value : Attributes → Rule → Evaluated
-rule_value values_of rule = outcome rule.effect (target_value values_of rule.target)
+-- a decision that a fault left open
+abbrev pub indeterminate : Decision → Status → Evaluated
+indeterminate d s = record { decision = d; status = s; duties = no_duties }
+
+-- the effect, left open by a fault
+abbrev pub left_open : Effect → Fault → Evaluated
+left_open effect fault = indeterminate (decision_left_open effect) (status_of fault)
+
+-- {DP}, left open by a fault
+abbrev pub undecided : Fault → Evaluated
+undecided fault = indeterminate decision.IndeterminateDenyPermit (status_of fault)
+
+-- the value of a condition; none is True (7.9)
+abbrev pub condition_value : (Typed → Outcome) → Option Typed → Result Bool Fault
+condition_value value_of None = Ok true
+condition_value value_of (Some e) = place (value_of e)
+
+-- what a rule of this effect decides, by its condition, where its target matches
+abbrev pub by_condition : Effect → Result Bool Fault → Evaluated
+by_condition effect (Ok true) = record { decision = decision_with effect; status = status.Ok; duties = no_duties }
+by_condition effect (Ok false) = not_applicable
+by_condition effect (Err fault) = left_open effect fault
+
+-- and by its target
+abbrev pub outcome : Effect → Matching → Result Bool Fault → Evaluated
+outcome effect Match condition = by_condition effect condition
+outcome effect NoMatch condition = not_applicable
+outcome effect (Indeterminate fault) condition = left_open effect fault
+
+-- a Permit or a Deny with duties behind those that it has, or left open by the first fault in them (7.18; the fault's part is this
+-- project's choice)
+abbrev pub with_found : Effect → Evaluated → Result Found Fault → Evaluated
+with_found effect e (Ok found) = record { decision = e.decision; status = e.status; duties = and_then e.duties found }
+with_found effect e (Err fault) = left_open effect fault
+
+-- what is decided with the own obligations and advice that belong to it
+abbrev pub with_own_of : (Typed → Outcome) → DutyExpressions Typed → Evaluated → Option Effect → Evaluated
+with_own_of value_of own e None = e
+with_own_of value_of own e (Some effect) = with_found effect e (own_duties value_of effect own)
+
+abbrev pub with_own : (Typed → Outcome) → DutyExpressions Typed → Evaluated → Evaluated
+with_own value_of own e = with_own_of value_of own e (effect_of e.decision)
+
+-- what a rule decides under a policy's variables
+abbrev pub rule_value : Attributes → List Definition → Rule Typed → Evaluated
+rule_value values_of variables rule =
+    let value = value_of values_of variables in
+    with_own value rule.duties (outcome rule.effect (target_value values_of rule.target) (condition_value value rule.condition))

@@ -2,8 +2,9 @@
 ghost use Rattle.std.specs.Prelude.{◌≡◌, not};
 ghost use Rattle.xa_policy.specs.Combining.{is, is_indeterminate};
 ghost use Rattle.xa_policy.specs.declared.decision.Decision.TheVariants.{NotApplicable};
+ghost use Rattle.xa_policy.specs.Duties.{effect_of, same_effect};
 ghost use Rattle.xa_policy.specs.Mirror.{mirrored};
-ghost use Rattle.xa_policy.specs.Overriding.{decision_with, other};
+ghost use Rattle.xa_policy.specs.Overriding.{decision_with, decision_left_open, other};
 
 /// What a rule gives where it applies (XACML 3.0, section 5.22).
 #[derive(Clone, Copy, Debug, PartialEq, Eq)]
@@ -42,6 +43,26 @@ impl Effect {
         }
     }
 
+    /// Whether it is this effect.
+    pub(crate) fn is(self, effect: Effect) -> bool
+        ensures { result ≡ same_effect effect self }
+    {
+        matches!(
+            (effect, self),
+            (Effect::Permit, Effect::Permit) | (Effect::Deny, Effect::Deny)
+        )
+    }
+
+    /// The effect left open: {P} of Permit, {D} of Deny.
+    pub(crate) fn left_open(self) -> Decision
+        ensures { result ≡ decision_left_open self }
+    {
+        match self {
+            Effect::Permit => Decision::IndeterminatePermit,
+            Effect::Deny => Decision::IndeterminateDeny,
+        }
+    }
+
     /// The other effect.
     pub(crate) fn other(self) -> Effect
         ensures { result ≡ other self }
@@ -62,6 +83,17 @@ impl Decision {
             (effect, self),
             (Effect::Permit, Decision::Permit) | (Effect::Deny, Decision::Deny)
         )
+    }
+
+    /// The effect, where it is a Permit or a Deny.
+    pub(crate) fn effect(self) -> Option<Effect>
+        ensures { result ≡ effect_of self }
+    {
+        match self {
+            Decision::Permit => Some(Effect::Permit),
+            Decision::Deny => Some(Effect::Deny),
+            _ => None,
+        }
     }
 
     /// Whether it is not NotApplicable.

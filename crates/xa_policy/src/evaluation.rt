@@ -1,204 +1,300 @@
-//! What a policy decides.
-ghost use Rattle.std.specs.Prelude.{◌≡◌, [], ◌∷◌, map, if◌then◌else◌, Some, None, IfOk};
-ghost use Rattle.xa_expr.specs.declared.matching.Matching.TheVariants as target;
+//! What a tree of policies and policy sets decides.
+ghost use Rattle.std.specs.Prelude.{◌≡◌, [], ◌∷◌, map, IfOk};
+ghost use Rattle.xa_expr.specs.declared.matching.Matching.TheVariants as matching;
+ghost use Rattle.xa_expr.specs.Evaluation.{value_of};
 ghost use Rattle.xa_expr.specs.Target.{target_value};
-ghost use Rattle.xa_func.specs.declared.status.Status.TheVariants as status;
-ghost use Rattle.xa_policy.specs.Combining.{decision_of, is_indeterminate};
-ghost use Rattle.xa_policy.specs.Evaluation.{evaluation, child_of, combination, rule_child, with_status};
-ghost use Rattle.xa_policy.specs.Overriding.{decision_with, otherwise, overrides};
-ghost use Rattle.xa_policy.specs.Status.{fault_of, status_of};
+ghost use Rattle.xa_expr.specs.Variables.{kinds};
+ghost use Rattle.xa_policy.specs.declared.combining.Alg.TheVariants.{OnlyOneApplicable};
+ghost use Rattle.xa_policy.specs.Evaluation.{by_target, combination, evaluated, evaluation, policy_value, rule_child, set_value};
+ghost use Rattle.xa_policy.specs.Policy.{AreTypedRules, IsTypedRule};
+ghost use Rattle.xa_policy.specs.Rule.{undecided};
+ghost use Rattle.xa_policy.specs.Walk.{of_none, walked};
 
-use crate::combining::{Alg, first_applicable_of_one, overrides_of_two};
-use crate::decision::{Decision, Effect};
+use crate::combination::Combination;
+use crate::combining::Alg;
+use crate::decision::Decision;
 use crate::evaluated::Evaluated;
+use crate::fulfilment::with_own;
+use crate::linked::Linked;
 use crate::policy::Policy;
-use crate::rule::Rule;
+use crate::policy_set::PolicySet;
+use crate::rule::{Rule, evaluate_rule};
 use std::alloc::{AllocError, Global};
-use xa_expr::{Context, Matching};
+use xa_expr::{Context, Evaluator, Fault, Matching, Typed, Variables};
 use xa_func::Status;
 
-/// What the policy decides (XACML 3.0, section 7.12), and why where that is Indeterminate. No rule is evaluated after the one that
-/// settles it. Want of memory is the only error.
-#[tactic(auto, unfolding(crate::specs::Evaluation::combination))]
+/// What the tree decides (XACML 3.0, core, sections 7.11 to 7.18), why where that is Indeterminate, and its obligations and advice. No
+/// child is evaluated after the one that settles its parent, and none whose parent's target doesn't match it. Want of memory is the
+/// only error.
 pub fn evaluate<C: Context>(
     alloc: Global,
+    linked: &Linked,
+    context: &C,
+) -> Result<Evaluated, AllocError>
+    ensures { IfOk result (λ e. e ≡ evaluation (C.values_of context.now) linked.now) }
+{
+    let target = target_of(alloc, linked, context)?;
+    evaluate_linked(alloc, linked, target, context)
+}
+
+/// What the target of the tree's root comes to; that of a reference that leads to nothing is Indeterminate.
+fn target_of<C: Context>(
+    alloc: Global,
+    linked: &Linked,
+    context: &C,
+) -> Result<Matching, AllocError>
+    ensures { IfOk result (λ m. m ≡ (evaluated (C.values_of context.now) linked.now).target) }
+{
+    match linked {
+        Linked::Unresolved => Ok(Matching::Indeterminate(Fault::ProcessingError)),
+        Linked::Policy(policy) => policy.get().target().matching(alloc, context),
+        Linked::PolicySet(set, _) => set.get().target().matching(alloc, context),
+    }
+}
+
+/// What the tree decides, where its target comes to this.
+#[cycle(evaluation)]
+fn evaluate_linked<C: Context>(
+    alloc: Global,
+    linked: &Linked,
+    target: Matching,
+    context: &C,
+) -> Result<Evaluated, AllocError>
+    requires { target ≡ (evaluated (C.values_of context.now) linked.now).target }
+    ensures { IfOk result (λ e. e ≡ evaluation (C.values_of context.now) linked.now) }
+{
+    match linked {
+        Linked::Unresolved => Ok(undecided(alloc, Fault::ProcessingError)),
+        Linked::Policy(policy) => evaluate_policy(alloc, policy.get(), target, context),
+        Linked::PolicySet(set, children) => {
+            evaluate_set(alloc, set.get(), children.as_slice(), target, context)
+        }
+    }
+}
+
+/// {DP}, left open by the fault.
+fn undecided(alloc: Global, fault: Fault) -> Evaluated
+    ensures { result ≡ undecided fault }
+{
+    Evaluated::without_duties(alloc, Decision::IndeterminateDenyPermit, fault.status())
+}
+
+/// What the policy decides, where its target comes to this.
+fn evaluate_policy<C: Context>(
+    alloc: Global,
     policy: &Policy,
+    target: Matching,
     context: &C,
 ) -> Result<Evaluated, AllocError>
-    ensures { IfOk result (λ e. e ≡ evaluation (C.values_of context.now) policy.now) }
+    requires { target ≡ target_value (C.values_of context.now) policy.now.target }
+    ensures { IfOk result (λ e. e ≡ policy_value (C.values_of context.now) policy.now) }
 {
-    let rules = policy.rules.as_slice();
-    match policy.algorithm {
-        Alg::DenyOverrides | Alg::OrderedDenyOverrides => {
-            overrides(alloc, Effect::Deny, rules, context)
-        }
-        Alg::PermitOverrides | Alg::OrderedPermitOverrides => {
-            overrides(alloc, Effect::Permit, rules, context)
-        }
-        Alg::DenyUnlessPermit => otherwise(alloc, Effect::Permit, rules, context),
-        Alg::PermitUnlessDeny => otherwise(alloc, Effect::Deny, rules, context),
-        Alg::FirstApplicable => first_applicable(alloc, rules, context),
-        Alg::OnlyOneApplicable => only_one_applicable(alloc, rules, context),
+    if target == Matching::NoMatch {
+        return Ok(Evaluated::not_applicable(alloc));
+    }
+    let mut evaluator = Evaluator::new(alloc, context, policy.variables());
+    let rules = policy.rules();
+    let combined = combine_rules(alloc, policy.algorithm(), context, &mut evaluator, rules)?;
+    let evaluated = combined.by_target(alloc, target);
+    with_own(alloc, &mut evaluator, policy.duties(), evaluated)
+}
+
+/// What the algorithm makes of the rules.
+#[tactic(auto, using(crate::proofs::WalkLemmas::walk_is_combination))]
+fn combine_rules<'a, C: Context>(
+    alloc: Global,
+    algorithm: Alg,
+    context: &C,
+    evaluator: &mut Evaluator<'a, C>,
+    rules: &[Rule<Typed>],
+) -> Result<Evaluated, AllocError>
+    requires same { evaluator.old.0 ≡ context.now }
+    requires typed { AreTypedRules (kinds evaluator.old.1) rules.now }
+    ensures value { IfOk result (λ e. e ≡ combination algorithm (map (rule_child (C.values_of context.now) evaluator.old.1) rules.now)) }
+    ensures kept { evaluator.new ≡ evaluator.old }
+{
+    match algorithm {
+        Alg::OnlyOneApplicable => only_applicable_rule(alloc, context, evaluator, rules),
+        _ => walk_rules(alloc, algorithm, context, evaluator, rules),
     }
 }
 
-/// Deny-overrides or permit-overrides of the rules. The first decision with the effect settles it.
-#[tactic(auto, using(crate::proofs::OverridingLemmas::overrides_steps, crate::proofs::EvaluationLemmas::status_steps))]
-fn overrides<C: Context>(
+/// What an algorithm that goes by decisions makes of the rules.
+fn walk_rules<'a, C: Context>(
     alloc: Global,
-    effect: Effect,
-    rules: &[Rule],
+    algorithm: Alg,
     context: &C,
+    evaluator: &mut Evaluator<'a, C>,
+    rules: &[Rule<Typed>],
 ) -> Result<Evaluated, AllocError>
-    ensures { let children = map (rule_child (C.values_of context.now)) rules.now in
-        IfOk result (λ e. e ≡ with_status (overrides effect (map decision_of (map child_of children))) (map fault_of children)) }
+    requires same { evaluator.old.0 ≡ context.now }
+    requires typed { AreTypedRules (kinds evaluator.old.1) rules.now }
+    ensures value { IfOk result (λ e. e ≡ walked (of_none algorithm) (map (rule_child (C.values_of context.now) evaluator.old.1) rules.now)) }
+    ensures kept { evaluator.new ≡ evaluator.old }
 {
-    let mut decision = Decision::NotApplicable;
-    let mut fault = None;
+    let mut so_far = Combination::new(alloc, algorithm);
     for rule in rules {
-        let child = rule.evaluate(alloc, context)?;
-        decision = overrides_of_two(effect, decision, child.decision);
-        fault = fault.or(fault_of(child));
-        if decision.is(effect) {
-            return Ok(decided(effect));
+        let target = rule.target.matching(alloc, context)?;
+        let child = evaluate_rule(alloc, evaluator, rule, target)?;
+        if so_far.add(child)? {
+            return Ok(so_far.decided(alloc));
         }
     }
-    Ok(with_status(decision, fault))
+    Ok(so_far.decided(alloc))
 }
 
-/// Deny-unless-permit or permit-unless-deny of the rules. The first decision with the effect settles it.
-#[tactic(auto, using(crate::proofs::OverridingLemmas::otherwise_steps, crate::proofs::EvaluationLemmas::status_steps))]
-fn otherwise<C: Context>(
+/// What only-one-applicable makes of the rules. The first target that isn't No match leaves it to the others, or settles it.
+#[tactic(auto, using(crate::proofs::TidyLemmas::applicable_steps))]
+fn only_applicable_rule<'a, C: Context>(
     alloc: Global,
-    effect: Effect,
-    rules: &[Rule],
     context: &C,
+    evaluator: &mut Evaluator<'a, C>,
+    rules: &[Rule<Typed>],
 ) -> Result<Evaluated, AllocError>
-    ensures { let children = map (rule_child (C.values_of context.now)) rules.now in
-        IfOk result (λ e. e ≡ with_status (otherwise effect (map decision_of (map child_of children))) (map fault_of children)) }
-{
-    for rule in rules {
-        if rule.evaluate(alloc, context)?.decision.is(effect) {
-            return Ok(decided(effect));
-        }
-    }
-    Ok(decided(effect.other()))
-}
-
-/// First-applicable of the rules.
-#[tactic(auto, using(crate::proofs::FirstApplicableLemmas::evaluated_steps))]
-fn first_applicable<C: Context>(
-    alloc: Global,
-    rules: &[Rule],
-    context: &C,
-) -> Result<Evaluated, AllocError>
-    ensures { let children = map (rule_child (C.values_of context.now)) rules.now in
-        IfOk result (λ e. e ≡ combination Alg.FirstApplicable children) }
-{
-    for rule in rules {
-        let child = rule.evaluate(alloc, context)?;
-        if child.decision.is_applicable() {
-            return Ok(with_status(first_applicable_of_one(child.decision), fault_of(child)));
-        }
-    }
-    Ok(not_applicable())
-}
-
-/// Only-one-applicable of the rules, by their targets in order. The first that isn't No match leaves it to the others, or settles it.
-#[tactic(auto, using(crate::proofs::OnlyOneLemmas::evaluated_steps))]
-fn only_one_applicable<C: Context>(
-    alloc: Global,
-    rules: &[Rule],
-    context: &C,
-) -> Result<Evaluated, AllocError>
-    ensures { let children = map (rule_child (C.values_of context.now)) rules.now in
-        IfOk result (λ e. e ≡ combination Alg.OnlyOneApplicable children) }
+    requires same { evaluator.old.0 ≡ context.now }
+    requires typed { AreTypedRules (kinds evaluator.old.1) rules.now }
+    ensures value { IfOk result (λ e. e ≡ combination OnlyOneApplicable (map (rule_child (C.values_of context.now) evaluator.old.1) rules.now)) }
+    ensures kept { evaluator.new ≡ evaluator.old }
 {
     for (place, rule) in rules.iter().enumerate() {
         match rule.target.matching(alloc, context)? {
-            Matching::NoMatch => {}
+            Matching::NoMatch => continue,
+            Matching::Indeterminate(fault) => return Ok(undecided(alloc, fault)),
             Matching::Match => {
-                return unless_another_applies(alloc, rule, rules.split_at(place + 1).1, context);
+                let others = rules.split_at(place + 1).1;
+                return rule_unless_another(alloc, context, evaluator, rule, others);
             }
-            Matching::Indeterminate(fault) => return Ok(undecided(fault.status())),
         }
     }
-    Ok(not_applicable())
+    Ok(Evaluated::not_applicable(alloc))
 }
 
-/// Only-one-applicable of an applicable rule and the others behind it. The first target that isn't No match settles it.
-#[tactic(auto, using(crate::proofs::OnlyOneLemmas::evaluated_steps))]
-fn unless_another_applies<C: Context>(
+/// What only-one-applicable makes of an applicable rule and the others behind it. The first target that isn't No match settles it.
+#[tactic(auto, using(crate::proofs::TidyLemmas::applicable_steps))]
+fn rule_unless_another<'a, C: Context>(
     alloc: Global,
-    one: &Rule,
-    others: &[Rule],
     context: &C,
+    evaluator: &mut Evaluator<'a, C>,
+    rule: &Rule<Typed>,
+    others: &[Rule<Typed>],
 ) -> Result<Evaluated, AllocError>
-    requires { target_value (C.values_of context.now) one.now.target ≡ target.Match }
-    ensures { let children = map (rule_child (C.values_of context.now)) (one.now ∷ others.now) in
-        IfOk result (λ e. e ≡ combination Alg.OnlyOneApplicable children) }
+    requires same { evaluator.old.0 ≡ context.now }
+    requires typed { IsTypedRule (kinds evaluator.old.1) rule.now }
+    requires applies { target_value (C.values_of context.now) rule.now.target ≡ matching.Match }
+    ensures value { IfOk result (λ e. e ≡ combination OnlyOneApplicable (map (rule_child (C.values_of context.now) evaluator.old.1) (rule.now ∷ others.now))) }
+    ensures kept { evaluator.new ≡ evaluator.old }
 {
     for other in others {
         match other.target.matching(alloc, context)? {
-            Matching::NoMatch => {}
-            Matching::Match => return Ok(undecided(Status::ProcessingError)),
-            Matching::Indeterminate(fault) => return Ok(undecided(fault.status())),
+            Matching::NoMatch => continue,
+            Matching::Indeterminate(fault) => return Ok(undecided(alloc, fault)),
+            Matching::Match => return Ok(undecided(alloc, Fault::ProcessingError)),
         }
     }
-    one.evaluate(alloc, context)
+    evaluate_rule(alloc, evaluator, rule, Matching::Match)
 }
 
-/// The decision with the effect.
-fn decided(effect: Effect) -> Evaluated
-    ensures { result ≡ record { decision = decision_with effect; status = status.Ok } }
+/// What the policy set decides of its children, where its target comes to this.
+#[cycle(evaluation)]
+fn evaluate_set<C: Context>(
+    alloc: Global,
+    set: &PolicySet,
+    children: &[Linked],
+    target: Matching,
+    context: &C,
+) -> Result<Evaluated, AllocError>
+    requires { target ≡ target_value (C.values_of context.now) set.now.target }
+    ensures { IfOk result (λ e. e ≡ set_value (C.values_of context.now) set.now (map (evaluated (C.values_of context.now)) children.now)) }
 {
-    Evaluated {
-        decision: effect.decision(),
-        status: Status::Ok,
+    if target == Matching::NoMatch {
+        return Ok(Evaluated::not_applicable(alloc));
+    }
+    let combined = combine_children(alloc, set.algorithm(), context, children)?;
+    let none = Variables::new(alloc);
+    let mut evaluator = Evaluator::new(alloc, context, &none);
+    let evaluated = combined.by_target(alloc, target);
+    with_own(alloc, &mut evaluator, set.duties(), evaluated)
+}
+
+/// What the algorithm makes of the children.
+#[cycle(evaluation)]
+#[tactic(auto, using(crate::proofs::WalkLemmas::walk_is_combination))]
+fn combine_children<C: Context>(
+    alloc: Global,
+    algorithm: Alg,
+    context: &C,
+    children: &[Linked],
+) -> Result<Evaluated, AllocError>
+    ensures { IfOk result (λ e. e ≡ combination algorithm (map (evaluated (C.values_of context.now)) children.now)) }
+{
+    match algorithm {
+        Alg::OnlyOneApplicable => only_applicable_child(alloc, context, children),
+        _ => walk_children(alloc, algorithm, context, children),
     }
 }
 
-/// Nothing applies.
-fn not_applicable() -> Evaluated
-    ensures { result ≡ record { decision = Decision.NotApplicable; status = status.Ok } }
+/// What an algorithm that goes by decisions makes of the children.
+#[cycle(evaluation)]
+fn walk_children<C: Context>(
+    alloc: Global,
+    algorithm: Alg,
+    context: &C,
+    children: &[Linked],
+) -> Result<Evaluated, AllocError>
+    ensures { IfOk result (λ e. e ≡ walked (of_none algorithm) (map (evaluated (C.values_of context.now)) children.now)) }
 {
-    Evaluated {
-        decision: Decision::NotApplicable,
-        status: Status::Ok,
+    let mut so_far = Combination::new(alloc, algorithm);
+    for child in children {
+        let target = target_of(alloc, child, context)?;
+        let child = evaluate_linked(alloc, child, target, context)?;
+        if so_far.add(child)? {
+            return Ok(so_far.decided(alloc));
+        }
     }
+    Ok(so_far.decided(alloc))
 }
 
-/// Indeterminate, for both decisions.
-fn undecided(status: Status) -> Evaluated
-    ensures { result ≡ record { decision = Decision.IndeterminateDenyPermit; status = status } }
+/// What only-one-applicable makes of the children. The first target that isn't No match leaves it to the others, or settles it.
+#[cycle(evaluation)]
+#[tactic(auto, using(crate::proofs::TidyLemmas::applicable_steps))]
+fn only_applicable_child<C: Context>(
+    alloc: Global,
+    context: &C,
+    children: &[Linked],
+) -> Result<Evaluated, AllocError>
+    ensures { IfOk result (λ e. e ≡ combination OnlyOneApplicable (map (evaluated (C.values_of context.now)) children.now)) }
 {
-    Evaluated {
-        decision: Decision::IndeterminateDenyPermit,
-        status,
+    for (place, child) in children.iter().enumerate() {
+        match target_of(alloc, child, context)? {
+            Matching::NoMatch => continue,
+            Matching::Indeterminate(fault) => return Ok(undecided(alloc, fault)),
+            Matching::Match => {
+                let others = children.split_at(place + 1).1;
+                return child_unless_another(alloc, context, child, others);
+            }
+        }
     }
+    Ok(Evaluated::not_applicable(alloc))
 }
 
-/// The decision with its status: that of the first fault where it is Indeterminate.
-fn with_status(decision: Decision, fault: Option<Status>) -> Evaluated
-    ensures { result ≡ with_status decision (fault ∷ []) }
+/// What only-one-applicable makes of an applicable child and the others behind it. The first target that isn't No match settles it.
+#[cycle(evaluation)]
+#[tactic(auto, using(crate::proofs::TidyLemmas::applicable_steps))]
+fn child_unless_another<C: Context>(
+    alloc: Global,
+    context: &C,
+    child: &Linked,
+    others: &[Linked],
+) -> Result<Evaluated, AllocError>
+    requires { (evaluated (C.values_of context.now) child.now).target ≡ matching.Match }
+    ensures { IfOk result (λ e. e ≡ combination OnlyOneApplicable (map (evaluated (C.values_of context.now)) (child.now ∷ others.now))) }
 {
-    Evaluated {
-        decision,
-        status: if decision.is_indeterminate() {
-            fault.unwrap_or(Status::Ok)
-        } else {
-            Status::Ok
-        },
+    for other in others {
+        match target_of(alloc, other, context)? {
+            Matching::NoMatch => continue,
+            Matching::Indeterminate(fault) => return Ok(undecided(alloc, fault)),
+            Matching::Match => return Ok(undecided(alloc, Fault::ProcessingError)),
+        }
     }
-}
-
-/// The status of an Indeterminate.
-fn fault_of(child: Evaluated) -> Option<Status>
-    ensures { result ≡ (if is_indeterminate child.decision then Some child.status else None) }
-{
-    if child.decision.is_indeterminate() {
-        Some(child.status)
-    } else {
-        None
-    }
+    evaluate_linked(alloc, child, Matching::Match, context)
 }

@@ -1,19 +1,41 @@
-//! Policies, and what they decide (XACML 3.0, core, sections 7.10 to 7.12, appendix C).
+//! Policies, and what they decide (XACML 3.0, core, sections 7.9 to 7.18, appendix C), and their versions (5.10 to 5.13).
 #![tactic(auto)]
 
+mod checking;
+mod combination;
 mod combining;
 mod decision;
+mod designators;
+mod duty;
 mod evaluated;
 mod evaluation;
+mod fulfilment;
+mod linked;
 mod mirror;
+mod pattern;
 mod policy;
+mod policy_set;
+mod reference;
 mod rule;
 #[cfg(test)]
 mod tests;
+mod version;
+mod version_error;
 
 pub use combining::{Alg, Child, combine};
 pub use decision::{Decision, Effect};
+pub use designators::{decisions_rest_on_designators, timeless};
+pub use duty::{
+    AttributeAssignment, AttributeAssignmentExpression, Duties, Duty, DutyExpression,
+    DutyExpressions,
+};
 pub use evaluated::Evaluated;
 pub use evaluation::evaluate;
+pub use linked::Linked;
+pub use pattern::{Pattern, PatternPart};
 pub use policy::Policy;
+pub use policy_set::PolicySet;
+pub use reference::{DocumentKind, Reference};
 pub use rule::Rule;
+pub use version::Version;
+pub use version_error::VersionError;

@@ -1,52 +1,94 @@
 //! Rules, and what each decides.
-ghost use Rattle.std.specs.Prelude.{◌≡◌, IfOk};
-ghost use Rattle.xa_policy.specs.Rule.{rule_value};
+ghost use Rattle.std.specs.Prelude.{◌≡◌, true, IfOk};
+ghost use Rattle.xa_value.specs.Gives.{Gives};
+ghost use Rattle.xa_expr.specs.Evaluation.{value_of};
+ghost use Rattle.xa_expr.specs.Target.{target_value};
+ghost use Rattle.xa_expr.specs.Variables.{kinds};
+ghost use Rattle.xa_policy.specs.Policy.{IsCondition, IsTypedRule};
+ghost use Rattle.xa_policy.specs.Rule.{by_condition, condition_value, outcome, rule_value};
 
-use crate::decision::{Decision, Effect};
+use crate::decision::Effect;
+use crate::duty::DutyExpressions;
 use crate::evaluated::Evaluated;
+use crate::fulfilment::with_own;
 use std::alloc::{AllocError, Global};
-use xa_expr::{Context, Matching, Target};
+use xa_bag::ValueOrBag;
+use xa_expr::{Context, Evaluator, Fault, Matching, Target, Typed};
 use xa_func::Status;
+use xa_value::{OrMemory, Value};
 
-/// A rule (XACML 3.0, section 5.21), without conditions for now.
+/// A rule (XACML 3.0, core, section 5.21). `E` is how expressions stand there: as read, or checked.
 #[derive(Debug, Drop)]
-pub struct Rule {
+pub struct Rule<E> {
     /// What the rule gives where it applies.
     pub effect: Effect,
     /// To what the rule applies.
     pub target: Target,
+    /// What must be true beside that.
+    pub condition: Option<E>,
+    /// Its obligations and advice.
+    pub duties: DutyExpressions<E>,
 }
 
-impl Rule {
-    /// What the rule decides (XACML 3.0, section 7.11).
-    pub(crate) fn evaluate<C: Context>(
-        &self,
-        alloc: Global,
-        context: &C,
-    ) -> Result<Evaluated, AllocError>
-        ensures { IfOk result (λ e. e ≡ rule_value (C.values_of context.now) self.now) }
-    {
-        Ok(match (self.target.matching(alloc, context)?, self.effect) {
-            (Matching::Match, Effect::Permit) => Evaluated {
-                decision: Decision::Permit,
-                status: Status::Ok,
-            },
-            (Matching::Match, Effect::Deny) => Evaluated {
-                decision: Decision::Deny,
-                status: Status::Ok,
-            },
-            (Matching::NoMatch, _) => Evaluated {
-                decision: Decision::NotApplicable,
-                status: Status::Ok,
-            },
-            (Matching::Indeterminate(fault), Effect::Permit) => Evaluated {
-                decision: Decision::IndeterminatePermit,
-                status: fault.status(),
-            },
-            (Matching::Indeterminate(fault), Effect::Deny) => Evaluated {
-                decision: Decision::IndeterminateDeny,
-                status: fault.status(),
-            },
-        })
+/// Whether the condition is true; without one it is.
+fn condition_value<'a, C: Context>(
+    alloc: Global,
+    evaluator: &mut Evaluator<'a, C>,
+    condition: &Option<Typed>,
+) -> Result<bool, OrMemory<Fault>>
+    requires { IsCondition (kinds evaluator.old.1) condition.now }
+    ensures value { Gives result (condition_value (value_of (C.values_of evaluator.old.0) evaluator.old.1) condition.now) }
+    ensures kept { evaluator.new ≡ evaluator.old }
+{
+    let Some(condition) = condition else {
+        return Ok(true);
+    };
+    match evaluator.value(alloc, condition)? {
+        ValueOrBag::Value(Value::Boolean(answer)) => Ok(answer),
+        _ => Ok(false),
+    }
+}
+
+/// What a rule of the effect decides by its condition, where its target matches.
+fn by_condition<'a, C: Context>(
+    alloc: Global,
+    evaluator: &mut Evaluator<'a, C>,
+    effect: Effect,
+    condition: &Option<Typed>,
+) -> Result<Evaluated, AllocError>
+    requires { IsCondition (kinds evaluator.old.1) condition.now }
+    ensures value { IfOk result (λ e. e ≡ by_condition effect (condition_value (value_of (C.values_of evaluator.old.0) evaluator.old.1) condition.now)) }
+    ensures kept { evaluator.new ≡ evaluator.old }
+{
+    match condition_value(alloc, evaluator, condition) {
+        Ok(true) => {
+            let decision = effect.decision();
+            Ok(Evaluated::without_duties(alloc, decision, Status::Ok))
+        }
+        Ok(false) => Ok(Evaluated::not_applicable(alloc)),
+        Err(OrMemory::Error(fault)) => Ok(Evaluated::left_open(alloc, effect, fault)),
+        Err(OrMemory::Memory) => Err(AllocError),
+    }
+}
+
+/// What the rule decides (core, section 7.11) under a policy's variables, where its target comes to this.
+pub(crate) fn evaluate_rule<'a, C: Context>(
+    alloc: Global,
+    evaluator: &mut Evaluator<'a, C>,
+    rule: &Rule<Typed>,
+    target: Matching,
+) -> Result<Evaluated, AllocError>
+    requires typed { IsTypedRule (kinds evaluator.old.1) rule.now }
+    requires target { target ≡ target_value (C.values_of evaluator.old.0) rule.now.target }
+    ensures value { IfOk result (λ e. e ≡ rule_value (C.values_of evaluator.old.0) evaluator.old.1 rule.now) }
+    ensures kept { evaluator.new ≡ evaluator.old }
+{
+    match target {
+        Matching::NoMatch => Ok(Evaluated::not_applicable(alloc)),
+        Matching::Indeterminate(fault) => Ok(Evaluated::left_open(alloc, rule.effect, fault)),
+        Matching::Match => {
+            let evaluated = by_condition(alloc, evaluator, rule.effect, &rule.condition)?;
+            with_own(alloc, evaluator, &rule.duties, evaluated)
+        }
     }
 }

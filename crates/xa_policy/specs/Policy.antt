@@ -1,0 +1,69 @@
+-- Policies and policy sets, whose expressions are checked (XACML 3.0, core, sections 5.1, 5.14, 5.21 and 5.37 to 5.41).
+use Rattle.std.specs.Prelude.{◌≡◌, List, [], ◌∷◌, map, Option, Some, None}
+use Rattle.xa_value.specs.declared.data_type.DataType.TheVariants as type
+use Rattle.xa_func.specs.declared.signature.Kind.{Kind}
+use Rattle.xa_func.specs.declared.signature.Kind.TheVariants as kind
+use Rattle.xa_expr.specs.declared.target.Target.{Target}
+use Rattle.xa_expr.specs.declared.typed.Typed.{Typed}
+use Rattle.xa_expr.specs.declared.variables.Definition.{Definition}
+use Rattle.xa_expr.specs.Typed.{kind_of_typed, kind_under}
+use Rattle.xa_expr.specs.Variables.{AreTyped, kinds}
+use Rattle.xa_policy.specs.declared.combining.Alg.{Alg}
+use Rattle.xa_policy.specs.declared.duty.AttributeAssignmentExpression.{AttributeAssignmentExpression}
+use Rattle.xa_policy.specs.declared.duty.DutyExpression.{DutyExpression}
+use Rattle.xa_policy.specs.declared.duty.DutyExpressions.{DutyExpressions}
+use Rattle.xa_policy.specs.declared.rule.Rule.{Rule}
+
+-- what a policy is made of
+pub record PolicyParts : Type 0 where
+  pub algorithm : Alg
+  pub target : Target
+  pub variables : List Definition
+  pub rules : List (Rule Typed)
+  pub duties : DutyExpressions Typed
+
+-- what a policy set is made of, beside its children
+pub record SetParts : Type 0 where
+  pub algorithm : Alg
+  pub target : Target
+  pub duties : DutyExpressions Typed
+
+-- the expression has its kind under variables of these kinds
+abbrev pub IsTyped : List Kind → Typed → Type 0
+IsTyped variables e = kind_under variables e ≡ Some (kind_of_typed e)
+
+-- a condition has, too, and it is a boolean
+abbrev pub IsCondition : List Kind → Option Typed → Type 0
+IsCondition variables None = Unit {0}
+IsCondition variables (Some e) = IsTyped variables e × (kind_of_typed e ≡ kind.Value type.Boolean)
+
+-- so do the expressions of assignments, and of obligations and advice
+abbrev pub AreAssignments : List Kind → List (AttributeAssignmentExpression Typed) → Type 0
+AreAssignments variables [] = Unit {0}
+AreAssignments variables (a ∷ rest) = IsTyped variables a.expression × AreAssignments variables rest
+
+abbrev pub AreDuties : List Kind → List (DutyExpression Typed) → Type 0
+AreDuties variables [] = Unit {0}
+AreDuties variables (d ∷ ds) = AreAssignments variables d.assignments × AreDuties variables ds
+
+pub record AreTypedDuties (variables : List Kind) (duties : DutyExpressions Typed) : Type 0 where
+  pub obligations : AreDuties variables duties.obligations
+  pub advice : AreDuties variables duties.advice
+
+-- and those of rules
+pub record IsTypedRule (variables : List Kind) (rule : Rule Typed) : Type 0 where
+  pub condition : IsCondition variables rule.condition
+  pub duties : AreTypedDuties variables rule.duties
+
+abbrev pub AreTypedRules : List Kind → List (Rule Typed) → Type 0
+AreTypedRules variables [] = Unit {0}
+AreTypedRules variables (r ∷ rs) = IsTypedRule variables r × AreTypedRules variables rs
+
+-- all expressions of a policy are checked, under its variables
+pub record IsTypedPolicy (policy : PolicyParts) : Type 0 where
+  pub rules : AreTypedRules (kinds policy.variables) policy.rules
+  pub duties : AreTypedDuties (kinds policy.variables) policy.duties
+
+-- all expressions of a policy set are checked; it has no variables
+abbrev pub IsTypedSet : SetParts → Type 0
+IsTypedSet set = AreTypedDuties [] set.duties

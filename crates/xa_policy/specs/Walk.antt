@@ -1,0 +1,83 @@
+-- What the children so far come to, as they are evaluated one after another (cited by contracts of private functions alone).
+use Rattle.std.specs.Prelude.{if◌then◌else◌, List, [], ◌∷◌, Option, Some, None, is_some, unwrap_or}
+use Rattle.std.specs.Option.{option_or}
+use Rattle.xa_func.specs.declared.status.Status.{Status}
+use Rattle.xa_func.specs.declared.status.Status.TheVariants as status
+use Rattle.xa_policy.specs.declared.combination.Combination.{Combination}
+use Rattle.xa_policy.specs.declared.combining.Alg.{Alg}
+use Rattle.xa_policy.specs.declared.combining.Alg.TheVariants.{DenyOverrides, PermitOverrides, OrderedDenyOverrides, OrderedPermitOverrides, DenyUnlessPermit, PermitUnlessDeny, FirstApplicable, OnlyOneApplicable}
+use Rattle.xa_policy.specs.declared.decision.Decision.{Decision}
+use Rattle.xa_policy.specs.declared.decision.Decision.TheVariants.{Permit, Deny, NotApplicable}
+use Rattle.xa_policy.specs.declared.evaluated.Evaluated.{Evaluated}
+use Rattle.xa_policy.specs.Combining.{deny_overrides, permit_overrides, first_applicable, is_indeterminate}
+use Rattle.xa_policy.specs.Duties.{and_then, effect_of, no_duties}
+use Rattle.xa_policy.specs.Evaluation.{ends}
+use Rattle.xa_policy.specs.Status.{EvaluatedChild}
+
+-- every algorithm goes by decisions but only-one-applicable
+abbrev pub IsByDecisions : Alg → Type 0
+IsByDecisions OnlyOneApplicable = ⊥
+IsByDecisions _ = Unit {0}
+
+-- the decision of no children
+abbrev pub decision_of_none : Alg → Decision
+decision_of_none DenyUnlessPermit = Deny
+decision_of_none PermitUnlessDeny = Permit
+decision_of_none _ = NotApplicable
+
+abbrev pub of_none : Alg → Combination
+of_none algorithm = record { algorithm = algorithm; decision = decision_of_none algorithm; fault = None; duties = no_duties }
+
+-- the status of what was decided, where it is Indeterminate
+abbrev pub fault_in : Evaluated → Option Status
+fault_in e = if is_indeterminate e.decision then Some e.status else None
+
+-- the decision so far with that of a child that doesn't end it
+abbrev pub joined_decision : Alg → Decision → Decision → Decision
+joined_decision DenyOverrides so_far d = deny_overrides (so_far ∷ d ∷ [])
+joined_decision OrderedDenyOverrides so_far d = deny_overrides (so_far ∷ d ∷ [])
+joined_decision PermitOverrides so_far d = permit_overrides (so_far ∷ d ∷ [])
+joined_decision OrderedPermitOverrides so_far d = permit_overrides (so_far ∷ d ∷ [])
+joined_decision _ so_far d = so_far
+
+-- the children so far with one that doesn't end it
+abbrev pub joined : Combination → Evaluated → Combination
+joined so_far child = record {
+  algorithm = so_far.algorithm;
+  decision = joined_decision so_far.algorithm so_far.decision child.decision;
+  fault = option_or so_far.fault (fault_in child);
+  duties = if is_some (effect_of child.decision) then and_then so_far.duties child.duties else so_far.duties;
+}
+
+-- the decision of the child that ends it
+abbrev pub ending_decision : Alg → Decision → Decision
+ending_decision FirstApplicable d = first_applicable (d ∷ [])
+ending_decision _ d = d
+
+-- the children with the one that ends it
+abbrev pub ended : Combination → Evaluated → Combination
+ended so_far child = record {
+  algorithm = so_far.algorithm;
+  decision = ending_decision so_far.algorithm child.decision;
+  fault = fault_in child;
+  duties = child.duties;
+}
+
+-- the children so far with the next
+abbrev pub with_next : Combination → Evaluated → Combination
+with_next so_far child = if ends so_far.algorithm child.decision then ended so_far child else joined so_far child
+
+-- what the children so far decide, if there is no other
+abbrev pub decided : Combination → Evaluated
+decided so_far = record {
+  decision = so_far.decision;
+  status = if is_indeterminate so_far.decision then unwrap_or so_far.fault status.Ok else status.Ok;
+  duties = if is_some (effect_of so_far.decision) then so_far.duties else no_duties;
+}
+
+-- what the children so far decide with the others behind them
+abbrev pub walked : Combination → List EvaluatedChild → Evaluated
+walked so_far [] = decided so_far
+walked so_far (child ∷ children) =
+    if ends so_far.algorithm child.value.decision then decided (ended so_far child.value)
+    else walked (joined so_far child.value) children

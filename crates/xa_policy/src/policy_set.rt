@@ -1,0 +1,86 @@
+//! Policy sets, whose expressions are checked.
+ghost use Rattle.std.specs.Prelude.{◌≡◌, [], OnErr};
+ghost use Rattle.std.specs.Result.{result_map_both};
+ghost use Rattle.xa_value.specs.Gives.{Gives};
+ghost use Rattle.xa_policy.specs.Checking.{no_expressions, set_duties_set};
+ghost use Rattle.xa_policy.specs.Policy.{AreTypedDuties};
+
+use crate::checking::check_duties;
+use crate::combining::Alg;
+use crate::duty::DutyExpressions;
+use std::alloc::Global;
+use std::marker::Model;
+use xa_expr::{CheckError, Expr, Target, Typed, Variables};
+use xa_value::OrMemory;
+
+/// A policy set without its children (XACML 3.0, core, section 5.1). It has no variables.
+#[derive(Debug, Drop)]
+pub struct PolicySet {
+    algorithm: Alg,
+    target: Target,
+    duties: DutyExpressions<Typed>,
+}
+
+impl Model for PolicySet {
+    ghost use Rattle.std.specs.Coded.{codes};
+    ghost use Rattle.xa_expr.specs.contracts.typed.Typed as typed;
+    ghost use Rattle.xa_policy.specs.Policy.{SetParts, IsTypedSet};
+
+    ghost Value = { SetParts };
+
+    ghost coded = { Prim.hlevel (codes, typed.the_row.coded) };
+
+    ghost view = { λ s. record { algorithm = s.algorithm; target = s.target; duties = s.duties } };
+
+    ghost invariant = { λ s. IsTypedSet (record { algorithm = s.algorithm; target = s.target; duties = s.duties }) };
+}
+
+impl PolicySet {
+    /// A policy set without obligations and advice. Nothing is allocated.
+    pub fn new(alloc: Global, algorithm: Alg, target: Target) -> PolicySet
+        ensures { result ≡ record { algorithm = algorithm; target = target; duties = no_expressions } }
+    {
+        PolicySet {
+            algorithm,
+            target,
+            duties: DutyExpressions::none(alloc),
+        }
+    }
+
+    /// Checks the obligations and the advice, in this order, and gives them to the policy set in place of those that it has. Where one
+    /// has a fault, nothing changes.
+    pub fn set_duties(
+        &mut self,
+        alloc: Global,
+        duties: &DutyExpressions<Expr>,
+    ) -> Result<(), OrMemory<CheckError>>
+        ensures value { Gives (result_map_both (λ _. self.new) (λ e. e) result) (set_duties_set self.old duties.now) }
+        ensures err { OnErr result (self.new ≡ self.old) }
+    {
+        let none = Variables::new(alloc);
+        self.duties = check_duties(alloc, duties, &none)?;
+        Ok(())
+    }
+
+    /// How the children's decisions are combined.
+    pub fn algorithm(&self) -> Alg
+        ensures { result ≡ self.now.algorithm }
+    {
+        self.algorithm
+    }
+
+    /// To what the policy set applies.
+    pub fn target(&self) -> &Target
+        ensures { result.now ≡ self.now.target }
+    {
+        &self.target
+    }
+
+    /// The obligations and the advice.
+    pub fn duties(&self) -> &DutyExpressions<Typed>
+        ensures value { result.now ≡ self.now.duties }
+        ensures typed { AreTypedDuties [] result.now }
+    {
+        &self.duties
+    }
+}
