@@ -1,0 +1,57 @@
+-- Which version a pattern matches, and which document a reference stands for (XACML 3.0, core, sections 5.10 to 5.13).
+use Rattle.std.specs.Prelude.{ℕ, Bool, true, false, not, ◌&&◌, ◌==◌, bytes_eq, List, [], ◌∷◌, Option, Some, None}
+use Rattle.std.specs.Cmp.Lexicographic.{slice_cmp}
+use Rattle.std.specs.List.{list_all, position}
+use Rattle.std.specs.Ordering.{nat_cmp, is_lt}
+use Rattle.xa_policy.specs.declared.pattern.PatternPart.{PatternPart}
+use Rattle.xa_policy.specs.declared.pattern.PatternPart.TheVariants.{Number, AnyNumber, AnyNumbers}
+use Rattle.xa_policy.specs.declared.reference.DocumentKind.{DocumentKind}
+use Rattle.xa_policy.specs.declared.reference.DocumentKind.TheVariants.{Policy, PolicySet}
+use Rattle.xa_policy.specs.declared.reference.Reference.{Reference}
+use Rattle.xa_link.specs.declared.active.Active.{Active}
+
+-- a number matches itself, `*` any one number, and `+` any number and all that follow it
+abbrev pub matches : List PatternPart → List ℕ → Bool
+matches [] [] = true
+matches [] (n ∷ ns) = false
+matches (part ∷ parts) [] = false
+matches (Number m ∷ parts) (n ∷ ns) = (m == n) && matches parts ns
+matches (AnyNumber ∷ parts) (n ∷ ns) = matches parts ns
+matches (AnyNumbers ∷ parts) (n ∷ ns) = true
+
+-- versions compare as lists of numbers, a proper prefix being less
+abbrev pub is_before : List ℕ → List ℕ → Bool
+is_before v w = is_lt (slice_cmp nat_cmp v w)
+
+abbrev pub same_kind : DocumentKind → DocumentKind → Bool
+same_kind Policy Policy = true
+same_kind Policy PolicySet = false
+same_kind PolicySet Policy = false
+same_kind PolicySet PolicySet = true
+
+-- a pattern and bounds, each where there is one; the bounds are inclusive
+abbrev pub fits_pattern : Option (List PatternPart) → List ℕ → Bool
+fits_pattern None v = true
+fits_pattern (Some pattern) v = matches pattern v
+
+abbrev pub not_before : Option (List ℕ) → List ℕ → Bool
+not_before None v = true
+not_before (Some earliest) v = not (is_before v earliest)
+
+abbrev pub not_after : Option (List ℕ) → List ℕ → Bool
+not_after None v = true
+not_after (Some latest) v = not (is_before latest v)
+
+-- a document of that kind and id, of a version that will do
+abbrev pub fits : {D : Type 0} → Reference → Active D → Bool
+fits reference document =
+    same_kind reference.kind document.kind && bytes_eq reference.id document.id && fits_pattern reference.version document.version
+    && not_before reference.earliest document.version && not_after reference.latest document.version
+
+-- among the documents that fit, none has a later version
+abbrev pub none_later : {D : Type 0} → List (Active D) → Reference → Active D → Bool
+none_later active reference document = list_all (λ other. not (fits reference other && is_before document.version other.version)) active
+
+-- the place of the document for which a reference stands: the first that fits, and than which none that fits is later
+abbrev pub resolve : {D : Type 0} → List (Active D) → Reference → Option ℕ
+resolve active reference = position (λ document. fits reference document && none_later active reference document) active

@@ -1,0 +1,78 @@
+-- How the members of a request are read from JSON (JSON Profile of XACML 3.0, section 3). A member that the profile doesn't know
+-- is not looked at, and of several members of one name the last one counts.
+use Rattle.std.specs.Prelude.{ℕ, Bool, false, List, [], ◌∷◌, Option, Some, None, is_some, Result, Ok, Err, if◌then◌else◌}
+use Rattle.std.specs.Str.{is_utf8}
+use Rattle.serde_json.specs.Data.{Data, null, boolean, number, string, array, object, Items, no_items, item}
+use Rattle.serde_json.specs.Read.{read}
+use Rattle.serde_json.specs.Find.{get, as_str, as_bool, as_object}
+use Rattle.xa_value.specs.Gives.{◌>>=◌}
+use Rattle.xa_profile.specs.declared.member.Member.{Member}
+use Rattle.xa_profile.specs.declared.request_error.RequestError.{RequestError}
+use Rattle.xa_profile.specs.declared.request_error.RequestError.TheVariants.{NotJson, NotProfile}
+use Rattle.xa_profile.specs.Member.{name_of}
+
+-- what is there, where it has to be
+abbrev pub or_not_json : {X : Type 0} → Option X → Result X RequestError
+or_not_json None = Err NotJson
+or_not_json (Some x) = Ok x
+
+abbrev pub or_not_profile : {X : Type 0} → Option X → Result X RequestError
+or_not_profile None = Err NotProfile
+or_not_profile (Some x) = Ok x
+
+-- nothing more, where it holds
+abbrev pub holds_or_not_profile : Bool → Result (Unit {0}) RequestError
+holds_or_not_profile b = if b then Ok tt else Err NotProfile
+
+-- the JSON of a text, which has to be UTF-8 (RFC 8259, section 8.1)
+unfoldable pub json : List ℕ → Result Data RequestError
+json text = if is_utf8 text then or_not_json (read text) else Err NotJson
+
+-- the member of that name, if it is an object and has it
+abbrev pub at : Member → Data → Option Data
+at name d = get (name_of name) d
+
+-- a text
+abbrev pub text : Data → Result (List ℕ) RequestError
+text d = or_not_profile (as_str d)
+
+-- an object
+abbrev pub check_object : Data → Result (Unit {0}) RequestError
+check_object d = holds_or_not_profile (is_some (as_object d))
+
+-- a text that has to be there
+abbrev pub needed_text : Option Data → Result (List ℕ) RequestError
+needed_text None = Err NotProfile
+needed_text (Some d) = text d
+
+-- a text that may be left out
+abbrev pub optional_text : Option Data → Result (Option (List ℕ)) RequestError
+optional_text None = Ok None
+optional_text (Some d) = text d >>= λ t. Ok (Some t)
+
+-- true or false, and false where it is left out
+abbrev pub flag : Option Data → Result Bool RequestError
+flag None = Ok false
+flag (Some d) = or_not_profile (as_bool d)
+
+-- an array's items; anything else stands for an array of itself (section 3.2)
+abbrev pub listed : Data → Items
+listed null = item null no_items
+listed (boolean b) = item (boolean b) no_items
+listed (number n) = item (number n) no_items
+listed (string s) = item (string s) no_items
+listed (array ds) = ds
+listed (object ms) = item (object ms) no_items
+
+-- no items, where the member is left out
+abbrev pub listed_if_any : Option Data → Items
+listed_if_any None = no_items
+listed_if_any (Some d) = listed d
+
+-- each of them, read in order
+abbrev pub each : {X : Type 0} → (Data → Result X RequestError) → Items → Result (List X) RequestError
+each reads no_items = Ok []
+each reads (item d ds) = do
+  x ← reads d
+  xs ← each reads ds
+  Ok (x ∷ xs)

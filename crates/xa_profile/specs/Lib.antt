@@ -1,0 +1,6 @@
+pub mod Attribute
+pub mod Individuals
+pub mod Json
+pub mod Member
+pub mod parsing
+pub mod Request

@@ -1,0 +1,208 @@
+//! Attributes of a request.
+ghost use Rattle.std.specs.Prelude.{◌≡◌, ◌==◌, option_map, option_and_then, IfOk};
+ghost use Rattle.std.specs.List.{list_all};
+ghost use Rattle.serde_json.specs.Find.{as_str};
+ghost use Rattle.serde_json.specs.View.{view, items_view};
+ghost use Rattle.xa_value.specs.Gives.{Gives};
+ghost use Rattle.xa_value.specs.Order.{type_of};
+ghost use Rattle.xa_value.specs.Types.{type_named, place_of};
+ghost use Rattle.xa_profile.specs.Attribute.{plain_of, kind, is_one_kind, type_of_values, named_type, bag, value, values, attribute};
+ghost use Rattle.xa_profile.specs.Json.{or_not_profile, listed_if_any, each};
+
+use crate::json::{
+    Reader, each, flag, holds_or_not_profile, listed_if_any, member_at, needed_text, optional_text,
+};
+use crate::member::Member;
+use crate::request_error::RequestError;
+use serde_json::Value as Json;
+use std::alloc::Global;
+use xa_bag::Bag;
+use xa_value::{DataType, Items, OrMemory, Plain, Text, TextRef, Value};
+
+/// An attribute of a request (JSON Profile, section 4.2).
+#[derive(Debug, Drop)]
+pub struct Attribute {
+    /// Its id.
+    pub id: Text,
+    /// Who issued it, if that is said.
+    pub issuer: Option<Text>,
+    /// Whether it is to stand in the result.
+    pub include_in_result: bool,
+    /// Its values and their type, which is string where none is named and there is no value.
+    pub values: Bag,
+}
+
+/// A text, a boolean or a whole number.
+fn plain_of(value: &Json) -> Option<Plain<TextRef<'_>>>
+    ensures { result ≡ plain_of (view value.now) }
+{
+    match value {
+        Json::String(text) => Some(Plain::Text(TextRef::new(text.as_str()))),
+        Json::Bool(value) => Some(Plain::Boolean(*value)),
+        Json::Number(number) => Some(Plain::Integer(number.as_i128()?)),
+        _ => None,
+    }
+}
+
+/// Reads the kind of a value.
+#[derive(Drop)]
+struct KindReader;
+
+impl Reader for KindReader {
+    type Output = DataType;
+
+    ghost reads = { λ _ d. kind d };
+
+    #[tactic(auto, unfolding(crate::specs::Attribute::kind))]
+    fn read(&self, _alloc: Global, value: &Json) -> Result<DataType, OrMemory<RequestError>> {
+        match plain_of(value) {
+            Some(plain) => Ok(plain.data_type()),
+            None => Err(OrMemory::Error(RequestError::NotProfile)),
+        }
+    }
+}
+
+/// Whether the two types are the same.
+fn is_same_type(a: DataType, b: DataType) -> bool
+    ensures { result ≡ (place_of a == place_of b) }
+{
+    a == b
+}
+
+/// Whether the others are of the type.
+fn are_all(data_type: DataType, others: &[DataType]) -> bool
+    ensures { result ≡ list_all (λ other. place_of other == place_of data_type) others.now }
+{
+    for other in others {
+        if !is_same_type(*other, data_type) {
+            return false;
+        }
+    }
+    true
+}
+
+/// Whether the kinds are all the same.
+fn is_one_kind(kinds: &[DataType]) -> bool
+    ensures { result ≡ is_one_kind kinds.now }
+{
+    match kinds {
+        [first, others @ ..] => are_all(*first, others),
+        [] => true,
+    }
+}
+
+/// The type of an attribute's values: the one that is named, else that of their kind, and string where there is no value either.
+fn type_of_values(named: Option<DataType>, kinds: &[DataType]) -> DataType
+    ensures { result ≡ type_of_values named kinds.now }
+{
+    match (named, kinds) {
+        (Some(named), _) => named,
+        (None, [first, ..]) => *first,
+        (None, []) => DataType::String,
+    }
+}
+
+/// The type that is named, if one is.
+fn named_type(value: Option<&Json>) -> Result<Option<DataType>, RequestError>
+    ensures { result ≡ named_type (option_map (λ v. view v.now) value.entry) }
+{
+    match value {
+        Some(value) => Ok(Some(data_type(value)?)),
+        None => Ok(None),
+    }
+}
+
+/// The type that a text names.
+fn data_type(value: &Json) -> Result<DataType, RequestError>
+    ensures { result ≡ or_not_profile (option_and_then type_named (as_str (view value.now))) }
+{
+    match value.as_str() {
+        Some(name) => DataType::from_uri(name).ok_or(RequestError::NotProfile),
+        None => Err(RequestError::NotProfile),
+    }
+}
+
+/// A value of the type.
+#[tactic(auto, unfolding(crate::specs::Attribute::value))]
+fn value_of(
+    alloc: Global,
+    data_type: DataType,
+    json: &Json,
+) -> Result<Value, OrMemory<RequestError>>
+    ensures value { Gives result (value data_type (view json.now)) }
+    ensures of_type { IfOk result (λ v. type_of v ≡ data_type) }
+{
+    let Some(plain) = plain_of(json) else {
+        return Err(OrMemory::Error(RequestError::NotProfile));
+    };
+    match Value::from_plain(alloc, data_type, &plain) {
+        Ok(value) => Ok(value),
+        Err(OrMemory::Memory) => Err(OrMemory::Memory),
+        Err(OrMemory::Error(_)) => Err(OrMemory::Error(RequestError::NotProfile)),
+    }
+}
+
+/// The bag of the values.
+fn bag_of(
+    alloc: Global,
+    data_type: DataType,
+    values: &[Json],
+) -> Result<Bag, OrMemory<RequestError>>
+    ensures { Gives result (bag data_type (items_view values.now)) }
+{
+    let mut bag = Bag::new(alloc, data_type);
+    for value in values {
+        bag.push(value_of(alloc, data_type, value)?)?;
+    }
+    Ok(bag)
+}
+
+/// The values of an attribute, under the type that it names or by their kind.
+#[tactic(auto, unfolding(crate::specs::Attribute::values))]
+fn values_of(
+    alloc: Global,
+    named: Option<DataType>,
+    items: &[Json],
+) -> Result<Bag, OrMemory<RequestError>>
+    ensures { Gives result (values named (items_view items.now)) }
+{
+    let kinds = each(alloc, &KindReader, items)?;
+    holds_or_not_profile(is_one_kind(kinds.as_slice()))?;
+    bag_of(alloc, type_of_values(named, kinds.as_slice()), items)
+}
+
+/// Reads an attribute.
+#[derive(Drop)]
+struct AttributeReader;
+
+impl Reader for AttributeReader {
+    type Output = Attribute;
+
+    ghost reads = { λ _ d. attribute d };
+
+    #[tactic(auto, unfolding(crate::specs::Attribute::attribute))]
+    fn read(&self, alloc: Global, value: &Json) -> Result<Attribute, OrMemory<RequestError>> {
+        let id = needed_text(alloc, member_at(value, Member::AttributeId))?;
+        let issuer = optional_text(alloc, member_at(value, Member::Issuer))?;
+        let include_in_result = flag(member_at(value, Member::IncludeInResult))?;
+        let named = named_type(member_at(value, Member::DataType))?;
+        let items = listed_if_any(member_at(value, Member::Value));
+        let values = values_of(alloc, named, items)?;
+        Ok(Attribute {
+            id,
+            issuer,
+            include_in_result,
+            values,
+        })
+    }
+}
+
+/// The attributes of a member, and none where it is left out.
+pub(crate) fn attributes_of(
+    alloc: Global,
+    member: Option<&Json>,
+) -> Result<Items<Attribute>, OrMemory<RequestError>>
+    ensures { Gives result (each attribute (listed_if_any (option_map (λ v. view v.now) member.entry))) }
+{
+    each(alloc, &AttributeReader, listed_if_any(member))
+}

@@ -1,0 +1,119 @@
+//! Category objects of a request.
+ghost use Rattle.std.specs.Prelude.{◌≡◌, option_map};
+ghost use Rattle.serde_json.specs.View.{view};
+ghost use Rattle.xa_value.specs.Gives.{Gives};
+ghost use Rattle.xa_profile.specs.Json.{each, listed_if_any};
+ghost use Rattle.xa_profile.specs.parsing.Json.{behind};
+ghost use Rattle.xa_profile.specs.Request.{named_category, category_of, category_object, under_shorthands, all_objects};
+
+use crate::attribute::{Attribute, attributes_of};
+use crate::json::{
+    Reader, check_object, each_behind, listed_if_any, member_at, optional_text, shorthand_at,
+};
+use crate::member::Member;
+use crate::request_error::RequestError;
+use serde_json::Value as Json;
+use std::alloc::Global;
+use xa_value::{Category, Items, OrMemory, Text, category_uri};
+
+/// A Category object of a request (JSON Profile, section 4.2): attributes of one category.
+#[derive(Debug, Drop)]
+pub struct CategoryObject {
+    /// The category's URI.
+    pub category: Text,
+    /// The id by which a reference names the object.
+    pub id: Option<Text>,
+    /// The attributes.
+    pub attributes: Items<Attribute>,
+}
+
+/// The category that an object names.
+fn category_named(alloc: Global, value: Option<&Json>) -> Result<Text, OrMemory<RequestError>>
+    ensures { Gives result (named_category (option_map (λ v. view v.now) value.entry)) }
+{
+    match value.and_then(Json::as_str) {
+        Some(name) => Ok(Text::new(alloc, category_uri(name))?),
+        None => Err(OrMemory::Error(RequestError::NotProfile)),
+    }
+}
+
+/// The category of an object, under a shorthand or not.
+fn category_of(
+    alloc: Global,
+    shorthand: Option<Category>,
+    value: &Json,
+) -> Result<Text, OrMemory<RequestError>>
+    ensures { Gives result (category_of shorthand (view value.now)) }
+{
+    match shorthand {
+        Some(category) => Ok(Text::new(alloc, category.uri())?),
+        None => category_named(alloc, member_at(value, Member::CategoryId)),
+    }
+}
+
+/// Reads a Category object, under a shorthand or not.
+#[derive(Drop)]
+struct ObjectReader {
+    shorthand: Option<Category>,
+}
+
+impl Reader for ObjectReader {
+    type Output = CategoryObject;
+
+    ghost reads = { λ reader d. category_object reader.shorthand d };
+
+    #[tactic(auto, unfolding(crate::specs::Request::category_object))]
+    fn read(&self, alloc: Global, value: &Json) -> Result<CategoryObject, OrMemory<RequestError>> {
+        check_object(value)?;
+        let category = category_of(alloc, self.shorthand, value)?;
+        let id = optional_text(alloc, member_at(value, Member::Id))?;
+        let attributes = attributes_of(alloc, member_at(value, Member::Attribute))?;
+        Ok(CategoryObject {
+            category,
+            id,
+            attributes,
+        })
+    }
+}
+
+/// The objects of the member, under a shorthand or not, behind those that are there.
+fn with_objects(
+    alloc: Global,
+    objects: Items<CategoryObject>,
+    shorthand: Option<Category>,
+    value: Option<&Json>,
+) -> Result<Items<CategoryObject>, OrMemory<RequestError>>
+    ensures { Gives result (behind objects (each (category_object shorthand) (listed_if_any (option_map (λ v. view v.now) value.entry)))) }
+{
+    let reader = ObjectReader { shorthand };
+    each_behind(alloc, objects, &reader, listed_if_any(value))
+}
+
+/// The objects under shorthands, behind those that are there.
+fn with_shorthands(
+    alloc: Global,
+    mut objects: Items<CategoryObject>,
+    shorthands: &[Category],
+    value: &Json,
+) -> Result<Items<CategoryObject>, OrMemory<RequestError>>
+    ensures { Gives result (behind objects (under_shorthands shorthands.now (view value.now))) }
+{
+    for category in shorthands {
+        let member = shorthand_at(value, *category);
+        objects = with_objects(alloc, objects, Some(*category), member)?;
+    }
+    Ok(objects)
+}
+
+/// All objects of a request: those of the member Category, and then those under shorthands.
+#[tactic(auto, unfolding(crate::specs::Request::all_objects))]
+pub(crate) fn all_objects(
+    alloc: Global,
+    value: &Json,
+) -> Result<Items<CategoryObject>, OrMemory<RequestError>>
+    ensures { Gives result (all_objects (view value.now)) }
+{
+    let member = member_at(value, Member::Category);
+    let objects = with_objects(alloc, Items::new(alloc), None, member)?;
+    with_shorthands(alloc, objects, &Category::ALL, value)
+}

@@ -1,0 +1,170 @@
+//! How members are read from JSON.
+ghost use Rattle.std.specs.Prelude.{◌≡◌, List, Result, option_map, MatchResult};
+ghost use Rattle.serde_json.specs.Data.{Data};
+ghost use Rattle.serde_json.specs.Find.{get};
+ghost use Rattle.serde_json.specs.View.{view, items_view};
+ghost use Rattle.xa_value.specs.Category.{shorthand_of};
+ghost use Rattle.xa_value.specs.Gives.{Gives};
+ghost use Rattle.xa_profile.specs.declared.request_error.RequestError.{RequestError as ReadFault};
+ghost use Rattle.xa_profile.specs.Json.{json, at, text, check_object, holds_or_not_profile, needed_text, optional_text, flag, listed, listed_if_any, each};
+ghost use Rattle.xa_profile.specs.parsing.Json.{behind};
+
+use crate::member::Member;
+use crate::request_error::RequestError;
+use serde_json::Value as Json;
+use std::alloc::Global;
+use std::slice;
+use xa_value::{Category, Items, OrMemory, Text};
+
+/// The JSON of a body.
+#[tactic(auto, unfolding(crate::specs::Json::json))]
+pub(crate) fn json(alloc: Global, body: &[u8]) -> Result<Json, OrMemory<RequestError>>
+    ensures { MatchResult result (λ v. json body.now ≡ Ok (view v)) (λ e. Gives (Err e) (json body.now)) }
+{
+    match Json::from_slice(alloc, body) {
+        Ok(value) => Ok(value),
+        Err(error) if error.is_memory() => Err(OrMemory::Memory),
+        Err(_) => Err(OrMemory::Error(RequestError::NotJson)),
+    }
+}
+
+/// The member of that name.
+pub(crate) fn member_at(value: &Json, name: Member) -> Option<&Json>
+    ensures { option_map (λ v. view v.now) result ≡ at name (view value.now) }
+{
+    value.get(name.name())
+}
+
+/// The member of the name that is the category's shorthand.
+pub(crate) fn shorthand_at(value: &Json, category: Category) -> Option<&Json>
+    ensures { option_map (λ v. view v.now) result ≡ get (shorthand_of category) (view value.now) }
+{
+    value.get(category.shorthand())
+}
+
+/// Nothing, where it holds.
+pub(crate) fn holds_or_not_profile(holds: bool) -> Result<(), RequestError>
+    ensures { result ≡ holds_or_not_profile holds }
+{
+    if holds {
+        Ok(())
+    } else {
+        Err(RequestError::NotProfile)
+    }
+}
+
+/// Nothing, of an object.
+pub(crate) fn check_object(value: &Json) -> Result<(), RequestError>
+    ensures { result ≡ check_object (view value.now) }
+{
+    holds_or_not_profile(value.is_object())
+}
+
+/// A copy of a text.
+pub(crate) fn text(alloc: Global, value: &Json) -> Result<Text, OrMemory<RequestError>>
+    ensures { Gives result (text (view value.now)) }
+{
+    match value.as_str() {
+        Some(text) => Ok(Text::new(alloc, text)?),
+        None => Err(OrMemory::Error(RequestError::NotProfile)),
+    }
+}
+
+/// A copy of a text that has to be there.
+pub(crate) fn needed_text(
+    alloc: Global,
+    value: Option<&Json>,
+) -> Result<Text, OrMemory<RequestError>>
+    ensures { Gives result (needed_text (option_map (λ v. view v.now) value.entry)) }
+{
+    match value {
+        Some(value) => text(alloc, value),
+        None => Err(OrMemory::Error(RequestError::NotProfile)),
+    }
+}
+
+/// A copy of a text that may be left out.
+pub(crate) fn optional_text(
+    alloc: Global,
+    value: Option<&Json>,
+) -> Result<Option<Text>, OrMemory<RequestError>>
+    ensures { Gives result (optional_text (option_map (λ v. view v.now) value.entry)) }
+{
+    match value {
+        Some(value) => Ok(Some(text(alloc, value)?)),
+        None => Ok(None),
+    }
+}
+
+/// True or false, and false where it is left out.
+pub(crate) fn flag(value: Option<&Json>) -> Result<bool, RequestError>
+    ensures { result ≡ flag (option_map (λ v. view v.now) value.entry) }
+{
+    match value {
+        Some(value) => value.as_bool().ok_or(RequestError::NotProfile),
+        None => Ok(false),
+    }
+}
+
+/// An array's items; anything else stands for an array of itself.
+pub(crate) fn listed(value: &Json) -> &[Json]
+    ensures { items_view result.now ≡ listed (view value.now) }
+{
+    match value.as_array() {
+        Some(items) => items.as_slice(),
+        None => slice::from_ref(value),
+    }
+}
+
+/// The items of a member, and none where it is left out.
+pub(crate) fn listed_if_any<'a>(value: Option<&'a Json>) -> &'a [Json]
+    ensures { items_view result.now ≡ listed_if_any (option_map (λ v. view v.now) value.entry) }
+{
+    match value {
+        Some(value) => listed(value),
+        None => &[],
+    }
+}
+
+/// What is read from one value.
+pub(crate) trait Reader {
+    /// What it is.
+    type Output;
+
+    /// What the value stands for.
+    ghost reads: { Self → Data → Result Self.Output ReadFault };
+
+    fn read(&self, alloc: Global, value: &Json) -> Result<Self::Output, OrMemory<RequestError>>
+        ensures { Gives result (reads self.now (view value.now)) };
+}
+
+/// Each of the values, read in order, behind the items.
+pub(crate) fn each_behind<R: Reader>(
+    alloc: Global,
+    mut items: Items<R::Output>,
+    reader: &R,
+    values: &[Json],
+) -> Result<Items<R::Output>, OrMemory<RequestError>>
+where
+    R::Output: Drop,
+    ensures { Gives result (behind items (each (R.reads reader.now) (items_view values.now))) }
+{
+    for value in values {
+        items.push(reader.read(alloc, value)?)?;
+    }
+    Ok(items)
+}
+
+/// Each of the values, read in order.
+#[tactic(auto, using(crate::proofs::JsonLemmas::behind_none))]
+pub(crate) fn each<R: Reader>(
+    alloc: Global,
+    reader: &R,
+    values: &[Json],
+) -> Result<Items<R::Output>, OrMemory<RequestError>>
+where
+    R::Output: Drop,
+    ensures { Gives result (each (R.reads reader.now) (items_view values.now)) }
+{
+    each_behind(alloc, Items::new(alloc), reader, values)
+}

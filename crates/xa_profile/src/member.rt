@@ -1,0 +1,49 @@
+//! The names of members.
+ghost use Rattle.std.specs.Prelude.{◌≡◌};
+ghost use Rattle.xa_profile.specs.Member.{name_of};
+
+/// A member of a request that isn't a category's shorthand.
+#[derive(Clone, Copy, Debug, PartialEq, Eq)]
+pub(crate) enum Member {
+    Request,
+    ReturnPolicyIdList,
+    CombinedDecision,
+    Category,
+    MultiRequests,
+    RequestReference,
+    ReferenceId,
+    CategoryId,
+    Id,
+    Attribute,
+    AttributeId,
+    DataType,
+    Issuer,
+    IncludeInResult,
+    Value,
+}
+
+impl Member {
+    /// The member's name.
+    #[tactic(auto, unfolding(crate::specs::Member::name_of))]
+    pub(crate) fn name(self) -> &'static str
+        ensures { result.now ≡ name_of self }
+    {
+        match self {
+            Member::Request => "Request",
+            Member::ReturnPolicyIdList => "ReturnPolicyIdList",
+            Member::CombinedDecision => "CombinedDecision",
+            Member::Category => "Category",
+            Member::MultiRequests => "MultiRequests",
+            Member::RequestReference => "RequestReference",
+            Member::ReferenceId => "ReferenceId",
+            Member::CategoryId => "CategoryId",
+            Member::Id => "Id",
+            Member::Attribute => "Attribute",
+            Member::AttributeId => "AttributeId",
+            Member::DataType => "DataType",
+            Member::Issuer => "Issuer",
+            Member::IncludeInResult => "IncludeInResult",
+            Member::Value => "Value",
+        }
+    }
+}

@@ -1,0 +1,140 @@
+//! Requests.
+ghost use Rattle.std.specs.Prelude.{◌≡◌, map, option_map, IfOk};
+ghost use Rattle.serde_json.specs.View.{view};
+ghost use Rattle.xa_value.specs.Gives.{Gives};
+ghost use Rattle.xa_profile.specs.Json.{text};
+ghost use Rattle.xa_profile.specs.Request.{has_twice, ids_of, reference, references_in, all_references, request, request_of};
+
+use crate::category_object::{CategoryObject, all_objects};
+use crate::json::{
+    Reader, check_object, each, flag, holds_or_not_profile, json, listed, member_at, text,
+};
+use crate::member::Member;
+use crate::repetition::has_twice;
+use crate::request_error::RequestError;
+use serde_json::Value as Json;
+use std::alloc::{AllocError, Global};
+use xa_value::{Items, OrMemory, Text};
+
+/// A request (JSON Profile, section 4).
+#[derive(Debug, Drop)]
+pub struct Request {
+    /// Whether the policies that applied are asked for.
+    pub return_policy_id_list: bool,
+    /// Whether one decision is asked for that stands for all individual ones.
+    pub combined_decision: bool,
+    /// The Category objects: those of the member Category, and then those under shorthands, in the order of these.
+    pub objects: Items<CategoryObject>,
+    /// The requests of MultiRequests, each by the ids of its objects; none where there is no such member, or no item in it.
+    pub references: Items<Items<Text>>,
+}
+
+/// Reads a text.
+#[derive(Drop)]
+struct TextReader;
+
+impl Reader for TextReader {
+    type Output = Text;
+
+    ghost reads = { λ _ d. text d };
+
+    fn read(&self, alloc: Global, value: &Json) -> Result<Text, OrMemory<RequestError>> {
+        text(alloc, value)
+    }
+}
+
+/// Reads one of the requests of MultiRequests: the ids of its objects.
+#[derive(Drop)]
+struct ReferenceReader;
+
+impl Reader for ReferenceReader {
+    type Output = Items<Text>;
+
+    ghost reads = { λ _ d. reference d };
+
+    #[tactic(auto, unfolding(crate::specs::Request::reference))]
+    fn read(&self, alloc: Global, value: &Json) -> Result<Items<Text>, OrMemory<RequestError>> {
+        match member_at(value, Member::ReferenceId) {
+            Some(ids) => each(alloc, &TextReader, listed(ids)),
+            None => Err(OrMemory::Error(RequestError::NotProfile)),
+        }
+    }
+}
+
+/// The requests of MultiRequests.
+#[tactic(auto, unfolding(crate::specs::Request::references_in))]
+fn references_in(alloc: Global, value: &Json) -> Result<Items<Items<Text>>, OrMemory<RequestError>>
+    ensures { Gives result (references_in (view value.now)) }
+{
+    match member_at(value, Member::RequestReference) {
+        Some(references) => each(alloc, &ReferenceReader, listed(references)),
+        None => Err(OrMemory::Error(RequestError::NotProfile)),
+    }
+}
+
+/// The requests of MultiRequests, and none where it is left out.
+fn all_references(
+    alloc: Global,
+    value: Option<&Json>,
+) -> Result<Items<Items<Text>>, OrMemory<RequestError>>
+    ensures { Gives result (all_references (option_map (λ v. view v.now) value.entry)) }
+{
+    match value {
+        Some(value) => references_in(alloc, value),
+        None => Ok(Items::new(alloc)),
+    }
+}
+
+/// The ids of those objects that have one.
+fn ids_of(alloc: Global, objects: &[CategoryObject]) -> Result<Vec<&str>, AllocError>
+    ensures { IfOk result (λ ids. map (λ id. id.now) ids.items ≡ ids_of objects.now) }
+{
+    let mut ids = Vec::new(alloc);
+    for object in objects {
+        if let Some(id) = &object.id {
+            ids.push(id.as_str())?;
+        }
+    }
+    Ok(ids)
+}
+
+/// Whether two objects have the same id.
+fn has_id_twice(alloc: Global, objects: &[CategoryObject]) -> Result<bool, AllocError>
+    ensures { IfOk result (λ twice. twice ≡ has_twice (ids_of objects.now)) }
+{
+    let ids = ids_of(alloc, objects)?;
+    has_twice(alloc, ids.as_slice())
+}
+
+/// The request that the JSON is.
+#[tactic(auto, unfolding(crate::specs::Request::request))]
+fn request_from(alloc: Global, value: &Json) -> Result<Request, OrMemory<RequestError>>
+    ensures { Gives result (request (view value.now)) }
+{
+    check_object(value)?;
+    let return_policy_id_list = flag(member_at(value, Member::ReturnPolicyIdList))?;
+    let combined_decision = flag(member_at(value, Member::CombinedDecision))?;
+    let objects = all_objects(alloc, value)?;
+    holds_or_not_profile(!has_id_twice(alloc, objects.as_slice())?)?;
+    let references = all_references(alloc, member_at(value, Member::MultiRequests))?;
+    Ok(Request {
+        return_policy_id_list,
+        combined_decision,
+        objects,
+        references,
+    })
+}
+
+impl Request {
+    /// The request that a body is.
+    #[tactic(auto, unfolding(crate::specs::Request::request_of))]
+    pub fn read(alloc: Global, body: &[u8]) -> Result<Request, OrMemory<RequestError>>
+        ensures { Gives result (request_of body.now) }
+    {
+        let value = json(alloc, body)?;
+        match member_at(&value, Member::Request) {
+            Some(member) => request_from(alloc, member),
+            None => Err(OrMemory::Error(RequestError::NotProfile)),
+        }
+    }
+}
