@@ -1,5 +1,5 @@
 -- The whole messages of a stream, taken one after another, and the replies, written one after another.
-use Rattle.std.proofs.Common.{◌≡◌, ℕ, ◌<◌, ◌+◌, List, [], ◌∷◌, ◌++◌, map, length, take, get_or, refl, sym, ap, subst, ◌∙◌, Option, Some, None, false, true}
+use Rattle.std.proofs.Common.{◌≡◌, ℕ, ◌<◌, ◌+◌, List, [], ◌∷◌, ◌++◌, map, length, take, get_or, refl, sym, ap, subst, ◌∙◌, Option, Some, None, inl, inr}
 use Rattle.std.specs.Prelude.{ℤ}
 use Rattle.std.specs.Io.KnownBytes.{Appends}
 use Rattle.std.specs.List.{flat_map}
@@ -8,7 +8,7 @@ use Rattle.std.proofs.lemmas.List.Concat.{flat_map-append}
 use Rattle.xa_http.specs.declared.message.Message.{Message}
 use Rattle.xa_http.specs.declared.session.Next.{Next}
 use Rattle.xa_http.specs.declared.session.Next.TheVariants as next
-use Rattle.xa_http.specs.declared.session.SessionFault.{SessionFault}
+use Rattle.xa_http.specs.declared.fault.SessionFault.{SessionFault}
 use Rattle.xa_http.specs.Messages.{Cuts, IsNext}
 use Rattle.xa_http.specs.Stream.{Stream}
 use Rattle.xa_http.proofs.LawLemmas.{takes_on}
@@ -25,14 +25,13 @@ use Rattle.pdpd.specs.Entry.{HasMessages, IsAnswered, events_at, fault_replies, 
 abbrev pub messages_of : List Event → List Message
 messages_of events = map (λ (event : Event). event.1) events
 
--- these messages, each at the moment, were taken off the stream, which goes on
+-- these messages, each at the moment, were taken off the stream
 unfoldable pub TakenSoFar : ℤ → Stream → Stream → List Event → Type 0
-TakenSoFar moment first now events =
-    (events ≡ events_at moment (messages_of events)) × Cuts first.held (messages_of events) now.held × (now.ended ≡ false)
+TakenSoFar moment first now events = (events ≡ events_at moment (messages_of events)) × Cuts first (messages_of events) now
 
-pub taken_none : (moment : ℤ) (first : Stream) → first.ended ≡ false → TakenSoFar moment first first []
+pub taken_none : (moment : ℤ) (first : Stream) → TakenSoFar moment first first []
 unfolding TakenSoFar
-taken_none moment first goes_on = (refl, refl, goes_on)
+taken_none moment first = (refl, refl)
 
 pub taken_more : (moment : ℤ) (first now after : Stream) (events : List Event) (message : Message)
     → TakenSoFar moment first now events → IsNext now (next.Message message) after
@@ -44,9 +43,8 @@ taken_more moment first now after events message taken is =
       ap (λ (es : List Event). es ++ (moment, message) ∷ []) taken.0
           ∙ sym (map-append (λ (m : Message). (moment, m)) (messages_of events) (message ∷ []))
           ∙ ap (λ (ms : List Message). events_at moment ms) (sym more),
-      subst (λ (ms : List Message). Cuts first.held ms after.held) (sym more)
-          (takes_on first.held (messages_of events) now.held message after.held taken.1 is.1),
-      is.2,
+      subst (λ (ms : List Message). Cuts first ms after) (sym more)
+          (takes_on first (messages_of events) now message after taken.1 is),
     )
 
 pub taken_moment : (moment : ℤ) (first now : Stream) (events : List Event) → TakenSoFar moment first now events
@@ -54,12 +52,19 @@ pub taken_moment : (moment : ℤ) (first now : Stream) (events : List Event) →
 unfolding TakenSoFar
 taken_moment moment first now events taken = taken.0
 
-pub taken_unfinished : (moment : ℤ) (first now after : Stream) (events : List Event) → TakenSoFar moment first now events
-    → IsNext now next.More after → HasMessages first (messages_of events) None after
+pub taken_unfinished : (moment : ℤ) (first now after : Stream) (events : List Event) (answer : Next)
+    → TakenSoFar moment first now events → IsNext now answer after → answer ≡ next.More
+    → HasMessages first (messages_of events) None after
 unfolding TakenSoFar
-taken_unfinished moment first now after events taken is =
-    subst (λ (s : Stream). HasMessages first (messages_of events) None s) (sym is.2)
-    (taken.1, (refl, is.1, λ i. record { held = now.held; ended = is.0 i }))
+taken_unfinished moment first now after events answer taken answers same =
+    (now, taken.1, inl (subst (λ (a : Next). IsNext now a after) same answers))
+
+pub taken_ended : (moment : ℤ) (first now after : Stream) (events : List Event) (answer : Next)
+    → TakenSoFar moment first now events → IsNext now answer after → answer ≡ next.Ended
+    → HasMessages first (messages_of events) None after
+unfolding TakenSoFar
+taken_ended moment first now after events answer taken answers same =
+    (now, taken.1, inr (subst (λ (a : Next). IsNext now a after) same answers))
 
 pub taken_fault : (moment : ℤ) (first now after : Stream) (events : List Event) (fault : SessionFault) (answer : Next)
     → TakenSoFar moment first now events → IsNext now answer after → answer ≡ next.Fault fault
@@ -67,30 +72,7 @@ pub taken_fault : (moment : ℤ) (first now after : Stream) (events : List Event
 unfolding TakenSoFar
 taken_fault moment first now after events fault answer taken answers same =
     let is : IsNext now (next.Fault fault) after = subst (λ (a : Next). IsNext now a after) same answers in
-    subst (λ (s : Stream). HasMessages first (messages_of events) (Some fault) s) (sym is.2) (taken.1, (refl, is.1, refl))
-
--- it has not ended before
-pub never_ended : (moment : ℤ) (first now after : Stream) (events : List Event) (answer : Next) → TakenSoFar moment first now events
-    → IsNext now answer after → answer ≡ next.Ended → ⊥
-unfolding TakenSoFar
-never_ended moment first now after events next.Ended taken is ended =
-    let on : now.ended ≡ false = taken.2 in
-    let off : now.ended ≡ true = is.0 in
-    cc
-never_ended moment first now after events next.More taken is ended = cc
-never_ended moment first now after events (next.Fault fault) taken is ended = cc
-never_ended moment first now after events (next.Message message) taken is ended = cc
-
--- the stream goes on where there is no fault, and else it has ended
-pub goes_on : (old new : Stream) (messages : List Message) (fault : Option SessionFault) → HasMessages old messages fault new → fault ≡ None
-    → new.ended ≡ false
-goes_on old new messages None has is = ap (λ (s : Stream). s.ended) has.1.2
-goes_on old new messages (Some fault) has is = absurd (cc)
-
-pub has_ended : (old new : Stream) (messages : List Message) (fault : Option SessionFault) (f : SessionFault)
-    → HasMessages old messages fault new → fault ≡ Some f → new.ended ≡ true
-has_ended old new messages None f has is = absurd (cc)
-has_ended old new messages (Some fault) f has is = ap (λ (s : Stream). s.ended) has.1.2
+    (now, taken.1, is)
 
 -- without a fault the replies are those of a run on the messages
 pub answered_without_fault : (moment : ℤ) (bytes : List ℕ) (old new : World) (stream fed after : Stream) (events : List Event)

@@ -1,11 +1,10 @@
 -- What the bytes of an entry are answered, and what is written of the replies.
-use Rattle.std.specs.Prelude.{◌≡◌, ℕ, ℤ, List, [], ◌∷◌, ◌++◌, length, map, Option, Some, None, false, codes, decimal}
+use Rattle.std.specs.Prelude.{◌≡◌, ℕ, ℤ, List, [], ◌∷◌, ◌++◌, ◌⊎◌, length, map, Option, Some, None, codes, decimal}
 use Rattle.xa_http.specs.declared.message.Message.{Message}
-use Rattle.xa_http.specs.declared.session.Next.{Next}
 use Rattle.xa_http.specs.declared.session.Next.TheVariants as next
-use Rattle.xa_http.specs.declared.session.SessionFault.{SessionFault}
+use Rattle.xa_http.specs.declared.fault.SessionFault.{SessionFault}
 use Rattle.xa_http.specs.Messages.{Cuts, IsNext}
-use Rattle.xa_http.specs.Stream.{Stream}
+use Rattle.xa_http.specs.Stream.{Stream, fed}
 use Rattle.xa_server.specs.declared.replies.Reply.{Reply}
 use Rattle.xa_server.specs.Alone.{Event}
 use Rattle.xa_server.specs.ErrorCode.{code_of_session_fault, error_reply}
@@ -13,15 +12,14 @@ use Rattle.xa_server.specs.Replies.{bytes_of}
 use Rattle.xa_server.specs.Served.{IsRun}
 use Rattle.xa_server.specs.World.{World}
 
--- what a session answers after the last whole message: it wants more bytes, or it ends by the fault
-abbrev pub next_of : Option SessionFault → Next
-next_of None = next.More
-next_of (Some fault) = next.Fault fault
+-- what a session answers after the last whole message: the fault by which it ends, or that it wants more bytes, or that it has ended with that message
+abbrev pub StopsBy : Option SessionFault → Stream → Stream → Type 0
+StopsBy (Some fault) last new = IsNext last (next.Fault fault) new
+StopsBy None last new = IsNext last next.More new ⊎ IsNext last next.Ended new
 
--- these are the whole messages that a stream holds, after which it wants more bytes, or ends by the fault
+-- these are the whole messages that a stream holds, and so it stops after them
 abbrev pub HasMessages : Stream → List Message → Option SessionFault → Stream → Type 0
-HasMessages old messages fault new =
-    Cuts old.held messages new.held × IsNext (record { held = new.held; ended = false }) (next_of fault) new
+HasMessages old messages fault new = (last : Stream) × Cuts old messages last × StopsBy fault last new
 
 -- the messages, each at that moment
 abbrev pub events_at : ℤ → List Message → List Event
@@ -38,7 +36,7 @@ pub record IsAnswered (moment : ℤ) (bytes : List ℕ) (old new : World) (strea
   pub messages : List Message
   pub fault : Option SessionFault
   pub run : List Reply
-  pub has_messages : HasMessages (record stream { held = stream.held ++ bytes }) messages fault after
+  pub has_messages : HasMessages (fed stream bytes) messages fault after
   pub is_run : IsRun old (events_at moment messages) run new
   pub all_replies : replies ≡ map bytes_of run ++ fault_replies fault
 

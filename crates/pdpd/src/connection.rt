@@ -13,7 +13,7 @@ pub enum Connection {
     Closed,
     /// Its stream goes on.
     Open(OpenStream),
-    /// It is open, and its stream has ended by a fault: its further entries are passed over.
+    /// It is open, and its stream has ended: its further entries are passed over.
     Ended,
 }
 

@@ -20,17 +20,23 @@ use std::io::{BufWriter, Read, Write};
 use std::mem;
 use xa_http::Session;
 use xa_server::{Digest, Server, is_token};
+use xa_value::OrMemory;
 
 /// How many bytes of replies are held before they are written.
 const BUFFER_BYTES: usize = 65_536;
 
 /// The server over the one domain that the program starts with.
+#[tactic(auto, using(crate::proofs::ServerLemmas::never_refused))]
 fn first_server(alloc: Global, token: &str) -> Result<Server, AllocError>
     ensures { IfOk result (λ server. server ≡ record { operator = sha256 token.now; domains = acme ∷ [] }) }
 {
     let mut domains = Vec::new(alloc);
     domains.push(acme(alloc)?)?;
-    Ok(Server::given(alloc, domains, Digest::of(token.as_bytes())).unwrap())
+    match Server::given(alloc, domains, Digest::of(token.as_bytes())) {
+        Ok(server) => Ok(server),
+        Err(OrMemory::Memory) => Err(AllocError),
+        Err(OrMemory::Error(_)) => unreachable!(),
+    }
 }
 
 /// What the program holds between entries.
@@ -103,19 +109,19 @@ impl<W: Write + Drop> Replayer<W> {
         }
     }
 
-    /// The connection of a stream after it has taken the bytes of an entry, and the replies to them are written.
+    /// The connection of a stream after it has taken the bytes of an entry, and the replies to them are written. What
+    /// follows the end of the stream is dropped.
     fn stream_after(
         &mut self,
         session: Session,
         heading: Heading,
         bytes: &[u8],
     ) -> Result<Connection, Exit>
-        requires { session.ended ≡ false }
         ensures others { self.new.connections ≡ self.old.connections }
         ensures err { IfErr result (λ exit. IsTrue (breaks_off exit)) }
     {
         let mut session = session;
-        let (replies, ends) = replies_to(
+        let replies = replies_to(
             self.alloc,
             &mut self.server,
             heading.moment,
@@ -123,7 +129,7 @@ impl<W: Write + Drop> Replayer<W> {
             bytes,
         )?;
         write_replies(&mut self.writer, heading.connection, &replies)?;
-        if ends {
+        if session.has_ended() {
             return Ok(Connection::Ended);
         }
         Ok(Connection::Open(OpenStream { session }))

@@ -126,6 +126,19 @@ fn entries_of_a_connection(rt: HostRuntime) -> Result<(), Fail> {
     )
 }
 
+#[test]
+fn a_message_that_closes_its_stream(rt: HostRuntime) -> Result<(), Fail> {
+    // What follows it in the entry is dropped, and further entries are passed over until the connection is closed.
+    let last =
+        "0 0 106\nPOST /domains/acme/pdp HTTP/1.0\r\nAuthorization: Bearer acme-token-1\r\nContent-Length: 14\r\n\r\n{\"Request\":{}}:\n";
+    expect(
+        &rt,
+        &[last, ASK, "0 0 0\n\n", ASK],
+        Exit::Done,
+        &[PERMIT, PERMIT],
+    )
+}
+
 /// A reader that fails after the bytes it holds.
 #[derive(Drop)]
 struct Broken<'a>(&'a [u8]);

@@ -1,11 +1,12 @@
 -- What stands at the front of a stream, from what the parser says of the window.
-use Rattle.std.proofs.Common.{◌≡◌, ℕ, ◌+◌, ◌*◌, ◌<◌, ◌≤◌, List, [], ◌∷◌, ◌++◌, length, take, drop, map, refl, sym, ap, ◌∙◌, arith, inr, Ok, Err, length-append, append_assoc}
+use Rattle.std.proofs.Common.{◌≡◌, ℕ, ◌+◌, ◌*◌, ◌<◌, ◌≤◌, List, [], ◌∷◌, ◌++◌, length, take, drop, map, refl, sym, ap, ◌∙◌, subst, arith, inr, Bool, Option, Some, None, Ok, Err, length-append, append_assoc}
 use Rattle.std.specs.Prelude.{flat_map, ◌≢◌}
-use Rattle.std.proofs.lemmas.List.{take-append-drop, drop-drop, length-take, length-take-le, length-drop}
+use Rattle.std.proofs.lemmas.List.{take-append-drop, drop-drop, length-take, length-take-le, drop-append-le}
 use Rattle.std.proofs.lemmas.Simd.{map-map}
 use Rattle.std.proofs.Math.Seq.{drop-append_seam}
 use Rattle.httparse.specs.Grammar.{LineEnd, crlf, lf, print_end, print_field, print_section, print_blank, print_version, RequestHead, print_request, ReadsRequest, NeverHasRequest}
 use Rattle.httparse.specs.Grammar as grammar
+use Rattle.httparse.proofs.GrammarLemmas.{ReadsRequest-append}
 use Rattle.httparse.specs.Spans.{RequestExceeds, IsRequestOf, span_bytes, header_bytes, name_and_value}
 use Rattle.httparse.specs.declared.Error.{Error}
 use Rattle.httparse.specs.declared.Error.TheVariants.{HeaderName, HeaderValue, NewLine, Status, Token, TooManyHeaders, Version}
@@ -13,11 +14,12 @@ use Rattle.httparse.specs.declared.spans.HeaderSpan.{HeaderSpan}
 use Rattle.httparse.specs.declared.spans.RequestSpans.{RequestSpans}
 use Rattle.xa_http.specs.declared.message.Field.{Field}
 use Rattle.xa_http.specs.declared.message.Message.{Message}
-use Rattle.xa_http.specs.declared.front.Cause.{Cause}
-use Rattle.xa_http.specs.declared.front.Front.TheVariants.{Whole}
+use Rattle.xa_http.specs.declared.fault.SessionFault.{SessionFault}
+use Rattle.xa_http.specs.declared.front.Head.{Head}
 use Rattle.xa_http.specs.Length.{body_length}
+use Rattle.xa_http.specs.Closing.{closes}
 use Rattle.xa_http.specs.Messages.{window, fields_of, BeginsWithHead, BeginsWithMessage, IsUnfinished, IsFaulty}
-use Rattle.xa_http.specs.Front.{field_at, IsFront, IsHeadOf}
+use Rattle.xa_http.specs.Front.{field_at, HasHead, IsHeadOf, KeepsHead}
 
 -- a line end has a byte at least
 end_fits : (e : LineEnd) → 1 ≤ length (print_end e)
@@ -70,12 +72,12 @@ field_from : List ℕ × List ℕ → Field
 field_from p = record { name = p.0; value = p.1 }
 
 -- the message whose parts the parser's spans cover is the head
-pub head_read : (bytes : List ℕ) (headers : List HeaderSpan) (spans : RequestSpans) (method target body : List ℕ) (fields : List Field)
+pub head_read : (bytes : List ℕ) (headers : List HeaderSpan) (spans : RequestSpans) (method target body : List ℕ) (fields : List Field) (close : Bool)
     → IsRequestOf bytes headers spans → method ≡ span_bytes bytes spans.method → target ≡ span_bytes bytes spans.path
-    → fields ≡ map (field_at bytes) (take spans.headers headers) → body ≡ []
-    → IsHeadOf bytes (record { method = method; target = target; fields = fields; body = body }) spans.len
+    → fields ≡ map (field_at bytes) (take spans.headers headers) → body ≡ [] → close ≡ closes spans.version fields
+    → IsHeadOf bytes (record { method = method; target = target; fields = fields; body = body; close = close }) spans.len
 unfolding field_from
-head_read bytes headers spans method target body fields found m t f e =
+head_read bytes headers spans method target body fields close found m t f e last =
     let h = found.0 in
     let at = found.1 in
     let covered : map (header_bytes bytes) (take spans.headers headers) ≡ map name_and_value h.fields = at.fields in
@@ -84,7 +86,8 @@ head_read bytes headers spans method target body fields found m t f e =
     let c : fields ≡ fields_of h
     = f ∙ sym (map-map field_from (header_bytes bytes) (take spans.headers headers))
     ∙ ap (map field_from) covered ∙ map-map field_from name_and_value h.fields in
-    (h, at.reads, at.len, λ i. record { method = a i; target = b i; fields = c i; body = e i })
+    let d : close ≡ closes h.minor (fields_of h) = last ∙ ap (λ (k : ℕ). closes k fields) at.version ∙ ap (closes h.minor) c in
+    (h, at.reads, at.len, λ i. record { method = a i; target = b i; fields = c i; body = e i; close = d i })
 
 -- a head that begins the window begins the bytes held
 pub begins : (held : List ℕ) (h : RequestHead) (len : ℕ) → ReadsRequest (window held) h (drop len (window held))
@@ -101,39 +104,68 @@ begins held h len reads is =
     let same : held ≡ print_request h ++ drop len held = whole ∙ ap (λ (x : List ℕ). print_request h ++ x) (sym after) in
     ((reads.0, same), omega (arith, length-take 16384 held, simp length-append at (ap length read)))
 
--- the head is whole, and bytes of its body are wanted
-pub body_open : (held : List ℕ) (head : Message) (len n : ℕ) → IsHeadOf (window held) head len
-    → body_length head.fields ≡ Ok n → length (drop len held) < n → IsUnfinished held
-unfolding IsUnfinished
-body_open held head len n found announced short =
+-- the head is whole, and its body is taken
+pub has_head : (held : List ℕ) (message : Message) (len n : ℕ) → IsHeadOf (window held) message len
+    → body_length message.fields ≡ Ok n → HasHead held (record { message = message; len = len; body_len = n })
+unfolding HasHead
+has_head held message len n found announced =
     let h = found.0 in
-    inr (h, drop len held, n, begins held h len found.1 found.2, ap (λ (m : Message). body_length m.fields) (sym found.3) ∙ announced, short)
+    (h, begins held h len found.1 found.2, found.2, ap (λ (m : Message). body_length m.fields) (sym found.3) ∙ announced, found.3)
 
 -- the head is whole, and the body that it announces is not taken
-pub head_faulty : (held : List ℕ) (head : Message) (len : ℕ) (cause : Cause) → IsHeadOf (window held) head len
-    → body_length head.fields ≡ Err cause → IsFaulty held cause
+pub head_faulty : (held : List ℕ) (message : Message) (len : ℕ) (fault : SessionFault) → IsHeadOf (window held) message len
+    → body_length message.fields ≡ Err fault → IsFaulty held fault
 unfolding IsFaulty
-head_faulty held head len cause found announced =
+head_faulty held message len fault found announced =
     let h = found.0 in
     inr (h, drop len held, begins held h len found.1 found.2, ap (λ (m : Message). body_length m.fields) (sym found.3) ∙ announced)
 
+-- the head is whole, and bytes of its body are wanted
+pub body_open : (held : List ℕ) (head : Head) → HasHead held head → length (drop head.len held) < head.body_len → IsUnfinished held
+unfolding IsUnfinished HasHead
+body_open held head has short = inr (has.0, drop head.len held, head.body_len, has.1, has.3, short)
+
+-- a head is no longer than what it begins
+pub head_within : (held : List ℕ) (head : Head) → HasHead held head → head.len ≤ length held
+unfolding HasHead
+head_within held head has =
+    let read : held ≡ print_request has.0 ++ drop head.len held = has.1.0.1 in
+    omega (arith, has.2, simp length-append at (ap length read))
+
 -- the head and its body are whole
-pub whole : (held body : List ℕ) (head : Message) (len n : ℕ) → IsHeadOf (window held) head len
-    → len ≤ length held → body_length head.fields ≡ Ok n → n ≤ length (drop len held) → body ≡ take n (drop len held)
-    → IsFront held (Whole (record head { body = body }) (len + n))
-unfolding BeginsWithMessage
-whole held body head len n found within announced enough is =
-    let h = found.0 in
-    let b = begins held h len found.1 found.2 in
-    let after = drop len held in
+pub whole : (held body : List ℕ) (head : Head) → HasHead held head → head.body_len ≤ length (drop head.len held)
+    → body ≡ take head.body_len (drop head.len held)
+    → BeginsWithMessage held (record head.message { body = body }) (drop (head.len + head.body_len) held)
+unfolding BeginsWithMessage HasHead
+whole held body head has enough is =
+    let h = has.0 in
+    let b = has.1 in
+    let n = head.body_len in
+    let after = drop head.len held in
     let count : length body ≡ n = ap length is ∙ length-take-le n after enough in
-    let split : after ≡ body ++ drop (len + n) held
-    = sym (take-append-drop n after) ∙ ap (λ (x : List ℕ). x ++ drop n after) (sym is) ∙ ap (λ (x : List ℕ). body ++ x) (drop-drop n len held) in (
-      omega (arith, within, enough, length-drop len held),
-      (
-        h,
-        ((b.0.0, b.0.1 ∙ ap (λ (x : List ℕ). print_request h ++ x) split), b.1),
-        ap (λ (m : Message). body_length m.fields) (sym found.3) ∙ announced ∙ ap (λ (k : ℕ). Ok k) (sym count),
-        ap (λ (m : Message). record m { body = body }) found.3,
-      ),
+    let split : after ≡ body ++ drop (head.len + n) held
+    = sym (take-append-drop n after) ∙ ap (λ (x : List ℕ). x ++ drop n after) (sym is) ∙ ap (λ (x : List ℕ). body ++ x) (drop-drop n head.len held) in (
+      h,
+      ((b.0.0, b.0.1 ∙ ap (λ (x : List ℕ). print_request h ++ x) split), b.1),
+      has.3 ∙ ap (λ (k : ℕ). Ok k) (sym count),
+      ap (λ (m : Message). record m { body = body }) has.4,
+    )
+
+-- bytes that follow leave a head that is kept as it was
+kept_on : (held more : List ℕ) (head : Option Head) → KeepsHead held head → KeepsHead (held ++ more) head
+unfolding HasHead
+kept_on held more None kept = tt
+kept_on held more (Some head) has =
+    let on : drop head.len (held ++ more) ≡ drop head.len held ++ more = drop-append-le head.len held more (head_within held head has) in
+    let reads : ReadsRequest (held ++ more) has.0 (drop head.len held ++ more) = ReadsRequest-append held has.0 (drop head.len held) more has.1.0 in
+    (has.0, (subst (λ (rest : List ℕ). ReadsRequest (held ++ more) has.0 rest) (sym on) reads, has.1.1), has.2, has.3, has.4)
+
+-- the same, of the bytes from a place on
+pub fed_on : (bytes piece new old : List ℕ) (start : ℕ) (head : Option Head) → start ≤ length bytes → new ≡ bytes ++ piece
+    → drop start bytes ≡ old → KeepsHead old head → (start ≤ length new) × KeepsHead (drop start new) head
+fed_on bytes piece new old start head within more same kept =
+    let held : drop start new ≡ old ++ piece
+    = ap (drop start) more ∙ drop-append-le start bytes piece within ∙ ap (λ (x : List ℕ). x ++ piece) same in (
+      omega (arith, within, simp length-append at (ap length more)),
+      subst (λ (x : List ℕ). KeepsHead x head) (sym held) (kept_on old piece head kept),
     )

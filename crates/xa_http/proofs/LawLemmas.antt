@@ -1,17 +1,18 @@
 -- However a stream is cut into pieces, the messages at its front are the same.
-use Rattle.std.proofs.Common.{◌≡◌, ℕ, ◌+◌, ◌-◌, ◌≤◌, List, [], ◌∷◌, ◌++◌, length, take, refl, sym, ap, subst, ◌∙◌, arith, inl, inr, Ok, Err, length-append, append_assoc, zero, suc}
+use Rattle.std.proofs.Common.{◌≡◌, false, true, ℕ, ◌+◌, ◌-◌, ◌≤◌, List, [], ◌∷◌, ◌++◌, length, take, refl, sym, ap, subst, ◌∙◌, arith, inl, inr, Ok, Err, length-append, append_assoc, zero, suc}
 use Rattle.std.proofs.lemmas.Bool.{false≢true}
-use Rattle.std.proofs.lemmas.List.{take-append-le, append_cancel_left}
+use Rattle.std.proofs.lemmas.List.{append-nil, take-append-le, append_cancel_left}
 use Rattle.std.proofs.Math.Seq.{take-append_seam, take-append-add}
 use Rattle.httparse.specs.Grammar.{RequestHead, print_request, ReadsRequest, HasNoRequest, NeverHasRequest}
 use Rattle.httparse.proofs.GrammarLemmas.{ReadsRequest-append, request_unique}
 use Rattle.xa_http.specs.declared.message.Message.{Message}
-use Rattle.xa_http.specs.declared.front.Cause.{Cause}
-use Rattle.xa_http.specs.declared.front.Cause.TheVariants.{BadHead, HeadTooLarge, TransferCoding, BadLength, BodyTooLarge}
+use Rattle.xa_http.specs.declared.fault.SessionFault.{SessionFault}
+use Rattle.xa_http.specs.declared.fault.SessionFault.TheVariants.{BadHead, BodyTooLarge, HeadTooLarge, TransferCoding}
 use Rattle.xa_http.specs.declared.session.Next.TheVariants as next
 use Rattle.xa_http.specs.Length.{body_length}
-use Rattle.xa_http.specs.Messages.{Cuts, window, message_of, fields_of, BeginsWithHead, BeginsWithMessage, IsUnfinished, IsOpeningFaulty, IsFaulty}
-use Rattle.xa_http.specs.Laws.{KeepsMessages, KeepsFaults, AnswersMessages, FeedsOn, TakesOn, HasOneCut}
+use Rattle.xa_http.specs.Stream.{Stream, fed}
+use Rattle.xa_http.specs.Messages.{Cuts, IsFirst, window, message_of, fields_of, BeginsWithHead, BeginsWithMessage, IsUnfinished, IsOpeningFaulty, IsFaulty}
+use Rattle.xa_http.specs.Laws.{KeepsMessages, KeepsFaults, AnswersMessages, FeedsOn, TakesOn, HasOneCut, feeds, answers, GoesThrough, bytes_fed, messages_answered, StopsAt, AnswersFirstMessages}
 
 -- the front of more bytes begins with the front of those
 front_of_more : (n : ℕ) (held more : List ℕ) → (rest : List ℕ) × (take n (held ++ more) ≡ take n held ++ rest)
@@ -72,25 +73,23 @@ keeps_messages held more message rest begins =
     let b = head_kept held more h (message.body ++ rest) begins.1 in
     (h, ((b.0.0, b.0.1 ∙ ap (λ (x : List ℕ). print_request h ++ x) (append_assoc message.body rest more)), b.1), begins.2, begins.3)
 
-opening_kept : (held more : List ℕ) (cause : Cause) → IsOpeningFaulty held cause → IsOpeningFaulty (held ++ more) cause
+opening_kept : (held more : List ℕ) (fault : SessionFault) → IsOpeningFaulty held fault → IsOpeningFaulty (held ++ more) fault
 opening_kept held more BadHead never = never_kept held more never
 opening_kept held more HeadTooLarge opened =
     let same = window_full held more opened.1 in
     ((rw same opened.0.0, rw same opened.0.1), omega (arith, opened.1, length-append held more))
 opening_kept held more TransferCoding none = absurd none
-opening_kept held more BadLength none = absurd none
 opening_kept held more BodyTooLarge none = absurd none
 
 pub keeps_faults : KeepsFaults
 unfolding IsFaulty
-keeps_faults held more cause (inl opening) = inl (opening_kept held more cause opening)
-keeps_faults held more cause (inr head) = inr (head.0, head.1 ++ more, head_kept held more head.0 head.1 head.2, head.3)
+keeps_faults held more fault (inl opening) = inl (opening_kept held more fault opening)
+keeps_faults held more fault (inr head) = inr (head.0, head.1 ++ more, head_kept held more head.0 head.1 head.2, head.3)
 
-opening_not_whole : (held : List ℕ) (cause : Cause) (h : RequestHead) (after : List ℕ) → BeginsWithHead held h after → IsOpeningFaulty held cause → ⊥
+opening_not_whole : (held : List ℕ) (fault : SessionFault) (h : RequestHead) (after : List ℕ) → BeginsWithHead held h after → IsOpeningFaulty held fault → ⊥
 opening_not_whole held BadHead h after b never = head_not_never held h after b never
 opening_not_whole held HeadTooLarge h after b opened = head_not_open held h after b opened.0.0
 opening_not_whole held TransferCoding h after b none = none
-opening_not_whole held BadLength h after b none = none
 opening_not_whole held BodyTooLarge h after b none = none
 
 -- the same head has the same bytes after it
@@ -116,40 +115,84 @@ whole_not_unfinished held m r x (inr opened) =
     let l : length m.body ≡ opened.2 = cc in
     omega (arith, l, opened.5, ap length s.1, length-append m.body r)
 
-whole_not_faulty : (held : List ℕ) (m : Message) (r : List ℕ) (cause : Cause) → BeginsWithMessage held m r → IsFaulty held cause → ⊥
+whole_not_faulty : (held : List ℕ) (m : Message) (r : List ℕ) (fault : SessionFault) → BeginsWithMessage held m r → IsFaulty held fault → ⊥
 unfolding BeginsWithMessage IsFaulty
-whole_not_faulty held m r cause x (inl opening) = opening_not_whole held cause x.0 (m.body ++ r) x.1 opening
-whole_not_faulty held m r cause x (inr head) =
+whole_not_faulty held m r fault x (inl opening) = opening_not_whole held fault x.0 (m.body ++ r) x.1 opening
+whole_not_faulty held m r fault x (inr head) =
     let s = same_head held x.0 head.0 (m.body ++ r) head.1 x.1 head.2 in
-    let both : Ok (length m.body) ≡ Err cause = sym x.2 ∙ ap (λ (h : RequestHead). body_length (fields_of h)) s.0 ∙ head.3 in
+    let both : Ok (length m.body) ≡ Err fault = sym x.2 ∙ ap (λ (h : RequestHead). body_length (fields_of h)) s.0 ∙ head.3 in
     cc
 
 pub answers_messages : AnswersMessages
-answers_messages held message rest (next.Message other) after begins is =
-    let s = same_message held message other rest after.held begins is.1 in
-    (ap (λ (m : Message). next.Message m) (sym s.0), λ i. record { held = sym s.1 i; ended = is.2 i })
-answers_messages held message rest next.More after begins is = absurd (whole_not_unfinished held message rest begins is.1)
-answers_messages held message rest (next.Fault f) after begins is =
-    absurd (whole_not_faulty held message rest is.1.0 begins is.1.1)
-answers_messages held message rest next.Ended after begins is = absurd (false≢true is.0)
+answers_messages old message rest (next.Message other) new first is =
+    let s = same_message old.held message other rest.held new.held first.1 is.1 in (
+      ap (λ (m : Message). next.Message m) (sym s.0),
+      λ i. record { held = sym s.1 i; ended = (is.2 ∙ ap (λ (m : Message). m.close) (sym s.0) ∙ sym first.2) i },
+    )
+answers_messages old message rest next.More new first is = absurd (whole_not_unfinished old.held message rest.held first.1 is.1)
+answers_messages old message rest (next.Fault fault) new first is =
+    absurd (whole_not_faulty old.held message rest.held fault first.1 is.1)
+answers_messages old message rest next.Ended new first is = absurd (false≢true (sym first.0 ∙ is.0))
+
+-- one stream has one first message, and goes on in one way
+same_first : (stream : Stream) (m n : Message) (rest last : Stream) → IsFirst stream m rest → IsFirst stream n last → (m ≡ n) × (rest ≡ last)
+same_first stream m n rest last x y =
+    let s = same_message stream.held m n rest.held last.held x.1 y.1 in
+    (s.0, λ i. record { held = s.1 i; ended = (x.2 ∙ ap (λ (k : Message). k.close) s.0 ∙ sym y.2) i })
 
 pub feeds_on : FeedsOn
-feeds_on stream [] held piece cut = ap (λ (bytes : List ℕ). bytes ++ piece) cut
-feeds_on stream (message ∷ taken) held piece cut =
-    (cut.0 ++ piece, keeps_messages stream piece message cut.0 cut.1, feeds_on cut.0 taken held piece cut.2)
+feeds_on first [] now piece cut = ap (λ (s : Stream). fed s piece) cut
+feeds_on first (message ∷ taken) now piece cut =
+    let is = cut.1 in (
+      fed cut.0 piece,
+      (is.0, keeps_messages first.held piece message cut.0.held is.1, is.2),
+      feeds_on cut.0 taken now piece cut.2,
+    )
 
 pub takes_on : TakesOn
-takes_on stream [] held message rest cut begins =
-    (rest, subst (λ (bytes : List ℕ). BeginsWithMessage bytes message rest) (sym cut) begins, refl)
-takes_on stream (first ∷ taken) held message rest cut begins = (cut.0, cut.1, takes_on cut.0 taken held message rest cut.2 begins)
+takes_on first [] now message rest cut is = (rest, subst (λ (s : Stream). IsFirst s message rest) (sym cut) is, refl)
+takes_on first (one ∷ taken) now message rest cut is = (cut.0, cut.1, takes_on cut.0 taken now message rest cut.2 is)
 
 pub one_cut : HasOneCut
 one_cut stream [] [] rest last a ended b none = (refl, sym a ∙ b)
 one_cut stream [] (n ∷ others) rest last a ended b none =
-    absurd (ended n b.0 (subst (λ (bytes : List ℕ). BeginsWithMessage bytes n b.0) a b.1))
+    absurd (ended n b.0 (subst (λ (s : Stream). IsFirst s n b.0) a b.1))
 one_cut stream (m ∷ messages) [] rest last a ended b none =
-    absurd (none m a.0 (subst (λ (bytes : List ℕ). BeginsWithMessage bytes m a.0) b a.1))
+    absurd (none m a.0 (subst (λ (s : Stream). IsFirst s m a.0) b a.1))
 one_cut stream (m ∷ messages) (n ∷ others) rest last a ended b none =
-    let same = same_message stream m n a.0 b.0 a.1 b.1 in
-    let rests = one_cut a.0 messages others rest last a.2 ended (subst (λ (bytes : List ℕ). Cuts bytes others last) (sym same.1) b.2) none in
+    let same = same_first stream m n a.0 b.0 a.1 b.1 in
+    let rests = one_cut a.0 messages others rest last a.2 ended (subst (λ (s : Stream). Cuts s others last) (sym same.1) b.2) none in
     (ap (λ (x : Message). x ∷ messages) same.0 ∙ ap (λ (xs : List Message). n ∷ xs) rests.0, rests.1)
+
+-- a message of a stream stays its first
+first_kept : (old : Stream) (message : Message) (new : Stream) (piece : List ℕ) → IsFirst old message new → IsFirst (fed old piece) message (fed new piece)
+first_kept old message new piece is = (is.0, keeps_messages old.held piece message new.held is.1, is.2)
+
+-- what a session answers after a fault is none of the stream's messages
+after_fault : (stream : Stream) (piece : List ℕ) (fault : SessionFault) (messages : List Message) (rest new : Stream)
+    → stream.ended ≡ false → IsFaulty stream.held fault → Cuts (fed (record stream { ended = true }) piece) messages rest → StopsAt rest new
+    → (last : Stream) × Cuts (fed stream piece) messages last × StopsAt last new
+after_fault stream piece fault (m ∷ messages) rest new on faulty cut stops = absurd (false≢true (sym cut.1.0))
+after_fault stream piece fault [] rest new on faulty cut (inl same) =
+    (fed stream piece, refl, inr (fault, on, keeps_faults stream.held piece fault faulty, sym same ∙ sym cut))
+after_fault stream piece fault [] rest new on faulty cut (inr other) =
+    absurd (false≢true (sym other.1 ∙ ap (λ (s : Stream). s.ended) (sym cut)))
+
+pub answers_first : AnswersFirstMessages
+answers_first stream [] new went =
+    (stream, (λ i. record { held = append-nil stream.held i; ended = stream.ended }), inl went)
+answers_first stream (feeds piece ∷ steps) new went =
+    let later = answers_first (fed stream piece) steps new went in
+    let same : fed (fed stream piece) (bytes_fed steps) ≡ fed stream (piece ++ bytes_fed steps)
+    = λ i. record { held = append_assoc stream.held piece (bytes_fed steps) i; ended = stream.ended } in
+    (later.0, subst (λ (s : Stream). Cuts s (messages_answered steps) later.0) same later.1, later.2)
+answers_first stream (answers (next.Message message) ∷ steps) new went =
+    let later = answers_first went.0 steps new went.2 in
+    (later.0, (fed went.0 (bytes_fed steps), first_kept stream message went.0 (bytes_fed steps) went.1, later.1), later.2)
+answers_first stream (answers next.More ∷ steps) new went =
+    answers_first stream steps new (subst (λ (s : Stream). GoesThrough s steps new) went.1.2 went.2)
+answers_first stream (answers next.Ended ∷ steps) new went =
+    answers_first stream steps new (subst (λ (s : Stream). GoesThrough s steps new) went.1.1 went.2)
+answers_first stream (answers (next.Fault fault) ∷ steps) new went =
+    let later = answers_first (record stream { ended = true }) steps new (subst (λ (s : Stream). GoesThrough s steps new) went.1.2 went.2) in
+    after_fault stream (bytes_fed steps) fault (messages_answered steps) later.0 new went.1.0 went.1.1 later.1 later.2

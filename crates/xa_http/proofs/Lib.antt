@@ -2,3 +2,6 @@ pub mod NumberLemmas
 pub mod FrontLemmas
 pub mod RouteLemmas
 pub mod LawLemmas
+pub mod TrimLemmas
+pub mod PartLemmas
+pub mod TableLemmas

@@ -1,7 +1,12 @@
 pub mod Stream
+pub mod Fault
 pub mod Length
+pub mod Parts
+pub mod Closing
 pub mod Messages
 pub mod Front
+pub mod ContentType
+pub mod Table
 pub mod Routes
 pub mod Reply
 pub mod Laws

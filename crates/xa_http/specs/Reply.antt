@@ -3,10 +3,9 @@ use Rattle.std.specs.Prelude.{ℕ, List, [], ◌++◌, length, codes, decimal, u
 use Rattle.http.specs.StatusCode.{code_digits, reason_phrase}
 use Rattle.xa_http.specs.declared.replies.Media.{Media}
 use Rattle.xa_http.specs.declared.replies.Media.TheVariants.{Json, XacmlJson}
-use Rattle.xa_http.specs.declared.replies.Methods.{Methods}
-use Rattle.xa_http.specs.declared.replies.Methods.TheVariants.{Post}
 use Rattle.xa_http.specs.declared.replies.Extra.{Extra}
 use Rattle.xa_http.specs.declared.replies.Extra.TheVariants.{Nothing, Challenge, Allow}
+use Rattle.xa_http.specs.Table.{methods_text}
 
 -- the phrase of a status code, empty if it has none
 unfoldable pub phrase : ℕ → List ℕ
@@ -25,15 +24,11 @@ abbrev pub media_text : Media → List ℕ
 media_text Json = codes "application/json"
 media_text XacmlJson = codes "application/xacml+json"
 
--- methods in the order of the alphabet
-abbrev pub methods_text : Methods → List ℕ
-methods_text Post = codes "POST"
-
 -- the further field line
 unfoldable pub extra_lines : Extra → List ℕ
 extra_lines Nothing = []
 extra_lines Challenge = field_line (codes "WWW-Authenticate") (codes "Bearer")
-extra_lines (Allow methods) = field_line (codes "Allow") (methods_text methods)
+extra_lines (Allow place) = field_line (codes "Allow") (methods_text place)
 
 -- a whole reply
 unfoldable pub http_bytes : ℕ → Media → Extra → List ℕ → List ℕ

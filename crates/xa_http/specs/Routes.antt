@@ -1,33 +1,21 @@
 -- What a message asks for: the path that its target names, the place at that path, and the method.
-use Rattle.std.specs.Prelude.{ℕ, ◌-◌, Bool, ◌&&◌, not, List, [], ◌∷◌, length, take, drop, nat_lt, ◌==◌, if◌then◌else◌, Option, Some, None, Result, Ok, Err, codes, bytes_eq}
+use Rattle.std.specs.Prelude.{ℕ, Bool, ◌||◌, not, List, [], length, take, drop, get_or, nat_eq, if◌then◌else◌, Option, Some, None, Result, Ok, Err, codes, bytes_eq}
 use Rattle.std.specs.List.{list_any}
-use Rattle.std.specs.Option.{option_and_then}
+use Rattle.std.specs.Option.{option_and_then, option_map}
 use Rattle.std.specs.Str.{is_utf8}
+use Rattle.matchit.specs.Seek.{first}
+use Rattle.percent_encoding.specs.Percent.{percent_decode}
 use Rattle.xa_http.specs.declared.message.Message.{Message}
+use Rattle.xa_http.specs.declared.table.Place.{Place}
+use Rattle.xa_http.specs.declared.table.Command.{Command}
+use Rattle.xa_http.specs.declared.table.Command.TheVariants as command
 use Rattle.xa_http.specs.declared.route.Route.{Route}
 use Rattle.xa_http.specs.declared.route.Route.TheVariants.{Decide}
 use Rattle.xa_http.specs.declared.route.RouteFault.{RouteFault}
-use Rattle.xa_http.specs.declared.route.RouteFault.TheVariants.{NoRoute, BadMethod}
-
--- the bytes before the first b, or all of them
-abbrev pub before : ℕ → List ℕ → List ℕ
-before b [] = []
-before b (x ∷ xs) = if x == b then [] else x ∷ before b xs
-
--- the bytes from the first b on
-abbrev pub from_first : ℕ → List ℕ → Option (List ℕ)
-from_first b [] = None
-from_first b (x ∷ xs) = if x == b then Some (x ∷ xs) else from_first b xs
-
--- what follows the prefix
-abbrev pub after_prefix : List ℕ → List ℕ → Option (List ℕ)
-after_prefix prefix xs =
-    if bytes_eq (take (length prefix) xs) prefix then Some (drop (length prefix) xs) else None
-
--- what stands before the suffix
-abbrev pub before_suffix : List ℕ → List ℕ → Option (List ℕ)
-before_suffix suffix xs =
-    if bytes_eq (drop (length xs - length suffix) xs) suffix then Some (take (length xs - length suffix) xs) else None
+use Rattle.xa_http.specs.declared.route.RouteFault.TheVariants.{NoRoute, BadMethod, BadMediaType}
+use Rattle.xa_http.specs.ContentType.{allows_json}
+use Rattle.xa_http.specs.Parts.{before, from_first, parts_of}
+use Rattle.xa_http.specs.Table.{command_at, domain_part, reads_body, table}
 
 -- the path of a target without its query: of an absolute one (RFC 9112, section 3.2.2) it begins at the slash after the authority
 unfoldable pub path_of_plain : List ℕ → Option (List ℕ)
@@ -38,40 +26,59 @@ path_of_plain target =
 unfoldable pub path_of : List ℕ → Option (List ℕ)
 path_of target = if is_utf8 target then path_of_plain (before 63 target) else None
 
--- a segment of a path that is not empty (RFC 3986, section 3.3): it has no slash
-abbrev pub is_segment : List ℕ → Bool
-is_segment segment = nat_lt 0 (length segment) && not (list_any (λ b. b == 47) segment)
+-- the parts of a path (RFC 3986, section 3.3): each follows a slash
+abbrev pub later_parts : List ℕ → List (List ℕ)
+later_parts path = drop 1 (parts_of 47 path)
 
--- the bytes themselves, if they are a segment
-abbrev pub segment_if : List ℕ → Option (List ℕ)
-segment_if bytes = if is_segment bytes then Some bytes else None
+-- one of them is empty
+unfoldable pub has_empty_part : List ℕ → Bool
+has_empty_part path = list_any (λ part. nat_eq (length part) 0) (later_parts path)
 
--- the segment of a path /domains/{domain}/pdp that stands for a domain
-unfoldable pub domain_segment : List ℕ → Option (List ℕ)
-domain_segment path =
-    option_and_then (λ rest. option_and_then segment_if (before_suffix (codes "/pdp") rest))
-    (after_prefix (codes "/domains/") path)
+-- the place at a path: the one that the router finds. It reads a text, as it was sent: percent-encoded bytes of a pattern's own parts
+-- (RFC 3986, section 2.1) aren't decoded. Nothing is at a path with an empty part
+unfoldable pub place_at : List ℕ → Option Place
+place_at path =
+    if has_empty_part path || not (is_utf8 path) then None else option_map (λ route. route.value) (first table path)
 
--- what is served at a path
-pub data Place : Type 0 where
-  -- the decisions of the domain that this segment names
-  decisions : List ℕ → Place
+-- a part of a path, percent-decoded once
+unfoldable pub decoded_part : List ℕ → ℕ → List ℕ
+decoded_part path part = percent_decode (get_or (parts_of 47 path) part [])
 
--- the place of that segment
-abbrev pub decisions_at : Option (List ℕ) → Option Place
-decisions_at None = None
-decisions_at (Some domain) = Some (decisions domain)
+-- a path that leads to a place
+pub record Address : Type 0 where
+  pub place : Place
+  pub path : List ℕ
 
--- the place that a target names
-unfoldable pub place_of : List ℕ → Option Place
-place_of target = decisions_at (option_and_then domain_segment (path_of target))
+-- where a path leads
+abbrev pub address_at : List ℕ → Option Address
+address_at path = option_map (λ place. record { place = place; path = path }) (place_at path)
 
--- what a method asks for at a place
-abbrev pub route_at : List ℕ → Option Place → Result Route RouteFault
-route_at method None = Err NoRoute
-route_at method (Some (decisions domain)) =
-    if bytes_eq method (codes "POST") then Ok (Decide domain) else Err BadMethod
+-- where a target leads
+unfoldable pub address_of : List ℕ → Option Address
+address_of target = option_and_then address_at (path_of target)
+
+-- the part of its path that names a domain
+abbrev pub domain_segment : Address → List ℕ
+domain_segment address = decoded_part address.path (domain_part address.place)
+
+-- what is asked for, with the parts of the path
+abbrev pub route_to : Address → Command → Route
+route_to address command.Decide = Decide (domain_segment address)
+
+-- the body, if it is read, has a media type that is
+abbrev pub takes_body : Message → Command → Bool
+takes_body message command = not (reads_body command) || allows_json message.fields
+
+-- what is asked for by a method that is served at the address
+abbrev pub commanded : Message → Address → Option Command → Result Route RouteFault
+commanded message address None = Err (BadMethod address.place)
+commanded message address (Some command) = if takes_body message command then Ok (route_to address command) else Err BadMediaType
+
+-- what is asked for at an address
+abbrev pub routed : Message → Option Address → Result Route RouteFault
+routed message None = Err NoRoute
+routed message (Some address) = commanded message address (command_at message.method address.place)
 
 -- what a message asks for, or why that is nothing that is served
 unfoldable pub route_of : Message → Result Route RouteFault
-route_of message = route_at message.method (place_of message.target)
+route_of message = routed message (address_of message.target)

@@ -1,10 +1,10 @@
-//! What stands at the front of a stream: a whole message, the beginning of one, or none that is taken.
-ghost use Rattle.std.specs.Prelude.{◌≡◌, ◌≤◌, length, IfOk};
+//! What stands at the front of a stream: a whole head, the beginning of one, or none that is taken.
+ghost use Rattle.std.specs.Prelude.{◌≡◌, ◌+◌, ◌≤◌, length, drop, IfOk, IsSome, MatchOption};
 ghost use Rattle.httparse.specs.Grammar.{HasNoRequest, MayBecomeRequest};
-ghost use Rattle.xa_http.specs.Length as spec;
-ghost use Rattle.xa_http.specs.Messages.{window};
-ghost use Rattle.xa_http.specs.Front.{IsFront, IsHeadOf};
+ghost use Rattle.xa_http.specs.Messages.{window, BeginsWithMessage, IsUnfinished};
+ghost use Rattle.xa_http.specs.Front.{HasHead, IsFront, IsHeadOf};
 
+use crate::fault::SessionFault;
 use crate::head::read_head;
 use crate::length::body_length;
 use crate::limits::MAX_HEAD_BYTES;
@@ -17,29 +17,25 @@ use xa_value::Items;
 /// The offsets of at most this many field lines are read. More don't fit into a head: each has a colon and a line end.
 pub const HEADER_ROOM: usize = 8_192;
 
-/// Why the bytes at the front of a stream are no message that is taken.
-#[derive(Clone, Copy, Debug, PartialEq, Eq)]
-pub enum Cause {
-    /// No head begins like that.
-    BadHead,
-    /// The head has too many bytes or too many field lines.
-    HeadTooLarge,
-    /// The body comes in a transfer coding.
-    TransferCoding,
-    /// A Content-Length is no number, or two of them differ.
-    BadLength,
-    /// The body has too many bytes.
-    BodyTooLarge,
+/// A whole head.
+#[derive(Debug, Drop)]
+pub struct Head {
+    /// The message without its body.
+    pub message: Message,
+    /// How many bytes the head has.
+    pub len: usize,
+    /// How many bytes the body has.
+    pub body_len: usize,
 }
 
 /// What stands at the front of a stream.
 pub enum Front {
-    /// A whole message, and how many bytes it has.
-    Whole(Message, usize),
-    /// Not yet a whole message.
+    /// A whole head.
+    Head(Head),
+    /// Not yet a whole head.
     More,
     /// No message that is taken.
-    Fault(Cause),
+    Fault(SessionFault),
 }
 
 /// What stands at the front of the bytes.
@@ -51,11 +47,11 @@ pub fn read_front(alloc: Global, held: &[u8], room: &mut [HeaderSpan]) -> Result
     let window = window(held);
     match parse_request(window, room) {
         Ok(Status::Complete(spans)) => {
-            let head = read_head(alloc, window, &spans, room)?;
-            with_head(alloc, held, head, spans.len)
+            let message = read_head(alloc, window, &spans, room)?;
+            Ok(whole_head(held, message, spans.len))
         }
         Ok(Status::Partial) => Ok(open_head(held)),
-        Err(_) => Ok(Front::Fault(Cause::BadHead)),
+        Err(_) => Ok(Front::Fault(SessionFault::BadHead)),
     }
 }
 
@@ -79,40 +75,37 @@ fn open_head(held: &[u8]) -> Front
     if held.len() < MAX_HEAD_BYTES {
         Front::More
     } else {
-        Front::Fault(Cause::HeadTooLarge)
+        Front::Fault(SessionFault::HeadTooLarge)
     }
 }
 
-/// The front of bytes that begin with that head, which has `len` bytes.
-fn with_head(alloc: Global, held: &[u8], head: Message, len: usize) -> Result<Front, AllocError>
-    requires head { IsHeadOf (window held.now) head len }
-    requires within { len ≤ length held.now }
-    ensures { IfOk result (IsFront held.now) }
+/// The front of bytes that begin with the head of that message, which has `len` bytes.
+#[tactic(auto, using(crate::proofs::FrontLemmas::has_head))]
+fn whole_head(held: &[u8], message: Message, len: usize) -> Front
+    requires { IsHeadOf (window held.now) message len }
+    ensures { IsFront held.now result }
 {
-    match body_length(head.fields.as_slice()) {
-        Ok(body_len) => with_body(alloc, held, head, len, body_len),
-        Err(cause) => Ok(Front::Fault(cause)),
+    match body_length(message.fields.as_slice()) {
+        Ok(body_len) => Front::Head(Head {
+            message,
+            len,
+            body_len,
+        }),
+        Err(fault) => Front::Fault(fault),
     }
 }
 
-/// The front of bytes that begin with that head, which has `len` bytes and announces a body of `body_len`.
-fn with_body(
-    alloc: Global,
-    held: &[u8],
-    head: Message,
-    len: usize,
-    body_len: usize,
-) -> Result<Front, AllocError>
-    requires head { IsHeadOf (window held.now) head len }
-    requires within { len ≤ length held.now }
-    requires announced { spec.body_length head.fields ≡ Ok body_len }
-    ensures { IfOk result (IsFront held.now) }
+/// The body that follows the head, once it is whole.
+#[tactic(auto, using(crate::proofs::FrontLemmas::head_within, crate::proofs::FrontLemmas::body_open, crate::proofs::FrontLemmas::whole))]
+pub fn whole_body(alloc: Global, held: &[u8], head: &Head) -> Result<Option<Items<u8>>, AllocError>
+    requires { HasHead held.now head.now }
+    ensures message { IfOk result (λ body. MatchOption body (IsUnfinished held.now) (λ bytes. BeginsWithMessage held.now (record head.now.message { body = bytes }) (drop (head.now.len + head.now.body_len) held.now))) }
+    ensures within { IfOk result (λ body. IsSome body → head.now.len + head.now.body_len ≤ length held.now) }
 {
-    let (_, after) = held.split_at(len);
-    if after.len() < body_len {
-        return Ok(Front::More);
+    let (_, after) = held.split_at(head.len);
+    if after.len() < head.body_len {
+        return Ok(None);
     }
-    let mut message = head;
-    message.body = Items::from_vec(Vec::from_slice(alloc, &after[..body_len])?);
-    Ok(Front::Whole(message, len + body_len))
+    let (body, _) = after.split_at(head.body_len);
+    Ok(Some(Items::from_vec(Vec::from_slice(alloc, body)?)))
 }

@@ -3,6 +3,7 @@ ghost use Rattle.std.specs.Prelude.{◌≡◌, ◌≤◌, length, map, All, IfOk
 ghost use Rattle.httparse.specs.Spans.{IsWithin, IsHeaderWithin, IsRequestWithin, IsRequestOf, span_bytes};
 ghost use Rattle.xa_http.specs.Front.{field_at, IsHeadOf};
 
+use crate::closing::closes;
 use crate::message::{Field, Message};
 use httparse::spans::{HeaderSpan, RequestSpans, Span};
 use std::alloc::{AllocError, Global};
@@ -19,11 +20,14 @@ pub fn read_head(
     requires found { IsRequestOf window.now headers.now spans.now }
     ensures { IfOk result (λ head. IsHeadOf window.now head spans.now.len) }
 {
+    let fields = read_fields(alloc, window, &headers[..spans.headers])?;
+    let close = closes(spans.version, fields.as_slice());
     Ok(Message {
         method: read_bytes(alloc, window, spans.method)?,
         target: read_bytes(alloc, window, spans.path)?,
-        fields: read_fields(alloc, window, &headers[..spans.headers])?,
+        fields,
         body: Items::new(alloc),
+        close,
     })
 }
 

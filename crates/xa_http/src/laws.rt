@@ -1,5 +1,5 @@
 //! The law of a stream: however it is cut into pieces, its messages are the same.
-ghost use Rattle.xa_http.specs.Laws.{KeepsMessages, KeepsFaults, AnswersMessages, FeedsOn, TakesOn, HasOneCut};
+ghost use Rattle.xa_http.specs.Laws.{KeepsMessages, KeepsFaults, AnswersMessages, FeedsOn, TakesOn, HasOneCut, AnswersFirstMessages};
 
 /// However a stream is cut into pieces, its messages are the same: the contract says so, and the body does nothing.
 pub fn pieces_make_no_difference()
@@ -14,4 +14,7 @@ pub fn pieces_make_no_difference()
     ensures feeds { FeedsOn }
     ensures takes { TakesOn }
     ensures one_cut { HasOneCut }
+
+    // However the stream is cut into pieces, and whenever a session is asked, it answers the first messages of the whole stream.
+    ensures answers_first { AnswersFirstMessages }
 {}

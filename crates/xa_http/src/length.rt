@@ -5,27 +5,27 @@ ghost use Rattle.std.specs.Str.Parse.{digits_value};
 ghost use Rattle.xa_value.specs.Digits.{is_number};
 ghost use Rattle.xa_http.specs.Length.{is_named, values_of, writes_same, within_limit, agreed_length, body_length};
 
-use crate::front::Cause;
+use crate::fault::SessionFault;
 use crate::limits::{MAX_BODY_BYTES, MAX_FIELDS};
 use crate::message::Field;
 use xa_value::{is_number, number_up_to};
 
 /// The length of the body after a head of those fields.
 #[tactic(auto, unfolding(crate::specs::Length::body_length))]
-pub fn body_length(fields: &[Field]) -> Result<usize, Cause>
+pub fn body_length(fields: &[Field]) -> Result<usize, SessionFault>
     ensures { result ≡ body_length fields.now }
 {
     if fields.len() > MAX_FIELDS {
-        return Err(Cause::HeadTooLarge);
+        return Err(SessionFault::HeadTooLarge);
     }
     if has_field(fields, "Transfer-Encoding") {
-        return Err(Cause::TransferCoding);
+        return Err(SessionFault::TransferCoding);
     }
     agreed_length(fields, "Content-Length")
 }
 
 /// Whether the field has that name.
-fn is_named(field: &Field, name: &str) -> bool
+pub fn is_named(field: &Field, name: &str) -> bool
     ensures { result ≡ is_named name.now field.now }
 {
     field.name.as_slice().eq_ignore_ascii_case(name.as_bytes())
@@ -45,7 +45,7 @@ fn has_field(fields: &[Field], name: &str) -> bool
 
 /// The length on which the fields of that name agree.
 #[tactic(auto, unfolding(crate::specs::Length::agreed_length))]
-fn agreed_length(fields: &[Field], name: &str) -> Result<usize, Cause>
+fn agreed_length(fields: &[Field], name: &str) -> Result<usize, SessionFault>
     ensures { result ≡ agreed_length (values_of name.now fields.now) }
 {
     let Some((first, others)) = first_value(fields, name) else {
@@ -54,12 +54,12 @@ fn agreed_length(fields: &[Field], name: &str) -> Result<usize, Cause>
     if is_number(first) && all_write_same(others, name, first) {
         within_limit(first)
     } else {
-        Err(Cause::BadLength)
+        Err(SessionFault::BadHead)
     }
 }
 
 /// The value of the first field of that name, and the fields after it.
-fn first_value<'a>(fields: &'a [Field], name: &str) -> Option<(&'a [u8], &'a [Field])>
+pub fn first_value<'a>(fields: &'a [Field], name: &str) -> Option<(&'a [u8], &'a [Field])>
     ensures { MatchOption result (values_of name.now fields.now ≡ []) (λ found. values_of name.now fields.now ≡ found.0.now ∷ values_of name.now found.1.now) }
 {
     for (i, field) in fields.iter().enumerate() {
@@ -105,9 +105,9 @@ fn without_zeros(digits: &[u8]) -> &[u8]
 }
 
 /// The number that the digits write, if a body may be so long.
-fn within_limit(digits: &[u8]) -> Result<usize, Cause>
+fn within_limit(digits: &[u8]) -> Result<usize, SessionFault>
     requires { IsTrue (is_number digits.now) }
     ensures { result ≡ within_limit (digits_value 10 digits.now) }
 {
-    number_up_to(MAX_BODY_BYTES, digits).ok_or(Cause::BodyTooLarge)
+    number_up_to(MAX_BODY_BYTES, digits).ok_or(SessionFault::BodyTooLarge)
 }

@@ -21,4 +21,6 @@ pub struct Message {
     pub fields: Items<Field>,
     /// The bytes of the body.
     pub body: Items<u8>,
+    /// Whether no further message of its stream follows it (RFC 9112, section 9.3).
+    pub close: bool,
 }

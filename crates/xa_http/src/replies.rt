@@ -1,7 +1,8 @@
 //! The bytes of a reply.
 ghost use Rattle.std.specs.Prelude.{◌≡◌, ◌++◌, IfOk, OnOk};
-ghost use Rattle.xa_http.specs.Reply.{phrase, status_line, field_line, media_text, methods_text, extra_lines, http_bytes};
+ghost use Rattle.xa_http.specs.Reply.{phrase, status_line, field_line, media_text, extra_lines, http_bytes};
 
+use crate::table::Place;
 use http::StatusCode;
 use std::alloc::{AllocError, Global};
 
@@ -14,13 +15,6 @@ pub enum Media {
     XacmlJson,
 }
 
-/// The methods that are served at a path.
-#[derive(Clone, Copy, Debug, PartialEq, Eq)]
-pub enum Methods {
-    /// `POST` alone
-    Post,
-}
-
 /// The field that a reply has beside `Content-Type` and `Content-Length`.
 #[derive(Clone, Copy, Debug, PartialEq, Eq)]
 pub enum Extra {
@@ -28,8 +22,8 @@ pub enum Extra {
     Nothing,
     /// `WWW-Authenticate: Bearer`, of a 401 (RFC 9110, section 11.6.1).
     Challenge,
-    /// `Allow`, of a 405 (RFC 9110, section 10.2.1).
-    Allow(Methods),
+    /// `Allow`, of a 405 (RFC 9110, section 10.2.1): the methods that are served at the place.
+    Allow(Place),
 }
 
 impl Media {
@@ -40,17 +34,6 @@ impl Media {
         match self {
             Media::Json => "application/json",
             Media::XacmlJson => "application/xacml+json",
-        }
-    }
-}
-
-impl Methods {
-    /// The methods in the order of the alphabet, joined by a comma and a space.
-    fn names(self) -> &'static str
-        ensures { result.now ≡ methods_text self }
-    {
-        match self {
-            Methods::Post => "POST",
         }
     }
 }
@@ -115,6 +98,6 @@ fn push_extra_lines(bytes: &mut Vec<u8>, extra: Extra) -> Result<(), AllocError>
     match extra {
         Extra::Nothing => Ok(()),
         Extra::Challenge => push_field_line(bytes, "WWW-Authenticate", "Bearer"),
-        Extra::Allow(methods) => push_field_line(bytes, "Allow", methods.names()),
+        Extra::Allow(place) => push_field_line(bytes, "Allow", place.methods()),
     }
 }

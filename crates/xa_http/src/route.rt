@@ -2,13 +2,14 @@
 ghost use Rattle.std.specs.Prelude.{◌≡◌};
 ghost use Rattle.xa_value.specs.declared.or_memory.OrMemory.TheVariants.{Error};
 
+use crate::table::Place;
 use thiserror::Error;
 use xa_value::{Items, OrMemory};
 
 /// What a message asks for.
 #[derive(Debug, Drop)]
 pub enum Route {
-    /// A decision of the domain that the path names.
+    /// A decision of the domain that the path names. What it names may be no domain's name, nor a text.
     Decide { domain: Items<u8> },
 }
 
@@ -20,7 +21,10 @@ pub enum RouteFault {
     NoRoute,
     /// What is served at the message's target isn't asked for by its method: 405.
     #[error("the method isn't allowed there")]
-    BadMethod,
+    BadMethod(Place),
+    /// The body that would be read has another media type than JSON: 415.
+    #[error("the body isn't JSON by its media type")]
+    BadMediaType,
 }
 
 impl From<RouteFault> for OrMemory<RouteFault> {

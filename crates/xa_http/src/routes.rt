@@ -1,36 +1,106 @@
-//! The route of a message, by its target and its method.
-ghost use Rattle.std.specs.Prelude.{◌≡◌, IsErr, option_map, option_and_then};
+//! The route of a message, by its target, its method and the media type of its body.
+ghost use Rattle.std.specs.Prelude.{◌≡◌, IfOk, IsErr, option_map};
 ghost use Rattle.xa_value.specs.Gives.{Gives, answered};
-ghost use Rattle.xa_http.specs.Routes.{before, from_first, path_of_plain, path_of, is_segment, domain_segment, route_of};
+ghost use Rattle.xa_http.specs.Routes.{address_of, decoded_part, path_of_plain, path_of, place_at, route_of, takes_body};
+ghost use Rattle.xa_http.specs.Table.{table};
 
+use crate::content_type::allows_json;
 use crate::message::Message;
+use crate::parts::{before, from_first, has_empty_part, part_at};
 use crate::route::{Route, RouteFault};
-use std::alloc::Global;
-use std::str;
+use crate::table::{Command, Place, router};
+use matchit::Router;
+use percent_encoding::percent_decode;
+use std::alloc::{AllocError, Global};
+use std::{fmt, str};
 use xa_value::{Items, OrMemory};
 
-/// What the message asks for.
-#[tactic(auto, unfolding(crate::specs::Routes::route_of, crate::specs::Routes::place_of))]
-pub fn route(alloc: Global, message: &Message) -> Result<Route, OrMemory<RouteFault>>
-    ensures route { Gives result (route_of message.now) }
-    ensures exact { IsErr (route_of message.now) → result ≡ answered (route_of message.now) }
-{
-    let Some(domain) = segment_of_target(message.target.as_slice()) else {
-        return Err(OrMemory::Error(RouteFault::NoRoute));
-    };
-    if message.method.as_slice() != b"POST".as_slice() {
-        return Err(OrMemory::Error(RouteFault::BadMethod));
-    }
-    Ok(Route::Decide {
-        domain: Items::from_vec(Vec::from_slice(alloc, domain)?),
-    })
+/// The routes of all that is served. They are made once, for all messages.
+#[derive(Drop)]
+pub struct Routes {
+    router: Router<Place>,
+    ghost whole: { router ≡ table },
 }
 
-/// The segment for a domain in the path that the target names.
-fn segment_of_target(target: &[u8]) -> Option<&[u8]>
-    ensures { option_map (λ domain. domain.now) result ≡ option_and_then domain_segment (path_of target.now) }
+impl fmt::Debug for Routes {
+    fn fmt<W: fmt::Write>(&self, f: &mut fmt::Formatter<W>) -> fmt::Result {
+        f.write_str("Routes")
+    }
+}
+
+impl Routes {
+    /// The routes of all that is served.
+    pub fn new(alloc: Global) -> Result<Routes, AllocError> {
+        Ok(Routes {
+            router: router(alloc)?,
+        })
+    }
+
+    /// What the message asks for.
+    #[tactic(auto, unfolding(crate::specs::Routes::route_of))]
+    pub fn route(&self, alloc: Global, message: &Message) -> Result<Route, OrMemory<RouteFault>>
+        ensures route { Gives result (route_of message.now) }
+        ensures exact { IsErr (route_of message.now) → result ≡ answered (route_of message.now) }
+    {
+        let Some((place, path)) = self.address_of(message.target.as_slice()) else {
+            return Err(OrMemory::Error(RouteFault::NoRoute));
+        };
+        let Some(command) = place.command(message.method.as_slice()) else {
+            return Err(OrMemory::Error(RouteFault::BadMethod(place)));
+        };
+        if !takes_body(message, command) {
+            return Err(OrMemory::Error(RouteFault::BadMediaType));
+        }
+        match command {
+            Command::Decide => Ok(Route::Decide {
+                domain: decoded_part(alloc, path, place.domain_part())?,
+            }),
+        }
+    }
+
+    /// The place where the target leads, and the path that leads there.
+    #[tactic(auto, unfolding(crate::specs::Routes::address_of))]
+    fn address_of<'a>(&self, target: &'a [u8]) -> Option<(Place, &'a [u8])>
+        ensures { option_map (λ found. record { place = found.0; path = found.1.now }) result ≡ address_of target.now }
+    {
+        let path = path_of(target)?;
+        let place = self.place_at(path)?;
+        Some((place, path))
+    }
+
+    /// The place at the path.
+    #[tactic(auto, using(crate::proofs::RouteLemmas::is_text, crate::proofs::RouteLemmas::is_no_text), unfolding(crate::specs::Routes::place_at))]
+    fn place_at(&self, path: &[u8]) -> Option<Place>
+        ensures { result ≡ place_at path.now }
+    {
+        if has_empty_part(path) {
+            return None;
+        }
+        let Ok(text) = str::from_utf8(path) else {
+            return None;
+        };
+        match self.router.at(text) {
+            Ok(found) => Some(*found.value),
+            Err(_) => None,
+        }
+    }
+}
+
+/// Whether the body, if it is read, has a media type that is.
+fn takes_body(message: &Message, command: Command) -> bool
+    ensures { result ≡ takes_body message.now command }
 {
-    domain_segment(path_of(target)?)
+    !command.reads_body() || allows_json(message.fields.as_slice())
+}
+
+/// A part of the path, percent-decoded.
+#[tactic(auto, unfolding(crate::specs::Routes::decoded_part))]
+fn decoded_part(alloc: Global, path: &[u8], part: usize) -> Result<Items<u8>, AllocError>
+    ensures { IfOk result (λ bytes. bytes ≡ decoded_part path.now part) }
+{
+    let mut bytes = Vec::new(alloc);
+    percent_decode(part_at(path, part)).append_to(&mut bytes)?;
+    Ok(Items::from_vec(bytes))
 }
 
 /// The path that the target names.
@@ -53,48 +123,4 @@ fn path_of_plain(target: &[u8]) -> Option<&[u8]>
         Some(rest) => from_first(rest, b'/'),
         None => Some(target),
     }
-}
-
-/// The bytes before the first of that value, or all of them.
-fn before(bytes: &[u8], byte: u8) -> &[u8]
-    ensures { result.now ≡ before byte bytes.now }
-{
-    for (i, b) in bytes.iter().enumerate() {
-        if *b == byte {
-            return &bytes[..i];
-        }
-    }
-    bytes
-}
-
-/// The bytes from the first of that value on.
-fn from_first(bytes: &[u8], byte: u8) -> Option<&[u8]>
-    ensures { option_map (λ rest. rest.now) result ≡ from_first byte bytes.now }
-{
-    for (i, b) in bytes.iter().enumerate() {
-        if *b == byte {
-            return Some(&bytes[i..]);
-        }
-    }
-    None
-}
-
-/// The segment of the path that stands for a domain, if decisions are made there.
-#[tactic(auto, unfolding(crate::specs::Routes::domain_segment))]
-fn domain_segment(path: &[u8]) -> Option<&[u8]>
-    ensures { option_map (λ domain. domain.now) result ≡ domain_segment path.now }
-{
-    let domain = path.strip_prefix(b"/domains/")?.strip_suffix(b"/pdp")?;
-    if is_segment(domain) {
-        Some(domain)
-    } else {
-        None
-    }
-}
-
-/// Whether the bytes are one segment of a path.
-fn is_segment(segment: &[u8]) -> bool
-    ensures { result ≡ is_segment segment.now }
-{
-    !segment.is_empty() && !segment.contains(&b'/')
 }

@@ -1,27 +1,20 @@
 //! The session of one stream: its whole messages, in whatever pieces the bytes come.
 ghost use Rattle.std.specs.Prelude.{◌≡◌, ◌≤◌, ◌++◌, [], true, false, length, drop, MatchResult, Ok, OnOk, OnErr};
-ghost use Rattle.xa_http.specs.Messages.{IsNext, fault_of};
+ghost use Rattle.xa_http.specs.Front.{HasHead};
+ghost use Rattle.xa_http.specs.Messages.{IsNext};
 ghost use Rattle.xa_http.specs.declared.session.Next.TheVariants.{Ended};
 
-use crate::front::{Cause, Front, HEADER_ROOM, read_front};
+use crate::fault::SessionFault;
+use crate::front::{Front, HEADER_ROOM, Head, read_front, whole_body};
 use crate::message::Message;
 use httparse::spans::{EMPTY_HEADER_SPAN, HeaderSpan};
 use std::alloc::{AllocError, Global};
 use std::marker::Model;
-use thiserror::Error;
-
-/// Why a session ended before its stream did.
-#[derive(Clone, Copy, Debug, Drop, Error, PartialEq, Eq)]
-pub enum SessionFault {
-    /// What stands at the front of the stream is no message that this server takes: 400.
-    #[error("the request is malformed")]
-    BadHead,
-}
 
 /// What a session answers when it is asked for the next message.
 #[derive(Debug, Drop)]
 pub enum Next {
-    /// The next whole message.
+    /// The next whole message. The session has ended with it, if the message closes its stream.
     Message(Message),
     /// No whole message has come yet.
     More,
@@ -37,19 +30,22 @@ pub struct Session {
     alloc: Global,
     buffer: Vec<u8>,
     start: usize,
+    /// The head at the start, where it was read and its body wasn't whole then.
+    head: Option<Head>,
     ended: bool,
     room: Vec<HeaderSpan>,
 }
 
 impl Model for Session {
     ghost use Rattle.std.specs.Prelude.{◌≤◌, length, drop};
+    ghost use Rattle.xa_http.specs.Front.{KeepsHead};
     ghost use Rattle.xa_http.specs.Stream.{Stream};
 
     ghost Value = { Stream };
 
     ghost view = { λ s. record { held = drop s.start s.buffer.items; ended = s.ended } };
 
-    ghost invariant = { λ s. s.start ≤ length s.buffer.items };
+    ghost invariant = { λ s. (s.start ≤ length s.buffer.items) × KeepsHead (drop s.start s.buffer.items) s.head };
 }
 
 impl Session {
@@ -61,9 +57,17 @@ impl Session {
             alloc,
             buffer: Vec::new(alloc),
             start: 0,
+            head: None,
             ended: false,
             room: Vec::new(alloc),
         }
+    }
+
+    /// Whether the session has ended: it answers no message any more.
+    pub fn has_ended(&self) -> bool
+        ensures { result ≡ self.now.ended }
+    {
+        self.ended
     }
 
     /// Takes the next piece of the stream. A session that has ended takes it too, and answers nothing to it. Without
@@ -73,7 +77,8 @@ impl Session {
         ensures err { OnErr result (self.new ≡ self.old) }
     {
         compact(&mut self.buffer, &mut self.start);
-        self.buffer.extend_from_slice(piece)
+        self.buffer.extend_from_slice(piece)?;
+        Ok(())
     }
 
     /// The next message of the stream, cut off its front. Without memory nothing is changed.
@@ -84,31 +89,36 @@ impl Session {
         if self.ended {
             return Ok(Next::Ended);
         }
+        if let Some(head) = self.head.take() {
+            return self.message_of(head);
+        }
         make_room(&mut self.room)?;
         match read_front(self.alloc, &self.buffer[self.start..], &mut self.room)? {
-            Front::Whole(message, len) => {
-                self.start += len;
-                Ok(Next::Message(message))
-            }
+            Front::Head(head) => self.message_of(head),
             Front::More => Ok(Next::More),
-            Front::Fault(cause) => {
+            Front::Fault(fault) => {
                 self.ended = true;
-                Ok(Next::Fault(fault_of(cause)))
+                Ok(Next::Fault(fault))
             }
         }
     }
-}
 
-/// The fault that a session answers for that cause.
-fn fault_of(cause: Cause) -> SessionFault
-    ensures { result ≡ fault_of cause }
-{
-    match cause {
-        Cause::BadHead
-        | Cause::HeadTooLarge
-        | Cause::TransferCoding
-        | Cause::BadLength
-        | Cause::BodyTooLarge => SessionFault::BadHead,
+    /// The message of that head, once its body is whole; until then the head is kept, and not read again.
+    fn message_of(&mut self, head: Head) -> Result<Next, AllocError>
+        requires goes_on { self.old.ended ≡ false }
+        requires head { HasHead self.old.held head }
+        ensures { MatchResult result (λ answer. IsNext self.old answer self.new) (λ _. self.new ≡ self.old) }
+    {
+        let Some(body) = whole_body(self.alloc, &self.buffer[self.start..], &head)? else {
+            self.head = Some(head);
+            return Ok(Next::More);
+        };
+        self.head = None;
+        self.start += head.len + head.body_len;
+        self.ended = head.message.close;
+        let mut message = head.message;
+        message.body = body;
+        Ok(Next::Message(message))
     }
 }
 

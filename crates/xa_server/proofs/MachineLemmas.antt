@@ -7,35 +7,50 @@ use Rattle.xa_value.specs.declared.or_memory.OrMemory.{OrMemory}
 use Rattle.xa_http.specs.declared.message.Message.{Message}
 use Rattle.xa_http.specs.declared.route.Route.{Route}
 use Rattle.xa_http.specs.declared.route.Route.TheVariants.{Decide}
-use Rattle.xa_http.specs.declared.route.RouteFault.TheVariants.{BadMethod}
-use Rattle.xa_http.specs.Routes.{Place, decisions, place_of, route_at, route_of}
+use Rattle.xa_http.specs.declared.route.RouteFault.TheVariants.{BadMediaType}
+use Rattle.xa_http.specs.declared.table.Command.{Command}
+use Rattle.xa_http.specs.declared.table.Command.TheVariants as command
+use Rattle.xa_http.specs.Table.{command_at}
+use Rattle.xa_http.specs.Routes.{Address, address_of, commanded, domain_segment, route_of, route_to, routed, takes_body}
 use Rattle.xa_server.specs.declared.error_code.ErrorCode.{ErrorCode}
 use Rattle.xa_server.specs.declared.error_code.ErrorCode.TheVariants.{Unauthorized}
 use Rattle.xa_server.specs.declared.token.Role.{Role}
 use Rattle.xa_server.specs.declared.given.Given.{Given}
 use Rattle.xa_server.specs.DomainState.{DomainState, domain_of, domain_of_route, state_for, state_of, state_of_given}
 use Rattle.xa_server.specs.Machine.{answer, effect_of, role_shown, route_or_error, step}
-use Rattle.xa_server.specs.Owner.{domain_of_place, is_domain_name, owner}
+use Rattle.xa_server.specs.Owner.{domain_of_address, is_domain_name, owner}
 
--- where a place has a route, the state for its domain is that of the route's domain
-at_place : (method : List ℕ) (place : Option Place) (route : Route) (domains : List Given) → route_or_error (route_at method place) ≡ Ok route
-    → state_for (domain_of_place place) domains ≡ option_map state_of_given (domain_of_route route domains)
-at_place method None route domains e = cc
-at_place method (Some (decisions name)) route domains e = by_method (bytes_eq method (codes "POST")) e where
-  by_name : (b : Bool) → state_for (if b then Some name else None) domains ≡ option_map state_of_given (if b then domain_of name domains else None)
+-- the state for the domain of an address is that of the route's domain
+at_route : (address : Address) (asked : Command) (domains : List Given)
+    → state_for (domain_of_address (Some address)) domains ≡ option_map state_of_given (domain_of_route (route_to address asked) domains)
+at_route address command.Decide domains = by_name (is_domain_name (domain_segment address)) where
+  by_name : (b : Bool)
+      → state_for (if b then Some (domain_segment address) else None) domains
+      ≡ option_map state_of_given (if b then domain_of (domain_segment address) domains else None)
   by_name true = unfold state_of in refl
   by_name false = refl
 
-  by_method : (b : Bool) → route_or_error (if b then Ok (Decide name) else Err BadMethod) ≡ Ok route
-      → state_for (domain_of_place (Some (decisions name))) domains ≡ option_map state_of_given (domain_of_route route domains)
-  by_method true e = let same : Decide name ≡ route = cc in rw (← same) (by_name (is_domain_name name))
-  by_method false e = cc
+at_command : (message : Message) (address : Address) (asked : Option Command) (route : Route) (domains : List Given)
+    → route_or_error (commanded message address asked) ≡ Ok route
+    → state_for (domain_of_address (Some address)) domains ≡ option_map state_of_given (domain_of_route route domains)
+at_command message address None route domains e = cc
+at_command message address (Some asked) route domains e = by_body (takes_body message asked) e where
+  by_body : (b : Bool) → route_or_error (if b then Ok (route_to address asked) else Err BadMediaType) ≡ Ok route
+      → state_for (domain_of_address (Some address)) domains ≡ option_map state_of_given (domain_of_route route domains)
+  by_body true e = let same : route_to address asked ≡ route = cc in rw (← same) (at_route address asked domains)
+  by_body false e = cc
+
+at_address : (message : Message) (address : Option Address) (route : Route) (domains : List Given)
+    → route_or_error (routed message address) ≡ Ok route
+    → state_for (domain_of_address address) domains ≡ option_map state_of_given (domain_of_route route domains)
+at_address message None route domains e = cc
+at_address message (Some address) route domains e = at_command message address (command_at message.method address.place) route domains e
 
 -- so of a message: the state for its owner is that of the route's domain
 pub state_for_route : (message : Message) (route : Route) (domains : List Given) → route_or_error (route_of message) ≡ Ok route
     → state_for (owner message) domains ≡ option_map state_of_given (domain_of_route route domains)
 unfolding owner route_of
-state_for_route message route domains e = at_place message.method (place_of message.target) route domains e
+state_for_route message route domains e = at_address message (address_of message.target) route domains e
 
 -- the answer to a routed message of a domain that is there, one of whose tokens it shows
 let_in : (message : Message) (moment : ℤ) (state : DomainState) (route : Route) (role : Role)

@@ -1,15 +1,15 @@
--- The state of one domain: absent, or the digests of its tokens with their roles, and its policy.
+-- The state of one domain: absent, or the digests of its tokens with their roles, and the policy or policy set that decides.
 use Rattle.std.specs.Prelude.{ℕ, List, [], ◌∷◌, Option, Some, None, option_map, if◌then◌else◌, bytes_eq}
 use Rattle.xa_http.specs.declared.route.Route.{Route}
 use Rattle.xa_http.specs.declared.route.Route.TheVariants.{Decide}
-use Rattle.xa_policy.specs.declared.policy.Policy.{Policy}
+use Rattle.xa_policy.specs.declared.linked.Linked.{Linked}
 use Rattle.xa_server.specs.declared.token.Token.{Token}
 use Rattle.xa_server.specs.declared.given.Given.{Given}
 use Rattle.xa_server.specs.Owner.{is_domain_name}
 
 pub record DomainState : Type 0 where
   pub tokens : List Token
-  pub policy : Policy
+  pub policy : Linked
 
 -- the domain of that name, among all
 abbrev pub domain_of : List ℕ → List Given → Option Given

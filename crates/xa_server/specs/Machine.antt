@@ -7,8 +7,9 @@ use Rattle.xa_value.specs.Gives.{◌>>=◌}
 use Rattle.xa_policy.specs.declared.evaluated.Evaluated.{Evaluated}
 use Rattle.xa_policy.specs.declared.decision.Decision.TheVariants.{IndeterminateDenyPermit}
 use Rattle.xa_func.specs.declared.status.Status.TheVariants.{SyntaxError}
-use Rattle.xa_policy.specs.declared.policy.Policy.{Policy}
+use Rattle.xa_policy.specs.declared.linked.Linked.{Linked}
 use Rattle.xa_policy.specs.Evaluation.{evaluation}
+use Rattle.xa_policy.specs.Rule.{indeterminate}
 use Rattle.xa_http.specs.declared.message.Message.{Message}
 use Rattle.xa_http.specs.declared.route.Route.{Route}
 use Rattle.xa_http.specs.declared.route.Route.TheVariants.{Decide}
@@ -32,17 +33,17 @@ use Rattle.xa_server.specs.ErrorCode.{code_of_route_fault, error_reply, or_error
 use Rattle.xa_server.specs.Request.{request_of}
 use Rattle.xa_server.specs.Response.{response_body}
 
--- the route, or 404 or 405
+-- the route, or 404, 405 or 415
 abbrev pub route_or_error : Result Route RouteFault → Result Route ErrorCode
 route_or_error (Ok route) = Ok route
 route_or_error (Err fault) = Err (code_of_route_fault fault)
 
 -- what a request that is no request of the profile is told (XACML 3.0, section 7.10: any of the three kinds shows as Indeterminate)
 abbrev pub syntax_error : Evaluated
-syntax_error = record { decision = IndeterminateDenyPermit; status = SyntaxError }
+syntax_error = indeterminate IndeterminateDenyPermit SyntaxError
 
 -- the decision on a body, by the request that it is; 400 where it is no JSON
-abbrev pub decision_on : Policy → Result Request RequestError → Result Evaluated ErrorCode
+abbrev pub decision_on : Linked → Result Request RequestError → Result Evaluated ErrorCode
 decision_on policy (Ok asked) = Ok (evaluation (values_of asked) policy)
 decision_on policy (Err request.NotProfile) = Ok syntax_error
 decision_on policy (Err request.NotJson) = Err NotJson
@@ -61,7 +62,7 @@ effect_of (Decide _) domain message moment = do
 abbrev pub role_shown : List Token → Message → Option Role
 role_shown tokens message = option_and_then (λ token. role_of (sha256 token) tokens) (token_in message.fields)
 
--- the order of answers: the first question that is not passed decides. 404 and 405; 401 where the domain is absent or the
+-- the order of answers: the first question that is not passed decides. 404, 405 and 415; 401 where the domain is absent or the
 -- message shows none of its tokens (each role may ask for decisions, so none is forbidden); then what the route itself answers
 unfoldable pub answer : Option DomainState → Message → ℤ → Result (List ℕ × DomainState) ErrorCode
 answer state message moment = do

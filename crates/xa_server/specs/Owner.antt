@@ -3,7 +3,7 @@ use Rattle.std.specs.Prelude.{ℕ, ◌==◌, ◌||◌, ◌&&◌, Bool, false, Li
 use Rattle.std.specs.List.{list_all}
 use Rattle.std.specs.Char.{is_ascii_digit, is_ascii_lowercase}
 use Rattle.xa_http.specs.declared.message.Message.{Message}
-use Rattle.xa_http.specs.Routes.{Place, decisions, place_of}
+use Rattle.xa_http.specs.Routes.{Address, address_of, domain_segment}
 
 -- a small letter or a digit
 abbrev pub begins_name : ℕ → Bool
@@ -18,15 +18,12 @@ unfoldable pub is_domain_name : List ℕ → Bool
 is_domain_name [] = false
 is_domain_name (c ∷ cs) = nat_le (length cs) 31 && begins_name c && list_all continues_name cs
 
--- the segment of the path that stands for a domain
-abbrev pub segment_of : Place → List ℕ
-segment_of (decisions segment) = segment
-
--- the domain that the segment names
-abbrev pub domain_of_place : Option Place → Option (List ℕ)
-domain_of_place None = None
-domain_of_place (Some place) = if is_domain_name (segment_of place) then Some (segment_of place) else None
+-- the domain that the path of an address names, by its decoded part that stands for one
+abbrev pub domain_of_address : Option Address → Option (List ℕ)
+domain_of_address None = None
+domain_of_address (Some address) =
+    if is_domain_name (domain_segment address) then Some (domain_segment address) else None
 
 -- the domain that the message's path names, whether or not it exists
 unfoldable pub owner : Message → Option (List ℕ)
-owner message = domain_of_place (place_of message.target)
+owner message = domain_of_address (address_of message.target)

@@ -6,7 +6,7 @@ ghost use Rattle.xa_server.specs.ErrorCode.{code_of_route_fault, code_of_session
 use http::StatusCode;
 use std::alloc::{AllocError, Global};
 use thiserror::Error;
-use xa_http::{Extra, Media, Methods, RouteFault, SessionFault, reply};
+use xa_http::{Extra, Media, Place, RouteFault, SessionFault, reply};
 use xa_value::OrMemory;
 
 /// Why a message is turned away: the code that the body of the reply names (RFC 9110, section 15, has the statuses).
@@ -17,16 +17,19 @@ pub enum ErrorCode {
     NoRoute,
     /// 405: the path doesn't take the method.
     #[error("the path doesn't take the method")]
-    BadMethod,
+    BadMethod(Place),
+    /// 415: the body has another media type than JSON.
+    #[error("the body has another media type than JSON")]
+    BadMediaType,
     /// 401: the message shows no token of the domain.
     #[error("the message shows no token of the domain")]
     Unauthorized,
     /// 400: the body is not JSON.
     #[error("the body is not JSON")]
     NotJson,
-    /// 400: the stream doesn't go on with a message that is taken.
+    /// 400, 413, 431 or 501: the stream doesn't go on with a message that is taken.
     #[error("the stream doesn't go on with a message that is taken")]
-    BadHead,
+    Session(SessionFault),
 }
 
 impl ErrorCode {
@@ -35,9 +38,11 @@ impl ErrorCode {
     {
         match self {
             ErrorCode::NoRoute => StatusCode::NOT_FOUND,
-            ErrorCode::BadMethod => StatusCode::METHOD_NOT_ALLOWED,
+            ErrorCode::BadMethod(_) => StatusCode::METHOD_NOT_ALLOWED,
+            ErrorCode::BadMediaType => StatusCode::UNSUPPORTED_MEDIA_TYPE,
             ErrorCode::Unauthorized => StatusCode::UNAUTHORIZED,
-            ErrorCode::NotJson | ErrorCode::BadHead => StatusCode::BAD_REQUEST,
+            ErrorCode::NotJson => StatusCode::BAD_REQUEST,
+            ErrorCode::Session(fault) => fault.status(),
         }
     }
 
@@ -45,9 +50,12 @@ impl ErrorCode {
         ensures { result ≡ extra_of self }
     {
         match self {
-            ErrorCode::BadMethod => Extra::Allow(Methods::Post),
+            ErrorCode::BadMethod(place) => Extra::Allow(place),
             ErrorCode::Unauthorized => Extra::Challenge,
-            ErrorCode::NoRoute | ErrorCode::NotJson | ErrorCode::BadHead => Extra::Nothing,
+            ErrorCode::NoRoute
+            | ErrorCode::BadMediaType
+            | ErrorCode::NotJson
+            | ErrorCode::Session(_) => Extra::Nothing,
         }
     }
 
@@ -57,10 +65,11 @@ impl ErrorCode {
     {
         match self {
             ErrorCode::NoRoute => b"{\"Error\":\"NoRoute\"}",
-            ErrorCode::BadMethod => b"{\"Error\":\"BadMethod\"}",
+            ErrorCode::BadMethod(_) => b"{\"Error\":\"BadMethod\"}",
+            ErrorCode::BadMediaType => b"{\"Error\":\"BadMediaType\"}",
             ErrorCode::Unauthorized => b"{\"Error\":\"Unauthorized\"}",
             ErrorCode::NotJson => b"{\"Error\":\"NotJson\"}",
-            ErrorCode::BadHead => b"{\"Error\":\"BadHead\"}",
+            ErrorCode::Session(fault) => fault_body(fault),
         }
     }
 
@@ -70,6 +79,19 @@ impl ErrorCode {
         ensures { IfOk result (λ bytes. bytes.items ≡ error_reply self) }
     {
         reply(alloc, self.status(), Media::Json, self.extra(), self.body())
+    }
+}
+
+/// The body of the reply to a stream that ends by that fault.
+#[tactic(auto, unfolding(crate::specs::ErrorCode::error_body))]
+fn fault_body(fault: SessionFault) -> &'static [u8]
+    ensures { result.now ≡ error_body (code_of_session_fault fault) }
+{
+    match fault {
+        SessionFault::BadHead => b"{\"Error\":\"BadHead\"}",
+        SessionFault::BodyTooLarge => b"{\"Error\":\"BodyTooLarge\"}",
+        SessionFault::HeadTooLarge => b"{\"Error\":\"HeadTooLarge\"}",
+        SessionFault::TransferCoding => b"{\"Error\":\"TransferCoding\"}",
     }
 }
 
@@ -86,7 +108,8 @@ impl From<RouteFault> for ErrorCode {
     fn from(fault: RouteFault) -> ErrorCode {
         match fault {
             RouteFault::NoRoute => ErrorCode::NoRoute,
-            RouteFault::BadMethod => ErrorCode::BadMethod,
+            RouteFault::BadMethod(place) => ErrorCode::BadMethod(place),
+            RouteFault::BadMediaType => ErrorCode::BadMediaType,
         }
     }
 }
@@ -95,9 +118,7 @@ impl From<SessionFault> for ErrorCode {
     ghost from_gives = { λ fault code. code ≡ code_of_session_fault fault };
 
     fn from(fault: SessionFault) -> ErrorCode {
-        match fault {
-            SessionFault::BadHead => ErrorCode::BadHead,
-        }
+        ErrorCode::Session(fault)
     }
 }
 

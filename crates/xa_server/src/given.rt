@@ -8,18 +8,18 @@ ghost use Rattle.std.specs.Prelude.{option_map};
 use crate::owner::is_domain_name;
 use crate::token::Token;
 use thiserror::Error;
-use xa_policy::Policy;
+use xa_policy::Linked;
 use xa_value::{Items, Text};
 
-/// A domain: its name, the digests of its tokens with their roles, and its policy.
+/// A domain: its name, the digests of its tokens with their roles, and the policy or policy set that decides.
 #[derive(Debug, Drop)]
 pub struct Given {
     /// The domain's name.
     pub name: Text,
     /// Its tokens; of two with the same digest, the role of the first counts.
     pub tokens: Items<Token>,
-    /// The policy that decides.
-    pub policy: Policy,
+    /// What decides: a policy, or a policy set with all that it refers to.
+    pub policy: Linked,
 }
 
 /// Why no server can be made of these domains.

@@ -3,7 +3,7 @@ ghost use Rattle.std.specs.Prelude.{◌≡◌, ℕ, List, Some, Ok, Err, IfOk, I
 ghost use Rattle.xa_http.specs.Routes.{route_of};
 ghost use Rattle.xa_value.specs.Gives.{Gives};
 ghost use Rattle.xa_server.specs.DomainState.{domain_of_route, state_for, state_of_given};
-ghost use Rattle.xa_server.specs.Machine.{answer, decision_on, decision_reply, effect_of, role_shown, route_or_error, step};
+ghost use Rattle.xa_server.specs.Machine.{answer, decision_on, decision_reply, effect_of, role_shown, route_or_error, step, syntax_error};
 ghost use Rattle.sha2.specs.Sha256.{sha256};
 ghost use Rattle.xa_server.specs.Authorization.{token_in};
 ghost use Rattle.xa_server.specs.Tokens.{role_of};
@@ -20,28 +20,32 @@ use crate::token::{Digest, Role, Token, role_of};
 use http::StatusCode;
 use std::alloc::{AllocError, Global};
 use xa_func::Status;
-use xa_http::routes::route;
-use xa_http::{Extra, Media, Message, Route, reply};
-use xa_policy::{Decision, Evaluated, Policy, evaluate};
+use xa_http::{Extra, Media, Message, Route, Routes, reply};
+use xa_policy::{Decision, Evaluated, Linked, evaluate};
 use xa_value::{Moment, OrMemory};
 
 /// What a body that is no request of the JSON Profile is told.
-const SYNTAX_ERROR: Evaluated = Evaluated {
-    decision: Decision::IndeterminateDenyPermit,
-    status: Status::SyntaxError,
-};
+fn syntax_error(alloc: Global) -> Evaluated
+    ensures { result ≡ syntax_error }
+{
+    Evaluated::without_duties(
+        alloc,
+        Decision::IndeterminateDenyPermit,
+        Status::SyntaxError,
+    )
+}
 
 /// The decision on a body.
 fn decision_on(
     alloc: Global,
-    policy: &Policy,
+    policy: &Linked,
     body: &[u8],
 ) -> Result<Evaluated, OrMemory<ErrorCode>>
     ensures { Gives result (decision_on policy.now (request_of body.now)) }
 {
     match Request::read(alloc, body) {
         Ok(request) => Ok(evaluate(alloc, policy, &request)?),
-        Err(OrMemory::Error(RequestError::NotProfile)) => Ok(SYNTAX_ERROR),
+        Err(OrMemory::Error(RequestError::NotProfile)) => Ok(syntax_error(alloc)),
         Err(OrMemory::Error(RequestError::NotJson)) => Err(OrMemory::Error(ErrorCode::NotJson)),
         Err(OrMemory::Memory) => Err(OrMemory::Memory),
     }
@@ -62,11 +66,15 @@ fn decision_reply(alloc: Global, evaluated: Evaluated) -> Result<Vec<u8>, AllocE
     )
 }
 
-/// The route of the message, or 404 or 405.
-fn route_or_error(alloc: Global, message: &Message) -> Result<Route, OrMemory<ErrorCode>>
+/// The route of the message, or 404, 405 or 415.
+fn route_or_error(
+    alloc: Global,
+    routes: &Routes,
+    message: &Message,
+) -> Result<Route, OrMemory<ErrorCode>>
     ensures { Gives result (route_or_error (route_of message.now)) }
 {
-    match route(alloc, message) {
+    match routes.route(alloc, message) {
         Ok(route) => Ok(route),
         Err(OrMemory::Error(fault)) => Err(OrMemory::Error(ErrorCode::from(fault))),
         Err(OrMemory::Memory) => Err(OrMemory::Memory),
@@ -119,6 +127,7 @@ fn role_shown(tokens: &[Token], message: &Message) -> Option<Role>
 #[tactic(auto, unfolding(crate::specs::Machine::answer))]
 fn answer(
     alloc: Global,
+    routes: &Routes,
     domains: &[Given],
     moment: Moment,
     message: &Message,
@@ -126,7 +135,7 @@ fn answer(
     ensures ok { IfOk result (λ bytes. (operator : List ℕ) → (bytes.items, state_for (owner message.now) domains.now) ≡ step operator (state_for (owner message.now) domains.now) message.now moment) }
     ensures err { IfErr result (λ e. Gives (Err e) (answer (state_for (owner message.now) domains.now) message.now moment)) }
 {
-    let route = route_or_error(alloc, message)?;
+    let route = route_or_error(alloc, routes, message)?;
     let Some(domain) = domain_of_route(&route, domains) else {
         return Err(OrMemory::Error(ErrorCode::Unauthorized));
     };
@@ -140,13 +149,14 @@ fn answer(
 #[tactic(auto, unfolding(crate::specs::Machine::step))]
 pub(crate) fn reply_to(
     alloc: Global,
+    routes: &Routes,
     domains: &[Given],
     moment: Moment,
     message: &Message,
 ) -> Result<Vec<u8>, AllocError>
     ensures { IfOk result (λ bytes. (operator : List ℕ) → (bytes.items, state_for (owner message.now) domains.now) ≡ step operator (state_for (owner message.now) domains.now) message.now moment) }
 {
-    match answer(alloc, domains, moment, message) {
+    match answer(alloc, routes, domains, moment, message) {
         Ok(bytes) => Ok(bytes),
         Err(OrMemory::Error(code)) => code.reply(alloc),
         Err(OrMemory::Memory) => Err(AllocError),

@@ -1,5 +1,6 @@
 //! The server: its domains, one message after another.
 ghost use Rattle.std.specs.Prelude.{◌≡◌, Ok, Err, IfOk, OnErr, MatchResult};
+ghost use Rattle.xa_value.specs.Gives.{Gives};
 ghost use Rattle.xa_server.specs.Given.{server_domains};
 ghost use Rattle.xa_server.specs.Isolation.{TwoWorldsAgree};
 
@@ -9,21 +10,26 @@ use crate::replies::{Refusal, Reply};
 use crate::token::Digest;
 use std::alloc::{AllocError, Global};
 use std::marker::Model;
-use xa_http::Message;
-use xa_value::{Items, Moment};
+use xa_http::{Message, Routes};
+use xa_value::{Items, Moment, OrMemory};
 
 /// A server over the domains that it was given.
 #[derive(Debug, Drop)]
 pub struct Server {
     alloc: Global,
+    routes: Routes,
     operator: Digest,
     domains: Items<Given>,
 }
 
 impl Model for Server {
+    ghost use Rattle.std.specs.Coded.{codes};
+    ghost use Rattle.xa_policy.specs.contracts.linked.Linked as linked;
     ghost use Rattle.xa_server.specs.World.{World};
 
     ghost Value = { World };
+
+    ghost coded = { Prim.hlevel (codes, linked.the_row.coded) };
 
     ghost view = { λ s. record { operator = s.operator; domains = s.domains } };
 }
@@ -35,18 +41,23 @@ impl Server {
     /// A server over these domains, with the digest of the operator's token. Each name has to be a domain name, and no two
     /// may be the same.
     #[tactic(auto, unfolding(crate::specs::Given::server_domains))]
-    pub fn given(alloc: Global, domains: Vec<Given>, operator: Digest) -> Result<Server, GivenError>
+    pub fn given(
+        alloc: Global,
+        domains: Vec<Given>,
+        operator: Digest,
+    ) -> Result<Server, OrMemory<GivenError>>
         ensures { MatchResult result (λ server. (server_domains domains.items ≡ Ok server.domains) × (server.operator ≡ operator))
-            (λ error. server_domains domains.items ≡ Err error) }
+            (λ e. Gives (Err e) (server_domains domains.items)) }
     {
         if !all_named(&domains) {
-            return Err(GivenError::BadDomain);
+            return Err(OrMemory::Error(GivenError::BadDomain));
         }
         if !all_apart(&domains) {
-            return Err(GivenError::Twice);
+            return Err(OrMemory::Error(GivenError::Twice));
         }
         Ok(Server {
             alloc,
+            routes: Routes::new(alloc)?,
             operator,
             domains: Items::from_vec(domains),
         })
@@ -56,7 +67,13 @@ impl Server {
     pub fn serve(&mut self, moment: Moment, message: &Message) -> Reply
         ensures { IsServed self.old self.new moment message.now result }
     {
-        let Ok(bytes) = reply_to(self.alloc, self.domains.as_slice(), moment, message) else {
+        let Ok(bytes) = reply_to(
+            self.alloc,
+            &self.routes,
+            self.domains.as_slice(),
+            moment,
+            message,
+        ) else {
             return Reply::Refused(Refusal::Memory);
         };
         Reply::Sent(Items::from_vec(bytes))

@@ -1,6 +1,6 @@
 use Rattle.std.proofs.Common.{◌≡◌, ◌++◌, take, drop}
-use Rattle.xa_http.specs.Routes.{before}
-use Rattle.xa_http.proofs.routes.before.Given as goal
+use Rattle.xa_http.specs.Parts.{before}
+use Rattle.xa_http.proofs.parts.before.Given as goal
 
 abbrev pub invariant-loop-i : goal.invariant-loop-i
 invariant-loop-i l = before l.byte l.bytes ≡ take l.i l.bytes ++ before l.byte (drop l.i l.bytes)
