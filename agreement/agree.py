@@ -3,13 +3,14 @@
 usage: agree.py rows FOLDER SEED COUNT      writes the rows, in files of at most 500
        agree.py compare FILE SEED COUNT     compares the program's answers, read from FILE, with the model's
 
-Of the rows, two thirds ask for expressions and targets.
+Of the rows, half ask for expressions and targets, and a quarter for requests.
 """
 import collections
 import pathlib
 import sys
 
 from answers import answer
+from bodies import Bodies
 from combining import ALGORITHMS, DECISIONS
 from exchanges import Exchanges
 from functions import BAG_FUNCTIONS, DURATIONS, FUNCTIONS, HIGHER_ORDER, V1, V3
@@ -31,6 +32,7 @@ class Rows:
         self.random = self.texts.random
         self.exchanges = Exchanges(self.random)
         self.trees = Trees(self)
+        self.bodies = Bodies(self)
 
     def sound(self, data_type, name=""):
         """A text that reads, and that the named function is likely to take."""
@@ -148,7 +150,7 @@ class Rows:
 
     def next(self):
         values = [self.read, self.apply, self.bags, self.higher] * 3 + [self.compare, self.moment, self.combine, self.exchanges.next]
-        return self.random.choice(values + [self.trees.evaluate] * 25 + [self.trees.target] * 5)()
+        return self.random.choice(values + [self.trees.evaluate] * 25 + [self.trees.target] * 5 + [self.bodies.next] * 15)()
 
 
 def answers_of(path):

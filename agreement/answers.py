@@ -4,6 +4,8 @@ import hashlib
 import combining
 import messages
 import questions
+import requests
+import versions
 from functions import BAG_FUNCTIONS, BAG_SIGNATURES, FUNCTIONS, HIGHER_ORDER, bag_function_named, fits, higher_order
 from names import NAMES
 from rows import bag_shown, decoded, encoded, shown, text_of, value_of
@@ -193,6 +195,8 @@ KINDS = {
     "evaluate": questions.evaluate, "target": questions.target,
     "months": months, "nanoseconds": nanoseconds, "held": held, "keys": keys, "bag": bag, "digest": digest,
     "server": messages.server, "stream": messages.stream, "route": messages.route, "combine": combining.combine,
+    "version": versions.version, "pattern": versions.pattern, "matches": versions.matches, "versions": versions.versions,
+    "resolve": versions.resolve, "request": requests.request, "individuals": requests.individuals,
 }
 
 

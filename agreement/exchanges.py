@@ -11,7 +11,8 @@ IDS = {
     "subject": "urn:oasis:names:tc:xacml:1.0:subject:subject-id", "resource": "urn:oasis:names:tc:xacml:1.0:resource:resource-id",
     "action": "urn:oasis:names:tc:xacml:1.0:action:action-id",
 }
-FIELD_LINES = [b"Host: h\r\n", b"X:\t a \r\n", b"Connection: close\r\n", b"x-content-length: 1\r\n", b"Accept: */*\n", b"a:\r\n"]
+FIELD_LINES = [b"Host: h\r\n", b"X:\t a \r\n", b"Connection: close\r\n", b"Connection: a, CLOSE\r\n", b"Content-Type: application/json; a=b\r\n", b"content-type:application/XACML+json\r\n",
+               b"Content-Type: text/plain\r\n", b"x-content-length: 1\r\n", b"Accept: */*\n", b"a:\r\n"]
 FAULTY_LINES = [b"Content-Length: 3\r\n", b"Transfer-Encoding: chunked\r\n", b"a b: c\r\n", b": x\r\n", b"a\r\n", b"a:\x00\r\n", b" a: b\r\n",
                 b"Content-Length: 1x\r\n", b"Content-Length: 262145\r\n"]
 

@@ -3,12 +3,17 @@
 A stream's bytes are looked at from their front: a message, more wanted, or a fault, after which nothing is taken.
 """
 import json
+from urllib.parse import unquote_to_bytes
 
 from combining import deny_overrides
 from rows import decoded, encoded
 
 MAX_HEAD, MAX_FIELDS, MAX_BODY = 16_384, 64, 262_144
 TOKEN_BYTES = set(b"!#$%&'*+-.^_`|~0123456789abcdefghijklmnopqrstuvwxyzABCDEFGHIJKLMNOPQRSTUVWXYZ")
+FAULTS = {
+    "BadHead": "400 Bad Request", "BodyTooLarge": "413 Payload Too Large", "HeadTooLarge": "431 Request Header Fields Too Large",
+    "TransferCoding": "501 Not Implemented",
+}
 STATUS = "urn:oasis:names:tc:xacml:1.0:status:"
 ATTRIBUTES = {
     "subject": ("AccessSubject", "urn:oasis:names:tc:xacml:1.0:subject:subject-id"),
@@ -21,8 +26,15 @@ class More(Exception):
     """The bytes may go on to a head."""
 
 
-class Bad(Exception):
+class Fault(Exception):
+    """The stream doesn't go on with a message that is taken."""
+
+
+class Bad(Fault):
     """No head begins like that."""
+
+    def __init__(self):
+        super().__init__("BadHead")
 
 
 class Head:
@@ -74,10 +86,12 @@ class Head:
         except UnicodeDecodeError:
             raise Bad from None
         self.expect(b"HTTP/1.")
-        if self.byte() not in b"01":
+        minor = self.byte()
+        if minor not in b"01":
             raise Bad
         self.line_end(self.byte())
-        return method, target, self.fields()
+        fields = self.fields()
+        return method, target, fields, minor == b"0"[0] or closes(fields)
 
     def fields(self):
         fields = []
@@ -97,13 +111,24 @@ def values_of(name, fields):
     return [value for held, value in fields if held.lower() == name]
 
 
+def closes(fields):
+    """Whether a Connection field has the token `close`."""
+    return any(token.strip(b" \t").lower() == b"close" for value in values_of(b"connection", fields) for token in value.split(b","))
+
+
 def body_length(fields):
-    """The length that the fields announce, or None for a fault."""
+    """The length that the fields announce."""
+    if len(fields) > MAX_FIELDS:
+        raise Fault("HeadTooLarge")
+    if values_of(b"transfer-encoding", fields):
+        raise Fault("TransferCoding")
     lengths = values_of(b"content-length", fields)
-    if len(fields) > MAX_FIELDS or values_of(b"transfer-encoding", fields) or any(not it.isdigit() for it in lengths):
-        return None
-    numbers = {int(it) for it in lengths} or {0}
-    return min(numbers) if len(numbers) == 1 and max(numbers) <= MAX_BODY else None
+    numbers = {int(it) if it.isdigit() else None for it in lengths} or {0}
+    if len(numbers) > 1 or None in numbers:
+        raise Bad
+    if max(numbers) > MAX_BODY:
+        raise Fault("BodyTooLarge")
+    return min(numbers)
 
 
 class Stream:
@@ -113,24 +138,25 @@ class Stream:
         self.held, self.has_ended = b"", False
 
     def next(self):
-        """A message, or `More`, `Fault` or `Ended`."""
+        """A message, or `More` or `Ended`, or a fault with its name."""
         if self.has_ended:
             return "Ended"
+        head = Head(self.held[:MAX_HEAD])
         try:
-            head = Head(self.held[:MAX_HEAD])
-            method, target, fields = head.read()
-            length = body_length(fields)
+            method, target, fields, self.has_ended = head.read()
+            end = head.at + body_length(fields)
         except More:
-            length = None if len(self.held) >= MAX_HEAD else -1
-        except Bad:
-            length = None
-        if length is None:
+            if len(self.held) < MAX_HEAD:
+                return "More"
             self.has_ended = True
-            return "Fault"
-        if length < 0 or len(self.held) < head.at + length:
+            return Fault("HeadTooLarge")
+        except Fault as fault:
+            self.has_ended = True
+            return fault
+        if len(self.held) < end:
+            self.has_ended = False
             return "More"
-        body = self.held[head.at:head.at + length]
-        self.held = self.held[head.at + length:]
+        body, self.held = self.held[head.at:end], self.held[end:]
         return method, target, fields, body
 
 
@@ -147,7 +173,7 @@ def decision(name, status):
 
 
 def domain_asked(target):
-    """The domain part of the path, or None."""
+    """The domain part of the path, decoded, or None."""
     try:
         target = target.decode().split("?")[0]
     except UnicodeDecodeError:
@@ -156,7 +182,14 @@ def domain_asked(target):
         at = target.find("/", 7)
         target = target[at:] if at >= 0 else ""
     parts = target.split("/")
-    return parts[2] if len(parts) == 4 and parts[:2] == ["", "domains"] and parts[2] and parts[3] == "pdp" else None
+    served = len(parts) == 4 and parts[:2] == ["", "domains"] and parts[2] and parts[3] == "pdp"
+    return unquote_to_bytes(parts[2]) if served else None
+
+
+def takes_body(fields):
+    """Whether the fields say nothing of the body's media type, or that it is JSON."""
+    media = [value.split(b";")[0].strip(b" \t").lower() for value in values_of(b"content-type", fields)]
+    return not media or len(media) == 1 and media[0] in (b"application/json", b"application/xacml+json")
 
 
 def token_shown(fields):
@@ -264,7 +297,9 @@ def answered(domains, message):
         return refusal("404 Not Found", "NoRoute")
     if method != b"POST":
         return refusal("405 Method Not Allowed", "BadMethod", "Allow: POST\r\n")
-    tokens, rules = domains.get(name, ((), ()))
+    if not takes_body(fields):
+        return refusal("415 Unsupported Media Type", "BadMediaType")
+    tokens, rules = domains.get(name.decode(errors="replace"), ((), ()))
     if token_shown(fields) not in tokens:
         return refusal("401 Unauthorized", "Unauthorized", "WWW-Authenticate: Bearer\r\n")
     return decided(rules, body)
@@ -310,9 +345,9 @@ def piece(stream, domains, held):
     while isinstance(found := stream.next(), tuple):
         replies.append(answered(domains, found))
     fields = in_runs(replies)
-    if found == "Fault":
-        fields.append(encoded(refusal("400 Bad Request", "BadHead")))
-    if found in ("Fault", "Ended"):
+    if isinstance(found, Fault):
+        fields.append(encoded(refusal(FAULTS[str(found)], str(found))))
+    if found != "More":
         fields.append("!Ended")
     return fields or ["More"]
 
@@ -341,8 +376,8 @@ def stream(*pieces):
             shown += ["method:" + encoded(method), "target:" + encoded(target)]
             for name, value in fields:
                 shown += ["name:" + encoded(name), "value:" + encoded(value)]
-            shown.append("body:" + encoded(body))
-        shown.append({"More": "More", "Fault": "!BadHead", "Ended": "!Ended"}[found])
+            shown += ["body:" + encoded(body)] + ["close"] * held.has_ended
+        shown.append(found if found == "More" else f"!{found}")
     return shown
 
 

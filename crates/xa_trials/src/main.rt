@@ -13,9 +13,11 @@ mod holders;
 mod messages;
 mod no_answer;
 mod plain;
+mod requests;
 mod server;
 mod targets;
 mod values;
+mod versions;
 
 use answer::Answer;
 use no_answer::NoAnswer;
@@ -76,6 +78,22 @@ fn answer_to_messages(answer: &mut Answer, fields: &[&str]) -> Result<(), NoAnsw
         ["server", fields @ ..] => server::server(answer, fields),
         ["evaluate", fields @ ..] => expressions::evaluate(answer, fields),
         ["target", fields @ ..] => expressions::target(answer, fields),
+        _ => answer_to_versions(answer, fields),
+    }
+}
+
+/// Answers a row of versions and references, and of requests.
+fn answer_to_versions(answer: &mut Answer, fields: &[&str]) -> Result<(), NoAnswer> {
+    match fields {
+        ["version", text] => versions::version(answer, text),
+        ["pattern", text] => versions::pattern(answer, text),
+        ["matches", pattern, version] => versions::matching(answer, pattern, version),
+        ["versions", left, right] => versions::compared(answer, left, right),
+        ["resolve", reference, documents @ ..] => versions::resolution(
+            answer, reference, documents,
+        ),
+        ["request", body] => requests::request(answer, body),
+        ["individuals", body] => requests::individuals(answer, body),
         _ => Err(NoAnswer::Malformed),
     }
 }

@@ -3,8 +3,7 @@ use crate::answer::Answer;
 use crate::field::bytes_of;
 use crate::no_answer::NoAnswer;
 use std::alloc::Global;
-use xa_http::routes::route;
-use xa_http::{Message, Next, Route, Session};
+use xa_http::{Message, Next, Route, RouteFault, Routes, Session};
 use xa_server::{Digest, is_domain_name, is_token};
 use xa_value::{Items, OrMemory};
 
@@ -31,7 +30,7 @@ fn take_all(answer: &mut Answer, session: &mut Session) -> Result<(), NoAnswer> 
     Ok(())
 }
 
-/// Adds a message: its method, its target, its field lines and its body.
+/// Adds a message: its method, its target, its field lines and its body, and whether it closes the stream.
 fn push_message(answer: &mut Answer, message: &Message) -> Result<(), NoAnswer> {
     answer.field("method:", message.method.as_slice())?;
     answer.field("target:", message.target.as_slice())?;
@@ -40,6 +39,9 @@ fn push_message(answer: &mut Answer, message: &Message) -> Result<(), NoAnswer> 
         answer.field("value:", field.value.as_slice())?;
     }
     answer.field("body:", message.body.as_slice())?;
+    if message.close {
+        answer.word("close")?;
+    }
     Ok(())
 }
 
@@ -50,14 +52,17 @@ fn message_of(alloc: Global, method: &str, target: &str) -> Result<Message, NoAn
         target: Items::from_vec(bytes_of(alloc, target)?),
         fields: Items::new(alloc),
         body: Items::new(alloc),
+        close: false,
     })
 }
 
 /// What a message of that method and target asks for.
 pub fn routing(answer: &mut Answer, method: &str, target: &str) -> Result<(), NoAnswer> {
     let message = message_of(answer.alloc(), method, target)?;
-    match route(answer.alloc(), &message) {
+    let routes = Routes::new(answer.alloc())?;
+    match routes.route(answer.alloc(), &message) {
         Ok(Route::Decide { domain }) => Ok(answer.field("decide:", domain.as_slice())?),
+        Err(OrMemory::Error(RouteFault::BadMethod(_))) => Ok(answer.word("!BadMethod")?),
         Err(OrMemory::Error(fault)) => Ok(answer.refusal(&fault)?),
         Err(OrMemory::Memory) => Err(NoAnswer::Memory),
     }

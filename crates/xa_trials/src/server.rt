@@ -7,7 +7,7 @@ use crate::no_answer::NoAnswer;
 use std::alloc::Global;
 use xa_http::{Message, Next, Session};
 use xa_server::{Digest, Reply, Server, fault_reply};
-use xa_value::Moment;
+use xa_value::{Moment, OrMemory};
 
 /// A server at a moment, with the stream whose messages it answers.
 #[derive(Drop)]
@@ -117,7 +117,8 @@ pub fn server(answer: &mut Answer, fields: &[&str]) -> Result<(), NoAnswer> {
         Digest::of("operator-token-1".as_bytes()),
     ) {
         Ok(server) => stream(answer, server, fields),
-        Err(error) => Ok(answer.refusal(&error)?),
+        Err(OrMemory::Error(error)) => Ok(answer.refusal(&error)?),
+        Err(OrMemory::Memory) => Err(NoAnswer::Memory),
     }
 }
 

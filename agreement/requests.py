@@ -1,0 +1,223 @@
+"""Requests of the JSON Profile of XACML 3.0, version 1.1 (section 4.2), and the individual requests of one (Multiple Decision Profile, section 2)."""
+import itertools
+import json
+
+from rows import encoded, shown, text_of
+from values import TYPES, Fault, read
+
+NAMESPACE = "http://www.w3.org/2001/XMLSchema#"
+SUBJECTS = "urn:oasis:names:tc:xacml:1.0:subject-category:"
+OTHERS = "urn:oasis:names:tc:xacml:3.0:attribute-category:"
+# the shorthands of categories, in the profile's order
+SHORTHANDS = {
+    "AccessSubject": SUBJECTS + "access-subject", "RecipientSubject": SUBJECTS + "recipient-subject",
+    "IntermediarySubject": SUBJECTS + "intermediary-subject", "Codebase": SUBJECTS + "codebase",
+    "RequestingMachine": SUBJECTS + "requesting-machine", "Resource": OTHERS + "resource", "Action": OTHERS + "action",
+    "Environment": OTHERS + "environment",
+}
+MOST_INDIVIDUALS, MOST_NESTED = 64, 127
+
+
+class NotJson(Exception):
+    """The body is no JSON."""
+
+
+class NotProfile(Exception):
+    """The JSON is no request."""
+
+
+class Fraction:
+    """A number that isn't whole, or that is out of 64 bits."""
+
+
+def fraction(text):
+    if abs(float(text)) == float("inf"):
+        raise NotJson
+    return Fraction()
+
+
+def number(text):
+    whole = int(text)
+    return whole if text != "-0" and -2**63 <= whole < 2**64 else fraction(text)
+
+
+def constant(text):
+    raise NotJson
+
+
+def is_deep(body):
+    """Whether more than so many arrays and objects stand inside one another."""
+    depth, in_text, escaped = 0, False, False
+    for character in body:
+        if in_text:
+            in_text, escaped = escaped or character != '"', not escaped and character == "\\"
+        elif character == '"':
+            in_text = True
+        elif character in "[{":
+            depth += 1
+            if depth > MOST_NESTED:
+                return True
+        elif character in "]}":
+            depth -= 1
+    return False
+
+
+def texts_in(found):
+    if isinstance(found, dict):
+        yield from found
+        found = list(found.values())
+    if isinstance(found, list):
+        for item in found:
+            yield from texts_in(item)
+    if isinstance(found, str):
+        yield found
+
+
+def json_of(body):
+    try:
+        if is_deep(body):
+            raise NotJson
+        found = json.loads(body, parse_int=number, parse_float=fraction, parse_constant=constant)
+    except (ValueError, RecursionError):
+        raise NotJson from None
+    if any("\ud800" <= character <= "\udfff" for text in texts_in(found) for character in text):
+        raise NotJson
+    return found
+
+
+def of_kind(kind, found):
+    if type(found) is not kind:
+        raise NotProfile
+    return found
+
+
+def at(found, name, kind, absent):
+    return of_kind(kind, found[name]) if name in found else absent
+
+
+def needed(found, name, kind):
+    if name not in found:
+        raise NotProfile
+    return of_kind(kind, found[name])
+
+
+def listed(found):
+    return found if type(found) is list else [found]
+
+
+def objects(found, name):
+    """The objects of a member: an array of them, or one alone."""
+    return [of_kind(dict, item) for item in listed(found[name])] if name in found else []
+
+
+def type_of(name):
+    short = name.removeprefix(NAMESPACE)
+    if short not in TYPES:
+        raise NotProfile
+    return short
+
+
+def value(data_type, held):
+    """The value of a text, a boolean or a whole number under the type."""
+    if type(held) is not str and data_type != {bool: "boolean", int: "integer"}[type(held)]:
+        raise NotProfile
+    try:
+        return read(data_type, held if type(held) is str else str(held).lower())
+    except Fault:
+        raise NotProfile from None
+
+
+def attribute(found):
+    name, issuer = needed(found, "AttributeId", str), at(found, "Issuer", str, None)
+    included, named = at(found, "IncludeInResult", bool, False), at(found, "DataType", str, None)
+    held = listed(found["Value"]) if "Value" in found else []
+    kinds = {type(item) for item in held}
+    if len(kinds) > 1 or kinds - {str, bool, int}:
+        raise NotProfile
+    data_type = type_of(named) if named is not None else {bool: "boolean", int: "integer"}.get(next(iter(kinds), str), "string")
+    return name, issuer, included, data_type, [value(data_type, item) for item in held]
+
+
+def category_object(found, category):
+    if category is None:
+        name = needed(found, "CategoryId", str)
+        category = SHORTHANDS.get(name, name)
+    return category, at(found, "Id", str, None), [attribute(item) for item in objects(found, "Attribute")]
+
+
+def references(found):
+    if "MultiRequests" not in found:
+        return []
+    group = of_kind(dict, found["MultiRequests"])
+    if "RequestReference" not in group:
+        raise NotProfile
+    named = []
+    for item in objects(group, "RequestReference"):
+        if "ReferenceId" not in item:
+            raise NotProfile
+        named.append([of_kind(str, one) for one in listed(item["ReferenceId"])])
+    return named
+
+
+def request_of(body):
+    """Whether a combined decision and the ids of policies are asked for, the Category objects, and the references."""
+    whole = of_kind(dict, json_of(body))
+    asked = needed(whole, "Request", dict)
+    flags = at(asked, "CombinedDecision", bool, False), at(asked, "ReturnPolicyIdList", bool, False)
+    found = [category_object(item, None) for item in objects(asked, "Category")]
+    for name, uri in SHORTHANDS.items():
+        found += [category_object(item, uri) for item in objects(asked, name)]
+    ids = [name for _, name, _ in found if name is not None]
+    if len(ids) > len(set(ids)):
+        raise NotProfile
+    return flags, found, references(asked)
+
+
+def referred(found, ids):
+    """The places of the objects of these ids; None where one is unknown, or two are of one category."""
+    places = set()
+    for name in ids:
+        place = next((place for place, (_, its, _) in enumerate(found) if its == name), None)
+        if place is None:
+            return None
+        places.add(place)
+    categories = [found[place][0] for place in places]
+    return sorted(places) if len(categories) == len(set(categories)) else None
+
+
+def individuals_of(found, named):
+    """To each individual request the places of its objects; None where there are too many."""
+    if named:
+        return [referred(found, ids) for ids in named] if len(named) <= MOST_INDIVIDUALS else None
+    places = {}
+    for place, (category, _, _) in enumerate(found):
+        places.setdefault(category, []).append(place)
+    count = 1
+    for group in places.values():
+        count *= len(group)
+    return [sorted(chosen) for chosen in itertools.product(*places.values())] if count <= MOST_INDIVIDUALS else None
+
+
+def request(body):
+    try:
+        (combined, identified), found, _ = request_of(text_of(body))
+    except (NotJson, NotProfile) as fault:
+        return ["!" + type(fault).__name__]
+    fields = ["combined"] * combined + ["identified"] * identified
+    for category, name, attributes in found:
+        fields += ["object:" + encoded(category)] + (["id:" + encoded(name)] if name is not None else [])
+        for its, issuer, included, data_type, values in attributes:
+            fields += ["attribute:" + encoded(its)] + (["issuer:" + encoded(issuer)] if issuer is not None else [])
+            fields += ["included"] * included + ["of:" + data_type] + [shown(one) for one in values]
+    return fields + ["."]
+
+
+def individuals(body):
+    try:
+        _, found, named = request_of(text_of(body))
+    except (NotJson, NotProfile):
+        return ["!Malformed"]
+    all_of_them = individuals_of(found, named)
+    if all_of_them is None:
+        return ["!TooMany"]
+    return ["!BadReference" if places is None else "at" + "".join(f",{place}" for place in places) for places in all_of_them]
