@@ -1,4 +1,4 @@
--- The type check of expressions (XACML 3.0, core, sections 5.25 to 5.32 and 7.4, appendix A.3): from an expression as a policy has it to one
+-- The type check of expressions (XACML 3.0, core, sections 5.25, 5.27 to 5.29, 5.31 and 7.4, appendix A.3): from an expression as a policy has it to one
 -- whose functions and variables are found, or its first fault.
 use Rattle.std.specs.Prelude.{ℕ, suc, not, nat_lt, bytes_eq, if◌then◌else◌, List, [], ◌∷◌, map, length, Option, Some, None, Result, Ok, Err}
 use Rattle.xa_value.specs.Gives.{◌>>=◌}

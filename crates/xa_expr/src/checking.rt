@@ -20,7 +20,7 @@ use xa_value::{DataType, Items, OrMemory, Text};
 /// How many expressions may stand inside one another.
 const MAX_DEPTH: usize = 24;
 
-/// The expression with its functions and variables found, or its first fault (core, sections 5.25 to 5.32 and appendix A.3): of an
+/// The expression with its functions and variables found, or its first fault (core, sections 5.25, 5.27 to 5.29, 5.31 and appendix A.3): of an
 /// Apply that its function is unknown, then the faults of its arguments from the first to the last, then their number, then their
 /// kinds. At most 24 expressions may stand inside one another. Clause `typed`: what passes has its kind under those of the variables.
 pub fn check(

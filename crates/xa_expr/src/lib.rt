@@ -1,4 +1,4 @@
-//! Expressions with their types and values, and targets (XACML 3.0, core, sections 5.5 to 5.9, 5.25 to 5.32 and 7.3 to 7.9).
+//! Expressions with their types and values, and targets (XACML 3.0, core, sections 5.6 to 5.9, 5.25, 5.27 to 5.29, 5.31 and 7.3 to 7.9).
 #![tactic(auto)]
 
 mod check_error;

@@ -19,7 +19,7 @@ use Rattle.xa_http.specs.declared.front.Head.{Head}
 use Rattle.xa_http.specs.Length.{body_length}
 use Rattle.xa_http.specs.Closing.{closes}
 use Rattle.xa_http.specs.Messages.{window, fields_of, BeginsWithHead, BeginsWithMessage, IsUnfinished, IsFaulty}
-use Rattle.xa_http.specs.Front.{field_at, HasHead, IsHeadOf, KeepsHead}
+use Rattle.xa_http.specs.parsing.Front.{field_at, HasHead, IsHeadOf, KeepsHead}
 
 -- a line end has a byte at least
 end_fits : (e : LineEnd) → 1 ≤ length (print_end e)

@@ -4,7 +4,7 @@ pub mod Length
 pub mod Parts
 pub mod Closing
 pub mod Messages
-pub mod Front
+pub mod parsing
 pub mod ContentType
 pub mod Table
 pub mod Routes

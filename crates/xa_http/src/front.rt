@@ -2,7 +2,7 @@
 ghost use Rattle.std.specs.Prelude.{◌≡◌, ◌+◌, ◌≤◌, length, drop, IfOk, IsSome, MatchOption};
 ghost use Rattle.httparse.specs.Grammar.{HasNoRequest, MayBecomeRequest};
 ghost use Rattle.xa_http.specs.Messages.{window, BeginsWithMessage, IsUnfinished};
-ghost use Rattle.xa_http.specs.Front.{HasHead, IsFront, IsHeadOf};
+ghost use Rattle.xa_http.specs.parsing.Front.{HasHead, IsFront, IsHeadOf};
 
 use crate::fault::SessionFault;
 use crate::head::read_head;

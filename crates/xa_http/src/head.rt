@@ -1,7 +1,7 @@
 //! The head of a message, copied from where the parser's offsets point.
 ghost use Rattle.std.specs.Prelude.{◌≡◌, ◌≤◌, length, map, All, IfOk};
 ghost use Rattle.httparse.specs.Spans.{IsWithin, IsHeaderWithin, IsRequestWithin, IsRequestOf, span_bytes};
-ghost use Rattle.xa_http.specs.Front.{field_at, IsHeadOf};
+ghost use Rattle.xa_http.specs.parsing.Front.{field_at, IsHeadOf};
 
 use crate::closing::closes;
 use crate::message::{Field, Message};

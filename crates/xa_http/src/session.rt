@@ -1,6 +1,6 @@
 //! The session of one stream: its whole messages, in whatever pieces the bytes come.
 ghost use Rattle.std.specs.Prelude.{◌≡◌, ◌≤◌, ◌++◌, [], true, false, length, drop, MatchResult, Ok, OnOk, OnErr};
-ghost use Rattle.xa_http.specs.Front.{HasHead};
+ghost use Rattle.xa_http.specs.parsing.Front.{HasHead};
 ghost use Rattle.xa_http.specs.Messages.{IsNext};
 ghost use Rattle.xa_http.specs.declared.session.Next.TheVariants.{Ended};
 
@@ -38,7 +38,7 @@ pub struct Session {
 
 impl Model for Session {
     ghost use Rattle.std.specs.Prelude.{◌≤◌, length, drop};
-    ghost use Rattle.xa_http.specs.Front.{KeepsHead};
+    ghost use Rattle.xa_http.specs.parsing.Front.{KeepsHead};
     ghost use Rattle.xa_http.specs.Stream.{Stream};
 
     ghost Value = { Stream };

@@ -7,7 +7,8 @@ use Rattle.xa_policy.specs.declared.decision.Effect.{Effect}
 use Rattle.xa_policy.specs.declared.decision.Effect.TheVariants as effect
 use Rattle.xa_policy.specs.Combining.{is, deny_overrides, permit_overrides, deny_unless_permit, permit_unless_deny}
 use Rattle.xa_policy.specs.Mirror.{mirrored}
-use Rattle.xa_policy.specs.Overriding.{decision_with, other, overrides, otherwise}
+use Rattle.xa_policy.specs.Effect.{decision_with, other}
+use Rattle.xa_policy.specs.Overriding.{overrides, otherwise}
 use Rattle.xa_policy.proofs.CombiningLemmas.{deny_overrides_joined, deny_overrides_single}
 use Rattle.xa_policy.proofs.MirrorLemmas.{mirrored_twice, permit_overrides_mirrors}
 

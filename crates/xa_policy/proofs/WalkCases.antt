@@ -12,7 +12,8 @@ use Rattle.xa_policy.specs.declared.decision.Effect.TheVariants as effect
 use Rattle.xa_policy.specs.Combining.{is, not_is, is_indeterminate, deny_overrides, permit_overrides, deny_unless_permit, permit_unless_deny, first_applicable}
 use Rattle.xa_policy.specs.Duties.{effect_of}
 use Rattle.xa_policy.specs.Evaluation.{ends}
-use Rattle.xa_policy.specs.Overriding.{decision_with, overrides, otherwise}
+use Rattle.xa_policy.specs.Effect.{decision_with}
+use Rattle.xa_policy.specs.Overriding.{overrides, otherwise}
 use Rattle.xa_policy.specs.Status.{first_fault, status_of}
 use Rattle.xa_policy.specs.Walk.{IsByDecisions, decision_of_none, joined_decision, ending_decision}
 use Rattle.xa_policy.proofs.FirstApplicableLemmas.{first_applicable_settled, first_applicable_passed, first_applicable_none}

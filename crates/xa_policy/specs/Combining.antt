@@ -1,4 +1,4 @@
--- Combining algorithms (XACML 3.0, appendix C), each over all children.
+-- Combining algorithms (XACML 3.0, core, appendix C), each over all children.
 use Rattle.std.specs.Prelude.{Bool, true, false, not, ◌&&◌, ◌||◌, if◌then◌else◌, List, [], ◌∷◌, map, filter, find, unwrap_or}
 use Rattle.std.specs.List.{list_any}
 use Rattle.xa_expr.specs.Target.{is_match}

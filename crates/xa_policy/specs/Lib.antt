@@ -2,6 +2,7 @@ pub mod Checking
 pub mod Combining
 pub mod Designators
 pub mod Duties
+pub mod Effect
 pub mod Evaluation
 pub mod Mirror
 pub mod Overriding

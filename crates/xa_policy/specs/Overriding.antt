@@ -1,25 +1,9 @@
 -- The algorithms that prefer an effect, by that effect.
 use Rattle.std.specs.Prelude.{List}
 use Rattle.xa_policy.specs.declared.decision.Decision.{Decision}
-use Rattle.xa_policy.specs.declared.decision.Decision.TheVariants as decision
 use Rattle.xa_policy.specs.declared.decision.Effect.{Effect}
 use Rattle.xa_policy.specs.declared.decision.Effect.TheVariants.{Permit, Deny}
 use Rattle.xa_policy.specs.Combining.{deny_overrides, permit_overrides, deny_unless_permit, permit_unless_deny}
-
--- the decision of an effect
-abbrev pub decision_with : Effect → Decision
-decision_with Permit = decision.Permit
-decision_with Deny = decision.Deny
-
--- the effect left open: {P} of Permit, {D} of Deny
-abbrev pub decision_left_open : Effect → Decision
-decision_left_open Permit = decision.IndeterminatePermit
-decision_left_open Deny = decision.IndeterminateDeny
-
--- the other effect
-abbrev pub other : Effect → Effect
-other Permit = Deny
-other Deny = Permit
 
 -- permit-overrides or deny-overrides
 abbrev pub overrides : Effect → List Decision → Decision

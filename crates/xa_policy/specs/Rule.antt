@@ -17,7 +17,7 @@ use Rattle.xa_policy.specs.declared.duty.DutyExpressions.{DutyExpressions}
 use Rattle.xa_policy.specs.declared.evaluated.Evaluated.{Evaluated}
 use Rattle.xa_policy.specs.declared.rule.Rule.{Rule}
 use Rattle.xa_policy.specs.Duties.{Found, and_then, effect_of, no_duties, own_duties}
-use Rattle.xa_policy.specs.Overriding.{decision_with, decision_left_open}
+use Rattle.xa_policy.specs.Effect.{decision_with, decision_left_open}
 
 -- nothing applies
 abbrev pub not_applicable : Evaluated

@@ -4,7 +4,7 @@ ghost use Rattle.xa_policy.specs.Combining.{is, is_indeterminate};
 ghost use Rattle.xa_policy.specs.declared.decision.Decision.TheVariants.{NotApplicable};
 ghost use Rattle.xa_policy.specs.Duties.{effect_of, same_effect};
 ghost use Rattle.xa_policy.specs.Mirror.{mirrored};
-ghost use Rattle.xa_policy.specs.Overriding.{decision_with, decision_left_open, other};
+ghost use Rattle.xa_policy.specs.Effect.{decision_with, decision_left_open, other};
 
 /// What a rule gives where it applies (XACML 3.0, section 5.22).
 #[derive(Clone, Copy, Debug, PartialEq, Eq)]

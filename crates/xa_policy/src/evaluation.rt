@@ -23,9 +23,9 @@ use std::alloc::{AllocError, Global};
 use xa_expr::{Context, Evaluator, Fault, Matching, Typed, Variables};
 use xa_func::Status;
 
-/// What the tree decides (XACML 3.0, core, sections 7.11 to 7.18), why where that is Indeterminate, and its obligations and advice. No
-/// child is evaluated after the one that settles its parent, and none whose parent's target doesn't match it. Want of memory is the
-/// only error.
+/// What the tree decides (XACML 3.0, core, sections 7.9 to 7.15 and 7.18), why where that is Indeterminate, and its obligations and advice. No
+/// child is evaluated after the one that settles its parent, and none where its parent's target is No match. Want of memory is the only
+/// error.
 pub fn evaluate<C: Context>(
     alloc: Global,
     linked: &Linked,

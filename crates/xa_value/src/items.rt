@@ -38,6 +38,14 @@ impl<T> Items<T> {
         Items { items }
     }
 
+    /// The items as a `Vec`, with no copy.
+    pub fn into_vec(self) -> Vec<T>
+        ensures { result.items ≡ self }
+    {
+        let Items { items } = self;
+        items
+    }
+
     /// The items as a slice.
     pub fn as_slice(&self) -> &[T]
         ensures { result.now ≡ self.now }

@@ -1,5 +1,5 @@
 use Rattle.std.proofs.Common.{◌≡◌, map, take}
-use Rattle.xa_http.specs.Front.{field_at}
+use Rattle.xa_http.specs.parsing.Front.{field_at}
 use Rattle.xa_http.proofs.head.read_fields.Given as goal
 
 abbrev pub invariant-loop-header : goal.invariant-loop-header

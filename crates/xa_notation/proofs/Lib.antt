@@ -1,0 +1,4 @@
+pub mod JsonLemmas
+pub mod TypingLemmas
+pub mod VariableLemmas
+pub mod TreeLemmas

@@ -1,0 +1,10 @@
+use Rattle.std.proofs.Common.{◌≡◌, drop}
+use Rattle.serde_json.specs.View.{items_view}
+use Rattle.xa_notation.specs.Json.{each, behind}
+use Rattle.xa_notation.proofs.json.each_behind.Given as goal
+
+-- what was read, and then what is left to read
+abbrev pub invariant-loop-value : goal.invariant-loop-value
+invariant-loop-value g l =
+    let reads = g.R.Reader.reads l.reader in
+    behind l.items (each reads (items_view (drop l.value-index l.values))) ≡ behind l.fn.items (each reads (items_view l.values))

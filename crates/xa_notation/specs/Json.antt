@@ -1,0 +1,121 @@
+-- How objects, their members and plain values are read from JSON. Of several members of one name the last one counts.
+use Rattle.std.specs.Prelude.{ℕ, zero, suc, ◌+◌, Bool, true, ◌&&◌, bytes_eq, find, List, [], ◌∷◌, ◌++◌, Option, Some, None, is_some, Result, Ok, Err, if◌then◌else◌}
+use Rattle.std.specs.List.{list_any}
+use Rattle.std.specs.Str.{is_utf8}
+use Rattle.serde_json.specs.Data.{Data, Items, no_items, item, Members, no_members, member}
+use Rattle.serde_json.specs.Read.{read}
+use Rattle.serde_json.specs.Find.{get, as_str, as_bool, as_array, as_object}
+use Rattle.xa_value.specs.Gives.{◌>>=◌}
+use Rattle.xa_notation.specs.declared.member.Member.{Member}
+use Rattle.xa_notation.specs.declared.notation_error.NotationError.{NotationError}
+use Rattle.xa_notation.specs.declared.notation_error.NotationError.TheVariants.{NotJson, MissingMember, UnknownMember, BadValue}
+use Rattle.xa_notation.specs.declared.tables.Choice.{Choice}
+use Rattle.xa_notation.specs.declared.tables.Entry.{Entry}
+use Rattle.xa_notation.specs.declared.tables.Entry.TheVariants.{Required, Optional}
+use Rattle.xa_notation.specs.declared.tables.Object.{Object}
+use Rattle.xa_notation.specs.Tables.{name_of, member_of, members_of, alternatives_of, first_of}
+
+-- what is there, and else the fault
+abbrev pub or_fault : {X : Type 0} → NotationError → Option X → Result X NotationError
+or_fault fault None = Err fault
+or_fault fault (Some x) = Ok x
+
+-- the JSON of a text, which has to be UTF-8 (RFC 8259, section 8.1)
+unfoldable pub json : List ℕ → Result Data NotationError
+json text = if is_utf8 text then or_fault NotJson (read text) else Err NotJson
+
+-- the member, where it is an object and has it
+abbrev pub at : Member → Data → Option Data
+at name d = get (name_of name) d
+
+-- the member, which has to be there
+abbrev pub needed : Member → Data → Result Data NotationError
+needed name d = or_fault (MissingMember name) (at name d)
+
+-- the table has a member of the name
+abbrev pub is_named : List Entry → List ℕ → Bool
+is_named entries name = list_any (λ e. bytes_eq name (name_of (member_of e))) entries
+
+-- the table has all members of the object
+abbrev pub has_only : List Entry → Members → Bool
+has_only entries no_members = true
+has_only entries (member name d ms) = is_named entries name && has_only entries ms
+
+-- it is an object without other members
+abbrev pub knows : List Entry → Data → Result (Unit {0}) NotationError
+knows entries d = or_fault BadValue (as_object d) >>= (λ ms. if has_only entries ms then Ok tt else Err UnknownMember)
+
+-- a member is there, where it has to be
+abbrev pub has_entry : Entry → Data → Result (Unit {0}) NotationError
+has_entry (Required name) d = needed name d >>= (λ _. Ok tt)
+has_entry (Optional name) d = Ok tt
+
+-- those that have to be there are, in table order
+abbrev pub has_needed : List Entry → Data → Result (Unit {0}) NotationError
+has_needed [] d = Ok tt
+has_needed (entry ∷ entries) d = has_entry entry d >>= (λ _. has_needed entries d)
+
+-- the members are those of the object's table
+unfoldable pub fits : Object → Data → Result (Unit {0}) NotationError
+fits object d = knows (members_of object) d >>= (λ _. has_needed (members_of object) d)
+
+-- how many members there are
+abbrev pub count_of : Members → ℕ
+count_of no_members = 0
+count_of (member name d ms) = 1 + count_of ms
+
+-- how many members an object has
+abbrev pub size_of : Data → Result ℕ NotationError
+size_of d = or_fault BadValue (as_object d) >>= (λ ms. Ok (count_of ms))
+
+-- which of the alternatives is there
+abbrev pub present : List Member → Data → Option Member
+present names d = find (λ name. is_some (at name d)) names
+
+-- one of so many members: none is missing, and no second one may stand beside it
+abbrev pub sole : Member → ℕ → Option Member → Result Member NotationError
+sole first zero found = Err (MissingMember first)
+sole first (suc zero) (Some name) = Ok name
+sole first (suc zero) None = Err UnknownMember
+sole first (suc (suc n)) found = Err UnknownMember
+
+-- the one of the alternatives that is there
+unfoldable pub chosen : Choice → Data → Result Member NotationError
+chosen choice d = size_of d >>= (λ size. sole (first_of choice) size (present (alternatives_of choice) d))
+
+-- a text
+abbrev pub text : Data → Result (List ℕ) NotationError
+text d = or_fault BadValue (as_str d)
+
+-- true or false
+abbrev pub flag : Data → Result Bool NotationError
+flag d = or_fault BadValue (as_bool d)
+
+-- an array
+abbrev pub items : Data → Result Items NotationError
+items d = or_fault BadValue (as_array d)
+
+-- an array that may be left out, and is empty then
+abbrev pub items_if_any : Option Data → Result Items NotationError
+items_if_any None = Ok no_items
+items_if_any (Some d) = items d
+
+-- an array that is not empty
+abbrev pub not_empty : Items → Result Items NotationError
+not_empty no_items = Err BadValue
+not_empty (item d ds) = Ok (item d ds)
+
+-- what may be left out
+abbrev pub optional : {X : Type 0} → (Data → Result X NotationError) → Option Data → Result (Option X) NotationError
+optional reads None = Ok None
+optional reads (Some d) = reads d >>= (λ x. Ok (Some x))
+
+-- each of the items, read in order
+abbrev pub each : {X : Type 0} → (Data → Result X NotationError) → Items → Result (List X) NotationError
+each reads no_items = Ok []
+each reads (item d ds) = reads d >>= (λ x. each reads ds >>= (λ xs. Ok (x ∷ xs)))
+
+-- others, behind those that are there
+abbrev pub behind : {X E : Type 0} → List X → Result (List X) E → Result (List X) E
+behind before (Ok others) = Ok (before ++ others)
+behind before (Err e) = Err e

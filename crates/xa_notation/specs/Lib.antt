@@ -1,0 +1,6 @@
+pub mod Algorithms
+pub mod Document
+pub mod Json
+pub mod Shape
+pub mod Tables
+pub mod Typing

@@ -1,0 +1,366 @@
+-- The shape of a document, object by object from the top (XACML 3.0, core, section 5): first the members of an object, and then their values
+-- in table order, each with all that is inside it before the next.
+use Rattle.std.specs.Prelude.{ℕ, zero, suc, Bool, ◌&&◌, nat_le, bytes_eq, codes, if◌then◌else◌, List, [], ◌∷◌, ◌++◌, length, Option, Some, None, is_some, option_and_then, Result, Ok, Err}
+use Rattle.std.specs.List.{list_any}
+use Rattle.serde_json.specs.Data.{Data, null, boolean, number, string, array, object, Items, no_items, item}
+use Rattle.serde_json.specs.Find.{as_object, as_integer}
+use Rattle.xa_value.specs.declared.data_type.DataType.{DataType}
+use Rattle.xa_value.specs.declared.plain.Plain.{Plain}
+use Rattle.xa_value.specs.declared.plain.Plain.TheVariants as plain
+use Rattle.xa_value.specs.declared.value.Value.{Value}
+use Rattle.xa_value.specs.Category.{category_uri}
+use Rattle.xa_value.specs.Gives.{◌>>=◌}
+use Rattle.xa_value.specs.Plain.{from_plain}
+use Rattle.xa_value.specs.Types.{type_named}
+use Rattle.xa_expr.specs.declared.designator.Designator.{Designator}
+use Rattle.xa_expr.specs.declared.expr.Expr.{Expr}
+use Rattle.xa_expr.specs.declared.expr.Expr.TheVariants as expr
+use Rattle.xa_policy.specs.declared.combining.Alg.{Alg}
+use Rattle.xa_policy.specs.declared.decision.Effect.{Effect}
+use Rattle.xa_policy.specs.declared.decision.Effect.TheVariants.{Permit, Deny}
+use Rattle.xa_policy.specs.declared.duty.AttributeAssignmentExpression.{AttributeAssignmentExpression}
+use Rattle.xa_policy.specs.declared.duty.DutyExpression.{DutyExpression}
+use Rattle.xa_policy.specs.declared.duty.DutyExpressions.{DutyExpressions}
+use Rattle.xa_policy.specs.declared.pattern.PatternPart.{PatternPart}
+use Rattle.xa_policy.specs.declared.reference.DocumentKind.{DocumentKind}
+use Rattle.xa_policy.specs.declared.reference.DocumentKind.TheVariants as kind
+use Rattle.xa_policy.specs.declared.reference.Reference.{Reference}
+use Rattle.xa_policy.specs.Pattern.{read_pattern}
+use Rattle.xa_policy.specs.Version.{read_version}
+use Rattle.xa_notation.specs.declared.member.Member.{Member}
+use Rattle.xa_notation.specs.declared.member.Member.TheVariants as member
+use Rattle.xa_notation.specs.declared.notation_error.NotationError.{NotationError}
+use Rattle.xa_notation.specs.declared.notation_error.NotationError.TheVariants.{NotJson, UnknownMember, BadValue, UnknownAlgorithm, TooLarge}
+use Rattle.xa_notation.specs.declared.tables.Choice.TheVariants as choice
+use Rattle.xa_notation.specs.declared.tables.Object.{Object}
+use Rattle.xa_notation.specs.declared.tables.Object.TheVariants as table
+use Rattle.xa_notation.specs.declared.written.WrittenAllOf.{WrittenAllOf}
+use Rattle.xa_notation.specs.declared.written.WrittenAnyOf.{WrittenAnyOf}
+use Rattle.xa_notation.specs.declared.written.WrittenDocument.{WrittenDocument}
+use Rattle.xa_notation.specs.declared.written.WrittenMatch.{WrittenMatch}
+use Rattle.xa_notation.specs.declared.written.WrittenRule.{WrittenRule}
+use Rattle.xa_notation.specs.declared.written.WrittenTarget.{WrittenTarget}
+use Rattle.xa_notation.specs.declared.written.WrittenTree.{WrittenTree}
+use Rattle.xa_notation.specs.declared.written.WrittenTree.TheVariants as tree
+use Rattle.xa_notation.specs.declared.written.WrittenVariable.{WrittenVariable}
+use Rattle.xa_notation.specs.Algorithms.{rule_algorithm_named, policy_algorithm_named}
+use Rattle.xa_notation.specs.Json.{at, chosen, each, fits, flag, items, items_if_any, needed, not_empty, optional, or_fault, text}
+
+-- ---- plain values
+
+-- what another reader gives, and else a bad value
+abbrev pub or_bad : {X E : Type 0} → Result X E → Result X NotationError
+or_bad (Ok x) = Ok x
+or_bad (Err e) = Err BadValue
+
+-- the id of a policy or a policy set: 1 to 512 bytes
+abbrev pub fitting_id : List ℕ → Result (List ℕ) NotationError
+fitting_id t = if nat_le 1 (length t) && nat_le (length t) 512 then Ok t else Err BadValue
+
+abbrev pub id : Data → Result (List ℕ) NotationError
+id d = text d >>= fitting_id
+
+-- a version, and a pattern of versions (5.12, 5.13)
+abbrev pub version : Data → Result (List ℕ) NotationError
+version d = text d >>= (λ t. or_bad (read_version t))
+
+abbrev pub pattern : Data → Result (List PatternPart) NotationError
+pattern d = text d >>= (λ t. or_bad (read_pattern t))
+
+-- an effect (5.22)
+unfoldable pub effect_named : List ℕ → Result Effect NotationError
+effect_named t = if bytes_eq t (codes "Permit") then Ok Permit else if bytes_eq t (codes "Deny") then Ok Deny else Err BadValue
+
+abbrev pub effect : Data → Result Effect NotationError
+effect d = text d >>= effect_named
+
+-- the algorithm of a policy, and of a policy set
+abbrev pub rule_algorithm : Data → Result Alg NotationError
+rule_algorithm d = text d >>= (λ t. or_fault UnknownAlgorithm (rule_algorithm_named t))
+
+abbrev pub policy_algorithm : Data → Result Alg NotationError
+policy_algorithm d = text d >>= (λ t. or_fault UnknownAlgorithm (policy_algorithm_named t))
+
+-- a data type, by its URI or its name alone
+abbrev pub data_type : Data → Result DataType NotationError
+data_type d = text d >>= (λ t. or_fault BadValue (type_named t))
+
+-- a category, by its URI or its shorthand
+abbrev pub category : Data → Result (List ℕ) NotationError
+category d = text d >>= (λ t. Ok (category_uri t))
+
+-- a description says nothing to a decision; it is a text
+abbrev pub description : Option Data → Result (Unit {0}) NotationError
+description None = Ok tt
+description (Some d) = text d >>= (λ _. Ok tt)
+
+-- ---- values and designators
+
+-- a text, a boolean or a whole number
+abbrev pub plain_value : Data → Option (Plain (List ℕ))
+plain_value null = None
+plain_value (boolean b) = Some (plain.Boolean b)
+plain_value (number n) = option_and_then (λ z. Some (plain.Integer z)) (as_integer n)
+plain_value (string s) = Some (plain.Text s)
+plain_value (array ds) = None
+plain_value (object ms) = None
+
+-- a literal's value, of the type
+abbrev pub literal : DataType → Data → Result Value NotationError
+literal type d = or_fault BadValue (plain_value d) >>= (λ p. or_bad (from_plain type p))
+
+-- a literal (5.31)
+unfoldable pub attribute_value : Data → Result Value NotationError
+attribute_value d = do
+  _ ← fits table.AttributeValue d
+  type ← needed member.DataType d >>= data_type
+  needed member.Value d >>= literal type
+
+-- an attribute designator (5.29)
+unfoldable pub designator : Data → Result Designator NotationError
+designator d = do
+  _ ← fits table.AttributeDesignator d
+  category ← needed member.Category d >>= category
+  attribute_id ← needed member.AttributeId d >>= text
+  type ← needed member.DataType d >>= data_type
+  must_be_present ← needed member.MustBePresent d >>= flag
+  issuer ← optional text (at member.Issuer d)
+  Ok (record { category = category; attribute_id = attribute_id; data_type = type; must_be_present = must_be_present; issuer = issuer })
+
+-- ---- expressions
+
+-- a function of arguments (5.27)
+unfoldable pub apply : (Data → Result Expr NotationError) → Data → Result Expr NotationError
+apply below d = do
+  _ ← fits table.Apply d
+  function ← needed member.FunctionId d >>= text
+  _ ← description (at member.Description d)
+  ds ← items_if_any (at member.Expression d)
+  arguments ← each below ds
+  Ok (expr.Apply function arguments)
+
+-- a function as an argument (5.28)
+unfoldable pub function : Data → Result Expr NotationError
+function d = do
+  _ ← fits table.Function d
+  name ← needed member.FunctionId d >>= text
+  Ok (expr.Function name)
+
+-- a variable (5.24)
+unfoldable pub variable_reference : Data → Result Expr NotationError
+variable_reference d = do
+  _ ← fits table.VariableReference d
+  name ← needed member.VariableId d >>= text
+  Ok (expr.Variable name)
+
+-- the expression that stands under the member's name
+abbrev pub expression_named : (Data → Result Expr NotationError) → Member → Data → Result Expr NotationError
+expression_named below member.AttributeValue d = attribute_value d >>= (λ v. Ok (expr.Value v))
+expression_named below member.AttributeDesignator d = designator d >>= (λ a. Ok (expr.Designator a))
+expression_named below member.Apply d = apply below d
+expression_named below member.Function d = function d
+expression_named below member.VariableReference d = variable_reference d
+expression_named below _ d = Err UnknownMember
+
+-- an expression (5.25), by those inside it
+unfoldable pub expression_of : (Data → Result Expr NotationError) → Data → Result Expr NotationError
+expression_of below d = do
+  name ← chosen choice.Expression d
+  inner ← needed name d
+  expression_named below name inner
+
+-- an expression in which at most so many stand inside one another, it being one of them
+unfoldable pub expression_within : ℕ → Data → Result Expr NotationError
+expression_within zero d = Err NotJson
+expression_within (suc depth) d = expression_of (expression_within depth) d
+
+-- an expression: no JSON nests deeper than 127
+abbrev pub expression : Data → Result Expr NotationError
+expression d = expression_within 128 d
+
+-- ---- targets
+
+-- a match (5.9)
+unfoldable pub written_match : Data → Result WrittenMatch NotationError
+written_match d = do
+  _ ← fits table.Match d
+  function ← needed member.MatchId d >>= text
+  literal ← needed member.AttributeValue d >>= attribute_value
+  designator ← needed member.AttributeDesignator d >>= designator
+  Ok (record { function = function; literal = literal; designator = designator })
+
+-- matches that must all be true (5.8)
+unfoldable pub written_all_of : Data → Result WrittenAllOf NotationError
+written_all_of d = do
+  _ ← fits table.AllOf d
+  ds ← needed member.Match d >>= items >>= not_empty
+  matches ← each written_match ds
+  Ok (record { matches = matches })
+
+-- alternatives of which one must match (5.7)
+unfoldable pub written_any_of : Data → Result WrittenAnyOf NotationError
+written_any_of d = do
+  _ ← fits table.AnyOf d
+  ds ← needed member.AllOf d >>= items >>= not_empty
+  all_of ← each written_all_of ds
+  Ok (record { all_of = all_of })
+
+-- a target (5.6); one that is left out is empty
+unfoldable pub written_target_of : Data → Result WrittenTarget NotationError
+written_target_of d = do
+  _ ← fits table.Target d
+  ds ← items_if_any (at member.AnyOf d)
+  any_of ← each written_any_of ds
+  Ok (record { any_of = any_of })
+
+abbrev pub written_target : Option Data → Result WrittenTarget NotationError
+written_target None = Ok (record { any_of = [] })
+written_target (Some d) = written_target_of d
+
+-- ---- variables
+
+-- a variable has the name
+abbrev pub is_taken : List WrittenVariable → List ℕ → Bool
+is_taken variables name = list_any (λ v. bytes_eq v.name name) variables
+
+-- a name that no variable has yet
+abbrev pub free_name : List WrittenVariable → List ℕ → Result (List ℕ) NotationError
+free_name variables name = if is_taken variables name then Err BadValue else Ok name
+
+-- definitions with one behind them (5.23)
+unfoldable pub behind_one : List WrittenVariable → Data → Result (List WrittenVariable) NotationError
+behind_one variables d = do
+  _ ← fits table.VariableDefinition d
+  name ← needed member.VariableId d >>= text >>= free_name variables
+  expression ← needed member.Expression d >>= expression
+  Ok (variables ++ record { name = name; expression = expression } ∷ [])
+
+-- definitions behind others, in order
+abbrev pub written_variables : List WrittenVariable → Items → Result (List WrittenVariable) NotationError
+written_variables variables no_items = Ok variables
+written_variables variables (item d ds) = behind_one variables d >>= (λ vs. written_variables vs ds)
+
+-- ---- obligations and advice
+
+-- an attribute that an obligation or a piece of advice carries (5.41)
+unfoldable pub written_assignment : Data → Result (AttributeAssignmentExpression Expr) NotationError
+written_assignment d = do
+  _ ← fits table.AttributeAssignmentExpression d
+  attribute_id ← needed member.AttributeId d >>= text
+  category ← optional category (at member.Category d)
+  issuer ← optional text (at member.Issuer d)
+  expression ← needed member.Expression d >>= expression
+  Ok (record { attribute_id = attribute_id; category = category; issuer = issuer; expression = expression })
+
+abbrev pub written_assignments : Data → Result (List (AttributeAssignmentExpression Expr)) NotationError
+written_assignments d = items_if_any (at member.AttributeAssignmentExpression d) >>= each written_assignment
+
+-- an obligation (5.39) or a piece of advice (5.40), by its object and by its members for the id and the effect
+unfoldable pub written_duty : Object → Member → Member → Data → Result (DutyExpression Expr) NotationError
+written_duty duty id_name effect_name d = do
+  _ ← fits duty d
+  id ← needed id_name d >>= text
+  effect ← needed effect_name d >>= effect
+  assignments ← written_assignments d
+  Ok (record { id = id; effect = effect; assignments = assignments })
+
+abbrev pub written_obligation : Data → Result (DutyExpression Expr) NotationError
+written_obligation = written_duty table.ObligationExpression member.ObligationId member.FulfillOn
+
+abbrev pub written_advice : Data → Result (DutyExpression Expr) NotationError
+written_advice = written_duty table.AdviceExpression member.AdviceId member.AppliesTo
+
+-- the obligations and the advice of a rule, a policy or a policy set (5.37, 5.38)
+unfoldable pub written_duties : Data → Result (DutyExpressions Expr) NotationError
+written_duties d = do
+  obligations ← items_if_any (at member.ObligationExpressions d) >>= each written_obligation
+  advice ← items_if_any (at member.AdviceExpressions d) >>= each written_advice
+  Ok (record { obligations = obligations; advice = advice })
+
+-- ---- rules, policies and policy sets
+
+-- a rule (5.21)
+unfoldable pub written_rule : Data → Result WrittenRule NotationError
+written_rule d = do
+  _ ← fits table.Rule d
+  _ ← needed member.RuleId d >>= text
+  effect ← needed member.Effect d >>= effect
+  _ ← description (at member.Description d)
+  target ← written_target (at member.Target d)
+  condition ← optional expression (at member.Condition d)
+  duties ← written_duties d
+  Ok (record { effect = effect; target = target; condition = condition; duties = duties })
+
+-- a policy (5.14)
+unfoldable pub written_policy : Data → Result WrittenDocument NotationError
+written_policy d = do
+  _ ← fits table.Policy d
+  id ← needed member.PolicyId d >>= id
+  version ← needed member.Version d >>= version
+  algorithm ← needed member.RuleCombiningAlgId d >>= rule_algorithm
+  _ ← description (at member.Description d)
+  target ← written_target (at member.Target d)
+  variables ← items_if_any (at member.VariableDefinition d) >>= written_variables []
+  rules ← items_if_any (at member.Rule d) >>= each written_rule
+  duties ← written_duties d
+  Ok (record { kind = kind.Policy; id = id; version = version; tree = tree.Policy (record { algorithm = algorithm; target = target; variables = variables; rules = rules; duties = duties }) })
+
+-- a reference (5.10, 5.11)
+unfoldable pub reference : DocumentKind → Data → Result Reference NotationError
+reference kind d = do
+  _ ← fits table.Reference d
+  id ← needed member.Id d >>= text
+  pattern ← optional pattern (at member.Version d)
+  earliest ← optional version (at member.EarliestVersion d)
+  latest ← optional version (at member.LatestVersion d)
+  Ok (record { kind = kind; id = id; version = pattern; earliest = earliest; latest = latest })
+
+-- a policy set (5.1), by its children
+unfoldable pub written_set_of : (Data → Result WrittenTree NotationError) → Data → Result WrittenDocument NotationError
+written_set_of child d = do
+  _ ← fits table.PolicySet d
+  id ← needed member.PolicySetId d >>= id
+  version ← needed member.Version d >>= version
+  algorithm ← needed member.PolicyCombiningAlgId d >>= policy_algorithm
+  _ ← description (at member.Description d)
+  target ← written_target (at member.Target d)
+  children ← items_if_any (at member.Children d) >>= each child
+  duties ← written_duties d
+  Ok (record { kind = kind.PolicySet; id = id; version = version; tree = tree.PolicySet (record { algorithm = algorithm; target = target; duties = duties }) children })
+
+-- the child of a policy set that stands under the member's name
+abbrev pub child_named : (Data → Result WrittenDocument NotationError) → Member → Data → Result WrittenTree NotationError
+child_named set member.Policy d = written_policy d >>= (λ p. Ok p.tree)
+child_named set member.PolicySet d = set d >>= (λ s. Ok s.tree)
+child_named set member.PolicyIdReference d = reference kind.Policy d >>= (λ r. Ok (tree.Reference r))
+child_named set member.PolicySetIdReference d = reference kind.PolicySet d >>= (λ r. Ok (tree.Reference r))
+child_named set _ d = Err UnknownMember
+
+-- a child of a policy set
+unfoldable pub written_child : (Data → Result WrittenDocument NotationError) → Data → Result WrittenTree NotationError
+written_child set d = do
+  name ← chosen choice.Child d
+  inner ← needed name d
+  child_named set name inner
+
+-- a policy set inside too many others is too large as soon as its object is met
+abbrev pub too_deep : Data → Result WrittenDocument NotationError
+too_deep d = if is_some (as_object d) then Err TooLarge else Err BadValue
+
+-- a policy set in which at most so many stand inside one another, it being one of them
+unfoldable pub written_set_within : ℕ → Data → Result WrittenDocument NotationError
+written_set_within zero d = too_deep d
+written_set_within (suc depth) d = written_set_of (written_child (written_set_within depth)) d
+
+-- the document that stands under the member's name
+abbrev pub document_named : Member → Data → Result WrittenDocument NotationError
+document_named member.Policy d = written_policy d
+document_named member.PolicySet d = written_set_within 8 d
+document_named _ d = Err UnknownMember
+
+-- the whole document
+unfoldable pub written_document : Data → Result WrittenDocument NotationError
+written_document d = do
+  name ← chosen choice.Document d
+  inner ← needed name d
+  document_named name inner

@@ -1,0 +1,81 @@
+-- The typing of a document, in table order (XACML 3.0, core, section 5): a match's function takes the literal and a value of the designator's
+-- type and gives a boolean, a condition is a boolean, and a variable is defined before it is used.
+use Rattle.std.specs.Prelude.{List, [], ◌∷◌, map, Result, Ok}
+use Rattle.xa_value.specs.Gives.{◌>>=◌}
+use Rattle.xa_bag.specs.HigherOrder.{collected}
+use Rattle.xa_expr.specs.declared.check_error.CheckError.{CheckError}
+use Rattle.xa_expr.specs.declared.target.AllOf.{AllOf}
+use Rattle.xa_expr.specs.declared.target.AnyOf.{AnyOf}
+use Rattle.xa_expr.specs.declared.target.Target.{Target}
+use Rattle.xa_expr.specs.declared.variables.Definition.{Definition}
+use Rattle.xa_expr.specs.Match.{Question, matched}
+use Rattle.xa_expr.specs.Variables.{defined, may_be_defined}
+use Rattle.xa_policy.specs.Checking.{duties_set, no_expressions, rule_added, set_duties_set}
+use Rattle.xa_policy.specs.Policy.{PolicyParts}
+use Rattle.xa_notation.specs.declared.document.Document.{Document}
+use Rattle.xa_notation.specs.declared.document.Document.TheVariants as document
+use Rattle.xa_notation.specs.declared.written.WrittenAllOf.{WrittenAllOf}
+use Rattle.xa_notation.specs.declared.written.WrittenAnyOf.{WrittenAnyOf}
+use Rattle.xa_notation.specs.declared.written.WrittenMatch.{WrittenMatch}
+use Rattle.xa_notation.specs.declared.written.WrittenPolicy.{WrittenPolicy}
+use Rattle.xa_notation.specs.declared.written.WrittenRule.{WrittenRule}
+use Rattle.xa_notation.specs.declared.written.WrittenSet.{WrittenSet}
+use Rattle.xa_notation.specs.declared.written.WrittenTarget.{WrittenTarget}
+use Rattle.xa_notation.specs.declared.written.WrittenTree.{WrittenTree, fold-WrittenTree}
+use Rattle.xa_notation.specs.declared.written.WrittenTree.TheOpen.{WrittenTree-F}
+use Rattle.xa_notation.specs.declared.written.WrittenVariable.{WrittenVariable}
+
+-- a match (5.9)
+abbrev pub typed_match : WrittenMatch → Result Question CheckError
+typed_match m = matched m.function m.literal m.designator
+
+-- a target (5.6 to 5.8): its matches, in order
+abbrev pub typed_all_of : WrittenAllOf → Result AllOf CheckError
+typed_all_of a = collected (map typed_match a.matches) >>= (λ matches. Ok (record { matches = matches }))
+
+abbrev pub typed_any_of : WrittenAnyOf → Result AnyOf CheckError
+typed_any_of a = collected (map typed_all_of a.all_of) >>= (λ all_of. Ok (record { all_of = all_of }))
+
+abbrev pub typed_target : WrittenTarget → Result Target CheckError
+typed_target t = collected (map typed_any_of t.any_of) >>= (λ any_of. Ok (record { any_of = any_of }))
+
+-- variables (5.23): each behind others, whose definitions may name those
+abbrev pub typed_variables : List Definition → List WrittenVariable → Result (List Definition) CheckError
+typed_variables definitions [] = Ok definitions
+typed_variables definitions (v ∷ vs) =
+    may_be_defined definitions v.name v.expression >>= (λ _. typed_variables (defined definitions v.name v.expression) vs)
+
+-- a rule (5.21): its target, its condition, its obligations and its advice;
+-- a policy with a rule behind those that it has, and with rules, in order
+abbrev pub typed_rule_added : PolicyParts → WrittenRule → Result PolicyParts CheckError
+typed_rule_added p r =
+    typed_target r.target >>= (λ target. rule_added p (record { effect = r.effect; target = target; condition = r.condition; duties = r.duties }))
+
+abbrev pub typed_rules_added : PolicyParts → List WrittenRule → Result PolicyParts CheckError
+typed_rules_added p [] = Ok p
+typed_rules_added p (r ∷ rs) = typed_rule_added p r >>= (λ q. typed_rules_added q rs)
+
+-- a policy (5.14): its target, its variables, its rules, its obligations and its advice
+unfoldable pub typed_policy : WrittenPolicy → Result PolicyParts CheckError
+typed_policy p = do
+  target ← typed_target p.target
+  variables ← typed_variables [] p.variables
+  policy ← typed_rules_added (record { algorithm = p.algorithm; target = target; variables = variables; rules = []; duties = no_expressions }) p.rules
+  duties_set policy p.duties
+
+-- a policy set (5.1), by what its children come to
+unfoldable pub typed_set : WrittenSet → List (Result Document CheckError) → Result Document CheckError
+typed_set s children = do
+  target ← typed_target s.target
+  typed ← collected children
+  set ← set_duties_set (record { algorithm = s.algorithm; target = target; duties = no_expressions }) s.duties
+  Ok (document.PolicySet set typed)
+
+-- each part of a document, by what those in it come to
+abbrev pub typed_step : WrittenTree-F (Result Document CheckError) → Result Document CheckError
+typed_step (WrittenTree-F.Policy p) = typed_policy p >>= (λ policy. Ok (document.Policy policy))
+typed_step (WrittenTree-F.PolicySet s children) = typed_set s children
+typed_step (WrittenTree-F.Reference r) = Ok (document.Reference r)
+
+abbrev pub typed_tree : WrittenTree → Result Document CheckError
+typed_tree = fold-WrittenTree (Result Document CheckError) typed_step

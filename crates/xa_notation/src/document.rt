@@ -1,0 +1,122 @@
+//! Documents: policies and policy sets whose expressions are checked.
+ghost use Rattle.std.specs.Prelude.{◌≡◌, nat_lt, length, IsTrue};
+ghost use Rattle.xa_value.specs.Gives.{Gives, answered};
+ghost use Rattle.xa_notation.specs.Document.{document_as_written, document_of, or_ill_typed, typed_document};
+ghost use Rattle.xa_notation.specs.Typing.{typed_tree as tree_typed};
+
+use crate::json::json;
+use crate::notation_error::NotationError;
+use crate::policy_set::written_document;
+use crate::typing::typed_tree;
+use crate::written::{WrittenDocument, WrittenTree};
+use std::alloc::Global;
+use xa_expr::CheckError;
+use xa_policy::{DocumentKind, Policy, PolicySet, Reference, Version};
+use xa_value::{Items, OrMemory, Shared, Text};
+
+/// The most bytes of a document: a bound of this project's own.
+const MAX_DOCUMENT_BYTES: usize = 65_536;
+
+/// A document, or a part of one. Its expressions are checked. Policies, and policy sets without their children, can be shared.
+#[derive(Debug, Drop)]
+pub enum Document {
+    /// A policy.
+    Policy(Shared<Policy>),
+    /// A policy set, with its children in order.
+    PolicySet(Shared<PolicySet>, Items<Document>),
+    /// A reference, as a child of a policy set.
+    Reference(Reference),
+}
+
+/// What a text says: a policy or a policy set with its id and version.
+#[derive(Debug, Drop)]
+pub struct Parsed {
+    kind: DocumentKind,
+    id: Text,
+    version: Version,
+    document: Document,
+}
+
+impl Parsed {
+    /// The document that the text is (XACML 3.0, core, section 5), or its first fault: its size, then its JSON, then its shape from the
+    /// outside to the inside, and then its types.
+    #[tactic(auto, unfolding(crate::specs::Document::document_of))]
+    pub fn read(alloc: Global, text: &[u8]) -> Result<Parsed, OrMemory<NotationError>>
+        ensures value { Gives result (document_of text.now) }
+        ensures exact { IsTrue (nat_lt 65_536 (length text.now)) → result ≡ answered (document_of text.now) }
+    {
+        if text.len() > MAX_DOCUMENT_BYTES {
+            return Err(OrMemory::Error(NotationError::TooLarge));
+        }
+        typed_document(alloc, document_written(alloc, text)?)
+    }
+
+    /// Whether it is a policy or a policy set.
+    pub fn kind(&self) -> DocumentKind
+        ensures { result ≡ self.now.kind }
+    {
+        self.kind
+    }
+
+    /// Its id.
+    pub fn id(&self) -> &Text
+        ensures { result.now ≡ self.now.id }
+    {
+        &self.id
+    }
+
+    /// Its version.
+    pub fn version(&self) -> &Version
+        ensures { result.now ≡ self.now.version }
+    {
+        &self.version
+    }
+
+    /// The policy, or the policy set with its children.
+    pub fn document(&self) -> &Document
+        ensures { result.now ≡ self.now.document }
+    {
+        &self.document
+    }
+}
+
+/// The document as the text writes it, of which no JSON is left.
+fn document_written(alloc: Global, text: &[u8]) -> Result<WrittenDocument, OrMemory<NotationError>>
+    ensures { Gives result (document_as_written text.now) }
+{
+    let value = json(alloc, text)?;
+    written_document(alloc, &value)
+}
+
+/// The typed tree of the document.
+fn document_tree(alloc: Global, tree: WrittenTree) -> Result<Document, OrMemory<NotationError>>
+    ensures { Gives result (or_ill_typed (tree_typed tree)) }
+{
+    match typed_tree(alloc, tree) {
+        Ok(document) => Ok(document),
+        Err(OrMemory::Error(fault)) => Err(OrMemory::Error(NotationError::IllTyped(fault))),
+        Err(OrMemory::Memory) => Err(OrMemory::Memory),
+    }
+}
+
+/// The typed document.
+fn typed_document(
+    alloc: Global,
+    written: WrittenDocument,
+) -> Result<Parsed, OrMemory<NotationError>>
+    ensures { Gives result (typed_document written) }
+{
+    let WrittenDocument {
+        kind,
+        id,
+        version,
+        tree,
+    } = written;
+    let document = document_tree(alloc, tree)?;
+    Ok(Parsed {
+        kind,
+        id,
+        version,
+        document,
+    })
+}

@@ -1,0 +1,273 @@
+//! How objects, their members and plain values are read from JSON.
+ghost use Rattle.std.specs.Prelude.{◌≡◌, Result, option_map, MatchResult};
+ghost use Rattle.std.specs.Result.{result_map_both};
+ghost use Rattle.serde_json.specs.Data.{Data};
+ghost use Rattle.serde_json.specs.Find.{as_object};
+ghost use Rattle.serde_json.specs.View.{view, items_view, members_view};
+ghost use Rattle.xa_value.specs.Gives.{Gives};
+ghost use Rattle.xa_notation.specs.declared.notation_error.NotationError.{NotationError as ReadFault};
+ghost use Rattle.xa_notation.specs.Json.{json, at, needed, is_named, has_only, knows, has_entry, has_needed, fits, size_of, or_fault, present, sole, chosen, text, flag, items, items_if_any, not_empty, optional, each, behind};
+
+use crate::member::Member;
+use crate::notation_error::NotationError;
+use crate::tables::{Choice, Entry, Object};
+use serde_json::{Map, Value as Json};
+use std::alloc::Global;
+use xa_value::{Items, OrMemory, Text};
+
+/// The JSON of a text.
+#[tactic(auto, unfolding(crate::specs::Json::json))]
+pub(crate) fn json(alloc: Global, text: &[u8]) -> Result<Json, OrMemory<NotationError>>
+    ensures { MatchResult result (λ v. json text.now ≡ Ok (view v)) (λ e. Gives (Err e) (json text.now)) }
+{
+    match Json::from_slice(alloc, text) {
+        Ok(value) => Ok(value),
+        Err(error) if error.is_memory() => Err(OrMemory::Memory),
+        Err(_) => Err(OrMemory::Error(NotationError::NotJson)),
+    }
+}
+
+/// The member, where it is there.
+pub(crate) fn member_at(value: &Json, name: Member) -> Option<&Json>
+    ensures { option_map (λ v. view v.now) result ≡ at name (view value.now) }
+{
+    value.get(name.name())
+}
+
+/// The member, which has to be there.
+pub(crate) fn needed(value: &Json, name: Member) -> Result<&Json, NotationError>
+    ensures { result_map_both (λ v. view v.now) (λ e. e) result ≡ needed name (view value.now) }
+{
+    match member_at(value, name) {
+        Some(member) => Ok(member),
+        None => Err(NotationError::MissingMember(name)),
+    }
+}
+
+/// The members of an object.
+fn members(value: &Json) -> Result<&Map<String, Json>, NotationError>
+    ensures { result_map_both (λ m. members_view m.now.entries) (λ e. e) result ≡ or_fault NotationError.BadValue (as_object (view value.now)) }
+{
+    match value.as_object() {
+        Some(members) => Ok(members),
+        None => Err(NotationError::BadValue),
+    }
+}
+
+/// Whether the table has a member of the name.
+fn is_named(entries: &[Entry], name: &str) -> bool
+    ensures { result ≡ is_named entries.now name.now }
+{
+    for entry in entries {
+        if name == entry.member().name() {
+            return true;
+        }
+    }
+    false
+}
+
+/// Whether the table has all these members.
+fn has_only(entries: &[Entry], members: &Map<String, Json>) -> bool
+    ensures { result ≡ has_only entries.now (members_view members.now.entries) }
+{
+    for (name, _) in members.iter() {
+        if !is_named(entries, name.as_str()) {
+            return false;
+        }
+    }
+    true
+}
+
+/// Nothing, of an object that has no members but those of the table.
+fn check_known(value: &Json, entries: &[Entry]) -> Result<(), NotationError>
+    ensures { result ≡ knows entries.now (view value.now) }
+{
+    if has_only(entries, members(value)?) {
+        Ok(())
+    } else {
+        Err(NotationError::UnknownMember)
+    }
+}
+
+/// Nothing, where a member is there that the entry says has to be.
+fn check_entry(value: &Json, entry: Entry) -> Result<(), NotationError>
+    ensures { result ≡ has_entry entry (view value.now) }
+{
+    match entry {
+        Entry::Required(name) => {
+            needed(value, name)?;
+            Ok(())
+        }
+        Entry::Optional(_) => Ok(()),
+    }
+}
+
+/// Nothing, where all members are there that the table says have to be.
+fn check_needed(value: &Json, entries: &[Entry]) -> Result<(), NotationError>
+    ensures { result ≡ has_needed entries.now (view value.now) }
+{
+    for entry in entries {
+        check_entry(value, *entry)?;
+    }
+    Ok(())
+}
+
+/// Nothing, of an object whose members are those of its table.
+#[tactic(auto, unfolding(crate::specs::Json::fits))]
+pub(crate) fn check_members(value: &Json, object: Object) -> Result<(), NotationError>
+    ensures { result ≡ fits object (view value.now) }
+{
+    check_known(value, object.members())?;
+    check_needed(value, object.members())
+}
+
+/// Which of the members is there.
+fn present(value: &Json, names: &[Member]) -> Option<Member>
+    ensures { result ≡ present names.now (view value.now) }
+{
+    for name in names {
+        if member_at(value, *name).is_some() {
+            return Some(*name);
+        }
+    }
+    None
+}
+
+/// The one that is there, of so many members.
+fn sole(first: Member, count: usize, found: Option<Member>) -> Result<Member, NotationError>
+    ensures { result ≡ sole first count found }
+{
+    match (count, found) {
+        (0, _) => Err(NotationError::MissingMember(first)),
+        (1, Some(name)) => Ok(name),
+        _ => Err(NotationError::UnknownMember),
+    }
+}
+
+/// How many members an object has.
+#[tactic(auto, using(crate::proofs::JsonLemmas::count_of_members_view))]
+fn member_count(value: &Json) -> Result<usize, NotationError>
+    ensures { result ≡ size_of (view value.now) }
+{
+    Ok(members(value)?.len())
+}
+
+/// The one of the alternatives that is there.
+#[tactic(auto, unfolding(crate::specs::Json::chosen))]
+pub(crate) fn chosen(value: &Json, choice: Choice) -> Result<Member, NotationError>
+    ensures { result ≡ chosen choice (view value.now) }
+{
+    let count = member_count(value)?;
+    sole(choice.first(), count, present(value, choice.alternatives()))
+}
+
+/// A text.
+pub(crate) fn text(value: &Json) -> Result<&str, NotationError>
+    ensures { result_map_both (λ t. t.now) (λ e. e) result ≡ text (view value.now) }
+{
+    match value.as_str() {
+        Some(text) => Ok(text),
+        None => Err(NotationError::BadValue),
+    }
+}
+
+/// A copy of a text.
+pub(crate) fn text_copy(alloc: Global, value: &Json) -> Result<Text, OrMemory<NotationError>>
+    ensures { Gives result (text (view value.now)) }
+{
+    Ok(Text::new(alloc, text(value)?)?)
+}
+
+/// A copy of a text that may be left out.
+pub(crate) fn optional_text(
+    alloc: Global,
+    value: Option<&Json>,
+) -> Result<Option<Text>, OrMemory<NotationError>>
+    ensures { Gives result (optional text (option_map (λ v. view v.now) value.entry)) }
+{
+    match value {
+        Some(value) => Ok(Some(text_copy(alloc, value)?)),
+        None => Ok(None),
+    }
+}
+
+/// True or false.
+pub(crate) fn flag(value: &Json) -> Result<bool, NotationError>
+    ensures { result ≡ flag (view value.now) }
+{
+    value.as_bool().ok_or(NotationError::BadValue)
+}
+
+/// An array's items.
+pub(crate) fn items(value: &Json) -> Result<&[Json], NotationError>
+    ensures { result_map_both (λ vs. items_view vs.now) (λ e. e) result ≡ items (view value.now) }
+{
+    match value.as_array() {
+        Some(items) => Ok(items.as_slice()),
+        None => Err(NotationError::BadValue),
+    }
+}
+
+/// The items of an array that may be left out.
+pub(crate) fn items_if_any<'a>(value: Option<&'a Json>) -> Result<&'a [Json], NotationError>
+    ensures { result_map_both (λ vs. items_view vs.now) (λ e. e) result ≡ items_if_any (option_map (λ v. view v.now) value.entry) }
+{
+    match value {
+        Some(value) => items(value),
+        None => Ok(&[]),
+    }
+}
+
+/// The items, of which there is one at least.
+#[tactic(auto, using(crate::proofs::JsonLemmas::some_items))]
+pub(crate) fn not_empty(items: &[Json]) -> Result<&[Json], NotationError>
+    ensures { result_map_both (λ vs. items_view vs.now) (λ e. e) result ≡ not_empty (items_view items.now) }
+{
+    let [_, ..] = items else {
+        return Err(NotationError::BadValue);
+    };
+    Ok(items)
+}
+
+/// What is read from one value.
+pub(crate) trait Reader {
+    /// What it is.
+    type Output;
+
+    /// What the value stands for.
+    ghost reads: { Self → Data → Result Self.Output ReadFault };
+
+    fn read(&self, alloc: Global, value: &Json) -> Result<Self::Output, OrMemory<NotationError>>
+        ensures { Gives result (reads self.now (view value.now)) };
+}
+
+/// Each of the values, read in order, behind the items.
+fn each_behind<R: Reader>(
+    alloc: Global,
+    mut items: Items<R::Output>,
+    reader: &R,
+    values: &[Json],
+) -> Result<Items<R::Output>, OrMemory<NotationError>>
+where
+    R::Output: Drop,
+    ensures { Gives result (behind items (each (R.reads reader.now) (items_view values.now))) }
+{
+    for value in values {
+        items.push(reader.read(alloc, value)?)?;
+    }
+    Ok(items)
+}
+
+/// Each of the values, read in order.
+#[tactic(auto, using(crate::proofs::JsonLemmas::behind_none))]
+pub(crate) fn each<R: Reader>(
+    alloc: Global,
+    reader: &R,
+    values: &[Json],
+) -> Result<Items<R::Output>, OrMemory<NotationError>>
+where
+    R::Output: Drop,
+    ensures { Gives result (each (R.reads reader.now) (items_view values.now)) }
+{
+    each_behind(alloc, Items::new(alloc), reader, values)
+}

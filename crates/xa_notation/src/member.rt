@@ -1,0 +1,162 @@
+//! The names of the members of documents.
+ghost use Rattle.std.specs.Prelude.{◌≡◌};
+ghost use Rattle.xa_notation.specs.Tables.{name_of};
+
+use std::fmt;
+
+/// A member of an object in a document, named as in the XML schema of XACML 3.0 (core, section 5).
+#[derive(Clone, Copy, Debug, PartialEq, Eq)]
+pub enum Member {
+    /// `Policy`.
+    Policy,
+    /// `PolicySet`.
+    PolicySet,
+    /// `PolicyIdReference`.
+    PolicyIdReference,
+    /// `PolicySetIdReference`.
+    PolicySetIdReference,
+    /// `PolicyId`.
+    PolicyId,
+    /// `PolicySetId`.
+    PolicySetId,
+    /// `Version`.
+    Version,
+    /// `RuleCombiningAlgId`.
+    RuleCombiningAlgId,
+    /// `PolicyCombiningAlgId`.
+    PolicyCombiningAlgId,
+    /// `Description`.
+    Description,
+    /// `Target`.
+    Target,
+    /// `VariableDefinition`.
+    VariableDefinition,
+    /// `Rule`.
+    Rule,
+    /// The content of a policy set, in order: this project's own name.
+    Children,
+    /// `ObligationExpressions`.
+    ObligationExpressions,
+    /// `AdviceExpressions`.
+    AdviceExpressions,
+    /// `Id`.
+    Id,
+    /// `EarliestVersion`.
+    EarliestVersion,
+    /// `LatestVersion`.
+    LatestVersion,
+    /// `RuleId`.
+    RuleId,
+    /// `Effect`.
+    Effect,
+    /// `Condition`.
+    Condition,
+    /// `AnyOf`.
+    AnyOf,
+    /// `AllOf`.
+    AllOf,
+    /// `Match`.
+    Match,
+    /// `MatchId`.
+    MatchId,
+    /// `AttributeValue`.
+    AttributeValue,
+    /// `AttributeDesignator`.
+    AttributeDesignator,
+    /// `VariableId`.
+    VariableId,
+    /// `Expression`.
+    Expression,
+    /// `Apply`.
+    Apply,
+    /// `Function`.
+    Function,
+    /// `VariableReference`.
+    VariableReference,
+    /// `DataType`.
+    DataType,
+    /// `Value`.
+    Value,
+    /// `Category`.
+    Category,
+    /// `AttributeId`.
+    AttributeId,
+    /// `MustBePresent`.
+    MustBePresent,
+    /// `Issuer`.
+    Issuer,
+    /// `FunctionId`.
+    FunctionId,
+    /// `ObligationId`.
+    ObligationId,
+    /// `FulfillOn`.
+    FulfillOn,
+    /// `AdviceId`.
+    AdviceId,
+    /// `AppliesTo`.
+    AppliesTo,
+    /// `AttributeAssignmentExpression`.
+    AttributeAssignmentExpression,
+}
+
+impl Member {
+    /// The member's name.
+    #[tactic(auto, unfolding(crate::specs::Tables::name_of))]
+    pub fn name(self) -> &'static str
+        ensures { result.now ≡ name_of self }
+    {
+        match self {
+            Member::Policy => "Policy",
+            Member::PolicySet => "PolicySet",
+            Member::PolicyIdReference => "PolicyIdReference",
+            Member::PolicySetIdReference => "PolicySetIdReference",
+            Member::PolicyId => "PolicyId",
+            Member::PolicySetId => "PolicySetId",
+            Member::Version => "Version",
+            Member::RuleCombiningAlgId => "RuleCombiningAlgId",
+            Member::PolicyCombiningAlgId => "PolicyCombiningAlgId",
+            Member::Description => "Description",
+            Member::Target => "Target",
+            Member::VariableDefinition => "VariableDefinition",
+            Member::Rule => "Rule",
+            Member::Children => "Children",
+            Member::ObligationExpressions => "ObligationExpressions",
+            Member::AdviceExpressions => "AdviceExpressions",
+            Member::Id => "Id",
+            Member::EarliestVersion => "EarliestVersion",
+            Member::LatestVersion => "LatestVersion",
+            Member::RuleId => "RuleId",
+            Member::Effect => "Effect",
+            Member::Condition => "Condition",
+            Member::AnyOf => "AnyOf",
+            Member::AllOf => "AllOf",
+            Member::Match => "Match",
+            Member::MatchId => "MatchId",
+            Member::AttributeValue => "AttributeValue",
+            Member::AttributeDesignator => "AttributeDesignator",
+            Member::VariableId => "VariableId",
+            Member::Expression => "Expression",
+            Member::Apply => "Apply",
+            Member::Function => "Function",
+            Member::VariableReference => "VariableReference",
+            Member::DataType => "DataType",
+            Member::Value => "Value",
+            Member::Category => "Category",
+            Member::AttributeId => "AttributeId",
+            Member::MustBePresent => "MustBePresent",
+            Member::Issuer => "Issuer",
+            Member::FunctionId => "FunctionId",
+            Member::ObligationId => "ObligationId",
+            Member::FulfillOn => "FulfillOn",
+            Member::AdviceId => "AdviceId",
+            Member::AppliesTo => "AppliesTo",
+            Member::AttributeAssignmentExpression => "AttributeAssignmentExpression",
+        }
+    }
+}
+
+impl fmt::Display for Member {
+    fn fmt<W: fmt::Write>(&self, f: &mut fmt::Formatter<W>) -> fmt::Result {
+        f.write_str(self.name())
+    }
+}

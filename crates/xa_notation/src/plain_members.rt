@@ -1,0 +1,152 @@
+//! Ids, versions, effects, algorithms, types, categories and descriptions.
+ghost use Rattle.std.specs.Prelude.{◌≡◌, option_map};
+ghost use Rattle.serde_json.specs.View.{view};
+ghost use Rattle.xa_value.specs.Gives.{Gives};
+ghost use Rattle.xa_notation.specs.Json.{optional};
+ghost use Rattle.xa_notation.specs.Shape.{category, data_type, description, effect, effect_named, id, pattern, policy_algorithm, rule_algorithm, version};
+
+use crate::algorithm::{policy_algorithm_named, rule_algorithm_named};
+use crate::json::text;
+use crate::notation_error::NotationError;
+use serde_json::Value as Json;
+use std::alloc::Global;
+use xa_policy::{Alg, Effect, Pattern, Version};
+use xa_value::{DataType, OrMemory, Text, category_uri};
+
+/// The most bytes of the id of a policy or a policy set: a bound of this project's own, so that ids fit a path.
+const MAX_ID_BYTES: usize = 512;
+
+/// A copy of the id of a policy or a policy set.
+pub(crate) fn id(alloc: Global, value: &Json) -> Result<Text, OrMemory<NotationError>>
+    ensures { Gives result (id (view value.now)) }
+{
+    let id = text(value)?;
+    if id.is_empty() || id.len() > MAX_ID_BYTES {
+        return Err(OrMemory::Error(NotationError::BadValue));
+    }
+    Ok(Text::new(alloc, id)?)
+}
+
+/// A version.
+pub(crate) fn version(value: &Json) -> Result<Version, NotationError>
+    ensures { result ≡ version (view value.now) }
+{
+    match Version::read(text(value)?) {
+        Ok(version) => Ok(version),
+        Err(_) => Err(NotationError::BadValue),
+    }
+}
+
+/// A pattern of versions.
+pub(crate) fn pattern(value: &Json) -> Result<Pattern, NotationError>
+    ensures { result ≡ pattern (view value.now) }
+{
+    match Pattern::read(text(value)?) {
+        Ok(pattern) => Ok(pattern),
+        Err(_) => Err(NotationError::BadValue),
+    }
+}
+
+/// A version that may be left out.
+pub(crate) fn optional_version(value: Option<&Json>) -> Result<Option<Version>, NotationError>
+    ensures { result ≡ optional version (option_map (λ v. view v.now) value.entry) }
+{
+    match value {
+        Some(value) => Ok(Some(version(value)?)),
+        None => Ok(None),
+    }
+}
+
+/// A pattern that may be left out.
+pub(crate) fn optional_pattern(value: Option<&Json>) -> Result<Option<Pattern>, NotationError>
+    ensures { result ≡ optional pattern (option_map (λ v. view v.now) value.entry) }
+{
+    match value {
+        Some(value) => Ok(Some(pattern(value)?)),
+        None => Ok(None),
+    }
+}
+
+/// The effect of the name.
+#[tactic(auto, unfolding(crate::specs::Shape::effect_named))]
+fn effect_named(text: &str) -> Result<Effect, NotationError>
+    ensures { result ≡ effect_named text.now }
+{
+    if text == "Permit" {
+        return Ok(Effect::Permit);
+    }
+    if text == "Deny" {
+        return Ok(Effect::Deny);
+    }
+    Err(NotationError::BadValue)
+}
+
+/// An effect.
+pub(crate) fn effect(value: &Json) -> Result<Effect, NotationError>
+    ensures { result ≡ effect (view value.now) }
+{
+    effect_named(text(value)?)
+}
+
+/// The algorithm of a policy.
+pub(crate) fn rule_algorithm(value: &Json) -> Result<Alg, NotationError>
+    ensures { result ≡ rule_algorithm (view value.now) }
+{
+    match rule_algorithm_named(text(value)?) {
+        Some(algorithm) => Ok(algorithm),
+        None => Err(NotationError::UnknownAlgorithm),
+    }
+}
+
+/// The algorithm of a policy set.
+pub(crate) fn policy_algorithm(value: &Json) -> Result<Alg, NotationError>
+    ensures { result ≡ policy_algorithm (view value.now) }
+{
+    match policy_algorithm_named(text(value)?) {
+        Some(algorithm) => Ok(algorithm),
+        None => Err(NotationError::UnknownAlgorithm),
+    }
+}
+
+/// A data type.
+pub(crate) fn data_type(value: &Json) -> Result<DataType, NotationError>
+    ensures { result ≡ data_type (view value.now) }
+{
+    match DataType::from_uri(text(value)?) {
+        Some(data_type) => Ok(data_type),
+        None => Err(NotationError::BadValue),
+    }
+}
+
+/// A copy of the URI of a category.
+pub(crate) fn category(alloc: Global, value: &Json) -> Result<Text, OrMemory<NotationError>>
+    ensures { Gives result (category (view value.now)) }
+{
+    Ok(Text::new(alloc, category_uri(text(value)?))?)
+}
+
+/// A copy of the URI of a category that may be left out.
+pub(crate) fn optional_category(
+    alloc: Global,
+    value: Option<&Json>,
+) -> Result<Option<Text>, OrMemory<NotationError>>
+    ensures { Gives result (optional category (option_map (λ v. view v.now) value.entry)) }
+{
+    match value {
+        Some(value) => Ok(Some(category(alloc, value)?)),
+        None => Ok(None),
+    }
+}
+
+/// Nothing, of a description, which is a text that may be left out.
+pub(crate) fn check_description(value: Option<&Json>) -> Result<(), NotationError>
+    ensures { result ≡ description (option_map (λ v. view v.now) value.entry) }
+{
+    match value {
+        Some(value) => {
+            text(value)?;
+            Ok(())
+        }
+        None => Ok(()),
+    }
+}

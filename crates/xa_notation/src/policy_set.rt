@@ -1,0 +1,191 @@
+//! Policy sets, their children, and whole documents.
+ghost use Rattle.std.specs.Prelude.{◌≡◌};
+ghost use Rattle.serde_json.specs.View.{items_view, view};
+ghost use Rattle.xa_value.specs.Gives.{Gives};
+ghost use Rattle.xa_notation.specs.Json.{each};
+ghost use Rattle.xa_notation.specs.Shape.{child_named, document_named, reference, too_deep, written_child, written_document, written_set_of, written_set_within};
+
+use crate::duties::written_duties;
+use crate::json::{check_members, chosen, items_if_any, member_at, needed, text_copy};
+use crate::member::Member;
+use crate::notation_error::NotationError;
+use crate::plain_members::{
+    check_description, id, optional_pattern, optional_version, policy_algorithm, version,
+};
+use crate::policy::written_policy;
+use crate::tables::{Choice, Object};
+use crate::target::written_target;
+use crate::written::{WrittenDocument, WrittenSet, WrittenTree};
+use serde_json::Value as Json;
+use std::alloc::Global;
+use xa_policy::{DocumentKind, Reference};
+use xa_value::{Items, OrMemory};
+
+/// How many policy sets may stand inside one another.
+const MAX_SETS: usize = 8;
+
+/// A reference (XACML 3.0, core, sections 5.10 and 5.11).
+#[tactic(auto, unfolding(crate::specs::Shape::reference))]
+fn reference(
+    alloc: Global,
+    kind: DocumentKind,
+    value: &Json,
+) -> Result<Reference, OrMemory<NotationError>>
+    ensures { Gives result (reference kind (view value.now)) }
+{
+    check_members(value, Object::Reference)?;
+    let id = text_copy(alloc, needed(value, Member::Id)?)?;
+    let pattern = optional_pattern(member_at(value, Member::Version))?;
+    let earliest = optional_version(member_at(value, Member::EarliestVersion))?;
+    let latest = optional_version(member_at(value, Member::LatestVersion))?;
+    Ok(Reference {
+        kind,
+        id,
+        version: pattern,
+        earliest,
+        latest,
+    })
+}
+
+/// Children in which at most so many policy sets stand inside one another.
+#[cycle(sets)]
+fn written_children(
+    alloc: Global,
+    values: &[Json],
+    depth: usize,
+) -> Result<Items<WrittenTree>, OrMemory<NotationError>>
+    ensures { Gives result (each (written_child (written_set_within depth)) (items_view values.now)) }
+{
+    let mut children = Items::new(alloc);
+    for value in values {
+        children.push(written_child(alloc, value, depth)?)?;
+    }
+    Ok(children)
+}
+
+/// The child that stands under the member's name.
+#[cycle(sets)]
+fn child_named(
+    alloc: Global,
+    name: Member,
+    value: &Json,
+    depth: usize,
+) -> Result<WrittenTree, OrMemory<NotationError>>
+    ensures { Gives result (child_named (written_set_within depth) name (view value.now)) }
+{
+    match name {
+        Member::Policy => Ok(written_policy(alloc, value)?.tree),
+        Member::PolicySet => Ok(written_set_within(alloc, value, depth)?.tree),
+        Member::PolicyIdReference => {
+            let reference = reference(alloc, DocumentKind::Policy, value)?;
+            Ok(WrittenTree::Reference(reference))
+        }
+        Member::PolicySetIdReference => {
+            let reference = reference(alloc, DocumentKind::PolicySet, value)?;
+            Ok(WrittenTree::Reference(reference))
+        }
+        _ => Err(OrMemory::Error(NotationError::UnknownMember)),
+    }
+}
+
+/// A child in which at most so many policy sets stand inside one another.
+#[cycle(sets)]
+#[tactic(auto, unfolding(crate::specs::Shape::written_child))]
+fn written_child(
+    alloc: Global,
+    value: &Json,
+    depth: usize,
+) -> Result<WrittenTree, OrMemory<NotationError>>
+    ensures { Gives result (written_child (written_set_within depth) (view value.now)) }
+{
+    let name = chosen(value, Choice::Child)?;
+    child_named(alloc, name, needed(value, name)?, depth)
+}
+
+/// A policy set (core, section 5.1), in which at most so many others stand inside one another.
+#[cycle(sets)]
+#[tactic(auto, unfolding(crate::specs::Shape::written_set_of))]
+fn written_set_of(
+    alloc: Global,
+    value: &Json,
+    depth: usize,
+) -> Result<WrittenDocument, OrMemory<NotationError>>
+    ensures { Gives result (written_set_of (written_child (written_set_within depth)) (view value.now)) }
+{
+    check_members(value, Object::PolicySet)?;
+    let id = id(alloc, needed(value, Member::PolicySetId)?)?;
+    let version = version(needed(value, Member::Version)?)?;
+    let algorithm = policy_algorithm(needed(value, Member::PolicyCombiningAlgId)?)?;
+    check_description(member_at(value, Member::Description))?;
+    let target = written_target(alloc, member_at(value, Member::Target))?;
+    let children = items_if_any(member_at(value, Member::Children))?;
+    let children = written_children(alloc, children, depth)?;
+    let duties = written_duties(alloc, value)?;
+    Ok(WrittenDocument {
+        kind: DocumentKind::PolicySet,
+        id,
+        version,
+        tree: WrittenTree::PolicySet(
+            WrittenSet {
+                algorithm,
+                target,
+                duties,
+            },
+            children,
+        ),
+    })
+}
+
+/// The fault of a policy set that stands inside too many others.
+fn too_deep(value: &Json) -> Result<WrittenDocument, NotationError>
+    ensures { result ≡ too_deep (view value.now) }
+{
+    if value.is_object() {
+        Err(NotationError::TooLarge)
+    } else {
+        Err(NotationError::BadValue)
+    }
+}
+
+/// A policy set in which at most so many stand inside one another, it being one of them.
+#[cycle(sets)]
+#[tactic(auto, unfolding(crate::specs::Shape::written_set_within))]
+fn written_set_within(
+    alloc: Global,
+    value: &Json,
+    depth: usize,
+) -> Result<WrittenDocument, OrMemory<NotationError>>
+    ensures { Gives result (written_set_within depth (view value.now)) }
+{
+    if depth == 0 {
+        return Ok(too_deep(value)?);
+    }
+    written_set_of(alloc, value, depth - 1)
+}
+
+/// The document that stands under the member's name.
+fn document_named(
+    alloc: Global,
+    name: Member,
+    value: &Json,
+) -> Result<WrittenDocument, OrMemory<NotationError>>
+    ensures { Gives result (document_named name (view value.now)) }
+{
+    match name {
+        Member::Policy => written_policy(alloc, value),
+        Member::PolicySet => written_set_within(alloc, value, MAX_SETS),
+        _ => Err(OrMemory::Error(NotationError::UnknownMember)),
+    }
+}
+
+/// A whole document.
+#[tactic(auto, unfolding(crate::specs::Shape::written_document))]
+pub(crate) fn written_document(
+    alloc: Global,
+    value: &Json,
+) -> Result<WrittenDocument, OrMemory<NotationError>>
+    ensures { Gives result (written_document (view value.now)) }
+{
+    let name = chosen(value, Choice::Document)?;
+    document_named(alloc, name, needed(value, name)?)
+}
