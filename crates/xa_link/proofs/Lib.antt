@@ -1,1 +1,4 @@
+pub mod LinkingLemmas
+pub mod PlaceLemmas
 pub mod ResolutionLemmas
+pub mod RoomLemmas

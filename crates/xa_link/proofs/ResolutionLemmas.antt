@@ -158,15 +158,15 @@ found_is {X} test before (x ∷ xs) (Some b) found =
     fails k l = at_b k (test (get_or (x ∷ xs) k x)) l refl
 
 -- versions are put in order
-pub versions_in_order : {D : Type 0} → IsStrictWeakOrder (λ (a : Active D) b. is_before a.version b.version)
+pub versions_in_order : IsStrictWeakOrder (λ (a : Active) b. is_before a.version b.version)
 versions_in_order = ranks_by nat_list_cmp_total (λ a. a.version)
 
-abbrev pub IsResolved : {D : Type 0} → Reference → List (Active D) → ℕ → Option ℕ → Type 0
+abbrev pub IsResolved : Reference → List Active → ℕ → Option ℕ → Type 0
 IsResolved reference active i found = IsFound (fits reference) (λ a b. is_before a.version b.version) active i found
 
 -- a turn at the place i, where the document stands
-module _ {D : Type 0} (reference : Reference) (active : List (Active D)) (i : ℕ) (document : Active D) (there : i < length active) (is : document ≡ get_or active i document) where
-  here : (d : Active D) → get_or active i d ≡ document
+module _ (reference : Reference) (active : List Active) (i : ℕ) (document : Active) (there : i < length active) (is : document ≡ get_or active i document) where
+  here : (d : Active) → get_or active i d ≡ document
   here d = get_or_default active i d document there ∙ sym is
 
   -- what the test for a later version answers
@@ -184,5 +184,5 @@ module _ {D : Type 0} (reference : Reference) (active : List (Active D)) (i : �
   pub turn_unfit : (o : Option ℕ) → IsResolved reference active i o → fits reference document ≡ false → IsResolved reference active (i + 1) o
   turn_unfit o found unfit = found_unfit (fits reference) (λ a b. is_before a.version b.version) active i document there here o found unfit
 
-pub resolved : {D : Type 0} (reference : Reference) (active : List (Active D)) (o : Option ℕ) → IsResolved reference active (length active) o → o ≡ resolve active reference
+pub resolved : (reference : Reference) (active : List Active) (o : Option ℕ) → IsResolved reference active (length active) o → o ≡ resolve active reference
 resolved reference active o found = found_is (fits reference) (λ a b. is_before a.version b.version) active o found

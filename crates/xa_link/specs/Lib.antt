@@ -1,1 +1,3 @@
+pub mod Linking
 pub mod Resolution
+pub mod Room

@@ -1,5 +1,5 @@
 -- Which version a pattern matches, and which document a reference stands for (XACML 3.0, core, sections 5.10 to 5.13).
-use Rattle.std.specs.Prelude.{ℕ, Bool, true, false, not, ◌&&◌, ◌==◌, bytes_eq, List, [], ◌∷◌, Option, Some, None}
+use Rattle.std.specs.Prelude.{◌≡◌, ℕ, Bool, true, false, not, ◌&&◌, ◌==◌, bytes_eq, List, [], ◌∷◌, slice_get, Option, Some, None}
 use Rattle.std.specs.Cmp.Lexicographic.{slice_cmp}
 use Rattle.std.specs.List.{list_all, position}
 use Rattle.std.specs.Ordering.{nat_cmp, is_lt}
@@ -43,15 +43,27 @@ not_after None v = true
 not_after (Some latest) v = not (is_before latest v)
 
 -- a document of that kind and id, of a version that will do
-abbrev pub fits : {D : Type 0} → Reference → Active D → Bool
+abbrev pub fits : Reference → Active → Bool
 fits reference document =
     same_kind reference.kind document.kind && bytes_eq reference.id document.id && fits_pattern reference.version document.version
     && not_before reference.earliest document.version && not_after reference.latest document.version
 
 -- among the documents that fit, none has a later version
-abbrev pub none_later : {D : Type 0} → List (Active D) → Reference → Active D → Bool
+abbrev pub none_later : List Active → Reference → Active → Bool
 none_later active reference document = list_all (λ other. not (fits reference other && is_before document.version other.version)) active
 
 -- the place of the document for which a reference stands: the first that fits, and than which none that fits is later
-abbrev pub resolve : {D : Type 0} → List (Active D) → Reference → Option ℕ
+abbrev pub resolve : List Active → Reference → Option ℕ
 resolve active reference = position (λ document. fits reference document && none_later active reference document) active
+
+-- two documents are of one kind, id and version
+pub record IsOfOneVersion (a b : Active) : Type 0 where
+  pub kind : a.kind ≡ b.kind
+  pub id : a.id ≡ b.id
+  pub version : a.version ≡ b.version
+
+-- law: references that stand for documents of one kind, id and version stand for the document at one place
+abbrev pub OnePlaceForEachVersion : Type 0
+OnePlaceForEachVersion =
+    (active : List Active) (first second : Reference) (i k : ℕ) (a b : Active) → resolve active first ≡ Some i → resolve active second ≡ Some k
+    → slice_get active i ≡ Some a → slice_get active k ≡ Some b → IsOfOneVersion a b → i ≡ k

@@ -1,10 +1,11 @@
 //! Active documents.
+use xa_notation::Parsed;
 use xa_policy::{DocumentKind, Version};
 use xa_value::{Shared, Text};
 
 /// An active document, to which a reference may resolve. A policy or a set inside it is none.
 #[derive(Debug, Drop)]
-pub struct Active<D> {
+pub struct Active {
     /// Whether it is a policy or a policy set.
     pub kind: DocumentKind,
     /// Its id.
@@ -12,5 +13,5 @@ pub struct Active<D> {
     /// Its version.
     pub version: Version,
     /// The document itself.
-    pub document: Shared<D>,
+    pub document: Shared<Parsed>,
 }

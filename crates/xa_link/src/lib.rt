@@ -1,8 +1,13 @@
-//! The documents that references stand for (XACML 3.0, core, sections 5.10 to 5.13).
+//! The documents that references stand for, and the trees that they are linked to (XACML 3.0, core, sections 5.10 to 5.13).
 #![tactic(auto)]
 
 mod active;
+mod link_error;
+mod linking;
 mod resolution;
+mod room;
 
 pub use active::Active;
-pub use resolution::{matches, resolve};
+pub use link_error::LinkError;
+pub use linking::link;
+pub use resolution::{matches, one_place_for_each_version, resolve};

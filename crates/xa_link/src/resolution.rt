@@ -1,6 +1,6 @@
 //! Which document a reference stands for.
 ghost use Rattle.std.specs.Prelude.{◌≡◌, ◌<◌, true, length, slice_index_or, IfSome, MatchOption};
-ghost use Rattle.xa_link.specs.Resolution.{matches, is_before, fits_pattern, not_before, not_after, fits, resolve};
+ghost use Rattle.xa_link.specs.Resolution.{OnePlaceForEachVersion, matches, is_before, fits_pattern, not_before, not_after, fits, resolve};
 
 use crate::active::Active;
 use xa_policy::{Pattern, PatternPart, Reference, Version};
@@ -56,7 +56,7 @@ fn not_after(latest: &Option<Version>, version: &Version) -> bool
 }
 
 /// Whether the document is of that kind and id, and of a version that will do.
-fn fits<D>(reference: &Reference, document: &Active<D>) -> bool
+fn fits(reference: &Reference, document: &Active) -> bool
     ensures { result ≡ fits reference.now document.now }
 {
     reference.kind == document.kind
@@ -67,7 +67,7 @@ fn fits<D>(reference: &Reference, document: &Active<D>) -> bool
 }
 
 /// Whether the document is of a later version than the one at the place, if there is any.
-fn is_later<D>(active: &[Active<D>], document: &Active<D>, found: Option<usize>) -> bool
+fn is_later(active: &[Active], document: &Active, found: Option<usize>) -> bool
     requires { IfSome found (λ place. place < length active.now) }
     ensures { MatchOption found (result ≡ true) (λ place. result ≡ is_before (slice_index_or active.now place document.now).version document.now.version) }
 {
@@ -79,7 +79,7 @@ fn is_later<D>(active: &[Active<D>], document: &Active<D>, found: Option<usize>)
 
 /// The place of the document for which the reference stands: of those that fit the one of the latest version, and the first of
 /// several of that version (XACML 3.0, sections 5.10 and 5.11).
-pub fn resolve<D>(active: &[Active<D>], reference: &Reference) -> Option<usize>
+pub fn resolve(active: &[Active], reference: &Reference) -> Option<usize>
     ensures { result ≡ resolve active.now reference.now }
 {
     let mut found = None;
@@ -90,3 +90,9 @@ pub fn resolve<D>(active: &[Active<D>], reference: &Reference) -> Option<usize>
     }
     found
 }
+
+/// Documents can be told apart by their places: `resolve` gives one place alone to each kind, id and version. The contract says so, and
+/// the body does nothing.
+pub fn one_place_for_each_version()
+    ensures { OnePlaceForEachVersion }
+{}

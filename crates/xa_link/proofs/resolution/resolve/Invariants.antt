@@ -2,4 +2,4 @@ use Rattle.xa_link.proofs.ResolutionLemmas.{IsResolved}
 use Rattle.xa_link.proofs.resolution.resolve.Given as goal
 
 abbrev pub invariant-loop-place : goal.invariant-loop-place
-invariant-loop-place g l = IsResolved l.reference l.active l.place l.found
+invariant-loop-place l = IsResolved l.reference l.active l.place l.found

@@ -1,0 +1,22 @@
+//! How many policies and policy sets a tree may have yet.
+ghost use Rattle.std.specs.Prelude.{◌≡◌};
+ghost use Rattle.xa_link.specs.Room.{less_one};
+
+use crate::link_error::LinkError;
+
+/// A part of a tree for which there is room, and the room that it leaves: how many more policies and policy sets there may be.
+#[derive(Debug, Drop)]
+pub(crate) struct Fitted<T> {
+    pub(crate) part: T,
+    pub(crate) room: usize,
+}
+
+/// The room that one policy, or one policy set without its children, leaves.
+pub(crate) fn less_one(room: usize) -> Result<usize, LinkError>
+    ensures { result ≡ less_one room }
+{
+    if room == 0 {
+        return Err(LinkError::TooLarge);
+    }
+    Ok(room - 1)
+}
