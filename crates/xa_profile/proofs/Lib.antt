@@ -6,3 +6,4 @@ pub mod ListLemmas
 pub mod ObjectLemmas
 pub mod PlaceLemmas
 pub mod RepetitionLemmas
+pub mod TokenLemmas

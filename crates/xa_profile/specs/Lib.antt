@@ -4,3 +4,5 @@ pub mod Json
 pub mod Member
 pub mod parsing
 pub mod Request
+pub mod Response
+pub mod writing

@@ -1,4 +1,5 @@
--- The names of the members of requests (JSON Profile of XACML 3.0, section 4), besides the shorthands of categories.
+-- The names of the members of requests and responses (JSON Profile of XACML 3.0, sections 4 and 5), besides the shorthands of
+-- categories.
 use Rattle.std.specs.Prelude.{ℕ, List, codes}
 use Rattle.xa_profile.specs.declared.member.Member.{Member}
 use Rattle.xa_profile.specs.declared.member.Member.TheVariants as member
@@ -20,3 +21,10 @@ name_of member.DataType = codes "DataType"
 name_of member.Issuer = codes "Issuer"
 name_of member.IncludeInResult = codes "IncludeInResult"
 name_of member.Value = codes "Value"
+name_of member.Response = codes "Response"
+name_of member.Decision = codes "Decision"
+name_of member.Status = codes "Status"
+name_of member.StatusCode = codes "StatusCode"
+name_of member.Obligations = codes "Obligations"
+name_of member.AssociatedAdvice = codes "AssociatedAdvice"
+name_of member.AttributeAssignment = codes "AttributeAssignment"

@@ -9,10 +9,10 @@ ghost use Rattle.xa_value.specs.Types.{type_named, place_of};
 ghost use Rattle.xa_profile.specs.Attribute.{plain_of, kind, is_one_kind, type_of_values, named_type, bag, value, values, attribute};
 ghost use Rattle.xa_profile.specs.Json.{or_not_profile, listed_if_any, each};
 
-use crate::json::{
+use crate::member::Member;
+use crate::reading::{
     Reader, each, flag, holds_or_not_profile, listed_if_any, member_at, needed_text, optional_text,
 };
-use crate::member::Member;
 use crate::request_error::RequestError;
 use serde_json::Value as Json;
 use std::alloc::Global;

@@ -7,10 +7,10 @@ ghost use Rattle.xa_profile.specs.parsing.Json.{behind};
 ghost use Rattle.xa_profile.specs.Request.{named_category, category_of, category_object, under_shorthands, all_objects};
 
 use crate::attribute::{Attribute, attributes_of};
-use crate::json::{
+use crate::member::Member;
+use crate::reading::{
     Reader, check_object, each_behind, listed_if_any, member_at, optional_text, shorthand_at,
 };
-use crate::member::Member;
 use crate::request_error::RequestError;
 use serde_json::Value as Json;
 use std::alloc::Global;

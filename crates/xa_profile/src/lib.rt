@@ -1,20 +1,24 @@
-//! Requests of the JSON Profile of XACML 3.0, and the individual requests that they stand for.
+//! Requests of the JSON Profile of XACML 3.0, the individual requests that they stand for, and responses.
 #![tactic(auto)]
 
 mod attribute;
 mod category_object;
 mod combinations;
 mod grouping;
+mod included;
 mod individuals;
-mod json;
 mod member;
 mod objects_by_id;
+mod reading;
 mod repetition;
 mod request;
 mod request_error;
+mod response;
+mod writing;
 
 pub use attribute::Attribute;
 pub use category_object::CategoryObject;
 pub use individuals::{Individual, TooMany};
 pub use request::Request;
 pub use request_error::RequestError;
+pub use response::{Response, ResultObject};

@@ -2,7 +2,7 @@
 ghost use Rattle.std.specs.Prelude.{◌≡◌};
 ghost use Rattle.xa_profile.specs.Member.{name_of};
 
-/// A member of a request that isn't a category's shorthand.
+/// A member of a request or a response that isn't a category's shorthand.
 #[derive(Clone, Copy, Debug, PartialEq, Eq)]
 pub(crate) enum Member {
     Request,
@@ -20,6 +20,13 @@ pub(crate) enum Member {
     Issuer,
     IncludeInResult,
     Value,
+    Response,
+    Decision,
+    Status,
+    StatusCode,
+    Obligations,
+    AssociatedAdvice,
+    AttributeAssignment,
 }
 
 impl Member {
@@ -44,6 +51,13 @@ impl Member {
             Member::Issuer => "Issuer",
             Member::IncludeInResult => "IncludeInResult",
             Member::Value => "Value",
+            Member::Response => "Response",
+            Member::Decision => "Decision",
+            Member::Status => "Status",
+            Member::StatusCode => "StatusCode",
+            Member::Obligations => "Obligations",
+            Member::AssociatedAdvice => "AssociatedAdvice",
+            Member::AttributeAssignment => "AttributeAssignment",
         }
     }
 }

@@ -6,10 +6,10 @@ ghost use Rattle.xa_profile.specs.Json.{text};
 ghost use Rattle.xa_profile.specs.Request.{has_twice, ids_of, reference, references_in, all_references, request, request_of};
 
 use crate::category_object::{CategoryObject, all_objects};
-use crate::json::{
+use crate::member::Member;
+use crate::reading::{
     Reader, check_object, each, flag, holds_or_not_profile, json, listed, member_at, text,
 };
-use crate::member::Member;
 use crate::repetition::has_twice;
 use crate::request_error::RequestError;
 use serde_json::Value as Json;

@@ -2,7 +2,7 @@ use Rattle.std.proofs.Common.{◌≡◌, drop}
 use Rattle.serde_json.specs.View.{items_view}
 use Rattle.xa_profile.specs.Json.{each}
 use Rattle.xa_profile.specs.parsing.Json.{behind}
-use Rattle.xa_profile.proofs.json.each_behind.Given as goal
+use Rattle.xa_profile.proofs.reading.each_behind.Given as goal
 
 -- what was read, and then what is left to read
 abbrev pub invariant-loop-value : goal.invariant-loop-value

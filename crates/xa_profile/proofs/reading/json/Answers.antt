@@ -1,6 +1,6 @@
 use Rattle.std.proofs.Common.{rules}
 use Rattle.xa_profile.proofs.JsonLemmas.{json_of_read, no_json}
-use Rattle.xa_profile.proofs.json.json.Goals as goal
+use Rattle.xa_profile.proofs.reading.json.Goals as goal
 
 pub returns-in-Ok : goal.returns-in-Ok
 returns-in-Ok c = json_of_read _ _ c.in-Ok.ensures.ok.0 c.in-Ok.ensures.ok.1
