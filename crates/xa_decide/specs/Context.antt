@@ -1,0 +1,122 @@
+-- The values of an attribute in the context of a decision (XACML 3.0, core, section 7.3): those that the request has, else the one that the
+-- clock gives (section 7.3.6), else those that the source of attributes has (section 7.3.5), else none.
+use Rattle.std.specs.Prelude.{ℕ, Bool, false, true, ◌&&◌, bytes_eq, codes, find, List, [], ◌∷◌, map, filter, Option, Some, None, is_none, ℤ, if◌then◌else◌}
+use Rattle.std.specs.List.{flat_map}
+use Rattle.xa_value.specs.declared.category.Category.{Category}
+use Rattle.xa_value.specs.declared.category.Category.TheVariants.{Environment, Resource, Action}
+use Rattle.xa_value.specs.declared.data_type.DataType.{DataType}
+use Rattle.xa_value.specs.declared.data_type.DataType.TheVariants as type
+use Rattle.xa_value.specs.declared.value.Value.{Value}
+use Rattle.xa_value.specs.declared.value.Value.TheVariants as value
+use Rattle.xa_value.specs.Category.{all_categories, is_subject, uri_of}
+use Rattle.xa_value.specs.Moment.{date_of, date_time_of, time_of}
+use Rattle.xa_value.specs.Order.{type_of}
+use Rattle.xa_expr.specs.declared.designator.Designator.{Designator}
+use Rattle.xa_expr.specs.Typed.{same_type}
+use Rattle.xa_profile.specs.declared.attribute.Attribute.{Attribute}
+use Rattle.xa_profile.specs.declared.category_object.CategoryObject.{CategoryObject}
+use Rattle.xa_decide.specs.declared.source_row.SourceRow.{SourceRow}
+
+-- what the values come from: the Category objects of an individual request, the rows of the source, and a moment
+pub record AskContext : Type 0 where
+  pub objects : List CategoryObject
+  pub source : List SourceRow
+  pub moment : ℤ
+
+-- ---- the request
+
+-- the issuer will do: any, where none is named
+abbrev pub is_issuer : Option (List ℕ) → Option (List ℕ) → Bool
+is_issuer None own = true
+is_issuer (Some issuer) None = false
+is_issuer (Some issuer) (Some own) = bytes_eq own issuer
+
+-- an attribute of that id, type and issuer
+abbrev pub is_named : List ℕ → DataType → Option (List ℕ) → Attribute → Bool
+is_named id t issuer a = bytes_eq a.id id && (same_type a.values.data_type t && is_issuer issuer a.issuer)
+
+-- the values of those attributes of a Category object
+abbrev pub object_values : List ℕ → DataType → Option (List ℕ) → CategoryObject → List Value
+object_values id t issuer o = flat_map (λ a. a.values.values) (filter (is_named id t issuer) o.attributes)
+
+-- and of all objects of that category, in request order
+unfoldable pub request_values : List CategoryObject → List ℕ → List ℕ → DataType → Option (List ℕ) → List Value
+request_values objects category id t issuer = flat_map (object_values id t issuer) (filter (λ o. bytes_eq o.category category) objects)
+
+-- ---- the clock
+
+-- the value that the clock gives to an attribute of that id and type: the time, the date or both, by UTC
+unfoldable pub clock_value : ℤ → List ℕ → DataType → Option Value
+clock_value moment id type.Time = if bytes_eq id (codes "urn:oasis:names:tc:xacml:1.0:environment:current-time") then Some (value.Time (time_of moment)) else None
+clock_value moment id type.Date = if bytes_eq id (codes "urn:oasis:names:tc:xacml:1.0:environment:current-date") then Some (value.Date (date_of moment)) else None
+clock_value moment id type.DateTime = if bytes_eq id (codes "urn:oasis:names:tc:xacml:1.0:environment:current-dateTime") then Some (value.DateTime (date_time_of moment)) else None
+clock_value moment id _ = None
+
+-- ---- the source
+
+-- the category of a URI
+unfoldable pub category_of : List ℕ → Option Category
+category_of uri = find (λ category. bytes_eq uri (uri_of category)) all_categories
+
+-- the id of the attribute that names a category's entity, where one does
+abbrev pub naming_id : Category → Option (List ℕ)
+naming_id Resource = Some (codes "urn:oasis:names:tc:xacml:1.0:resource:resource-id")
+naming_id Action = Some (codes "urn:oasis:names:tc:xacml:1.0:action:action-id")
+naming_id category = if is_subject category then Some (codes "urn:oasis:names:tc:xacml:1.0:subject:subject-id") else None
+
+-- a text, where there is one value, and the empty one otherwise
+abbrev pub text_of : Value → List ℕ
+text_of (value.String text) = text
+text_of _ = []
+
+abbrev pub only_text : List Value → List ℕ
+only_text [] = []
+only_text (v ∷ []) = text_of v
+only_text (v ∷ w ∷ vs) = []
+
+-- the entity of a category: the one string that the request has as the attribute that names it, and the empty text where it has none or several
+abbrev pub named_entity : List CategoryObject → List ℕ → Option (List ℕ) → List ℕ
+named_entity objects category None = []
+named_entity objects category (Some id) = only_text (request_values objects category id type.String None)
+
+abbrev pub naming_id_of : Option Category → Option (List ℕ)
+naming_id_of None = None
+naming_id_of (Some category) = naming_id category
+
+unfoldable pub entity : List CategoryObject → List ℕ → List ℕ
+entity objects category = named_entity objects category (naming_id_of (category_of category))
+
+-- a row of that category, entity, id and type
+abbrev pub is_row : List ℕ → List ℕ → List ℕ → DataType → SourceRow → Bool
+is_row category entity id t row =
+    bytes_eq row.category category && (bytes_eq row.entity entity && (bytes_eq row.attribute_id id && same_type (type_of row.value) t))
+
+-- the values of those rows, in their order
+unfoldable pub source_values : List SourceRow → List ℕ → List ℕ → List ℕ → DataType → List Value
+source_values rows category entity id t = map (λ row. row.value) (filter (is_row category entity id t) rows)
+
+-- ---- all of them
+
+-- what the clock gives to an attribute, else what the source has
+abbrev pub or_source : Option Value → List Value → List Value
+or_source (Some v) vs = v ∷ []
+or_source None vs = vs
+
+-- the clock's attributes are the environment's
+abbrev pub clock_value_in : ℤ → List ℕ → List ℕ → DataType → Option Value
+clock_value_in moment category id t = if bytes_eq category (uri_of Environment) then clock_value moment id t else None
+
+-- those that are not in the request: none where an issuer is named
+unfoldable pub outside_values : AskContext → Designator → List Value
+outside_values c d =
+    or_source (clock_value_in c.moment d.category d.attribute_id d.data_type)
+    (source_values c.source d.category (entity c.objects d.category) d.attribute_id d.data_type)
+
+abbrev pub or_outside : List Value → Bool → List Value → List Value
+or_outside [] true vs = vs
+or_outside [] false vs = []
+or_outside (own ∷ others) _ vs = own ∷ others
+
+-- the values of a designator's bag
+unfoldable pub values_of : AskContext → Designator → List Value
+values_of c d = or_outside (request_values c.objects d.category d.attribute_id d.data_type d.issuer) (is_none d.issuer) (outside_values c d)

@@ -1,0 +1,97 @@
+-- The decision on a request (XACML 3.0, core, sections 7.17 and 7.19; Multiple Decision Profile of XACML 3.0).
+use Rattle.std.specs.Prelude.{ℕ, List, [], ◌∷◌, map, Option, Some, None, Result, Ok, Err, ℤ, if◌then◌else◌}
+use Rattle.std.specs.List.{filter_map, slice_get}
+use Rattle.xa_expr.specs.declared.fault.Fault.{Fault}
+use Rattle.xa_expr.specs.declared.fault.Fault.TheVariants.{SyntaxError, ProcessingError}
+use Rattle.xa_expr.specs.Evaluation.{Attributes}
+use Rattle.xa_policy.specs.declared.evaluated.Evaluated.{Evaluated}
+use Rattle.xa_policy.specs.declared.linked.Linked.{Linked}
+use Rattle.xa_policy.specs.declared.reference.Reference.{Reference}
+use Rattle.xa_policy.specs.Evaluation.{evaluation}
+use Rattle.xa_policy.specs.Rule.{not_applicable, undecided}
+use Rattle.xa_link.specs.declared.active.Active.{Active}
+use Rattle.xa_link.specs.declared.link_error.LinkError.{LinkError}
+use Rattle.xa_link.specs.Linking.{link}
+use Rattle.xa_profile.specs.declared.category_object.CategoryObject.{CategoryObject}
+use Rattle.xa_profile.specs.declared.individuals.Individual.{Individual}
+use Rattle.xa_profile.specs.declared.individuals.Individual.TheVariants.{Places, BadReference}
+use Rattle.xa_profile.specs.declared.individuals.TooMany.{TooMany}
+use Rattle.xa_profile.specs.declared.request.Request.{Request}
+use Rattle.xa_profile.specs.declared.request_error.RequestError.{RequestError}
+use Rattle.xa_profile.specs.declared.request_error.RequestError.TheVariants.{NotJson, NotProfile}
+use Rattle.xa_profile.specs.declared.response.ResultObject.{ResultObject}
+use Rattle.xa_profile.specs.Individuals.{individuals}
+use Rattle.xa_profile.specs.Request.{request_of}
+use Rattle.xa_profile.specs.Response.{response_body}
+use Rattle.xa_decide.specs.declared.source_row.SourceRow.{SourceRow}
+use Rattle.xa_decide.specs.Context.{AskContext, values_of}
+
+-- what decides: the active documents, what refers to the one at the root, if anything does, and the rows of the source of attributes
+pub record Viewed : Type 0 where
+  pub active : List Active
+  pub root : Option Reference
+  pub source : List SourceRow
+
+-- ---- one individual request
+
+-- the tree that a root stands for, where there is one: it may be too large
+abbrev pub tree_of : List Active → Option Reference → Option (Result Linked LinkError)
+tree_of active None = None
+tree_of active (Some root) = Some (link active root)
+
+-- what is decided by the tree: NotApplicable without one, and Indeterminate where it is too large
+abbrev pub by_tree : Attributes → Option (Result Linked LinkError) → Evaluated
+by_tree values_of None = not_applicable
+by_tree values_of (Some (Ok tree)) = evaluation values_of tree
+by_tree values_of (Some (Err e)) = undecided ProcessingError
+
+-- what is decided of an individual request that has these Category objects
+unfoldable pub decision : Viewed → List CategoryObject → ℤ → Evaluated
+decision view objects moment =
+    by_tree (values_of (record { objects = objects; source = view.source; moment = moment })) (tree_of view.active view.root)
+
+-- ---- a request
+
+-- the one result of a request that is refused as a whole, and that of a bad reference
+abbrev pub refused : Fault → ResultObject
+refused fault = record { evaluated = undecided fault; places = [] }
+
+-- the objects that have these places
+abbrev pub objects_at : List CategoryObject → List ℕ → List CategoryObject
+objects_at objects places = filter_map (slice_get objects) places
+
+-- the result of an individual request
+abbrev pub result_of : Viewed → List CategoryObject → ℤ → Individual → ResultObject
+result_of view objects moment (Places places) = record { evaluated = decision view (objects_at objects places) moment; places = places }
+result_of view objects moment BadReference = refused SyntaxError
+
+-- the results of all, and the one result where there are too many
+abbrev pub results_of : Viewed → List CategoryObject → ℤ → Result (List Individual) TooMany → List ResultObject
+results_of view objects moment (Ok individuals) = map (result_of view objects moment) individuals
+results_of view objects moment (Err e) = refused ProcessingError ∷ []
+
+-- the results of a request. One decision for all individual requests (Multiple Decision Profile) isn't given
+unfoldable pub decided : Viewed → Request → ℤ → List ResultObject
+decided view request moment =
+    if request.combined_decision then refused ProcessingError ∷ [] else results_of view request.objects moment (individuals request)
+
+-- ---- a body
+
+-- the Category objects of a request, and its results
+pub record Answered : Type 0 where
+  pub objects : List CategoryObject
+  pub results : List ResultObject
+
+-- a body that is no JSON isn't answered by a response, and one that is no request by one result
+abbrev pub answer_to : Viewed → ℤ → Result Request RequestError → Option Answered
+answer_to view moment (Ok request) = Some (record { objects = request.objects; results = decided view request moment })
+answer_to view moment (Err NotJson) = None
+answer_to view moment (Err NotProfile) = Some (record { objects = []; results = refused SyntaxError ∷ [] })
+
+-- what is answered to a body
+unfoldable pub answer : Viewed → List ℕ → ℤ → Option Answered
+answer view body moment = answer_to view moment (request_of body)
+
+-- the body of the response
+abbrev pub body_of : Answered → List ℕ
+body_of answered = response_body answered.objects answered.results

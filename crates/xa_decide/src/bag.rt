@@ -1,0 +1,42 @@
+//! Bags that are put together.
+ghost use Rattle.std.specs.Prelude.{◌≡◌, [], ◌∷◌, ◌++◌, IfOk};
+ghost use Rattle.xa_value.specs.Order.{type_of};
+ghost use Rattle.xa_bag.specs.Bag.{bag_of, OfType};
+
+use std::alloc::{AllocError, Global};
+use xa_bag::Bag;
+use xa_value::{DataType, Value};
+
+/// Puts a copy of the value, which is of the bag's type, at the end of the bag.
+pub(crate) fn push_value(bag: &mut Bag, value: &Value) -> Result<(), AllocError>
+    requires { type_of value.now ≡ bag.old.data_type }
+    ensures { IfOk result (λ _. bag.new ≡ bag_of bag.old.data_type (bag.old.values ++ value.now ∷ [])) }
+{
+    bag.push(value.clone()?)?;
+    Ok(())
+}
+
+/// Puts copies of the values, which are of the bag's type, at the end of the bag.
+pub(crate) fn push_all(bag: &mut Bag, values: &[Value]) -> Result<(), AllocError>
+    requires { OfType bag.old.data_type values.now }
+    ensures { IfOk result (λ _. bag.new ≡ bag_of bag.old.data_type (bag.old.values ++ values.now)) }
+{
+    for value in values {
+        bag.push(value.clone()?)?;
+    }
+    Ok(())
+}
+
+/// The bag of the one value.
+pub(crate) fn bag_of_one(
+    alloc: Global,
+    data_type: DataType,
+    value: Value,
+) -> Result<Bag, AllocError>
+    requires { type_of value ≡ data_type }
+    ensures { IfOk result (λ bag. bag ≡ bag_of data_type (value ∷ [])) }
+{
+    let mut bag = Bag::new(alloc, data_type);
+    bag.push(value)?;
+    Ok(bag)
+}

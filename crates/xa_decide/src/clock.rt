@@ -1,0 +1,43 @@
+//! The attributes that the clock gives.
+ghost use Rattle.std.specs.Prelude.{◌≡◌, IfSome};
+ghost use Rattle.xa_value.specs.Order.{type_of};
+ghost use Rattle.xa_decide.specs.Context.{clock_value, clock_value_in};
+
+use xa_value::{Category, DataType, Moment, Value};
+
+/// The value that the clock gives to an attribute of that category, id and type (XACML 3.0, core, section 7.3.6).
+pub(crate) fn clock_value_in(
+    moment: Moment,
+    category: &str,
+    id: &str,
+    data_type: DataType,
+) -> Option<Value>
+    ensures value { result ≡ clock_value_in moment category.now id.now data_type }
+    ensures of_type { IfSome result (λ v. type_of v ≡ data_type) }
+{
+    if category == Category::Environment.uri() {
+        clock_value(moment, id, data_type)
+    } else {
+        None
+    }
+}
+
+/// The value that the clock gives to an attribute of the environment.
+#[tactic(auto, unfolding(crate::specs::Context::clock_value))]
+fn clock_value(moment: Moment, id: &str, data_type: DataType) -> Option<Value>
+    ensures value { result ≡ clock_value moment id.now data_type }
+    ensures of_type { IfSome result (λ v. type_of v ≡ data_type) }
+{
+    match data_type {
+        DataType::Time if id == "urn:oasis:names:tc:xacml:1.0:environment:current-time" => {
+            Some(Value::Time(moment.time()))
+        },
+        DataType::Date if id == "urn:oasis:names:tc:xacml:1.0:environment:current-date" => {
+            Some(Value::Date(moment.date()))
+        },
+        DataType::DateTime if id == "urn:oasis:names:tc:xacml:1.0:environment:current-dateTime" => {
+            Some(Value::DateTime(moment.date_time()))
+        },
+        _ => None,
+    }
+}

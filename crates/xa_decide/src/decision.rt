@@ -1,0 +1,253 @@
+//! The decision on a request.
+ghost use Rattle.std.specs.Prelude.{◌≡◌, false, [], ◌∷◌, map, option_map, IfOk};
+ghost use Rattle.xa_link.specs.Linking.{link};
+ghost use Rattle.xa_policy.specs.Rule.{undecided};
+ghost use Rattle.xa_profile.specs.declared.individuals.Individual.TheVariants.{Places};
+ghost use Rattle.xa_profile.specs.Response.{response_body};
+ghost use Rattle.xa_decide.specs.Decision.{tree_of, by_tree, refused, result_of, decided, body_of, answer};
+
+use crate::context::IndividualContext;
+use crate::view::View;
+use std::alloc::{AllocError, Global};
+use xa_expr::{Context, Fault};
+use xa_func::Status;
+use xa_link::{Active, LinkError, link};
+use xa_policy::{Decision, Evaluated, Linked, Reference, evaluate};
+use xa_profile::{CategoryObject, Individual, Request, RequestError, Response, ResultObject};
+use xa_value::{Items, Moment, OrMemory};
+
+/// The response to a request, and whether it is the same at every moment.
+#[derive(Debug, Drop)]
+pub struct Decided<'a> {
+    /// The response.
+    pub response: Response<'a>,
+    /// Whether the response is known to be the same at every moment.
+    pub timeless: bool,
+}
+
+/// Links the tree that a root stands for; it may be too large.
+fn linked_tree(
+    alloc: Global,
+    active: &[Active],
+    root: &Reference,
+) -> Result<Result<Linked, LinkError>, AllocError>
+    ensures { IfOk result (λ tree. tree ≡ link active.now root.now) }
+{
+    match link(alloc, active, root) {
+        Ok(linked) => Ok(Ok(linked)),
+        Err(OrMemory::Memory) => Err(AllocError),
+        Err(OrMemory::Error(error)) => Ok(Err(error)),
+    }
+}
+
+/// The tree that decides, where there is one.
+fn tree_of(alloc: Global, view: &View) -> Result<Option<Result<Linked, LinkError>>, AllocError>
+    ensures { IfOk result (λ tree. tree ≡ tree_of view.now.active view.now.root) }
+{
+    match view.root() {
+        Some(root) => Ok(Some(linked_tree(alloc, view.active(), root)?)),
+        None => Ok(None),
+    }
+}
+
+/// Indeterminate, for the fault's reason.
+fn undecided(alloc: Global, fault: Fault) -> Evaluated
+    ensures { result ≡ undecided fault }
+{
+    Evaluated::without_duties(alloc, Decision::IndeterminateDenyPermit, fault.status())
+}
+
+/// What is decided by the tree: NotApplicable without one, and Indeterminate where it is too large.
+fn by_tree<C: Context>(
+    alloc: Global,
+    tree: &Option<Result<Linked, LinkError>>,
+    context: &C,
+) -> Result<Evaluated, AllocError>
+    ensures { IfOk result (λ e. e ≡ by_tree (C.values_of context.now) tree.now) }
+{
+    match tree {
+        Some(Ok(linked)) => evaluate(alloc, linked, context),
+        Some(Err(_)) => Ok(undecided(alloc, Fault::ProcessingError)),
+        None => {
+            let decision = Decision::NotApplicable;
+            Ok(Evaluated::without_duties(alloc, decision, Status::Ok))
+        },
+    }
+}
+
+/// The one result of a request that is refused as a whole, and that of a bad reference.
+fn refused(alloc: Global, fault: Fault) -> ResultObject
+    ensures { result ≡ refused fault }
+{
+    ResultObject {
+        evaluated: undecided(alloc, fault),
+        places: Items::new(alloc),
+    }
+}
+
+/// The results of a request that is refused as a whole.
+fn refused_whole(alloc: Global, fault: Fault) -> Result<Items<ResultObject>, AllocError>
+    ensures { IfOk result (λ results. results ≡ refused fault ∷ []) }
+{
+    let mut results = Items::new(alloc);
+    results.push(refused(alloc, fault))?;
+    Ok(results)
+}
+
+/// The result of the individual request that has the objects at these places.
+#[tactic(auto, unfolding(crate::specs::Decision::decision))]
+fn result_at(
+    alloc: Global,
+    view: &View,
+    tree: &Option<Result<Linked, LinkError>>,
+    objects: &[CategoryObject],
+    moment: Moment,
+    places: Items<usize>,
+) -> Result<ResultObject, AllocError>
+    requires { tree.now ≡ tree_of view.now.active view.now.root }
+    ensures { IfOk result (λ r. r ≡ result_of view.now objects.now moment (Places places)) }
+{
+    let source = view.source();
+    let context = IndividualContext::new(alloc, objects, places.as_slice(), source, moment)?;
+    let evaluated = by_tree(alloc, tree, &context)?;
+    Ok(ResultObject { evaluated, places })
+}
+
+/// The result of an individual request.
+fn result_of(
+    alloc: Global,
+    view: &View,
+    tree: &Option<Result<Linked, LinkError>>,
+    objects: &[CategoryObject],
+    moment: Moment,
+    individual: Individual,
+) -> Result<ResultObject, AllocError>
+    requires { tree.now ≡ tree_of view.now.active view.now.root }
+    ensures { IfOk result (λ r. r ≡ result_of view.now objects.now moment individual) }
+{
+    match individual {
+        Individual::Places(places) => result_at(alloc, view, tree, objects, moment, places),
+        Individual::BadReference => Ok(refused(alloc, Fault::SyntaxError)),
+    }
+}
+
+/// The results of the individual requests, by the one tree.
+fn results_by(
+    alloc: Global,
+    view: &View,
+    tree: &Option<Result<Linked, LinkError>>,
+    objects: &[CategoryObject],
+    moment: Moment,
+    individuals: Items<Individual>,
+) -> Result<Items<ResultObject>, AllocError>
+    requires { tree.now ≡ tree_of view.now.active view.now.root }
+    ensures { IfOk result (λ results. results ≡ map (result_of view.now objects.now moment) individuals) }
+{
+    let mut results = Items::new(alloc);
+    for individual in individuals.into_vec() {
+        results.push(result_of(alloc, view, tree, objects, moment, individual)?)?;
+    }
+    Ok(results)
+}
+
+/// The results of the individual requests. The tree is linked once for all of them.
+fn results_of(
+    alloc: Global,
+    view: &View,
+    objects: &[CategoryObject],
+    moment: Moment,
+    individuals: Items<Individual>,
+) -> Result<Items<ResultObject>, AllocError>
+    ensures { IfOk result (λ results. results ≡ map (result_of view.now objects.now moment) individuals) }
+{
+    let tree = tree_of(alloc, view)?;
+    results_by(alloc, view, &tree, objects, moment, individuals)
+}
+
+/// The results of the request.
+#[tactic(auto, unfolding(crate::specs::Decision::decided))]
+fn results(
+    alloc: Global,
+    view: &View,
+    request: &Request,
+    moment: Moment,
+) -> Result<Items<ResultObject>, AllocError>
+    ensures { IfOk result (λ results. results ≡ decided view.now request.now moment) }
+{
+    if request.combined_decision {
+        return refused_whole(alloc, Fault::ProcessingError);
+    }
+    match request.individuals(alloc) {
+        Ok(individuals) => {
+            results_of(alloc, view, request.objects.as_slice(), moment, individuals)
+        },
+        Err(OrMemory::Memory) => Err(AllocError),
+        Err(OrMemory::Error(_)) => refused_whole(alloc, Fault::ProcessingError),
+    }
+}
+
+/// The response to the request at the moment: a result for each of its individual requests, by the tree that the view's root stands for,
+/// or one result where it is refused as a whole. The tree is linked once.
+pub fn decide<'a>(
+    alloc: Global,
+    view: &View,
+    request: &'a Request,
+    moment: Moment,
+) -> Result<Decided<'a>, AllocError>
+    ensures objects { IfOk result (λ d. d.response.objects.now ≡ request.now.objects) }
+    ensures results { IfOk result (λ d. d.response.results ≡ decided view.now request.now moment) }
+    ensures timeless { IfOk result (λ d. d.timeless ≡ false) }
+{
+    let results = results(alloc, view, request, moment)?;
+    Ok(Decided {
+        response: Response {
+            objects: request.objects.as_slice(),
+            results,
+        },
+        timeless: false,
+    })
+}
+
+/// The body of the response to what is no request.
+fn refused_body(alloc: Global, fault: Fault) -> Result<Vec<u8>, AllocError>
+    ensures { IfOk result (λ body. body.items ≡ response_body [] (refused fault ∷ [])) }
+{
+    let response = Response {
+        objects: &[],
+        results: refused_whole(alloc, fault)?,
+    };
+    response.to_body(alloc)
+}
+
+/// The body of the response to the request.
+fn decided_body(
+    alloc: Global,
+    view: &View,
+    request: &Request,
+    moment: Moment,
+) -> Result<Vec<u8>, AllocError>
+    ensures { IfOk result (λ body. body.items ≡ response_body request.now.objects (decided view.now request.now moment)) }
+{
+    let decided = decide(alloc, view, request, moment)?;
+    decided.response.to_body(alloc)
+}
+
+/// The body of the response to the body of a request, at the moment; none, where that is no JSON.
+#[tactic(auto, unfolding(crate::specs::Decision::answer))]
+pub fn answer(
+    alloc: Global,
+    view: &View,
+    body: &[u8],
+    moment: Moment,
+) -> Result<Option<Vec<u8>>, AllocError>
+    ensures { IfOk result (λ sent. option_map (λ b. b.items) sent ≡ option_map body_of (answer view.now body.now moment)) }
+{
+    match Request::read(alloc, body) {
+        Ok(request) => Ok(Some(decided_body(alloc, view, &request, moment)?)),
+        Err(OrMemory::Memory) => Err(AllocError),
+        Err(OrMemory::Error(RequestError::NotJson)) => Ok(None),
+        Err(OrMemory::Error(RequestError::NotProfile)) => {
+            Ok(Some(refused_body(alloc, Fault::SyntaxError)?))
+        },
+    }
+}

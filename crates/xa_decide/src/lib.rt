@@ -1,0 +1,14 @@
+//! The decision on a request: each of its individual requests in its context, by the tree of policies that the root stands for.
+#![tactic(auto)]
+
+mod bag;
+mod clock;
+mod context;
+mod decision;
+mod entity;
+mod source_row;
+mod view;
+
+pub use decision::{Decided, answer, decide};
+pub use source_row::SourceRow;
+pub use view::View;

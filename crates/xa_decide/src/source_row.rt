@@ -1,0 +1,20 @@
+//! Rows of the source of attributes.
+ghost use Rattle.std.specs.Prelude.{◌≡◌};
+ghost use Rattle.xa_expr.specs.Typed.{same_type};
+ghost use Rattle.xa_value.specs.Order.{type_of};
+ghost use Rattle.xa_decide.specs.Context.{is_row};
+
+use xa_value::{DataType, Text, Value};
+
+/// A value that the source has of an entity's attribute (XACML 3.0, core, section 7.3.5). The attribute's data type is the value's.
+#[derive(Clone, Debug, Drop)]
+pub struct SourceRow {
+    /// The category's URI.
+    pub category: Text,
+    /// The entity; the empty text, where the category has none, or the row is of requests that name none.
+    pub entity: Text,
+    /// The attribute's id.
+    pub attribute_id: Text,
+    /// The value.
+    pub value: Value,
+}
