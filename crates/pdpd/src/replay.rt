@@ -2,6 +2,7 @@
 ghost use Rattle.std.specs.Prelude.{◌≡◌, ◌≢◌, ◌↔◌, Ok, false, IsTrue, IsFalse, IfOk, IfErr, [], ◌∷◌, slice_index_or, slice_set, replicate};
 ghost use Rattle.sha2.specs.Sha256.{sha256};
 ghost use Rattle.xa_server.specs.Authorization.{is_token};
+ghost use Rattle.xa_server.specs.Given.{server_domains};
 ghost use Rattle.pdpd.specs.Exit.{breaks_off};
 ghost use Rattle.pdpd.specs.FirstDomain.{acme};
 ghost use Rattle.pdpd.specs.declared.exit.Exit.TheVariants.{Memory, Usage};
@@ -28,7 +29,8 @@ const BUFFER_BYTES: usize = 65_536;
 /// The server over the one domain that the program starts with.
 #[tactic(auto, using(crate::proofs::ServerLemmas::never_refused))]
 fn first_server(alloc: Global, token: &str) -> Result<Server, AllocError>
-    ensures { IfOk result (λ server. server ≡ record { operator = sha256 token.now; domains = acme ∷ [] }) }
+    ensures operator { IfOk result (λ server. server.operator ≡ sha256 token.now) }
+    ensures domains { IfOk result (λ server. server_domains (acme ∷ []) ≡ Ok server.domains) }
 {
     let mut domains = Vec::new(alloc);
     domains.push(acme(alloc)?)?;
@@ -51,7 +53,8 @@ struct Replayer<W: Write + Drop> {
 impl<W: Write + Drop> Replayer<W> {
     /// Over the one domain that the program starts with, with all connections closed.
     fn new(alloc: Global, writer: W, token: &str) -> Result<Replayer<W>, Exit>
-        ensures ok { IfOk result (λ replayer. replayer.server ≡ record { operator = sha256 token.now; domains = acme ∷ [] }) }
+        ensures operator { IfOk result (λ replayer. replayer.server.operator ≡ sha256 token.now) }
+        ensures domains { IfOk result (λ replayer. server_domains (acme ∷ []) ≡ Ok replayer.server.domains) }
         ensures closed { IfOk result (λ replayer. replayer.connections.items ≡ replicate 64 Closed) }
         ensures err { IfErr result (λ exit. exit ≡ Memory) }
     {

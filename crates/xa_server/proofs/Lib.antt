@@ -2,5 +2,4 @@ pub mod AuthorizationLemmas
 pub mod IsolationLemmas
 pub mod MachineLemmas
 pub mod ReplyLemmas
-pub mod RequestLemmas
 pub mod ServedLemmas

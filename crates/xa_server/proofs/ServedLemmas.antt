@@ -3,7 +3,7 @@ use Rattle.std.proofs.Common.{◌≡◌, ℕ, ℤ, List, [], ◌∷◌, ◌++◌
 use Rattle.xa_http.specs.declared.message.Message.{Message}
 use Rattle.xa_server.specs.Alone.{Event}
 use Rattle.xa_server.specs.declared.replies.Reply.{Reply}
-use Rattle.xa_server.specs.declared.given.Given.{Given}
+use Rattle.xa_server.specs.declared.domain.Domain.{Domain}
 use Rattle.xa_server.specs.DomainState.{state_for}
 use Rattle.xa_server.specs.Machine.{step, general_reply}
 use Rattle.xa_server.specs.Owner.{owner}
@@ -24,12 +24,12 @@ by_owner (Some domain) world moment message bytes e = record {
 }
 
 -- the same, of a reply worked out from a copy of the domains
-pub sent_by : (world : World) (domains : List Given) (moment : ℤ) (message : Message) (bytes : List ℕ) → domains ≡ world.domains
+pub sent_by : (world : World) (domains : List Domain) (moment : ℤ) (message : Message) (bytes : List ℕ) → domains ≡ world.domains
     → ((operator : List ℕ) → (bytes, state_for (owner message) domains) ≡ step operator (state_for (owner message) domains) message moment)
     → IsSent world world moment message bytes (owner message)
 sent_by world domains moment message bytes same e =
     by_owner (owner message) world moment message bytes
-    (subst (λ (ds : List Given). (bytes, state_for (owner message) ds) ≡ step world.operator (state_for (owner message) ds) message moment) same (e world.operator))
+    (subst (λ (ds : List Domain). (bytes, state_for (owner message) ds) ≡ step world.operator (state_for (owner message) ds) message moment) same (e world.operator))
 
 -- a run goes on by one message
 pub run_more : (old mid new : World) (events : List Event) (replies : List Reply) (event : Event) (reply : Reply)

@@ -11,7 +11,7 @@ use Rattle.xa_http.specs.declared.fault.SessionFault.TheVariants as session
 use Rattle.xa_http.specs.Fault as http
 use Rattle.xa_http.specs.Reply.{http_bytes}
 use Rattle.xa_server.specs.declared.error_code.ErrorCode.{ErrorCode}
-use Rattle.xa_server.specs.declared.error_code.ErrorCode.TheVariants.{NoRoute, BadMethod, BadMediaType, Unauthorized, NotJson, Session}
+use Rattle.xa_server.specs.declared.error_code.ErrorCode.TheVariants.{NoRoute, BadMethod, BadMediaType, Unauthorized, Forbidden, NotJson, Session}
 
 -- the name of a fault by which a stream ends
 abbrev pub name_of_fault : SessionFault → List ℕ
@@ -25,6 +25,7 @@ name_of NoRoute = codes "NoRoute"
 name_of (BadMethod _) = codes "BadMethod"
 name_of BadMediaType = codes "BadMediaType"
 name_of Unauthorized = codes "Unauthorized"
+name_of Forbidden = codes "Forbidden"
 name_of NotJson = codes "NotJson"
 name_of (Session fault) = name_of_fault fault
 
@@ -33,6 +34,7 @@ status_of NoRoute = 404
 status_of (BadMethod _) = 405
 status_of BadMediaType = 415
 status_of Unauthorized = 401
+status_of Forbidden = 403
 status_of NotJson = 400
 status_of (Session fault) = http.status_of fault
 
@@ -42,6 +44,7 @@ extra_of NoRoute = Nothing
 extra_of (BadMethod place) = Allow place
 extra_of BadMediaType = Nothing
 extra_of Unauthorized = Challenge
+extra_of Forbidden = Nothing
 extra_of NotJson = Nothing
 extra_of (Session _) = Nothing
 

@@ -1,10 +1,8 @@
 pub mod Owner
 pub mod Authorization
 pub mod Tokens
-pub mod Request
-pub mod Bags
-pub mod Response
 pub mod ErrorCode
+pub mod Documents
 pub mod Given
 pub mod DomainState
 pub mod Machine

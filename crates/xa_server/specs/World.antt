@@ -1,8 +1,8 @@
 -- All that a server keeps.
 use Rattle.std.specs.Prelude.{ℕ, List}
-use Rattle.xa_server.specs.declared.given.Given.{Given}
+use Rattle.xa_server.specs.declared.domain.Domain.{Domain}
 
 -- the digest of the operator's token, and the domains
 pub record World : Type 0 where
   pub operator : List ℕ
-  pub domains : List Given
+  pub domains : List Domain

@@ -24,6 +24,9 @@ pub enum ErrorCode {
     /// 401: the message shows no token of the domain.
     #[error("the message shows no token of the domain")]
     Unauthorized,
+    /// 403: the role of the message's token may not ask for that.
+    #[error("the role of the message's token may not ask for that")]
+    Forbidden,
     /// 400: the body is not JSON.
     #[error("the body is not JSON")]
     NotJson,
@@ -41,6 +44,7 @@ impl ErrorCode {
             ErrorCode::BadMethod(_) => StatusCode::METHOD_NOT_ALLOWED,
             ErrorCode::BadMediaType => StatusCode::UNSUPPORTED_MEDIA_TYPE,
             ErrorCode::Unauthorized => StatusCode::UNAUTHORIZED,
+            ErrorCode::Forbidden => StatusCode::FORBIDDEN,
             ErrorCode::NotJson => StatusCode::BAD_REQUEST,
             ErrorCode::Session(fault) => fault.status(),
         }
@@ -54,6 +58,7 @@ impl ErrorCode {
             ErrorCode::Unauthorized => Extra::Challenge,
             ErrorCode::NoRoute
             | ErrorCode::BadMediaType
+            | ErrorCode::Forbidden
             | ErrorCode::NotJson
             | ErrorCode::Session(_) => Extra::Nothing,
         }
@@ -68,6 +73,7 @@ impl ErrorCode {
             ErrorCode::BadMethod(_) => b"{\"Error\":\"BadMethod\"}",
             ErrorCode::BadMediaType => b"{\"Error\":\"BadMediaType\"}",
             ErrorCode::Unauthorized => b"{\"Error\":\"Unauthorized\"}",
+            ErrorCode::Forbidden => b"{\"Error\":\"Forbidden\"}",
             ErrorCode::NotJson => b"{\"Error\":\"NotJson\"}",
             ErrorCode::Session(fault) => fault_body(fault),
         }

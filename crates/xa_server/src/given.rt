@@ -1,25 +1,38 @@
 //! The domains that a server is given when it is made.
-ghost use Rattle.std.specs.Prelude.{◌≡◌, IsTrue};
+ghost use Rattle.std.specs.Prelude.{◌≡◌};
 ghost use Rattle.std.specs.List.{list_all, list_any};
 ghost use Rattle.xa_server.specs.Given.{all_apart, all_named, has_name};
-ghost use Rattle.xa_server.specs.DomainState.{domain_of, state_of};
-ghost use Rattle.std.specs.Prelude.{option_map};
 
 use crate::owner::is_domain_name;
 use crate::token::Token;
 use thiserror::Error;
-use xa_policy::Linked;
+use xa_decide::SourceRow;
+use xa_notation::NotationError;
+use xa_policy::Reference;
 use xa_value::{Items, Text};
 
-/// A domain: its name, the digests of its tokens with their roles, and the policy or policy set that decides.
+/// A domain: its name, the digests of its tokens with their roles, and what decides in it.
 #[derive(Debug, Drop)]
 pub struct Given {
     /// The domain's name.
     pub name: Text,
     /// Its tokens; of two with the same digest, the role of the first counts.
     pub tokens: Items<Token>,
-    /// What decides: a policy, or a policy set with all that it refers to.
-    pub policy: Linked,
+    /// Its policies and policy sets, no two of one kind, id and version.
+    pub documents: Items<GivenDocument>,
+    /// What refers to the document that decides; without it no request is applicable.
+    pub root: Option<Reference>,
+    /// The rows of its source of attributes.
+    pub source: Items<SourceRow>,
+}
+
+/// A document of a domain.
+#[derive(Debug, Drop)]
+pub struct GivenDocument {
+    /// The policy or policy set, in the notation of `xa_notation`.
+    pub text: Text,
+    /// Whether references may resolve to it.
+    pub active: bool,
 }
 
 /// Why no server can be made of these domains.
@@ -28,9 +41,12 @@ pub enum GivenError {
     /// A name isn't one to 32 small letters, digits and dashes, of which the first is no dash.
     #[error("a name isn't a domain name")]
     BadDomain,
-    /// All names are domain names, and two are the same.
-    #[error("two domains have the same name")]
+    /// All names are domain names, and two are the same; or two documents of a domain have the same kind, id and version.
+    #[error("two domains have the same name, or two documents of a domain the same kind, id and version")]
     Twice,
+    /// The text of a document isn't one.
+    #[error("a document can't be read: {0}")]
+    Document(NotationError),
 }
 
 pub(crate) fn all_named(domains: &[Given]) -> bool
@@ -58,15 +74,4 @@ pub(crate) fn all_apart(domains: &[Given]) -> bool
         rest = others;
     }
     true
-}
-
-pub(crate) fn domain_of<'a>(name: &[u8], domains: &'a [Given]) -> Option<&'a Given>
-    ensures { option_map (λ given. given.now) result ≡ domain_of name.now domains.now }
-{
-    for given in domains {
-        if given.name.as_bytes() == name {
-            return Some(given);
-        }
-    }
-    None
 }

@@ -2,19 +2,19 @@
 #![tactic(auto)]
 
 mod authorization;
+mod documents;
+mod domain;
 mod error_code;
 mod given;
 mod machine;
 mod owner;
 mod replies;
-mod request;
-mod response;
 mod server;
 mod token;
 
 pub use authorization::is_token;
 pub use error_code::{ErrorCode, fault_reply};
-pub use given::{Given, GivenError};
+pub use given::{Given, GivenDocument, GivenError};
 pub use owner::is_domain_name;
 pub use replies::{Refusal, Reply};
 pub use server::{Server, two_worlds_agree};

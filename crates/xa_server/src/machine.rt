@@ -2,67 +2,50 @@
 ghost use Rattle.std.specs.Prelude.{◌≡◌, ℕ, List, Some, Ok, Err, IfOk, IfErr, MatchResult, option_map, option_and_then};
 ghost use Rattle.xa_http.specs.Routes.{route_of};
 ghost use Rattle.xa_value.specs.Gives.{Gives};
-ghost use Rattle.xa_server.specs.DomainState.{domain_of_route, state_for, state_of_given};
-ghost use Rattle.xa_server.specs.Machine.{answer, decision_on, decision_reply, effect_of, role_shown, route_or_error, step, syntax_error};
+ghost use Rattle.xa_server.specs.DomainState.{domain_of_route, state_for, state_of_domain};
+ghost use Rattle.xa_server.specs.Machine.{answer, decision_reply, effect_of, may, response_to, role_shown, route_or_error, step};
 ghost use Rattle.sha2.specs.Sha256.{sha256};
 ghost use Rattle.xa_server.specs.Authorization.{token_in};
 ghost use Rattle.xa_server.specs.Tokens.{role_of};
 ghost use Rattle.xa_server.specs.Owner.{owner};
-ghost use Rattle.xa_server.specs.Request.{request_of};
 
 use crate::authorization::token_in;
+use crate::domain::{Domain, domain_of};
 use crate::error_code::ErrorCode;
-use crate::given::{Given, domain_of};
 use crate::owner::is_domain_name;
-use crate::request::{Request, RequestError};
-use crate::response::response_body;
 use crate::token::{Digest, Role, Token, role_of};
 use http::StatusCode;
 use std::alloc::{AllocError, Global};
-use xa_func::Status;
+use xa_decide::View;
 use xa_http::{Extra, Media, Message, Route, Routes, reply};
-use xa_policy::{Decision, Evaluated, Linked, evaluate};
-use xa_value::{Moment, OrMemory};
+use xa_value::{Items, Moment, OrMemory};
 
-/// What a body that is no request of the JSON Profile is told.
-fn syntax_error(alloc: Global) -> Evaluated
-    ensures { result ≡ syntax_error }
-{
-    Evaluated::without_duties(
-        alloc,
-        Decision::IndeterminateDenyPermit,
-        Status::SyntaxError,
-    )
-}
-
-/// The decision on a body.
-fn decision_on(
+/// The body of the response to a request.
+fn response_to(
     alloc: Global,
-    policy: &Linked,
+    view: &View,
     body: &[u8],
-) -> Result<Evaluated, OrMemory<ErrorCode>>
-    ensures { Gives result (decision_on policy.now (request_of body.now)) }
+    moment: Moment,
+) -> Result<Items<u8>, OrMemory<ErrorCode>>
+    ensures { Gives result (response_to view.now body.now moment) }
 {
-    match Request::read(alloc, body) {
-        Ok(request) => Ok(evaluate(alloc, policy, &request)?),
-        Err(OrMemory::Error(RequestError::NotProfile)) => Ok(syntax_error(alloc)),
-        Err(OrMemory::Error(RequestError::NotJson)) => Err(OrMemory::Error(ErrorCode::NotJson)),
-        Err(OrMemory::Memory) => Err(OrMemory::Memory),
+    match xa_decide::answer(alloc, view, body, moment)? {
+        Some(response) => Ok(Items::from_vec(response)),
+        None => Err(OrMemory::Error(ErrorCode::NotJson)),
     }
 }
 
-/// The reply with a decision.
+/// The reply with a response.
 #[tactic(auto, unfolding(crate::specs::Machine::decision_reply))]
-fn decision_reply(alloc: Global, evaluated: Evaluated) -> Result<Vec<u8>, AllocError>
-    ensures { IfOk result (λ bytes. bytes.items ≡ decision_reply evaluated) }
+fn decision_reply(alloc: Global, body: &[u8]) -> Result<Vec<u8>, AllocError>
+    ensures { IfOk result (λ bytes. bytes.items ≡ decision_reply body.now) }
 {
-    let body = response_body(alloc, evaluated)?;
     reply(
         alloc,
         StatusCode::OK,
         Media::XacmlJson,
         Extra::Nothing,
-        &body,
+        body,
     )
 }
 
@@ -81,29 +64,38 @@ fn route_or_error(
     }
 }
 
+/// Whether the role may ask for that.
+fn may(role: Role, route: &Route) -> bool
+    ensures { result ≡ may role route.now }
+{
+    match (role, route) {
+        (Role::Ask | Role::Admin, Route::Decide { .. }) => true,
+    }
+}
+
 /// What a message does that was let in.
 #[tactic(auto, unfolding(crate::specs::Machine::effect_of))]
 fn effect_of(
     alloc: Global,
     route: &Route,
-    domain: &Given,
+    domain: &Domain,
     moment: Moment,
     message: &Message,
 ) -> Result<Vec<u8>, OrMemory<ErrorCode>>
-    ensures { MatchResult result (λ bytes. effect_of route.now (state_of_given domain.now) message.now moment ≡ Ok (bytes.items, state_of_given domain.now))
-        (λ e. Gives (Err e) (effect_of route.now (state_of_given domain.now) message.now moment)) }
+    ensures { MatchResult result (λ bytes. effect_of route.now (state_of_domain domain.now) message.now moment ≡ Ok (bytes.items, state_of_domain domain.now))
+        (λ e. Gives (Err e) (effect_of route.now (state_of_domain domain.now) message.now moment)) }
 {
     match route {
         Route::Decide { .. } => {
-            let evaluated = decision_on(alloc, &domain.policy, message.body.as_slice())?;
-            Ok(decision_reply(alloc, evaluated)?)
+            let body = response_to(alloc, &domain.view, message.body.as_slice(), moment)?;
+            Ok(decision_reply(alloc, body.as_slice())?)
         }
     }
 }
 
 /// The domain that a route is in. A segment that is no domain name stands for none.
-fn domain_of_route<'a>(route: &Route, domains: &'a [Given]) -> Option<&'a Given>
-    ensures { option_map (λ given. given.now) result ≡ domain_of_route route.now domains.now }
+fn domain_of_route<'a>(route: &Route, domains: &'a [Domain]) -> Option<&'a Domain>
+    ensures { option_map (λ domain. domain.now) result ≡ domain_of_route route.now domains.now }
 {
     let Route::Decide { domain } = route;
     if is_domain_name(domain.as_slice()) {
@@ -128,7 +120,7 @@ fn role_shown(tokens: &[Token], message: &Message) -> Option<Role>
 fn answer(
     alloc: Global,
     routes: &Routes,
-    domains: &[Given],
+    domains: &[Domain],
     moment: Moment,
     message: &Message,
 ) -> Result<Vec<u8>, OrMemory<ErrorCode>>
@@ -139,9 +131,12 @@ fn answer(
     let Some(domain) = domain_of_route(&route, domains) else {
         return Err(OrMemory::Error(ErrorCode::Unauthorized));
     };
-    let Some(_) = role_shown(domain.tokens.as_slice(), message) else {
+    let Some(role) = role_shown(domain.tokens.as_slice(), message) else {
         return Err(OrMemory::Error(ErrorCode::Unauthorized));
     };
+    if !may(role, &route) {
+        return Err(OrMemory::Error(ErrorCode::Forbidden));
+    }
     effect_of(alloc, &route, domain, moment, message)
 }
 
@@ -150,7 +145,7 @@ fn answer(
 pub(crate) fn reply_to(
     alloc: Global,
     routes: &Routes,
-    domains: &[Given],
+    domains: &[Domain],
     moment: Moment,
     message: &Message,
 ) -> Result<Vec<u8>, AllocError>

@@ -4,7 +4,8 @@ ghost use Rattle.xa_value.specs.Gives.{Gives};
 ghost use Rattle.xa_server.specs.Given.{server_domains};
 ghost use Rattle.xa_server.specs.Isolation.{TwoWorldsAgree};
 
-use crate::given::{Given, GivenError, all_apart, all_named};
+use crate::domain::{Domain, server_domains};
+use crate::given::{Given, GivenError};
 use crate::machine::reply_to;
 use crate::replies::{Refusal, Reply};
 use crate::token::Digest;
@@ -19,17 +20,17 @@ pub struct Server {
     alloc: Global,
     routes: Routes,
     operator: Digest,
-    domains: Items<Given>,
+    domains: Items<Domain>,
 }
 
 impl Model for Server {
     ghost use Rattle.std.specs.Coded.{codes};
-    ghost use Rattle.xa_policy.specs.contracts.linked.Linked as linked;
+    ghost use Rattle.xa_notation.specs.contracts.document.Document as document;
     ghost use Rattle.xa_server.specs.World.{World};
 
     ghost Value = { World };
 
-    ghost coded = { Prim.hlevel (codes, linked.the_row.coded) };
+    ghost coded = { Prim.hlevel (codes, document.the_row.coded) };
 
     ghost view = { λ s. record { operator = s.operator; domains = s.domains } };
 }
@@ -38,9 +39,8 @@ impl Server {
     ghost use Rattle.xa_server.specs.Isolation.{IsIsolated, IsIsolatedBesideRefusals};
     ghost use Rattle.xa_server.specs.Served.{IsRun, IsServed};
 
-    /// A server over these domains, with the digest of the operator's token. Each name has to be a domain name, and no two
-    /// may be the same.
-    #[tactic(auto, unfolding(crate::specs::Given::server_domains))]
+    /// A server over these domains, with the digest of the operator's token. Each name has to be a domain name, and no two may be the same;
+    /// then, domain by domain, each document has to be one, and no two may be of the same kind, id and version.
     pub fn given(
         alloc: Global,
         domains: Vec<Given>,
@@ -49,17 +49,13 @@ impl Server {
         ensures { MatchResult result (λ server. (server_domains domains.items ≡ Ok server.domains) × (server.operator ≡ operator))
             (λ e. Gives (Err e) (server_domains domains.items)) }
     {
-        if !all_named(&domains) {
-            return Err(OrMemory::Error(GivenError::BadDomain));
-        }
-        if !all_apart(&domains) {
-            return Err(OrMemory::Error(GivenError::Twice));
-        }
+        let domains = server_domains(alloc, domains)?;
+        let routes = Routes::new(alloc)?;
         Ok(Server {
             alloc,
-            routes: Routes::new(alloc)?,
+            routes,
             operator,
-            domains: Items::from_vec(domains),
+            domains,
         })
     }
 

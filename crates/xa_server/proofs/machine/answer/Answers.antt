@@ -10,8 +10,8 @@ returns-in_default-role_shown-clause-err c = answer_unknown _ _ _ c.in_ok-route.
 
 pub returns-clause-ok : goal.returns-clause-ok
 returns-clause-ok c =
-    step_there _ _ _ _ c.in_ok-route.route c.in-Some.domain.now c.in-Some-role_shown.field-0 (search rules) (search rules) (search rules) c.effect_of.ensures
+    step_there _ _ _ _ c.in_ok-route.route c.in-Some.domain.now c.in-Some-role_shown.role (search rules) (search rules) (search rules) (search rules) c.effect_of.ensures
 
 pub returns-clause-err : goal.returns-clause-err
 returns-clause-err c =
-    error_there _ _ _ _ c.in_ok-route.route c.in-Some.domain.now c.in-Some-role_shown.field-0 (search rules) (search rules) (search rules) c.effect_of.ensures
+    error_there _ _ _ _ c.in_ok-route.route c.in-Some.domain.now c.in-Some-role_shown.role (search rules) (search rules) (search rules) (search rules) c.effect_of.ensures
