@@ -48,8 +48,9 @@ fmt: ## lays out the files of all crates
 rows: ## writes the stored input and output of xa_trials anew, from trials/*.rows
 	trials/write
 
-agreement: ## answers random rows by xa_trials and by a model in Python, and compares
+agreement: ## answers random rows and transcripts by xa_trials and pdpd and by a model in Python, and compares
 	agreement/run
+	agreement/replay
 
 bench: pdpd ## proves and builds pdpd, and runs all benchmarks
 	bench/all

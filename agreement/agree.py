@@ -1,9 +1,9 @@
 """Makes random rows, and compares the answers of the program xa_trials with those of the model beside this file.
 
-usage: agree.py rows FOLDER SEED COUNT      writes the rows, in files of at most 500
-       agree.py compare FILE SEED COUNT     compares the program's answers, read from FILE, with the model's
+usage: agree.py rows FOLDER SEED COUNT [KIND..]      writes the rows, in some files
+       agree.py compare FILE SEED COUNT [KIND..]     compares the program's answers, read from FILE, with the model's
 
-Of the rows, half ask for expressions and targets, and a quarter for requests.
+A kind is one of SHARES below, which says how many of the rows each has where none is named.
 """
 import collections
 import pathlib
@@ -11,6 +11,7 @@ import sys
 
 from answers import answer
 from bodies import Bodies
+from breaking import Breaking
 from combining import ALGORITHMS, DECISIONS
 from exchanges import Exchanges
 from functions import BAG_FUNCTIONS, DURATIONS, FUNCTIONS, HIGHER_ORDER, V1, V3
@@ -18,21 +19,26 @@ from rows import encoded, line
 from texts import Texts
 from trees import Trees
 from values import Fault, read
+from views import Decisions, Links
 
 
-# One run of `rt try` answers at most 1 MiB, and gives up after ten minutes.
-ROWS_A_FILE = 500
+# The kinds of rows, and of each how many there are to how many others.
+SHARES = {"values": 16, "expressions": 30, "requests": 15, "documents": 10, "links": 4, "decisions": 10, "servers": 1}
+# One run of `rt try` answers at most 1 MiB, and gives up after ten minutes: so many rows a file, of so many bytes.
+ROWS_A_FILE, BYTES_A_FILE = 500, 1_500_000
 
 
 class Rows:
-    """Random rows."""
+    """Random rows of some kinds."""
 
-    def __init__(self, seed):
+    def __init__(self, seed, kinds=()):
         self.texts = Texts(seed)
         self.random = self.texts.random
-        self.exchanges = Exchanges(self.random)
         self.trees = Trees(self)
-        self.bodies = Bodies(self)
+        self.kinds = list(kinds or SHARES)
+        documents, decisions = Breaking(self), Decisions(self)
+        self.makers = {"values": self.of_values, "expressions": self.of_expressions, "requests": Bodies(self).next, "documents": documents.next,
+                       "links": Links(self).next, "decisions": decisions.next, "servers": Exchanges(decisions, documents).next}
 
     def sound(self, data_type, name=""):
         """A text that reads, and that the named function is likely to take."""
@@ -148,9 +154,27 @@ class Rows:
         children = [f"{self.random.choice(decisions)}/{self.random.choice(targets)}" for _ in range(self.random.choice([0, 1, 2, 3, 5, 9]))]
         return ["combine", self.random.choice(ALGORITHMS), *(child.removesuffix("/Match") for child in children)]
 
+    def of_values(self):
+        return self.random.choice([self.read, self.apply, self.bags, self.higher] * 3 + [self.compare, self.moment, self.combine])()
+
+    def of_expressions(self):
+        return self.random.choice([self.trees.evaluate] * 5 + [self.trees.target])()
+
     def next(self):
-        values = [self.read, self.apply, self.bags, self.higher] * 3 + [self.compare, self.moment, self.combine, self.exchanges.next]
-        return self.random.choice(values + [self.trees.evaluate] * 25 + [self.trees.target] * 5 + [self.bodies.next] * 15)()
+        kind = self.random.choices(self.kinds, [SHARES[kind] for kind in self.kinds])[0]
+        return self.makers[kind]()
+
+
+def in_files(rows):
+    """The lines of the rows, as many together as a file may have."""
+    held, size = [], 0
+    for text in map(line, rows):
+        if held and (len(held) == ROWS_A_FILE or size + len(text) > BYTES_A_FILE):
+            yield held
+            held, size = [], 0
+        held.append(text)
+        size += len(text)
+    yield held
 
 
 def answers_of(path):
@@ -174,13 +198,12 @@ def compare(answers, rows):
 
 def main():
     verb, path, seed, count = sys.argv[1], sys.argv[2], int(sys.argv[3]), int(sys.argv[4])
-    source = Rows(seed)
+    source = Rows(seed, sys.argv[5:])
     rows = [source.next() for _ in range(count)]
     if verb == "compare":
         return compare(answers_of(path), rows)
-    for start in range(0, count, ROWS_A_FILE):
-        held = "".join(line(fields) for fields in rows[start:start + ROWS_A_FILE])
-        pathlib.Path(path, f"{start:09}").write_text(held, encoding="ascii")
+    for place, held in enumerate(in_files(rows)):
+        pathlib.Path(path, f"{place:09}").write_text("".join(held), encoding="ascii")
     return 0
 
 

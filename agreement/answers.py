@@ -2,27 +2,22 @@
 import hashlib
 
 import combining
+import documents
+import linking
 import messages
 import questions
 import requests
+import servers
 import versions
+from contexts import moment_as
 from functions import BAG_FUNCTIONS, BAG_SIGNATURES, FUNCTIONS, HIGHER_ORDER, bag_function_named, fits, higher_order
+from identifiers import DATA_TYPES, NAMESPACE, SHORTHANDS, STATUS, SUBJECTS, category
 from names import NAMES
 from rows import bag_shown, decoded, encoded, shown, text_of, value_of
-from values import MAX_DAY_TIME, MAX_MONTHS, TYPES, Fault, date_of, day_number, key, print_clock, print_date, read
+from values import MAX_DAY_TIME, MAX_MONTHS, TYPES, Fault, key, read
 
-NAMESPACE = "http://www.w3.org/2001/XMLSchema#"
-STATUS = "urn:oasis:names:tc:xacml:1.0:status:"
 ORDERED = ("integer", "string", "time", "date", "dateTime")
 FIRST_MOMENT, LAST_MOMENT = -62_135_596_800, 253_402_300_799
-SUBJECTS = "urn:oasis:names:tc:xacml:1.0:subject-category:"
-OTHERS = "urn:oasis:names:tc:xacml:3.0:attribute-category:"
-CATEGORIES = {
-    "AccessSubject": SUBJECTS + "access-subject", "RecipientSubject": SUBJECTS + "recipient-subject",
-    "IntermediarySubject": SUBJECTS + "intermediary-subject", "Codebase": SUBJECTS + "codebase",
-    "RequestingMachine": SUBJECTS + "requesting-machine", "Resource": OTHERS + "resource", "Action": OTHERS + "action",
-    "Environment": OTHERS + "environment",
-}
 
 
 def arguments_of(fields):
@@ -98,12 +93,12 @@ def read_row(data_type, text):
 
 
 def type_row(name=""):
-    short = name.removeprefix(NAMESPACE)
-    return [short, NAMESPACE + short, str(TYPES.index(short))] if short in TYPES else ["!None"]
+    short = DATA_TYPES.get(name)
+    return [short, NAMESPACE + short, str(TYPES.index(short))] if short else ["!None"]
 
 
 def category_row(name=""):
-    return [CATEGORIES[name], "true" if CATEGORIES[name].startswith(SUBJECTS) else "false"] if name in CATEGORIES else [name]
+    return [category(name), "true" if category(name).startswith(SUBJECTS) else "false"] if name in SHORTHANDS else [name]
 
 
 def numbered(number):
@@ -137,9 +132,7 @@ def moment(seconds):
     seconds = int(seconds)
     if not FIRST_MOMENT <= seconds <= LAST_MOMENT:
         return ["!None"]
-    days, rest = divmod(seconds, 86400)
-    date, clock = print_date(date_of(day_number(1970, 1, 1) + days)), print_clock(rest * 10**9)
-    return [f"date:{date}Z", f"time:{clock}Z", f"dateTime:{date}T{clock}Z"]
+    return [shown(moment_as(data_type, seconds)) for data_type in ("date", "time", "dateTime")]
 
 
 def function(name=""):
@@ -194,9 +187,10 @@ KINDS = {
     "apply": apply, "higher": higher, "token": token, "domain": domain, "number": number,
     "evaluate": questions.evaluate, "target": questions.target,
     "months": months, "nanoseconds": nanoseconds, "held": held, "keys": keys, "bag": bag, "digest": digest,
-    "server": messages.server, "stream": messages.stream, "route": messages.route, "combine": combining.combine,
+    "server": servers.server, "stream": messages.stream, "route": messages.route, "combine": combining.combine,
     "version": versions.version, "pattern": versions.pattern, "matches": versions.matches, "versions": versions.versions,
-    "resolve": versions.resolve, "request": requests.request, "individuals": requests.individuals,
+    "resolve": versions.resolve, "document": documents.document,
+    "link": linking.link, "decide": servers.decide, "request": requests.request, "individuals": requests.individuals,
 }
 
 

@@ -1,7 +1,7 @@
 """Random bodies of requests, sound and broken in a place or two."""
 import json
 
-from requests import NAMESPACE, SHORTHANDS
+from identifiers import NAMESPACE, SHORTHANDS
 from rows import encoded
 from values import TYPES
 

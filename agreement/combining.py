@@ -35,15 +35,17 @@ def first_applicable(found):
     return "NotApplicable"
 
 
+def ending(targets):
+    """The place of the first Indeterminate target, or of the second Match, if that comes before."""
+    matching = [place for place, target in enumerate(targets) if target == "Match"]
+    return min([place for place, target in enumerate(targets) if target == "Indeterminate"] + matching[1:2], default=None)
+
+
 def only_one_applicable(children):
     """The targets are asked in order: the first Indeterminate one, or the second applicable child, ends it."""
-    applicable = []
-    for decision, target in children:
-        if target == "Match":
-            applicable.append(decision)
-        if target == "Indeterminate" or len(applicable) == 2:
-            return "{DP}"
-    return applicable[0] if applicable else "NotApplicable"
+    if ending([target for _, target in children]) is not None:
+        return "{DP}"
+    return next((decision for decision, target in children if target == "Match"), "NotApplicable")
 
 
 BY_DECISIONS = {

@@ -7,10 +7,10 @@ import collections
 
 from functions import (BAG_FUNCTIONS, BAG_SIGNATURES, FUNCTIONS, HIGHER_ORDER, bag_function_named, boolean, by_places, fits, higher_order,
                        takes_so_many)
+from identifiers import STATUS
 from values import Fault
 
 MAX_DEPTH = 24
-STATUS = "urn:oasis:names:tc:xacml:1.0:status:"
 
 # An attribute designator, and a value of an attribute of a request.
 Designator = collections.namedtuple("Designator", "data_type category attribute_id issuer must_be_present")
@@ -25,19 +25,20 @@ class Variables:
     """Variables, by their definitions: each has a kind and an expression."""
 
     def __init__(self):
-        self.definitions = {}
+        self.kinds, self.definitions = {}, {}
 
     def define(self, name, expression):
         """Whether the variable is new; it stands for the expression from here on."""
         if name in self.definitions:
             return False
-        self.definitions[name] = check(expression, self), expression
+        self.kinds[name] = check(expression, self)
+        self.definitions[name] = expression
         return True
 
     def kind(self, name):
-        if name not in self.definitions:
+        if name not in self.kinds:
             raise CheckError("UnknownVariable")
-        return self.definitions[name][0]
+        return self.kinds[name]
 
 
 def check(expression, variables, depth=1):
@@ -110,14 +111,14 @@ def check_inner(expression, depth):
 
 
 class Evaluation:
-    """The values of checked expressions, where a request has these attributes."""
+    """The values of checked expressions, where `values_of` gives the values that a designator names, and variables have these definitions."""
 
-    def __init__(self, attributes, variables):
-        self.attributes, self.variables, self.known = attributes, variables, {}
+    def __init__(self, values_of, definitions):
+        self.values_of, self.definitions, self.known = values_of, definitions, {}
 
     def bag(self, designator):
-        """The values of the attributes that the designator names."""
-        found = [attribute.value for attribute in self.attributes if names(designator, attribute)]
+        """The values that the designator names."""
+        found = self.values_of(designator)
         if not found and designator.must_be_present:
             raise Fault("MissingAttribute")
         return designator.data_type, found
@@ -126,7 +127,7 @@ class Evaluation:
         """What the variable's definition gives; it is looked at once."""
         if name not in self.known:
             try:
-                self.known[name] = self.value(self.variables.definitions[name][1])
+                self.known[name] = self.value(self.definitions[name])
             except Fault as fault:
                 self.known[name] = fault
         if isinstance(self.known[name], Fault):
@@ -173,6 +174,13 @@ class Evaluation:
         _, gives, meaning = FUNCTIONS[inner]
         found = higher_order(verb, meaning, [listed(self.value(argument)) for argument in arguments])
         return (gives, found) if verb == "map" else found
+
+
+def values_among(attributes):
+    """What gives the values that a designator names, where these are the attributes."""
+    def values_of(designator):
+        return [attribute.value for attribute in attributes if names(designator, attribute)]
+    return values_of
 
 
 def names(designator, attribute):

@@ -1,11 +1,9 @@
-"""What a server answers to the messages of a stream: heads (RFC 9112), routes, tokens, requests of decisions, policies.
+"""Messages of a stream (RFC 9112): their heads, lengths and ends, the routes of their paths, the tokens that they show, and replies.
 
 A stream's bytes are looked at from their front: a message, more wanted, or a fault, after which nothing is taken.
 """
-import json
 from urllib.parse import unquote_to_bytes
 
-from combining import deny_overrides
 from rows import decoded, encoded
 
 MAX_HEAD, MAX_FIELDS, MAX_BODY = 16_384, 64, 262_144
@@ -13,12 +11,6 @@ TOKEN_BYTES = set(b"!#$%&'*+-.^_`|~0123456789abcdefghijklmnopqrstuvwxyzABCDEFGHI
 FAULTS = {
     "BadHead": "400 Bad Request", "BodyTooLarge": "413 Payload Too Large", "HeadTooLarge": "431 Request Header Fields Too Large",
     "TransferCoding": "501 Not Implemented",
-}
-STATUS = "urn:oasis:names:tc:xacml:1.0:status:"
-ATTRIBUTES = {
-    "subject": ("AccessSubject", "urn:oasis:names:tc:xacml:1.0:subject:subject-id"),
-    "resource": ("Resource", "urn:oasis:names:tc:xacml:1.0:resource:resource-id"),
-    "action": ("Action", "urn:oasis:names:tc:xacml:1.0:action:action-id"),
 }
 
 
@@ -161,15 +153,12 @@ class Stream:
 
 
 def reply(status, media, body, extra=""):
-    return (f"HTTP/1.1 {status}\r\nContent-Type: application/{media}\r\nContent-Length: {len(body)}\r\n{extra}\r\n{body}").encode()
+    held = body.encode()
+    return f"HTTP/1.1 {status}\r\nContent-Type: application/{media}\r\nContent-Length: {len(held)}\r\n{extra}\r\n".encode() + held
 
 
 def refusal(status, code, extra=""):
     return reply(status, "json", f'{{"Error":"{code}"}}', extra)
-
-
-def decision(name, status):
-    return reply("200 OK", "xacml+json", f'{{"Response":[{{"Decision":"{name}","Status":{{"StatusCode":{{"Value":"{STATUS}{status}"}}}}}}]}}')
 
 
 def domain_asked(target):
@@ -198,172 +187,6 @@ def token_shown(fields):
         return None
     token = shown[0][7:].lstrip(b" ")
     return token if 8 <= len(token) <= 64 and all(33 <= byte <= 126 for byte in token) else None
-
-
-class NotProfile(Exception):
-    """The body is JSON, and no request."""
-
-
-def check(holds):
-    if not holds:
-        raise NotProfile
-
-
-def attributes_in(value):
-    check(isinstance(value, dict) and list(value) == ["Attribute"] and isinstance(value["Attribute"], list))
-    for held in value["Attribute"]:
-        check(isinstance(held, dict) and sorted(held) == ["AttributeId", "Value"])
-        check(all(isinstance(text, str) for text in held.values()))
-    return [(held["AttributeId"], held["Value"]) for held in value["Attribute"]]
-
-
-def finite(text):
-    if float(text) in (float("inf"), float("-inf")):
-        raise ValueError(text)
-    return float(text)
-
-
-def depth(text):
-    """How deep the arrays and objects of a JSON text stand in one another."""
-    level, most, quoted, escaped = 0, 0, False, False
-    for letter in text:
-        if quoted:
-            quoted, escaped = escaped or letter != '"', not escaped and letter == "\\"
-        else:
-            quoted = letter == '"'
-            level += (letter in "[{") - (letter in "]}")
-            most = max(most, level)
-    return most
-
-
-def no_number(text):
-    raise ValueError(text)
-
-
-def request_of(body):
-    """The attributes of each category; ValueError where the body isn't JSON."""
-    text = body.decode()
-    if depth(text) > 127:
-        raise ValueError("too deep")
-    value = json.loads(text, parse_constant=no_number, parse_float=finite)
-    json.dumps(value, ensure_ascii=False).encode()
-    check(isinstance(value, dict) and list(value) == ["Request"] and isinstance(value["Request"], dict))
-    categories = value["Request"]
-    check(set(categories) <= {"AccessSubject", "Resource", "Action"})
-    return {name: attributes_in(held) for name, held in categories.items()}
-
-
-def match_value(text, request):
-    """True, False, or None where it is Indeterminate."""
-    word, literal = text.split("=", 1)
-    category, attribute_id = ATTRIBUTES[word.lstrip("!")]
-    bag = [value for held, value in request.get(category, []) if held == attribute_id]
-    return None if word.startswith("!") and not bag else literal in bag
-
-
-def all_match(values):
-    return False if False in values else None if None in values else True
-
-
-def some_match(values):
-    return True if True in values else None if None in values else False
-
-
-def target_value(text, request):
-    return all_match([some_match([all_match([match_value(it, request) for it in all_of.split("&")]) for all_of in any_of.split("|")])
-                      for any_of in text.split(";")]) if text else True
-
-
-def decided(rules, body):
-    try:
-        request = request_of(body)
-    except NotProfile:
-        return decision("Indeterminate", "syntax-error")
-    except (ValueError, RecursionError):
-        return refusal("400 Bad Request", "NotJson")
-    found = []
-    for rule in rules:
-        effect, _, target = rule.partition(" if ")
-        value = target_value(target, request)
-        found.append("NotApplicable" if value is False else effect.title() if value else "{%s}" % effect[0].upper())
-    made = deny_overrides(found)
-    return decision("Indeterminate", "missing-attribute") if made.startswith("{") else decision(made, "ok")
-
-
-def answered(domains, message):
-    method, target, fields, body = message
-    name = domain_asked(target)
-    if name is None:
-        return refusal("404 Not Found", "NoRoute")
-    if method != b"POST":
-        return refusal("405 Method Not Allowed", "BadMethod", "Allow: POST\r\n")
-    if not takes_body(fields):
-        return refusal("415 Unsupported Media Type", "BadMediaType")
-    tokens, rules = domains.get(name.decode(errors="replace"), ((), ()))
-    if token_shown(fields) not in tokens:
-        return refusal("401 Unauthorized", "Unauthorized", "WWW-Authenticate: Bearer\r\n")
-    return decided(rules, body)
-
-
-def is_domain_name(text):
-    letters = "abcdefghijklmnopqrstuvwxyz0123456789"
-    return 1 <= len(text) <= 32 and text[0] in letters and all(letter in letters + "-" for letter in text)
-
-
-def given(fields):
-    """The domains of a server row by their names, each its tokens and rules, or the refusal of such a server."""
-    names, domains = [], {}
-    for field in fields:
-        word, _, text = field.partition(":")
-        if word == "domain":
-            names.append(decoded(text).decode())
-            domains[names[-1]] = (set(), [])
-        elif word in ("ask", "admin"):
-            domains[names[-1]][0].add(decoded(text))
-        elif word == "rule":
-            domains[names[-1]][1].append(text)
-    if not all(is_domain_name(name) for name in names):
-        return "!BadDomain"
-    return domains if len(set(names)) == len(names) else "!Twice"
-
-
-def in_runs(replies):
-    """The replies, and after equal ones in a row how many they are."""
-    fields, count = [], 0
-    for place, held in enumerate(replies):
-        count += 1
-        if place + 1 == len(replies) or replies[place + 1] != held:
-            fields += [encoded(held)] + ([f"*{count}"] if count > 1 else [])
-            count = 0
-    return fields
-
-
-def piece(stream, domains, held):
-    """What is answered after a piece."""
-    stream.held += held
-    replies = []
-    while isinstance(found := stream.next(), tuple):
-        replies.append(answered(domains, found))
-    fields = in_runs(replies)
-    if isinstance(found, Fault):
-        fields.append(encoded(refusal(FAULTS[str(found)], str(found))))
-    if found != "More":
-        fields.append("!Ended")
-    return fields or ["More"]
-
-
-def server(*fields):
-    domains = given(fields)
-    if isinstance(domains, str):
-        return [domains]
-    stream, shown = Stream(), []
-    for field in fields:
-        word, _, text = field.partition(":")
-        if word == "piece":
-            shown += piece(stream, domains, decoded(text))
-        elif word == "close":
-            stream = Stream()
-    return shown
 
 
 def stream(*pieces):

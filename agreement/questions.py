@@ -5,7 +5,7 @@ An expression is `TYPE:TEXT`, `any:TYPE|CATEGORY|ID`, `some:..` where it must be
 `variable:NAME`, or `(NAME`, arguments and `)`. After `let:NAME` it defines a variable, else it is a question. Of a target, `<NAME`, a
 literal, a designator and `>` are a match, `|` ends a conjunction of matches, and `;` a part of the target.
 """
-from expressions import Attribute, CheckError, Designator, Evaluation, Variables, check, check_match, status, target_value
+from expressions import Attribute, CheckError, Designator, Evaluation, Variables, check, check_match, status, target_value, values_among
 from names import kind
 from rows import bag_shown, shown, text_of, value_of
 from values import Fault, read
@@ -80,7 +80,7 @@ def value_answer(attributes, variables, expression):
     """The kind of the expression, and its value, its bag or its fault."""
     found_kind = kind(check(expression, variables))
     try:
-        found = Evaluation(attributes, variables).value(expression)
+        found = Evaluation(values_among(attributes), variables.definitions).value(expression)
     except Fault as fault:
         return [found_kind, *fault_answer(status(fault))]
     return [found_kind, *(bag_shown(found) if isinstance(found[1], list) else [shown(found)])]
@@ -110,5 +110,5 @@ def target(*fields):
                 matches = matches + [(name, literal, designator)]
             except CheckError as error:
                 answers.append(f"!{error}")
-    found = target_value(Evaluation(questions.attributes, Variables()), parts)
+    found = target_value(Evaluation(values_among(questions.attributes), {}), parts)
     return answers + [found.word if found.status is None else f"{found.word}({fault_named(found.status)})"]

@@ -1,88 +1,21 @@
 """Requests of the JSON Profile of XACML 3.0, version 1.1 (section 4.2), and the individual requests of one (Multiple Decision Profile, section 2)."""
+import collections
 import itertools
-import json
 
-from rows import encoded, shown, text_of
-from values import TYPES, Fault, read
+from identifiers import DATA_TYPES, SHORTHANDS, category
+from json_texts import NotJson, json_of
+from rows import decoded, encoded, shown
+from values import Fault, read
 
-NAMESPACE = "http://www.w3.org/2001/XMLSchema#"
-SUBJECTS = "urn:oasis:names:tc:xacml:1.0:subject-category:"
-OTHERS = "urn:oasis:names:tc:xacml:3.0:attribute-category:"
-# the shorthands of categories, in the profile's order
-SHORTHANDS = {
-    "AccessSubject": SUBJECTS + "access-subject", "RecipientSubject": SUBJECTS + "recipient-subject",
-    "IntermediarySubject": SUBJECTS + "intermediary-subject", "Codebase": SUBJECTS + "codebase",
-    "RequestingMachine": SUBJECTS + "requesting-machine", "Resource": OTHERS + "resource", "Action": OTHERS + "action",
-    "Environment": OTHERS + "environment",
-}
-MOST_INDIVIDUALS, MOST_NESTED = 64, 127
-
-
-class NotJson(Exception):
-    """The body is no JSON."""
+MOST_INDIVIDUALS = 64
 
 
 class NotProfile(Exception):
     """The JSON is no request."""
 
 
-class Fraction:
-    """A number that isn't whole, or that is out of 64 bits."""
-
-
-def fraction(text):
-    if abs(float(text)) == float("inf"):
-        raise NotJson
-    return Fraction()
-
-
-def number(text):
-    whole = int(text)
-    return whole if text != "-0" and -2**63 <= whole < 2**64 else fraction(text)
-
-
-def constant(text):
-    raise NotJson
-
-
-def is_deep(body):
-    """Whether more than so many arrays and objects stand inside one another."""
-    depth, in_text, escaped = 0, False, False
-    for character in body:
-        if in_text:
-            in_text, escaped = escaped or character != '"', not escaped and character == "\\"
-        elif character == '"':
-            in_text = True
-        elif character in "[{":
-            depth += 1
-            if depth > MOST_NESTED:
-                return True
-        elif character in "]}":
-            depth -= 1
-    return False
-
-
-def texts_in(found):
-    if isinstance(found, dict):
-        yield from found
-        found = list(found.values())
-    if isinstance(found, list):
-        for item in found:
-            yield from texts_in(item)
-    if isinstance(found, str):
-        yield found
-
-
-def json_of(body):
-    try:
-        if is_deep(body):
-            raise NotJson
-        found = json.loads(body, parse_int=number, parse_float=fraction, parse_constant=constant)
-    except (ValueError, RecursionError):
-        raise NotJson from None
-    if any("\ud800" <= character <= "\udfff" for text in texts_in(found) for character in text):
-        raise NotJson
-    return found
+CategoryObject = collections.namedtuple("CategoryObject", "category id attributes")
+Attribute = collections.namedtuple("Attribute", "id issuer is_included data_type values")
 
 
 def of_kind(kind, found):
@@ -111,10 +44,9 @@ def objects(found, name):
 
 
 def type_of(name):
-    short = name.removeprefix(NAMESPACE)
-    if short not in TYPES:
+    if name not in DATA_TYPES:
         raise NotProfile
-    return short
+    return DATA_TYPES[name]
 
 
 def value(data_type, held):
@@ -135,14 +67,13 @@ def attribute(found):
     if len(kinds) > 1 or kinds - {str, bool, int}:
         raise NotProfile
     data_type = type_of(named) if named is not None else {bool: "boolean", int: "integer"}.get(next(iter(kinds), str), "string")
-    return name, issuer, included, data_type, [value(data_type, item) for item in held]
+    return Attribute(name, issuer, included, data_type, [value(data_type, item) for item in held])
 
 
-def category_object(found, category):
-    if category is None:
-        name = needed(found, "CategoryId", str)
-        category = SHORTHANDS.get(name, name)
-    return category, at(found, "Id", str, None), [attribute(item) for item in objects(found, "Attribute")]
+def category_object(found, named):
+    """A Category object, of the category named, or else of the one that it names itself."""
+    named = named or category(needed(found, "CategoryId", str))
+    return CategoryObject(named, at(found, "Id", str, None), [attribute(item) for item in objects(found, "Attribute")])
 
 
 def references(found):
@@ -160,7 +91,7 @@ def references(found):
 
 
 def request_of(body):
-    """Whether a combined decision and the ids of policies are asked for, the Category objects, and the references."""
+    """Of the bytes of a request whether a combined decision and the ids of policies are asked for, the Category objects, and the references."""
     whole = of_kind(dict, json_of(body))
     asked = needed(whole, "Request", dict)
     flags = at(asked, "CombinedDecision", bool, False), at(asked, "ReturnPolicyIdList", bool, False)
@@ -200,7 +131,7 @@ def individuals_of(found, named):
 
 def request(body):
     try:
-        (combined, identified), found, _ = request_of(text_of(body))
+        (combined, identified), found, _ = request_of(decoded(body))
     except (NotJson, NotProfile) as fault:
         return ["!" + type(fault).__name__]
     fields = ["combined"] * combined + ["identified"] * identified
@@ -214,7 +145,7 @@ def request(body):
 
 def individuals(body):
     try:
-        _, found, named = request_of(text_of(body))
+        _, found, named = request_of(decoded(body))
     except (NotJson, NotProfile):
         return ["!Malformed"]
     all_of_them = individuals_of(found, named)

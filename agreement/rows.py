@@ -1,17 +1,21 @@
 """The rows of the program xa_trials as text: a row is a line of fields with a tab between, and so is its answer.
 
 In a field a backslash begins an escape: \\n, \\r, \\t, \\\\, \\xHH for a byte, and \\{COUNT,TEXT\\} for so many times the text.
-Sources may also write \\u{HEX} for a character, letters beyond ASCII as they are, and \\(NAME) for a text that a line
-`define NAME TEXT` gave before, and \\[COUNT,TEXT\\] for so many times the text; two spaces or more part fields too, fields between
-`[COUNT` and `]` stand so often, and a field that begins with `(` or `<` is parted at spaces and before `)` and `>`.
+Sources may also write \\u{HEX} for a character, letters beyond ASCII as they are, \\(NAME) for a text that a line `define NAME TEXT` gave
+before, where `file:PATH` is the text of a file of the repository, and \\[COUNT,TEXT\\] for so many times the text; two spaces or more part
+fields too, fields between `[COUNT` and `]` stand so often, and a field that begins with `(` or `<` is parted at spaces and before `)` and `>`.
 """
+import pathlib
 import re
 
 from values import read, to_text
 
-TOKEN = re.compile(rb"\\u\{([0-9a-fA-F]+)\}|\\x([0-9a-fA-F]{2})|\\\{([0-9]+),|\\(.)|([^\\])", re.DOTALL)
+TOP = pathlib.Path(__file__).resolve().parents[1]
+
+TOKEN = re.compile(rb"\\u\{([0-9a-fA-F]+)\}|\\x([0-9a-fA-F]{2})|\\\{([0-9]+),|\\(.)|([^\\]+)", re.DOTALL)
 LETTERS = {b"n": b"\n", b"r": b"\r", b"t": b"\t"}
 SHORT = {9: "\\t", 10: "\\n", 13: "\\r", 92: "\\\\"}
+WRITTEN = {byte: SHORT.get(byte) or (chr(byte) if 32 <= byte < 127 else f"\\x{byte:02x}") for byte in range(256)}
 
 
 def decoded(field):
@@ -37,7 +41,7 @@ def decoded(field):
 def encoded(held):
     """The text of the field that stands for the bytes or the text."""
     held = held.encode() if isinstance(held, str) else held
-    return "".join(SHORT.get(byte) or (chr(byte) if 32 <= byte < 127 else f"\\x{byte:02x}") for byte in held)
+    return held.decode("latin-1").translate(WRITTEN)
 
 
 def text_of(field):
@@ -90,6 +94,13 @@ def parted(field):
     return re.findall(r"[)>]|[^ )>]+", field) if field.startswith(("(", "<")) else [field]
 
 
+def given(held):
+    """The text that a definition gives: its own, or that of a file."""
+    if not held.startswith("file:"):
+        return held
+    return encoded((TOP / held.removeprefix("file:")).read_bytes()).replace(" ", "\\x20")
+
+
 class Source:
     """The rows of a source, each with its answer: comments, definitions, and lines `FIELD FIELD => FIELD FIELD`."""
 
@@ -107,7 +118,7 @@ class Source:
         text = re.sub(r"\\\[(\d+),(.*?)\\\]", lambda found: found.group(2) * int(found.group(1)), text)
         if text.startswith("define "):
             _, name, held = text.split(None, 2)
-            self.defined[name] = held
+            self.defined[name] = given(held)
             return
         fields = re.split(r"\t+| {2,}", text)
         if "=>" not in fields:

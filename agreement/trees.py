@@ -212,10 +212,10 @@ class Trees:
             self.variables.append((name, kind))
         return ["evaluate", *fields, *fields_of(self.expression(self.kind(), self.one_of([0, 0, 0, 1, 1, 2, 4])))]
 
-    def match(self):
-        """The fields of a match."""
-        if self.seldom(0.2):
-            return fields_of(self.one_of(MATCHES_AT_FAULT), "<", ">")
+    def match(self, at_fault):
+        """A match, the tree of a function over a literal and a designator; with that chance one of those at fault."""
+        if self.seldom(at_fault):
+            return self.one_of(MATCHES_AT_FAULT)
         of_attributes = [(a, b) for a, b in PAIRS if any(place[0] == b for place, _ in self.attributes)]
         literal, data_type = self.one_of(of_attributes or PAIRS)
         name = self.one_of(IN_MATCHES[literal, data_type])
@@ -223,13 +223,13 @@ class Trees:
         value = f"{literal}:{self.one_of(texts)}" if texts and self.seldom(0.6) else self.rows.value(literal, name)
         if self.seldom(0.05):
             name = self.name()
-        return fields_of((name, [value, self.designator(data_type)]), "<", ">")
+        return name, [value, self.designator(data_type)]
 
     def target(self):
         """A row of a target."""
         fields = self.begin() + ["has:boolean|d|e=true"]
         for _ in range(self.one_of([0, 1, 1, 2, 3])):
             for _ in range(self.one_of([1, 1, 2, 3])):
-                fields += [field for _ in range(self.one_of([1, 1, 2, 3])) for field in self.match()] + ["|"]
+                fields += [field for _ in range(self.one_of([1, 1, 2, 3])) for field in fields_of(self.match(0.2), "<", ">")] + ["|"]
             fields.append(";")
         return ["target", *fields]

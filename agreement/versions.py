@@ -1,4 +1,5 @@
 """Versions, patterns of versions, and references (XACML 3.0, core, sections 5.10 to 5.13), by the standard's regular expressions."""
+import collections
 import re
 
 from rows import encoded, text_of
@@ -7,6 +8,10 @@ VERSION, PATTERN = r"(\d+\.)*\d+", r"((\d+|\*)\.)*(\d+|\*|\+)"
 MAX_NUMBERS, MAX_DIGITS = 8, 9
 # what a part of a pattern stands for, where each number of a version stands with a dot before it
 STANDS_FOR = {"*": r"\.\d+", "+": r"(\.\d+)+"}
+
+
+# A reference to a policy or a set; what it doesn't say is None. A pattern is its parts, a version the list of its numbers.
+Reference = collections.namedtuple("Reference", "kind id pattern earliest latest")
 
 
 class NoVersion(Exception):
@@ -23,13 +28,36 @@ def parts(shape, text):
     return [str(int(part)) if part.isdigit() else part for part in found]
 
 
+def numbered(found):
+    return [int(part) for part in found]
+
+
 def numbers(text):
-    return [int(part) for part in parts(VERSION, text)]
+    return numbered(parts(VERSION, text))
 
 
 def fits(pattern, version):
-    shape = "".join(STANDS_FOR.get(part, r"\." + part) for part in parts(PATTERN, pattern))
+    shape = "".join(STANDS_FOR.get(part, r"\." + part) for part in pattern)
     return re.fullmatch(shape, "".join(f".{number}" for number in version)) is not None
+
+
+def is_for(reference, kind, name, version):
+    """Whether the reference may stand for the document of that kind, id and version."""
+    return ((reference.kind, reference.id) == (kind, name) and (reference.pattern is None or fits(reference.pattern, version))
+            and (reference.earliest is None or reference.earliest <= version) and (reference.latest is None or version <= reference.latest))
+
+
+def resolved(reference, documents):
+    """The place of the latest of the documents, each a kind, an id and a version, for which the reference may stand; None without one."""
+    found = [(version, -place) for place, (kind, name, version) in enumerate(documents) if is_for(reference, kind, name, version)]
+    return -max(found)[1] if found else None
+
+
+def reference_of(field):
+    """The reference of a field `KIND|ID|PATTERN|EARLIEST|LATEST`."""
+    kind, name, pattern, earliest, latest = field.split("|")
+    return Reference(kind, text_of(name), parts(PATTERN, pattern) if pattern else None, numbers(earliest) if earliest else None,
+                     numbers(latest) if latest else None)
 
 
 def read_as(shape, field):
@@ -48,7 +76,7 @@ def pattern(field):
 
 
 def matches(wanted, found):
-    return ["true" if fits(wanted, numbers(found)) else "false"]
+    return ["true" if fits(parts(PATTERN, wanted), numbers(found)) else "false"]
 
 
 def versions(left, right):
@@ -57,12 +85,9 @@ def versions(left, right):
 
 
 def resolve(reference, *documents):
-    kind, name, wanted, earliest, latest = reference.split("|")
     found = []
-    for place, document in enumerate(documents):
-        other_kind, other_name, text = document.split("|")
-        here = numbers(text)
-        if ((kind, name) == (other_kind, other_name) and (not wanted or fits(wanted, here))
-                and (not earliest or numbers(earliest) <= here) and (not latest or here <= numbers(latest))):
-            found.append((here, -place))
-    return [str(-max(found)[1]) if found else "!None"]
+    for document in documents:
+        kind, name, version = document.split("|")
+        found.append((kind, text_of(name), numbers(version)))
+    place = resolved(reference_of(reference), found)
+    return ["!None" if place is None else str(place)]

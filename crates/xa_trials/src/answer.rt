@@ -1,14 +1,15 @@
 //! The answer to a row: a line of fields with a tab between.
 use crate::field::push_bytes;
-use std::alloc::{AllocError, Global};
+use std::alloc::Global;
 use std::fmt::Debug;
-use xa_value::Value;
+use xa_value::{OrMemory, Value};
 
-/// The answer to a row, as far as it is written.
+/// The answer to a row, as far as it is written. One that finds no memory is cut, and takes what else comes as if it had found it.
 #[derive(Drop)]
 pub struct Answer {
     alloc: Global,
     line: String,
+    is_cut: bool,
 }
 
 impl Answer {
@@ -17,6 +18,7 @@ impl Answer {
         Answer {
             alloc,
             line: String::new(alloc),
+            is_cut: false,
         }
     }
 
@@ -25,41 +27,84 @@ impl Answer {
         self.alloc
     }
 
-    /// The line.
+    /// The line; of an answer that is cut, that alone.
     pub fn line(&self) -> &str {
+        if self.is_cut {
+            return "!Memory";
+        }
         self.line.as_str()
     }
 
-    /// Adds a field: a word of the program, and bytes.
-    pub fn field(&mut self, word: &str, bytes: &[u8]) -> Result<(), AllocError> {
-        if !self.line.is_empty() {
-            self.line.push('\t')?;
-        }
-        self.line.push_str(word)?;
-        push_bytes(&mut self.line, bytes)
+    /// Cuts the answer.
+    pub fn cut(&mut self) {
+        self.is_cut = true;
     }
 
     /// Adds a field that is a word of the program.
-    pub fn word(&mut self, word: &str) -> Result<(), AllocError> {
-        self.field(word, &[])
+    pub fn word(&mut self, word: &str) {
+        let tab = if self.line.is_empty() { "" } else { "\t" };
+        if write!(self.line, "{tab}{word}").is_err() {
+            self.cut();
+        }
     }
 
-    /// Adds a field that shows something by its name in the code.
-    pub fn debug(&mut self, shown: &impl Debug) -> Result<(), AllocError> {
-        let name = format!(in self.alloc; "{shown:?}")?;
-        self.field("", name.as_bytes())
+    /// Adds a field: a word of the program, and bytes.
+    pub fn field(&mut self, word: &str, bytes: &[u8]) {
+        self.word(word);
+        if push_bytes(&mut self.line, bytes).is_err() {
+            self.cut();
+        }
     }
 
-    /// Adds a field that names a refusal.
-    pub fn refusal(&mut self, refusal: &impl Debug) -> Result<(), AllocError> {
-        let name = format!(in self.alloc; "{refusal:?}")?;
-        self.field("!", name.as_bytes())
+    /// Adds a word to the last field, and something by its name in the code.
+    pub fn append(&mut self, word: &str, shown: &impl Debug) {
+        if write!(self.line, "{word}{shown:?}").is_err() {
+            self.cut();
+        }
+    }
+
+    /// Adds a field: a word of the program, and something by its name in the code.
+    pub fn name(&mut self, word: &str, shown: &impl Debug) {
+        self.word("");
+        self.append(word, shown);
+    }
+
+    /// Adds a field: a word of the program, and the value's text.
+    pub fn text(&mut self, word: &str, value: &Value) {
+        match value.to_text(self.alloc) {
+            Ok(text) => self.field(word, text.as_bytes()),
+            Err(_) => self.cut(),
+        }
     }
 
     /// Adds a field `TYPE:TEXT`.
-    pub fn value(&mut self, value: &Value) -> Result<(), AllocError> {
-        let text = value.to_text(self.alloc)?;
-        let name = format!(in self.alloc; "{}:", value.data_type().name())?;
-        self.field(name.as_str(), text.as_bytes())
+    pub fn value(&mut self, value: &Value) {
+        match format!(in self.alloc; "{}:", value.data_type().name()) {
+            Ok(word) => self.text(word.as_str(), value),
+            Err(_) => self.cut(),
+        }
+    }
+
+    /// Adds a field that shows something by its name in the code, or that there is nothing.
+    pub fn found<T: Debug + Drop>(&mut self, shown: Option<T>) {
+        match shown {
+            Some(shown) => self.name("", &shown),
+            None => self.word("!None"),
+        }
+    }
+
+    /// What a call gave; where it refused, that is answered.
+    pub fn given<T: Drop, E: Debug + Drop>(&mut self, given: Result<T, OrMemory<E>>) -> Option<T> {
+        match given {
+            Ok(given) => Some(given),
+            Err(OrMemory::Error(error)) => {
+                self.name("!", &error);
+                None
+            }
+            Err(OrMemory::Memory) => {
+                self.cut();
+                None
+            }
+        }
     }
 }

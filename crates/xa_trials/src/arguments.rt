@@ -7,21 +7,27 @@ use xa_value::{DataType, Value};
 
 /// The type of that name.
 pub fn type_named(name: &str) -> Result<DataType, NoAnswer> {
-    DataType::from_uri(name).ok_or(NoAnswer::Malformed)
+    match DataType::from_uri(name) {
+        Some(data_type) => Ok(data_type),
+        None => Err(NoAnswer::Malformed),
+    }
 }
 
 /// The value that the field's text stands for.
 pub fn value_of(alloc: Global, data_type: DataType, field: &str) -> Result<Value, NoAnswer> {
     let text = text_of(alloc, field)?;
-    Value::read(alloc, data_type, text.as_str()).map_err(|_| NoAnswer::Malformed)
+    match Value::read(alloc, data_type, text.as_str()) {
+        Ok(value) => Ok(value),
+        Err(_) => Err(NoAnswer::Malformed),
+    }
 }
 
 /// The value of a field.
 pub fn value(alloc: Global, field: &str) -> Result<Value, NoAnswer> {
-    let Some((name, text)) = field.split_once(':') else {
-        return Err(NoAnswer::Malformed);
-    };
-    value_of(alloc, type_named(name)?, text)
+    match field.split_once(':') {
+        Some((name, text)) => value_of(alloc, type_named(name)?, text),
+        None => Err(NoAnswer::Malformed),
+    }
 }
 
 /// Puts a value into the bag that the last argument is.
@@ -30,33 +36,26 @@ fn push_member(alloc: Global, last: Option<&mut ValueOrBag>, text: &str) -> Resu
         return Err(NoAnswer::Malformed);
     };
     let value = value_of(alloc, bag.data_type(), text)?;
-    if bag.takes(&value) {
-        bag.push(value)?;
-    }
+    bag.push(value)?;
     Ok(())
 }
 
-fn push_argument(
-    alloc: Global,
-    arguments: &mut Vec<ValueOrBag>,
-    field: &str,
-) -> Result<(), NoAnswer> {
-    if let Some(text) = field.strip_prefix("+") {
-        return push_member(alloc, arguments.last_mut(), text);
+/// The argument of a field, where it is one of its own.
+fn argument(alloc: Global, field: &str) -> Result<ValueOrBag, NoAnswer> {
+    match field.strip_prefix("bag:") {
+        Some(name) => Ok(ValueOrBag::Bag(Bag::new(alloc, type_named(name)?))),
+        None => Ok(ValueOrBag::Value(value(alloc, field)?)),
     }
-    let argument = match field.strip_prefix("bag:") {
-        Some(name) => ValueOrBag::Bag(Bag::new(alloc, type_named(name)?)),
-        None => ValueOrBag::Value(value(alloc, field)?),
-    };
-    arguments.push(argument)?;
-    Ok(())
 }
 
 /// The arguments of the fields.
 pub fn arguments(alloc: Global, fields: &[&str]) -> Result<Vec<ValueOrBag>, NoAnswer> {
     let mut arguments = Vec::new(alloc);
     for field in fields {
-        push_argument(alloc, &mut arguments, field)?;
+        match field.strip_prefix("+") {
+            Some(text) => push_member(alloc, arguments.last_mut(), text)?,
+            None => arguments.push(argument(alloc, field)?)?,
+        }
     }
     Ok(arguments)
 }

@@ -6,7 +6,7 @@ ghost use Rattle.xa_expr.specs.Typed.{same_type};
 ghost use Rattle.xa_trials.specs.Attributes.{is_issued_by, is_named, named_values, values_of};
 
 use crate::arguments::{type_named, value_of};
-use crate::field::text_of;
+use crate::field::kept_text;
 use crate::no_answer::NoAnswer;
 use std::alloc::{AllocError, Global};
 use xa_bag::Bag;
@@ -33,30 +33,25 @@ pub fn designator(
     must_be_present: bool,
 ) -> Result<Designator, NoAnswer> {
     let parts: Vec<&str> = text.split('|').collect(alloc)?;
-    match parts.as_slice() {
-        [name, category, id] => issued(alloc, [name, category, id], None, must_be_present),
-        [name, category, id, issuer] => {
-            let issuer = Text::from_string(text_of(alloc, issuer)?);
-            issued(alloc, [name, category, id], Some(issuer), must_be_present)
-        }
-        _ => Err(NoAnswer::Malformed),
-    }
-}
-
-/// The designator of these parts.
-fn issued(
-    alloc: Global,
-    [name, category, id]: [&str; 3],
-    issuer: Option<Text>,
-    must_be_present: bool,
-) -> Result<Designator, NoAnswer> {
+    let [name, category, id, issuer @ ..] = parts.as_slice() else {
+        return Err(NoAnswer::Malformed);
+    };
     Ok(Designator {
-        category: Text::from_string(text_of(alloc, category)?),
-        attribute_id: Text::from_string(text_of(alloc, id)?),
+        category: kept_text(alloc, category)?,
+        attribute_id: kept_text(alloc, id)?,
         data_type: type_named(name)?,
         must_be_present,
-        issuer,
+        issuer: issuer_of(alloc, issuer)?,
     })
+}
+
+/// The issuer that the parts behind the others name, if any.
+fn issuer_of(alloc: Global, parts: &[&str]) -> Result<Option<Text>, NoAnswer> {
+    match parts {
+        [] => Ok(None),
+        [issuer] => Ok(Some(kept_text(alloc, issuer)?)),
+        _ => Err(NoAnswer::Malformed),
+    }
 }
 
 impl Attributes {

@@ -1,79 +1,67 @@
-//! Rows of combining: what an algorithm makes of the children.
+//! Rows of decisions: the response to a request, by active documents, a root and a source of attributes, at a moment.
 use crate::answer::Answer;
+use crate::documents::active;
+use crate::domains::{domain_named, put};
+use crate::field::{bytes_of, kept_text, number_of};
 use crate::no_answer::NoAnswer;
-use xa_expr::{Fault, Matching};
-use xa_policy::{Alg, Child, Decision, combine};
+use std::alloc::Global;
+use xa_decide::View;
+use xa_link::Active;
+use xa_server::{Given, GivenDocument};
+use xa_value::{Items, Moment};
 
-/// The decision of that name.
-fn decision_named(name: &str) -> Result<Decision, NoAnswer> {
-    match name {
-        "Permit" => Ok(Decision::Permit),
-        "Deny" => Ok(Decision::Deny),
-        "NotApplicable" => Ok(Decision::NotApplicable),
-        "{P}" => Ok(Decision::IndeterminatePermit),
-        "{D}" => Ok(Decision::IndeterminateDeny),
-        "{DP}" => Ok(Decision::IndeterminateDenyPermit),
-        _ => Err(NoAnswer::Malformed),
+/// The active ones of the documents.
+fn all_active(alloc: Global, documents: &[GivenDocument]) -> Result<Items<Active>, NoAnswer> {
+    let mut all = Items::new(alloc);
+    for document in documents {
+        if document.active {
+            all.push(active(alloc, document.text.as_bytes())?)?;
+        }
+    }
+    Ok(all)
+}
+
+/// The view of what is given.
+fn view(alloc: Global, given: Given) -> Result<View, NoAnswer> {
+    let active = all_active(alloc, given.documents.as_slice())?;
+    Ok(View::new(alloc, active, given.root, given.source)?)
+}
+
+/// The moment of so many seconds.
+pub fn moment_of(seconds: &str) -> Result<Moment, NoAnswer> {
+    match Moment::new(number_of(seconds)?) {
+        Some(moment) => Ok(moment),
+        None => Err(NoAnswer::Malformed),
     }
 }
 
-/// The name of a decision.
-fn name_of(decision: Decision) -> &'static str {
-    match decision {
-        Decision::Permit => "Permit",
-        Decision::Deny => "Deny",
-        Decision::NotApplicable => "NotApplicable",
-        Decision::IndeterminatePermit => "{P}",
-        Decision::IndeterminateDeny => "{D}",
-        Decision::IndeterminateDenyPermit => "{DP}",
-    }
-}
-
-/// The algorithm of that name, as it stands at the end of its URI.
-fn algorithm_named(name: &str) -> Result<Alg, NoAnswer> {
-    match name {
-        "deny-overrides" => Ok(Alg::DenyOverrides),
-        "permit-overrides" => Ok(Alg::PermitOverrides),
-        "ordered-deny-overrides" => Ok(Alg::OrderedDenyOverrides),
-        "ordered-permit-overrides" => Ok(Alg::OrderedPermitOverrides),
-        "deny-unless-permit" => Ok(Alg::DenyUnlessPermit),
-        "permit-unless-deny" => Ok(Alg::PermitUnlessDeny),
-        "first-applicable" => Ok(Alg::FirstApplicable),
-        "only-one-applicable" => Ok(Alg::OnlyOneApplicable),
-        _ => Err(NoAnswer::Malformed),
-    }
-}
-
-/// What a target of that name comes to.
-fn target_named(name: &str) -> Result<Matching, NoAnswer> {
-    match name {
-        "Match" => Ok(Matching::Match),
-        "NoMatch" => Ok(Matching::NoMatch),
-        "Indeterminate" => Ok(Matching::Indeterminate(Fault::ProcessingError)),
-        _ => Err(NoAnswer::Malformed),
-    }
-}
-
-/// The child DECISION, or DECISION/TARGET where its target isn't Match.
-fn child_of(field: &str) -> Result<Child, NoAnswer> {
-    match field.split_once('/') {
-        Some((decision, target)) => Ok(Child {
-            decision: decision_named(decision)?,
-            target: target_named(target)?,
-        }),
-        None => Ok(Child {
-            decision: decision_named(field)?,
-            target: Matching::Match,
-        }),
-    }
-}
-
-/// What the algorithm makes of the children.
-pub fn combination(answer: &mut Answer, algorithm: &str, fields: &[&str]) -> Result<(), NoAnswer> {
-    let mut children = Vec::new(answer.alloc());
+/// What is given by the fields, and the moment, which is 0 where none says it.
+fn read(alloc: Global, fields: &[&str]) -> Result<(Given, Moment), NoAnswer> {
+    let mut given = domain_named(alloc, kept_text(alloc, "")?);
+    let mut moment = moment_of("0")?;
     for field in fields {
-        children.push(child_of(field)?)?;
+        let Some((word, text)) = field.split_once(':') else {
+            return Err(NoAnswer::Malformed);
+        };
+        match word {
+            "moment" => moment = moment_of(text)?,
+            _ => put(alloc, &mut given, word, text)?,
+        }
     }
-    answer.word(name_of(combine(algorithm_named(algorithm)?, &children)))?;
+    Ok((given, moment))
+}
+
+/// The body of the response to the last field, the body of a request.
+pub fn decision(answer: &mut Answer, fields: &[&str]) -> Result<(), NoAnswer> {
+    let [fields @ .., body] = fields else {
+        return Err(NoAnswer::Malformed);
+    };
+    let (given, moment) = read(answer.alloc(), fields)?;
+    let view = view(answer.alloc(), given)?;
+    let body = bytes_of(answer.alloc(), body)?;
+    match xa_decide::answer(answer.alloc(), &view, &body, moment)? {
+        Some(body) => answer.field("", &body),
+        None => answer.word("!NotJson"),
+    }
     Ok(())
 }

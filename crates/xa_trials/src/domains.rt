@@ -1,75 +1,27 @@
-//! The domains of a row's server: fields `domain:NAME`, after each of which stand its tokens, `ask:TOKEN` and `admin:TOKEN`, and the
-//! rules of its policy, `rule:EFFECT` or `rule:EFFECT if TARGET`.
-use crate::field::text_of;
+//! What decides, and the domains of a row's server: fields `domain:NAME`, after each of which stand its tokens, `ask:TOKEN` and
+//! `admin:TOKEN`, its documents, `document:TEXT`, or `inactive:TEXT` where one isn't active, its root, `root:REFERENCE`, and the rows of its
+//! source of attributes, `row:CATEGORY|ENTITY|ID|TYPE=TEXT`.
+use crate::arguments::{type_named, value_of};
+use crate::field::{kept_text, text_of};
 use crate::no_answer::NoAnswer;
-use crate::targets::target_of;
+use crate::references::reference_of;
 use std::alloc::Global;
-use xa_expr::{Expr, Target, Variables};
-use xa_policy::{Alg, DutyExpressions, Effect, Linked, Policy, Rule};
-use xa_server::{Digest, Given, Role, Token};
-use xa_value::{Items, Shared, Text};
+use xa_decide::SourceRow;
+use xa_server::{Digest, Given, GivenDocument, Role, Token};
+use xa_value::{Items, Text};
 
-/// A domain as far as its fields were read.
-#[derive(Drop)]
-struct Domain {
-    name: Text,
-    tokens: Items<Token>,
-    policy: Policy,
-}
-
-/// A target that everything matches.
-fn everything(alloc: Global) -> Target {
-    Target {
-        any_of: Items::new(alloc),
-    }
-}
-
-/// A domain without tokens, whose policy has no rule.
-fn domain_named(alloc: Global, name: &str) -> Result<Domain, NoAnswer> {
-    let variables = Variables::new(alloc);
-    Ok(Domain {
-        name: Text::from_string(text_of(alloc, name)?),
+/// A domain of that name, with nothing in it.
+pub fn domain_named(alloc: Global, name: Text) -> Given {
+    Given {
+        name,
         tokens: Items::new(alloc),
-        policy: Policy::new(alloc, Alg::DenyOverrides, everything(alloc), variables),
-    })
-}
-
-/// The effect of that name.
-fn effect_named(name: &str) -> Result<Effect, NoAnswer> {
-    match name {
-        "permit" => Ok(Effect::Permit),
-        "deny" => Ok(Effect::Deny),
-        _ => Err(NoAnswer::Malformed),
+        documents: Items::new(alloc),
+        root: None,
+        source: Items::new(alloc),
     }
 }
 
-/// A rule without condition, obligations and advice.
-fn rule_with(alloc: Global, effect: &str, target: Target) -> Result<Rule<Expr>, NoAnswer> {
-    Ok(Rule {
-        effect: effect_named(effect)?,
-        target,
-        condition: None,
-        duties: DutyExpressions::none(alloc),
-    })
-}
-
-/// The rule that a field describes.
-fn rule_of(alloc: Global, text: &str) -> Result<Rule<Expr>, NoAnswer> {
-    match text.split_once(" if ") {
-        Some((effect, target)) => rule_with(alloc, effect, target_of(alloc, target)?),
-        None => rule_with(alloc, text, everything(alloc)),
-    }
-}
-
-fn push_token(
-    alloc: Global,
-    domain: Option<&mut Domain>,
-    role: Role,
-    token: &str,
-) -> Result<(), NoAnswer> {
-    let Some(domain) = domain else {
-        return Err(NoAnswer::Malformed);
-    };
+fn push_token(alloc: Global, domain: &mut Given, role: Role, token: &str) -> Result<(), NoAnswer> {
     let text = text_of(alloc, token)?;
     domain.tokens.push(Token {
         digest: Digest::of(text.as_bytes()),
@@ -78,34 +30,79 @@ fn push_token(
     Ok(())
 }
 
-fn push_rule(alloc: Global, domain: Option<&mut Domain>, text: &str) -> Result<(), NoAnswer> {
-    let Some(domain) = domain else {
+fn push_document(
+    alloc: Global,
+    domain: &mut Given,
+    active: bool,
+    text: &str,
+) -> Result<(), NoAnswer> {
+    let text = kept_text(alloc, text)?;
+    domain.documents.push(GivenDocument { text, active })?;
+    Ok(())
+}
+
+fn set_root(alloc: Global, domain: &mut Given, reference: &str) -> Result<(), NoAnswer> {
+    domain.root = Some(reference_of(alloc, reference)?);
+    Ok(())
+}
+
+/// The row of a field CATEGORY|ENTITY|ID|TYPE=TEXT.
+fn source_row(alloc: Global, field: &str) -> Result<SourceRow, NoAnswer> {
+    let Some((place, text)) = field.split_once('=') else {
         return Err(NoAnswer::Malformed);
     };
-    match domain.policy.add_rule(alloc, rule_of(alloc, text)?) {
-        Ok(()) => Ok(()),
-        Err(_) => Err(NoAnswer::Malformed),
-    }
-}
-
-/// Adds what the field describes, where it describes a domain.
-fn push_field(alloc: Global, domains: &mut Vec<Domain>, field: &str) -> Result<(), NoAnswer> {
-    match field.split_once(':') {
-        Some(("domain", name)) => Ok(domains.push(domain_named(alloc, name)?)?),
-        Some(("ask", token)) => push_token(alloc, domains.last_mut(), Role::Ask, token),
-        Some(("admin", token)) => push_token(alloc, domains.last_mut(), Role::Admin, token),
-        Some(("rule", text)) => push_rule(alloc, domains.last_mut(), text),
-        _ => Ok(()),
-    }
-}
-
-/// The domain, with what decides.
-fn given(alloc: Global, domain: Domain) -> Result<Given, NoAnswer> {
-    Ok(Given {
-        name: domain.name,
-        tokens: domain.tokens,
-        policy: Linked::Policy(Shared::new(alloc, domain.policy)?),
+    let parts: Vec<&str> = place.split('|').collect(alloc)?;
+    let [category, entity, attribute_id, name] = parts.as_slice() else {
+        return Err(NoAnswer::Malformed);
+    };
+    Ok(SourceRow {
+        category: kept_text(alloc, category)?,
+        entity: kept_text(alloc, entity)?,
+        attribute_id: kept_text(alloc, attribute_id)?,
+        value: value_of(alloc, type_named(name)?, text)?,
     })
+}
+
+fn push_row(alloc: Global, domain: &mut Given, field: &str) -> Result<(), NoAnswer> {
+    domain.source.push(source_row(alloc, field)?)?;
+    Ok(())
+}
+
+/// Puts into the domain what the word and the text behind it describe.
+pub fn put(alloc: Global, domain: &mut Given, word: &str, text: &str) -> Result<(), NoAnswer> {
+    match word {
+        "ask" => push_token(alloc, domain, Role::Ask, text),
+        "admin" => push_token(alloc, domain, Role::Admin, text),
+        "active" | "document" => push_document(alloc, domain, true, text),
+        "inactive" => push_document(alloc, domain, false, text),
+        "root" => set_root(alloc, domain, text),
+        "row" => push_row(alloc, domain, text),
+        _ => Err(NoAnswer::Malformed),
+    }
+}
+
+fn put_last(
+    alloc: Global,
+    domain: Option<&mut Given>,
+    word: &str,
+    text: &str,
+) -> Result<(), NoAnswer> {
+    match domain {
+        Some(domain) => put(alloc, domain, word, text),
+        None => Err(NoAnswer::Malformed),
+    }
+}
+
+/// Adds what the field describes, where it describes no event.
+fn push_field(alloc: Global, domains: &mut Vec<Given>, field: &str) -> Result<(), NoAnswer> {
+    let Some((word, text)) = field.split_once(':') else {
+        return Err(NoAnswer::Malformed);
+    };
+    match word {
+        "domain" => Ok(domains.push(domain_named(alloc, kept_text(alloc, text)?))?),
+        "piece" | "moment" | "close" => Ok(()),
+        _ => put_last(alloc, domains.last_mut(), word, text),
+    }
 }
 
 /// The domains of the fields.
@@ -114,9 +111,5 @@ pub fn domains(alloc: Global, fields: &[&str]) -> Result<Vec<Given>, NoAnswer> {
     for field in fields {
         push_field(alloc, &mut domains, field)?;
     }
-    let mut all = Vec::new(alloc);
-    for domain in domains {
-        all.push(given(alloc, domain)?)?;
-    }
-    Ok(all)
+    Ok(domains)
 }

@@ -3,14 +3,15 @@
 //! defines a variable, else it is a question. Of a target, `<NAME`, a literal, a designator and `>` are a match, `|` ends a conjunction
 //! of matches, and `;` a part of the target.
 use crate::answer::Answer;
-use crate::arguments::value;
+use crate::arguments::{type_named, value_of};
 use crate::attributes::{Attributes, designator};
-use crate::field::text_of;
+use crate::field::kept_text;
 use crate::functions::{fault, given};
 use crate::no_answer::NoAnswer;
 use std::alloc::Global;
 use std::mem;
-use xa_expr::{AllOf, AnyOf, Expr, Match, Target, Typed, Variables, check};
+use xa_bag::ValueOrBag;
+use xa_expr::{AllOf, AnyOf, Expr, Fault, Match, Target, Variables, check};
 use xa_func::HasKind;
 use xa_value::{Items, OrMemory, Text};
 
@@ -37,19 +38,14 @@ struct Trial {
     matches: Vec<Match>,
 }
 
-/// The name that a field has.
-fn name_of(alloc: Global, field: &str) -> Result<Text, NoAnswer> {
-    Ok(Text::from_string(text_of(alloc, field)?))
-}
-
-/// The expression of a field that is one alone.
-fn leaf(alloc: Global, field: &str) -> Result<Expr, NoAnswer> {
-    match field.split_once(':') {
-        Some(("any", place)) => Ok(Expr::Designator(designator(alloc, place, false)?)),
-        Some(("some", place)) => Ok(Expr::Designator(designator(alloc, place, true)?)),
-        Some(("function", name)) => Ok(Expr::Function(name_of(alloc, name)?)),
-        Some(("variable", name)) => Ok(Expr::Variable(name_of(alloc, name)?)),
-        _ => Ok(Expr::Value(value(alloc, field)?)),
+/// The expression of a field WORD:TEXT that is one alone.
+fn leaf(alloc: Global, word: &str, text: &str) -> Result<Expr, NoAnswer> {
+    match word {
+        "any" => Ok(Expr::Designator(designator(alloc, text, false)?)),
+        "some" => Ok(Expr::Designator(designator(alloc, text, true)?)),
+        "function" => Ok(Expr::Function(kept_text(alloc, text)?)),
+        "variable" => Ok(Expr::Variable(kept_text(alloc, text)?)),
+        _ => Ok(Expr::Value(value_of(alloc, type_named(word)?, text)?)),
     }
 }
 
@@ -82,11 +78,14 @@ impl Trial {
         if let Some(name) = field.strip_prefix("(").or(field.strip_prefix("<")) {
             return self.begin(name);
         }
-        match field.split_once(':') {
-            Some(("has", text)) => self.attributes.push(self.alloc, text),
-            Some(("let", name)) => self.name(name),
+        let Some((word, text)) = field.split_once(':') else {
+            return Err(NoAnswer::Malformed);
+        };
+        match word {
+            "has" => self.attributes.push(self.alloc, text),
+            "let" => self.name(text),
             _ => {
-                let expression = leaf(self.alloc, field)?;
+                let expression = leaf(self.alloc, word, text)?;
                 self.put(answer, expression)
             }
         }
@@ -94,14 +93,14 @@ impl Trial {
 
     fn begin(&mut self, name: &str) -> Result<(), NoAnswer> {
         self.open.push(Open {
-            function: name_of(self.alloc, name)?,
+            function: kept_text(self.alloc, name)?,
             arguments: Vec::new(self.alloc),
         })?;
         Ok(())
     }
 
     fn name(&mut self, name: &str) -> Result<(), NoAnswer> {
-        self.variable = Some(name_of(self.alloc, name)?);
+        self.variable = Some(kept_text(self.alloc, name)?);
         Ok(())
     }
 
@@ -123,35 +122,27 @@ impl Trial {
             Some(name) => self.define(answer, name, &expression),
             None => self.evaluate(answer, &expression),
         }
+        Ok(())
     }
 
     /// Answers whether the name is a variable now, which stands for the expression.
-    fn define(
-        &mut self,
-        answer: &mut Answer,
-        name: Text,
-        expression: &Expr,
-    ) -> Result<(), NoAnswer> {
-        match self.variables.define(self.alloc, name, expression) {
-            Ok(is_new) => Ok(answer.debug(&is_new)?),
-            Err(OrMemory::Error(error)) => Ok(answer.refusal(&error)?),
-            Err(OrMemory::Memory) => Err(NoAnswer::Memory),
+    fn define(&mut self, answer: &mut Answer, name: Text, expression: &Expr) {
+        let defined = self.variables.define(self.alloc, name, expression);
+        if let Some(is_new) = answer.given(defined) {
+            answer.name("", &is_new);
         }
     }
 
     /// Answers the kind of the expression and what it comes to, or why it has no kind.
-    fn evaluate(&self, answer: &mut Answer, expression: &Expr) -> Result<(), NoAnswer> {
+    fn evaluate(&self, answer: &mut Answer, expression: &Expr) {
         match check(self.alloc, expression, &self.variables) {
             Ok(typed) => {
-                answer.debug(&typed.kind())?;
-                match xa_expr::value(self.alloc, &self.attributes, &self.variables, &typed) {
-                    Ok(found) => given(answer, &found),
-                    Err(OrMemory::Error(found)) => fault(answer, &found, found.status()),
-                    Err(OrMemory::Memory) => Err(NoAnswer::Memory),
-                }
+                answer.name("", &typed.kind());
+                let found = xa_expr::value(self.alloc, &self.attributes, &self.variables, &typed);
+                show(answer, found);
             }
-            Err(OrMemory::Error(error)) => Ok(answer.refusal(&error)?),
-            Err(OrMemory::Memory) => Err(NoAnswer::Memory),
+            Err(OrMemory::Error(error)) => answer.name("!", &error),
+            Err(OrMemory::Memory) => answer.cut(),
         }
     }
 
@@ -163,12 +154,13 @@ impl Trial {
         match (open.arguments.pop(), open.arguments.pop()) {
             (Some(Expr::Designator(designator)), Some(Expr::Value(literal))) => {
                 match Match::new(open.function.as_str(), literal, designator) {
-                    Ok(made) => Ok(self.matches.push(made)?),
-                    Err(error) => Ok(answer.refusal(&error)?),
+                    Ok(made) => self.matches.push(made)?,
+                    Err(error) => answer.name("!", &error),
                 }
             }
-            _ => Err(NoAnswer::Malformed),
+            _ => return Err(NoAnswer::Malformed),
         }
+        Ok(())
     }
 
     fn end_all_of(&mut self) -> Result<(), NoAnswer> {
@@ -185,6 +177,15 @@ impl Trial {
             all_of: Items::from_vec(all_of),
         })?;
         Ok(())
+    }
+}
+
+/// Answers what an expression came to.
+fn show(answer: &mut Answer, found: Result<ValueOrBag, OrMemory<Fault>>) {
+    match found {
+        Ok(found) => given(answer, &found),
+        Err(OrMemory::Error(found)) => fault(answer, &found, found.status()),
+        Err(OrMemory::Memory) => answer.cut(),
     }
 }
 
@@ -210,5 +211,6 @@ pub fn target(answer: &mut Answer, fields: &[&str]) -> Result<(), NoAnswer> {
         any_of: Items::from_vec(trial.any_of),
     };
     let matching = target.matching(trial.alloc, &trial.attributes)?;
-    Ok(answer.debug(&matching)?)
+    answer.name("", &matching);
+    Ok(())
 }

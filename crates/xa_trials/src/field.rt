@@ -1,106 +1,92 @@
 //! What the text of a field stands for, and how bytes are written as a field.
 use crate::no_answer::NoAnswer;
 use std::alloc::{AllocError, Global};
-
-/// What the next byte of a field is read as.
-#[derive(Clone, Copy)]
-enum Place {
-    /// It stands for itself, or begins an escape.
-    Plain,
-    /// It is the letter of an escape.
-    Escape,
-    /// It is the first of two hexadecimal digits.
-    FirstDigit,
-    /// It is the second of them, after this one.
-    SecondDigit(u8),
-    /// It is a digit of how often a text is repeated, or the comma after them.
-    Count(usize),
-}
+use std::str::FromStr;
+use xa_value::Text;
 
 /// A field as far as it is read.
 #[derive(Drop)]
 struct Reader {
     alloc: Global,
     bytes: Vec<u8>,
-    place: Place,
     /// Where the text that is repeated begins, and how often it stands there in all.
     start: usize,
     count: usize,
+    /// Whether what comes next follows a backslash.
+    is_escaped: bool,
 }
 
 impl Reader {
-    fn take(&mut self, byte: u8) -> Result<(), AllocError> {
-        match self.place {
-            Place::Plain => self.plain(byte),
-            Place::Escape => self.escape(byte),
-            Place::FirstDigit => {
-                self.place = Place::SecondDigit(digit(byte));
-                Ok(())
-            }
-            Place::SecondDigit(first) => self.put(first.wrapping_mul(16).wrapping_add(digit(byte))),
-            Place::Count(count) => {
-                self.count_on(count, byte);
-                Ok(())
+    /// Takes what stands between two backslashes.
+    fn take(&mut self, part: &str) -> Result<(), NoAnswer> {
+        if !self.is_escaped {
+            self.is_escaped = true;
+            return self.put(part.as_bytes());
+        }
+        if let Some(text) = part.strip_prefix("{") {
+            return self.begin(text);
+        }
+        match part.as_bytes() {
+            [letter, rest @ ..] => self.escape(*letter, rest),
+            [] => {
+                self.is_escaped = false;
+                self.byte(b'\\', &[])
             }
         }
     }
 
-    /// Adds a byte, after which the field goes on plainly.
-    fn put(&mut self, byte: u8) -> Result<(), AllocError> {
-        self.place = Place::Plain;
-        self.bytes.push(byte)?;
+    fn put(&mut self, bytes: &[u8]) -> Result<(), NoAnswer> {
+        self.bytes.extend_from_slice(bytes)?;
         Ok(())
     }
 
-    fn plain(&mut self, byte: u8) -> Result<(), AllocError> {
-        if byte == b'\\' {
-            self.place = Place::Escape;
-            return Ok(());
-        }
-        self.put(byte)
+    /// Takes a byte, and those after it.
+    fn byte(&mut self, byte: u8, rest: &[u8]) -> Result<(), NoAnswer> {
+        self.bytes.push(byte)?;
+        self.put(rest)
     }
 
-    fn escape(&mut self, letter: u8) -> Result<(), AllocError> {
+    /// Takes the letter of an escape, and the bytes after it.
+    fn escape(&mut self, letter: u8, rest: &[u8]) -> Result<(), NoAnswer> {
         match letter {
-            b'n' => self.put(b'\n'),
-            b'r' => self.put(b'\r'),
-            b't' => self.put(b'\t'),
-            b'x' => {
-                self.place = Place::FirstDigit;
-                Ok(())
-            }
-            b'{' => {
-                self.place = Place::Count(0);
-                Ok(())
-            }
-            b'}' => self.repeat(),
-            other => self.put(other),
+            b'n' => self.byte(b'\n', rest),
+            b'r' => self.byte(b'\r', rest),
+            b't' => self.byte(b'\t', rest),
+            b'x' => self.digits(rest),
+            b'}' => self.repeat(rest),
+            other => self.byte(other, rest),
         }
     }
 
-    fn count_on(&mut self, count: usize, byte: u8) {
-        if byte == b',' {
-            self.place = Place::Plain;
-            self.start = self.bytes.len();
-            self.count = count;
-        } else {
-            self.place = Place::Count(
-                count
-                    .saturating_mul(10)
-                    .saturating_add(usize::from(digit(byte))),
-            );
+    /// Takes the byte of two hexadecimal digits, and the bytes after them.
+    fn digits(&mut self, bytes: &[u8]) -> Result<(), NoAnswer> {
+        match bytes {
+            [first, second, rest @ ..] => {
+                let byte = digit(*first).wrapping_mul(16).wrapping_add(digit(*second));
+                self.byte(byte, rest)
+            }
+            _ => Err(NoAnswer::Malformed),
         }
     }
 
-    /// Puts the text since the start so often that it stands there as often as was said.
-    fn repeat(&mut self) -> Result<(), AllocError> {
-        self.place = Place::Plain;
+    /// Takes how often a text stands there, and the beginning of the text.
+    fn begin(&mut self, text: &str) -> Result<(), NoAnswer> {
+        let Some((digits, rest)) = text.split_once(',') else {
+            return Err(NoAnswer::Malformed);
+        };
+        self.count = number_of(digits)?;
+        self.start = self.bytes.len();
+        self.put(rest.as_bytes())
+    }
+
+    /// Puts the text since the start so often that it stands there as often as was said, and the bytes after it.
+    fn repeat(&mut self, rest: &[u8]) -> Result<(), NoAnswer> {
         let text = Vec::from_slice(self.alloc, self.bytes.get(self.start..).unwrap_or(&[]))?;
         self.bytes.truncate(self.start);
         for _ in 0..self.count {
             self.bytes.extend_from_slice(&text)?;
         }
-        Ok(())
+        self.put(rest)
     }
 }
 
@@ -114,26 +100,44 @@ fn digit(byte: u8) -> u8 {
     }
 }
 
+/// The number that the text is.
+pub fn number_of<T: FromStr + Drop>(text: &str) -> Result<T, NoAnswer>
+where
+    T::Err: Drop,
+{
+    match text.parse() {
+        Ok(number) => Ok(number),
+        Err(_) => Err(NoAnswer::Malformed),
+    }
+}
+
 /// The bytes that the field stands for: `\n`, `\r`, `\t` and `\xHH` are a byte, `\{COUNT,TEXT\}` is the text COUNT times, and any
 /// other letter after a backslash stands for itself.
-pub fn bytes_of(alloc: Global, field: &str) -> Result<Vec<u8>, AllocError> {
+pub fn bytes_of(alloc: Global, field: &str) -> Result<Vec<u8>, NoAnswer> {
     let mut reader = Reader {
         alloc,
         bytes: Vec::new(alloc),
-        place: Place::Plain,
         start: 0,
         count: 1,
+        is_escaped: false,
     };
-    for byte in field.as_bytes() {
-        reader.take(*byte)?;
+    for part in field.split('\\') {
+        reader.take(part)?;
     }
     Ok(reader.bytes)
 }
 
 /// The text that the field stands for.
 pub fn text_of(alloc: Global, field: &str) -> Result<String, NoAnswer> {
-    let bytes = bytes_of(alloc, field)?;
-    String::from_utf8(bytes).map_err(|_| NoAnswer::Malformed)
+    match String::from_utf8(bytes_of(alloc, field)?) {
+        Ok(text) => Ok(text),
+        Err(_) => Err(NoAnswer::Malformed),
+    }
+}
+
+/// The same text, to be kept.
+pub fn kept_text(alloc: Global, field: &str) -> Result<Text, NoAnswer> {
+    Ok(Text::from_string(text_of(alloc, field)?))
 }
 
 /// Adds the bytes to the line as a field has them: in ASCII, with no tab and no line feed.

@@ -11,67 +11,55 @@ use xa_value::{DataType, OrMemory, Value};
 /// The function that the name names, and its signature.
 pub fn function(answer: &mut Answer, field: &str) -> Result<(), NoAnswer> {
     let name = text_of(answer.alloc(), field)?;
-    let Some(function) = FuncId::from_uri(name.as_str()) else {
-        return Ok(answer.word("!None")?);
-    };
-    answer.debug(&function)?;
-    answer.debug(&function.signature())?;
+    match FuncId::from_uri(name.as_str()) {
+        Some(function) => {
+            answer.name("", &function);
+            answer.name("", &function.signature());
+        }
+        None => answer.word("!None"),
+    }
     Ok(())
 }
 
-/// A refusal, with its status.
-pub fn fault(answer: &mut Answer, fault: &impl Debug, status: Status) -> Result<(), NoAnswer> {
-    answer.refusal(fault)?;
-    answer.word(status.uri())?;
-    Ok(())
+/// Adds a refusal, with its status.
+pub fn fault(answer: &mut Answer, fault: &impl Debug, status: Status) {
+    answer.name("!", fault);
+    answer.word(status.uri());
 }
 
-/// The value or the bag.
-pub fn given(answer: &mut Answer, given: &ValueOrBag) -> Result<(), NoAnswer> {
+/// Adds the value or the bag.
+pub fn given(answer: &mut Answer, given: &ValueOrBag) {
     match given {
-        ValueOrBag::Value(value) => answer.value(value)?,
+        ValueOrBag::Value(value) => answer.value(value),
         ValueOrBag::Bag(bag) => {
-            answer.field("bag:", bag.data_type().name().as_bytes())?;
-            members(answer, bag.values())?;
+            answer.field("bag:", bag.data_type().name().as_bytes());
+            for value in bag.values() {
+                answer.text("+", value);
+            }
         }
     }
-    Ok(())
 }
 
-fn members(answer: &mut Answer, values: &[Value]) -> Result<(), NoAnswer> {
-    for value in values {
-        let text = value.to_text(answer.alloc())?;
-        answer.field("+", text.as_bytes())?;
-    }
-    Ok(())
-}
-
-/// What a function of values gave.
-fn outcome(
-    answer: &mut Answer,
-    outcome: Result<Value, OrMemory<FuncFault>>,
-) -> Result<(), NoAnswer> {
+/// Adds what a function of values gave.
+fn outcome(answer: &mut Answer, outcome: Result<Value, OrMemory<FuncFault>>) {
     match outcome {
-        Ok(value) => Ok(answer.value(&value)?),
+        Ok(value) => answer.value(&value),
         Err(OrMemory::Error(found)) => fault(answer, &found, found.status()),
-        Err(OrMemory::Memory) => Err(NoAnswer::Memory),
+        Err(OrMemory::Memory) => answer.cut(),
     }
 }
 
-/// What a function of bags or of a function gave.
-fn bag_outcome(
-    answer: &mut Answer,
-    outcome: Result<ValueOrBag, OrMemory<BagFault<FuncFault>>>,
-) -> Result<(), NoAnswer> {
+/// Adds what a function of bags or of a function gave.
+fn bag_outcome(answer: &mut Answer, outcome: Result<ValueOrBag, OrMemory<BagFault<FuncFault>>>) {
     match outcome {
         Ok(found) => given(answer, &found),
         Err(OrMemory::Error(BagFault::Inner(found))) => fault(answer, &found, found.status()),
         Err(OrMemory::Error(found)) => fault(answer, &found, found.status()),
-        Err(OrMemory::Memory) => Err(NoAnswer::Memory),
+        Err(OrMemory::Memory) => answer.cut(),
     }
 }
 
-/// What the function of values gives.
+/// Adds what the function of values gives.
 fn apply_to_values(
     answer: &mut Answer,
     function: FuncId,
@@ -79,28 +67,29 @@ fn apply_to_values(
 ) -> Result<(), NoAnswer> {
     match values(answer.alloc(), arguments)? {
         Some(values) if function.takes(values.as_slice()) => {
-            outcome(answer, function.apply(answer.alloc(), values.as_slice()))
+            outcome(answer, function.apply(answer.alloc(), values.as_slice()));
         }
-        _ => Ok(answer.word("!Refused")?),
+        _ => answer.word("!Refused"),
     }
+    Ok(())
 }
 
-/// What the function of bags of the type gives.
+/// Adds what the function of bags of the type gives.
 fn apply_to_bags(
     answer: &mut Answer,
     function: BagFunction,
     data_type: DataType,
     arguments: &[ValueOrBag],
-) -> Result<(), NoAnswer> {
+) {
     let alloc = answer.alloc();
     let signature = FuncId::Bag(function, data_type).signature();
     if signature.accepts(arguments) {
         bag_outcome(
             answer,
             apply_bag_function(alloc, function, data_type, arguments),
-        )
+        );
     } else {
-        Ok(answer.word("!Refused")?)
+        answer.word("!Refused");
     }
 }
 
@@ -109,43 +98,38 @@ pub fn apply(answer: &mut Answer, name: &str, fields: &[&str]) -> Result<(), NoA
     let arguments = arguments(answer.alloc(), fields)?;
     match FuncId::from_uri(name) {
         Some(FuncId::Bag(function, data_type)) => {
-            apply_to_bags(answer, function, data_type, arguments.as_slice())
+            apply_to_bags(answer, function, data_type, arguments.as_slice());
         }
-        Some(function) => apply_to_values(answer, function, arguments),
-        None => Ok(answer.word("!Refused")?),
+        Some(function) => apply_to_values(answer, function, arguments)?,
+        None => answer.word("!Refused"),
     }
+    Ok(())
 }
 
-/// What the function of a function gives.
-fn apply_each(
-    answer: &mut Answer,
-    function: HigherOrder,
-    inner: FuncId,
-    arguments: &[ValueOrBag],
-) -> Result<(), NoAnswer> {
+/// Adds what the function of a function gives.
+fn apply_each(answer: &mut Answer, function: HigherOrder, inner: FuncId, arguments: &[ValueOrBag]) {
     let alloc = answer.alloc();
     if inner.takes_each(arguments) {
         bag_outcome(
             answer,
             apply_higher_order(alloc, function, &inner, arguments),
-        )
+        );
     } else {
-        Ok(answer.word("!Refused")?)
+        answer.word("!Refused");
     }
 }
 
-/// What the higher-order function gives for the inner function of that name and the arguments.
-pub fn higher(
-    answer: &mut Answer,
-    name: &str,
-    inner: &str,
-    fields: &[&str],
-) -> Result<(), NoAnswer> {
+/// What the higher-order function gives for the inner function that the first field names, and the arguments.
+pub fn higher(answer: &mut Answer, name: &str, fields: &[&str]) -> Result<(), NoAnswer> {
+    let [inner, fields @ ..] = fields else {
+        return Err(NoAnswer::Malformed);
+    };
     let arguments = arguments(answer.alloc(), fields)?;
     match (FuncId::from_uri(name), FuncId::from_uri(inner)) {
         (Some(FuncId::HigherOrder(function)), Some(inner)) => {
-            apply_each(answer, function, inner, arguments.as_slice())
+            apply_each(answer, function, inner, arguments.as_slice());
         }
-        _ => Ok(answer.word("!Refused")?),
+        _ => answer.word("!Refused"),
     }
+    Ok(())
 }

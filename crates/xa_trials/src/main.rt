@@ -4,97 +4,112 @@
 mod answer;
 mod arguments;
 mod attributes;
+mod combining;
 mod decisions;
+mod documents;
 mod domains;
 mod expressions;
 mod field;
 mod functions;
 mod holders;
+mod linking;
 mod messages;
 mod no_answer;
 mod plain;
+mod references;
 mod requests;
 mod server;
-mod targets;
 mod values;
 mod versions;
 
 use answer::Answer;
 use no_answer::NoAnswer;
 use std::alloc::{AllocError, Global};
-use std::io::{self, BufRead, BufReader, BufWriter, Write};
+use std::io::{self, Write};
+
+/// Answers a row of one field behind the kind.
+fn answer_one(answer: &mut Answer, kind: &str, field: &str) -> Result<(), NoAnswer> {
+    match kind {
+        "type" => values::data_type(answer, field),
+        "numbered" => values::numbered(answer, field),
+        "category" => values::category(answer, field),
+        "moment" => values::moment(answer, field),
+        "months" => values::months(answer, field),
+        "nanoseconds" => values::nanoseconds(answer, field),
+        "held" => holders::held(answer, field),
+        "function" => functions::function(answer, field),
+        _ => answer_text(answer, kind, field),
+    }
+}
+
+/// Answers a row of a text behind the kind.
+fn answer_text(answer: &mut Answer, kind: &str, text: &str) -> Result<(), NoAnswer> {
+    match kind {
+        "token" => messages::token(answer, text),
+        "domain" => messages::domain(answer, text),
+        "version" => versions::version(answer, text),
+        "pattern" => versions::pattern(answer, text),
+        "document" => documents::document(answer, text),
+        "request" => requests::request(answer, text),
+        "individuals" => requests::individuals(answer, text),
+        _ => answer_many(answer, kind, &[text]),
+    }
+}
+
+/// Answers a row of two fields behind the kind.
+fn answer_two(answer: &mut Answer, kind: &str, first: &str, second: &str) -> Result<(), NoAnswer> {
+    match kind {
+        "read" => values::read(answer, first, second),
+        "same" => values::same(answer, first, second),
+        "order" => values::order(answer, first, second),
+        "number" => values::number(answer, first, second),
+        "plain" => plain::plain(answer, first, second),
+        "digest" => messages::digest(answer, first, second),
+        "route" => messages::routing(answer, first, second),
+        "matches" => versions::matching(answer, first, second),
+        "versions" => versions::compared(answer, first, second),
+        _ => answer_many(answer, kind, &[first, second]),
+    }
+}
+
+/// Answers a row of any number of fields behind the kind.
+fn answer_many(answer: &mut Answer, kind: &str, fields: &[&str]) -> Result<(), NoAnswer> {
+    match kind {
+        "evaluate" => expressions::evaluate(answer, fields),
+        "target" => expressions::target(answer, fields),
+        "keys" => holders::keys(answer, fields),
+        "stream" => messages::stream(answer, fields),
+        "server" => server::server(answer, fields),
+        "decide" => decisions::decision(answer, fields),
+        _ => answer_first(answer, kind, fields),
+    }
+}
+
+/// Answers a row whose first field behind the kind isn't as those after it.
+fn answer_first(answer: &mut Answer, kind: &str, fields: &[&str]) -> Result<(), NoAnswer> {
+    let [first, fields @ ..] = fields else {
+        return Err(NoAnswer::Malformed);
+    };
+    match kind {
+        "apply" => functions::apply(answer, first, fields),
+        "higher" => functions::higher(answer, first, fields),
+        "bag" => holders::bag(answer, first, fields),
+        "combine" => combining::combination(answer, first, fields),
+        "resolve" => references::resolution(answer, first, fields),
+        "link" => linking::linked(answer, first, fields),
+        _ => Err(NoAnswer::Malformed),
+    }
+}
 
 /// Answers a row, whose first field says what is asked.
 fn answer_row(answer: &mut Answer, fields: &[&str]) -> Result<(), NoAnswer> {
+    let [kind, fields @ ..] = fields else {
+        return Err(NoAnswer::Malformed);
+    };
     match fields {
-        ["read", data_type, text] => values::read(answer, data_type, text),
-        ["same", left, right] => values::same(answer, left, right),
-        ["order", left, right] => values::order(answer, left, right),
-        ["moment", seconds] => values::moment(answer, seconds),
-        ["months", number] => values::months(answer, number),
-        ["nanoseconds", number] => values::nanoseconds(answer, number),
-        ["plain", data_type, member] => plain::plain(answer, data_type, member),
-        _ => answer_to_names(answer, fields),
-    }
-}
-
-/// Answers a row of names and numbers.
-fn answer_to_names(answer: &mut Answer, fields: &[&str]) -> Result<(), NoAnswer> {
-    match fields {
-        ["type", name] => values::data_type(answer, name),
-        ["numbered", number] => values::numbered(answer, number),
-        ["category", name] => values::category(answer, name),
-        ["number", most, digits] => values::number(answer, most, digits),
-        ["token", text] => messages::token(answer, text),
-        ["domain", name] => messages::domain(answer, name),
-        ["digest", text, bytes] => messages::digest(answer, text, bytes),
-        _ => answer_to_functions(answer, fields),
-    }
-}
-
-/// Answers a row of functions, and of what holds values.
-fn answer_to_functions(answer: &mut Answer, fields: &[&str]) -> Result<(), NoAnswer> {
-    match fields {
-        ["function", name] => functions::function(answer, name),
-        ["apply", name, arguments @ ..] => functions::apply(answer, name, arguments),
-        ["higher", name, inner, arguments @ ..] => functions::higher(
-            answer, name, inner, arguments,
-        ),
-        ["held", value] => holders::held(answer, value),
-        ["keys", texts @ ..] => holders::keys(answer, texts),
-        ["bag", data_type, values @ ..] => holders::bag(answer, data_type, values),
-        _ => answer_to_messages(answer, fields),
-    }
-}
-
-/// Answers a row of messages, of expressions, and of what is decided.
-fn answer_to_messages(answer: &mut Answer, fields: &[&str]) -> Result<(), NoAnswer> {
-    match fields {
-        ["combine", algorithm, children @ ..] => decisions::combination(
-            answer, algorithm, children,
-        ),
-        ["stream", pieces @ ..] => messages::stream(answer, pieces),
-        ["route", method, target] => messages::routing(answer, method, target),
-        ["server", fields @ ..] => server::server(answer, fields),
-        ["evaluate", fields @ ..] => expressions::evaluate(answer, fields),
-        ["target", fields @ ..] => expressions::target(answer, fields),
-        _ => answer_to_versions(answer, fields),
-    }
-}
-
-/// Answers a row of versions and references, and of requests.
-fn answer_to_versions(answer: &mut Answer, fields: &[&str]) -> Result<(), NoAnswer> {
-    match fields {
-        ["version", text] => versions::version(answer, text),
-        ["pattern", text] => versions::pattern(answer, text),
-        ["matches", pattern, version] => versions::matching(answer, pattern, version),
-        ["versions", left, right] => versions::compared(answer, left, right),
-        ["resolve", reference, documents @ ..] => versions::resolution(
-            answer, reference, documents,
-        ),
-        ["request", body] => requests::request(answer, body),
-        ["individuals", body] => requests::individuals(answer, body),
-        _ => Err(NoAnswer::Malformed),
+        [field] => answer_one(answer, kind, field),
+        [first, second] => answer_two(answer, kind, first, second),
+        _ => answer_many(answer, kind, fields),
     }
 }
 
@@ -102,18 +117,27 @@ fn answer_to_versions(answer: &mut Answer, fields: &[&str]) -> Result<(), NoAnsw
 fn answer_to(alloc: Global, line: &str) -> Result<Answer, AllocError> {
     let mut answer = Answer::new(alloc);
     let fields: Vec<&str> = line.split('\t').collect(alloc)?;
-    if let Err(error) = answer_row(&mut answer, &fields) {
-        answer.refusal(&error)?;
+    match answer_row(&mut answer, &fields) {
+        Ok(()) => {}
+        Err(NoAnswer::Memory) => answer.cut(),
+        Err(NoAnswer::Malformed) => answer.word("!Malformed"),
     }
     Ok(answer)
 }
 
-fn main(rt: HostRuntime) -> io::Result<()> {
-    let alloc = rt.alloc();
-    let mut writer = BufWriter::new(alloc, io::writer(&rt))?;
-    for line in BufReader::new(alloc, rt.reader())?.lines(alloc) {
-        let answer = answer_to(alloc, line?.as_str())?;
-        writeln!(writer, "{}", answer.line())?;
+/// The answers to the lines of the text.
+fn answers(alloc: Global, text: &str) -> Result<String, AllocError> {
+    let mut answers = String::new(alloc);
+    for line in text.lines() {
+        let answer = answer_to(alloc, line)?;
+        answers.push_str(answer.line())?;
+        answers.push_str("\n")?;
     }
-    writer.flush()
+    Ok(answers)
+}
+
+fn main(rt: HostRuntime) -> io::Result<()> {
+    let text = io::read_to_string(rt.alloc(), rt.reader())?;
+    let answers = answers(rt.alloc(), text.as_str())?;
+    io::writer(&rt).write_all(answers.as_bytes())
 }

@@ -21,28 +21,37 @@ pub fn stream(answer: &mut Answer, pieces: &[&str]) -> Result<(), NoAnswer> {
 fn take_all(answer: &mut Answer, session: &mut Session) -> Result<(), NoAnswer> {
     for _ in 0..u64::MAX {
         match session.next()? {
-            Next::Message(message) => push_message(answer, &message)?,
-            Next::More => return Ok(answer.word("More")?),
-            Next::Fault(fault) => return Ok(answer.refusal(&fault)?),
-            Next::Ended => return Ok(answer.word("!Ended")?),
+            Next::Message(message) => push_message(answer, &message),
+            next => {
+                push_end(answer, next);
+                return Ok(());
+            }
         }
     }
     Ok(())
 }
 
+/// Adds why no message follows.
+fn push_end(answer: &mut Answer, next: Next) {
+    match next {
+        Next::More => answer.word("More"),
+        Next::Fault(fault) => answer.name("!", &fault),
+        Next::Ended | Next::Message(_) => answer.word("!Ended"),
+    }
+}
+
 /// Adds a message: its method, its target, its field lines and its body, and whether it closes the stream.
-fn push_message(answer: &mut Answer, message: &Message) -> Result<(), NoAnswer> {
-    answer.field("method:", message.method.as_slice())?;
-    answer.field("target:", message.target.as_slice())?;
+fn push_message(answer: &mut Answer, message: &Message) {
+    answer.field("method:", message.method.as_slice());
+    answer.field("target:", message.target.as_slice());
     for field in message.fields.as_slice() {
-        answer.field("name:", field.name.as_slice())?;
-        answer.field("value:", field.value.as_slice())?;
+        answer.field("name:", field.name.as_slice());
+        answer.field("value:", field.value.as_slice());
     }
-    answer.field("body:", message.body.as_slice())?;
+    answer.field("body:", message.body.as_slice());
     if message.close {
-        answer.word("close")?;
+        answer.word("close");
     }
-    Ok(())
 }
 
 /// The message of that method and target alone.
@@ -61,31 +70,35 @@ pub fn routing(answer: &mut Answer, method: &str, target: &str) -> Result<(), No
     let message = message_of(answer.alloc(), method, target)?;
     let routes = Routes::new(answer.alloc())?;
     match routes.route(answer.alloc(), &message) {
-        Ok(Route::Decide { domain }) => Ok(answer.field("decide:", domain.as_slice())?),
-        Err(OrMemory::Error(RouteFault::BadMethod(_))) => Ok(answer.word("!BadMethod")?),
-        Err(OrMemory::Error(fault)) => Ok(answer.refusal(&fault)?),
-        Err(OrMemory::Memory) => Err(NoAnswer::Memory),
+        Ok(Route::Decide { domain }) => answer.field("decide:", domain.as_slice()),
+        Err(OrMemory::Error(RouteFault::BadMethod(_))) => answer.word("!BadMethod"),
+        Err(OrMemory::Error(fault)) => answer.name("!", &fault),
+        Err(OrMemory::Memory) => answer.cut(),
     }
+    Ok(())
 }
 
 /// Whether the text has the shape of a token.
 pub fn token(answer: &mut Answer, field: &str) -> Result<(), NoAnswer> {
     let text = bytes_of(answer.alloc(), field)?;
-    Ok(answer.debug(&is_token(&text))?)
+    answer.name("", &is_token(&text));
+    Ok(())
 }
 
 /// Whether the text is a domain's name.
 pub fn domain(answer: &mut Answer, field: &str) -> Result<(), NoAnswer> {
     let text = bytes_of(answer.alloc(), field)?;
-    Ok(answer.debug(&is_domain_name(&text))?)
+    answer.name("", &is_domain_name(&text));
+    Ok(())
 }
 
 /// Whether the bytes are the digest of the text.
 pub fn digest(answer: &mut Answer, text: &str, field: &str) -> Result<(), NoAnswer> {
     let text = bytes_of(answer.alloc(), text)?;
     let bytes = bytes_of(answer.alloc(), field)?;
-    let Ok(bytes) = <[u8; 32]>::try_from(bytes.as_slice()) else {
-        return Err(NoAnswer::Malformed);
-    };
-    Ok(answer.debug(&(Digest::of(&text) == Digest::from_bytes(bytes)))?)
+    match <[u8; 32]>::try_from(bytes.as_slice()) {
+        Ok(bytes) => answer.name("", &(Digest::of(&text) == Digest::from_bytes(bytes))),
+        Err(_) => return Err(NoAnswer::Malformed),
+    }
+    Ok(())
 }

@@ -1,13 +1,14 @@
 //! Rows of messages: what a given server answers to a stream. After the domains stand `moment:SECONDS`, which dates what follows,
 //! `piece:BYTES`, the next piece of the stream, and `close`, after which the stream is another.
 use crate::answer::Answer;
+use crate::decisions::moment_of;
 use crate::domains::domains;
 use crate::field::bytes_of;
 use crate::no_answer::NoAnswer;
 use std::alloc::Global;
 use xa_http::{Message, Next, Session};
 use xa_server::{Digest, Reply, Server, fault_reply};
-use xa_value::{Moment, OrMemory};
+use xa_value::Moment;
 
 /// A server at a moment, with the stream whose messages it answers.
 #[derive(Drop)]
@@ -19,28 +20,26 @@ struct Trial {
 }
 
 /// Adds each reply, and of equal ones in a row the first and how many there are, as `*COUNT`.
-fn push_replies(answer: &mut Answer, replies: &[Reply]) -> Result<(), NoAnswer> {
+fn push_replies(answer: &mut Answer, replies: &[Reply]) {
     let mut before: &[u8] = &[];
     let mut count = 0usize;
     for reply in replies {
         if count > 0 && reply.bytes() == before {
             count = count.saturating_add(1);
         } else {
-            push_count(answer, count)?;
-            answer.field("", reply.bytes())?;
+            push_count(answer, count);
+            answer.field("", reply.bytes());
             before = reply.bytes();
             count = 1;
         }
     }
-    push_count(answer, count)
+    push_count(answer, count);
 }
 
-fn push_count(answer: &mut Answer, count: usize) -> Result<(), NoAnswer> {
+fn push_count(answer: &mut Answer, count: usize) {
     if count > 1 {
-        let text = count.to_string(answer.alloc())?;
-        answer.field("*", text.as_bytes())?;
+        answer.name("*", &count);
     }
-    Ok(())
 }
 
 /// Takes the whole messages off the stream, each with the moment. What the stream answers next.
@@ -66,30 +65,22 @@ impl Trial {
         let mut messages = Vec::new(self.alloc);
         let next = take_messages(&mut self.session, self.moment, &mut messages)?;
         let replies = self.server.run(&messages)?;
-        push_replies(answer, &replies)?;
+        push_replies(answer, &replies);
         push_end(answer, next, replies.is_empty())
-    }
-
-    /// Dates what follows.
-    fn date(&mut self, text: &str) -> Result<(), NoAnswer> {
-        let Ok(seconds) = text.parse::<i64>() else {
-            return Err(NoAnswer::Malformed);
-        };
-        self.moment = Moment::new(seconds).ok_or(NoAnswer::Malformed)?;
-        Ok(())
     }
 
     /// Does what the field says, where it says what happens.
     fn step(&mut self, answer: &mut Answer, field: &str) -> Result<(), NoAnswer> {
-        match field.split_once(':') {
-            Some(("piece", bytes)) => self.piece(answer, bytes),
-            Some(("moment", seconds)) => self.date(seconds),
-            Some(("close", _)) => {
-                self.session = Session::new(self.alloc);
-                Ok(())
-            }
-            _ => Ok(()),
+        let Some((word, text)) = field.split_once(':') else {
+            return Err(NoAnswer::Malformed);
+        };
+        match word {
+            "piece" => self.piece(answer, text)?,
+            "moment" => self.moment = moment_of(text)?,
+            "close" => self.session = Session::new(self.alloc),
+            _ => {}
         }
+        Ok(())
     }
 }
 
@@ -98,11 +89,11 @@ fn push_end(answer: &mut Answer, next: Next, is_first: bool) -> Result<(), NoAns
     match next {
         Next::Fault(fault) => {
             let bytes = fault_reply(answer.alloc(), fault)?;
-            answer.field("", &bytes)?;
-            answer.word("!Ended")?;
+            answer.field("", &bytes);
+            answer.word("!Ended");
         }
-        Next::Ended => answer.word("!Ended")?,
-        Next::More if is_first => answer.word("More")?,
+        Next::Ended => answer.word("!Ended"),
+        Next::More if is_first => answer.word("More"),
         Next::More | Next::Message(_) => {}
     }
     Ok(())
@@ -111,14 +102,11 @@ fn push_end(answer: &mut Answer, next: Next, is_first: bool) -> Result<(), NoAns
 /// What the server over the fields' domains answers to the stream of their pieces.
 pub fn server(answer: &mut Answer, fields: &[&str]) -> Result<(), NoAnswer> {
     let alloc = answer.alloc();
-    match Server::given(
-        alloc,
-        domains(alloc, fields)?,
-        Digest::of("operator-token-1".as_bytes()),
-    ) {
-        Ok(server) => stream(answer, server, fields),
-        Err(OrMemory::Error(error)) => Ok(answer.refusal(&error)?),
-        Err(OrMemory::Memory) => Err(NoAnswer::Memory),
+    let operator = Digest::of("operator-token-1".as_bytes());
+    let given = Server::given(alloc, domains(alloc, fields)?, operator);
+    match answer.given(given) {
+        Some(server) => stream(answer, server, fields),
+        None => Ok(()),
     }
 }
 
@@ -128,7 +116,7 @@ fn stream(answer: &mut Answer, server: Server, fields: &[&str]) -> Result<(), No
         alloc,
         server,
         session: Session::new(alloc),
-        moment: Moment::new(0).ok_or(NoAnswer::Malformed)?,
+        moment: moment_of("0")?,
     };
     for field in fields {
         trial.step(answer, field)?;

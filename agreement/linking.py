@@ -1,0 +1,70 @@
+"""Linking: the tree in which each reference has given way to the document for which it stands (XACML 3.0, core, sections 5.10, 5.11, 7.15)."""
+import collections
+
+from documents import Document, DocumentFault, document_of
+from names import word
+from policies import LEAF, Tree
+from rows import decoded
+from versions import numbered, reference_of, resolved
+
+MOST_ON_A_PATH, MOST_IN_A_TREE = 17, 1000
+Active = collections.namedtuple("Active", "kind id version document")
+
+
+class TooLarge(Exception):
+    """The tree has too many policies and sets."""
+
+
+def active_of(field):
+    """The active document of a field."""
+    document = document_of(decoded(field))
+    return Active("policy" if document.form == "Policy" else "set", document.id, numbered(document.version), document)
+
+
+class Linking:
+    """Trees over active documents, of so many policies and sets so far; references that have no document are not counted."""
+
+    def __init__(self, active):
+        self.active, self.keys, self.size = active, [held[:3] for held in active], 0
+
+    def referred(self, reference, path):
+        """The tree for which the reference stands, under the documents of the path."""
+        place = resolved(reference, self.keys)
+        if place is None or place in path or len(path) == MOST_ON_A_PATH:
+            return LEAF
+        return self.tree(self.active[place].document, [*path, place])
+
+    def tree(self, document, path):
+        self.size += 1
+        if self.size > MOST_IN_A_TREE:
+            raise TooLarge
+        if document.form == "Policy":
+            return Tree(document, ())
+        return Tree(document, [self.tree(child, path) if isinstance(child, Document) else self.referred(child, path) for child in document.children])
+
+
+def linked(active, root):
+    """The tree of the root reference."""
+    return Linking(active).referred(root, [])
+
+
+def tree_shown(tree):
+    """The fields of a tree: a set with those of its children, a policy, and `?`."""
+    if tree == LEAF:
+        return ["?"]
+    name = word(tree.document.algorithm)
+    if tree.document.form == "Policy":
+        return [name]
+    return ["(" + name] + [field for child in tree.children for field in tree_shown(child)] + [")"]
+
+
+def link(root, *texts):
+    """The answer to a row."""
+    try:
+        active = [active_of(field) for field in texts]
+    except DocumentFault:
+        return ["!Malformed"]
+    try:
+        return tree_shown(linked(active, reference_of(root)))
+    except TooLarge:
+        return ["!TooLarge"]

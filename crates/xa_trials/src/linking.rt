@@ -1,0 +1,44 @@
+//! Rows of linking: the tree that a reference leads to.
+use crate::answer::Answer;
+use crate::documents::active;
+use crate::field::bytes_of;
+use crate::no_answer::NoAnswer;
+use crate::references::reference_of;
+use xa_link::link;
+use xa_policy::Linked;
+
+/// The tree that the reference leads to among the active documents of these texts.
+pub fn linked(answer: &mut Answer, root: &str, texts: &[&str]) -> Result<(), NoAnswer> {
+    let alloc = answer.alloc();
+    let root = reference_of(alloc, root)?;
+    let mut documents = Vec::new(alloc);
+    for text in texts {
+        documents.push(active(alloc, &bytes_of(alloc, text)?)?)?;
+    }
+    if let Some(tree) = answer.given(link(alloc, &documents, &root)) {
+        show(answer, &tree);
+    }
+    Ok(())
+}
+
+/// Adds the tree: `?` for a reference that leads to nothing, else the name of the algorithm, of a set with its children.
+#[cycle(shown)]
+fn show(answer: &mut Answer, tree: &Linked) {
+    match tree {
+        Linked::Unresolved => answer.word("?"),
+        Linked::Policy(policy) => answer.name("", &policy.get().algorithm()),
+        Linked::PolicySet(set, children) => {
+            answer.name("(", &set.get().algorithm());
+            show_children(answer, children.as_slice());
+        }
+    }
+}
+
+/// Adds the trees of a set's children, and its end.
+#[cycle(shown)]
+fn show_children(answer: &mut Answer, children: &[Linked]) {
+    for child in children {
+        show(answer, child);
+    }
+    answer.word(")");
+}
