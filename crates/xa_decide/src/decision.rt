@@ -7,6 +7,7 @@ ghost use Rattle.xa_profile.specs.Response.{response_body};
 ghost use Rattle.xa_decide.specs.Decision.{tree_of, by_tree, refused, result_of, decided, body_of, answer};
 
 use crate::context::IndividualContext;
+use crate::indexed_object::IndexedObject;
 use crate::view::View;
 use std::alloc::{AllocError, Global};
 use xa_expr::{Context, Fault};
@@ -100,7 +101,7 @@ fn result_at(
     alloc: Global,
     view: &View,
     tree: &Option<Result<Linked, LinkError>>,
-    objects: &[CategoryObject],
+    objects: &[IndexedObject<'_>],
     moment: Moment,
     places: Items<usize>,
 ) -> Result<ResultObject, AllocError>
@@ -118,7 +119,7 @@ fn result_of(
     alloc: Global,
     view: &View,
     tree: &Option<Result<Linked, LinkError>>,
-    objects: &[CategoryObject],
+    objects: &[IndexedObject<'_>],
     moment: Moment,
     individual: Individual,
 ) -> Result<ResultObject, AllocError>
@@ -131,12 +132,26 @@ fn result_of(
     }
 }
 
+/// The objects, each with its attributes put in order.
+fn indexed<'a>(
+    alloc: Global,
+    objects: &'a [CategoryObject],
+) -> Result<Vec<IndexedObject<'a>>, AllocError>
+    ensures { IfOk result (λ indexed. indexed.items ≡ objects.now) }
+{
+    let mut indexed = Vec::new(alloc);
+    for object in objects {
+        indexed.push(IndexedObject::new(alloc, object)?)?;
+    }
+    Ok(indexed)
+}
+
 /// The results of the individual requests, by the one tree.
 fn results_by(
     alloc: Global,
     view: &View,
     tree: &Option<Result<Linked, LinkError>>,
-    objects: &[CategoryObject],
+    objects: &[IndexedObject<'_>],
     moment: Moment,
     individuals: Items<Individual>,
 ) -> Result<Items<ResultObject>, AllocError>
@@ -150,7 +165,7 @@ fn results_by(
     Ok(results)
 }
 
-/// The results of the individual requests. The tree is linked once for all of them.
+/// The results of the individual requests. For all of them the tree is linked once, and each object put in order once.
 fn results_of(
     alloc: Global,
     view: &View,
@@ -161,7 +176,8 @@ fn results_of(
     ensures { IfOk result (λ results. results ≡ map (result_of view.now objects.now moment) individuals) }
 {
     let tree = tree_of(alloc, view)?;
-    results_by(alloc, view, &tree, objects, moment, individuals)
+    let objects = indexed(alloc, objects)?;
+    results_by(alloc, view, &tree, objects.as_slice(), moment, individuals)
 }
 
 /// The results of the request.

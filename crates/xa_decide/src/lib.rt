@@ -6,6 +6,13 @@ mod clock;
 mod context;
 mod decision;
 mod entity;
+mod indexed_object;
+mod individual_objects;
+mod key;
+mod keys;
+mod naming;
+mod order;
+mod source;
 mod source_row;
 mod view;
 

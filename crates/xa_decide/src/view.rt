@@ -1,6 +1,7 @@
 //! What decides.
 ghost use Rattle.std.specs.Prelude.{◌≡◌, option_map, IfOk};
 
+use crate::source::Source;
 use crate::source_row::SourceRow;
 use std::alloc::{AllocError, Global};
 use std::marker::Model;
@@ -13,7 +14,7 @@ use xa_value::Items;
 pub struct View {
     active: Items<Active>,
     root: Option<Reference>,
-    source: Items<SourceRow>,
+    source: Source,
 }
 
 impl Model for View {
@@ -29,15 +30,16 @@ impl Model for View {
 }
 
 impl View {
-    /// A view of these documents, this root and these rows.
+    /// A view of these documents, this root and these rows, which are put in order.
     pub fn new(
-        _alloc: Global,
+        alloc: Global,
         active: Items<Active>,
         root: Option<Reference>,
         source: Items<SourceRow>,
     ) -> Result<View, AllocError>
         ensures { IfOk result (λ view. view ≡ record { active = active; root = root; source = source }) }
     {
+        let source = Source::new(alloc, source)?;
         Ok(View {
             active,
             root,
@@ -59,10 +61,10 @@ impl View {
         self.root.as_ref()
     }
 
-    /// The rows of the source.
-    pub(crate) fn source(&self) -> &[SourceRow]
+    /// The source.
+    pub(crate) fn source(&self) -> &Source
         ensures { result.now ≡ self.now.source }
     {
-        self.source.as_slice()
+        &self.source
     }
 }

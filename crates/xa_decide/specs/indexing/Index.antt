@@ -1,0 +1,46 @@
+-- Items by their keys.
+use Rattle.std.specs.Prelude.{ℕ, Bool, ◌&&◌, ◌==◌, List, filter, length, Option, Some, option_map, bytes_eq, slice_get}
+use Rattle.std.specs.Cmp.Lexicographic.{slice_cmp}
+use Rattle.std.specs.List.{range_with_len}
+use Rattle.std.specs.List.Sorted.{IsSortedByKey, IsStableByKey}
+use Rattle.std.specs.Option.{option_cmp}
+use Rattle.std.specs.Ordering.{nat_cmp, on, then_cmp, is_eq}
+use Rattle.std.specs.declared.cmp.Ordering.{Ordering}
+
+-- what is looked up: a number and texts
+pub record Sought : Type 0 where
+  pub number : ℕ
+  pub first : List ℕ
+  pub second : List ℕ
+  pub third : List ℕ
+
+abbrev pub sought : ℕ → List ℕ → List ℕ → List ℕ → Sought
+sought number first second third = record { number = number; first = first; second = second; third = third }
+
+abbrev pub compare_texts : List ℕ → List ℕ → Ordering
+compare_texts = slice_cmp nat_cmp
+
+-- by the number, and then by the texts
+abbrev pub compare_keys : Sought → Sought → Ordering
+compare_keys = then_cmp (then_cmp (then_cmp (on (λ k. k.number) nat_cmp) (on (λ k. k.first) compare_texts)) (on (λ k. k.second) compare_texts)) (on (λ k. k.third) compare_texts)
+
+abbrev pub equal_keys : Sought → Sought → Bool
+equal_keys j k = (((j.number == k.number) && bytes_eq j.first k.first) && bytes_eq j.second k.second) && bytes_eq j.third k.third
+
+-- the key of the item at a place
+abbrev pub key_at : {X : Type 0} → (X → Sought) → List X → ℕ → Option Sought
+key_at key_of items place = option_map key_of (slice_get items place)
+
+-- how it compares with another
+abbrev pub order_at : {X : Type 0} → (X → Sought) → List X → Sought → ℕ → Ordering
+order_at key_of items key place = option_cmp compare_keys (key_at key_of items place) (Some key)
+
+-- all places in the order of the keys; those of one key in their own order
+abbrev pub IsOrder : {X : Type 0} → (X → Sought) → List X → List ℕ → Type 0
+IsOrder key_of items order =
+    IsSortedByKey (key_at key_of items) (option_cmp compare_keys) order
+    × IsStableByKey (key_at key_of items) (option_cmp compare_keys) (range_with_len 0 (length items)) order
+
+-- the items of that key
+abbrev pub with_key : {X : Type 0} → (X → Sought) → Sought → List X → List X
+with_key key_of key items = filter (λ x. is_eq (compare_keys (key_of x) key)) items

@@ -1,0 +1,39 @@
+-- The keys by which attributes, Category objects and rows of the source are found.
+use Rattle.std.specs.Prelude.{ℕ, ◌+◌, List, [], Option, Some, None}
+use denote.Ref.{Bor}
+use Rattle.xa_value.specs.declared.data_type.DataType.{DataType}
+use Rattle.xa_value.specs.Order.{type_of}
+use Rattle.xa_value.specs.Types.{place_of}
+use Rattle.xa_profile.specs.declared.attribute.Attribute.{Attribute}
+use Rattle.xa_profile.specs.declared.category_object.CategoryObject.{CategoryObject}
+use Rattle.xa_decide.specs.declared.source_row.SourceRow.{SourceRow}
+use Rattle.xa_decide.specs.indexing.Index.{Sought, sought}
+
+-- an attribute's id and type
+abbrev pub name_key : List ℕ → DataType → Sought
+name_key id t = sought (place_of t) id [] []
+
+-- and its issuer, where it has one; one without an issuer has another number than any that has one
+abbrev pub issuer_key : List ℕ → DataType → Option (List ℕ) → Sought
+issuer_key id t None = name_key id t
+issuer_key id t (Some issuer) = sought (11 + place_of t) id issuer []
+
+abbrev pub name_key_of : Attribute → Sought
+name_key_of a = name_key a.id a.values.data_type
+
+abbrev pub issuer_key_of : Attribute → Sought
+issuer_key_of a = issuer_key a.id a.values.data_type a.issuer
+
+-- a category
+abbrev pub category_key : List ℕ → Sought
+category_key category = sought 0 category [] []
+
+abbrev pub object_key_of : Bor CategoryObject → Sought
+object_key_of o = category_key o.now.category
+
+-- a row's category, entity, id and type
+abbrev pub row_key : List ℕ → List ℕ → List ℕ → DataType → Sought
+row_key category entity id t = sought (place_of t) category entity id
+
+abbrev pub row_key_of : SourceRow → Sought
+row_key_of row = row_key row.category row.entity row.attribute_id (type_of row.value)

@@ -1,0 +1,147 @@
+//! The Category objects of an individual request.
+ghost use Rattle.std.specs.Prelude.{◌≡◌, [], ◌++◌, map, filter, bytes_eq, option_map, slice_get, IfOk, if◌then◌else◌};
+ghost use Rattle.std.specs.List.{filter_map};
+ghost use Rattle.xa_bag.specs.Bag.{bag_of};
+ghost use Rattle.xa_decide.specs.Context.{object_values, request_values};
+ghost use Rattle.xa_decide.specs.Decision.{objects_at};
+
+use crate::indexed_object::{IndexedObject, push_object};
+use crate::key::Key;
+use crate::keys::category_key;
+use crate::order::{Keying, order_of, places_with};
+use std::alloc::{AllocError, Global};
+use std::marker::{Model, PhantomData};
+use xa_bag::Bag;
+use xa_value::{DataType, Text};
+
+/// Category objects by their categories.
+struct ByCategory<'a> {
+    _of: PhantomData<&'a IndexedObject<'a>>,
+}
+
+impl<'a> Keying for ByCategory<'a> {
+    ghost use Rattle.xa_decide.specs.indexing.Keys.{object_key_of};
+
+    type Item = &'a IndexedObject<'a>;
+
+    ghost key_of = { object_key_of };
+
+    fn key<'i>(object: &'i &'a IndexedObject<'a>) -> Key<'i> {
+        category_key(object.category())
+    }
+}
+
+/// The Category objects of an individual request, to be found by their categories.
+#[derive(Drop)]
+pub(crate) struct IndividualObjects<'a> {
+    objects: Vec<&'a IndexedObject<'a>>,
+    order: Vec<usize>,
+}
+
+impl<'a> Model for IndividualObjects<'a> {
+    ghost use Rattle.std.specs.Prelude.{List, map};
+    ghost use Rattle.xa_profile.specs.declared.category_object.CategoryObject.{CategoryObject as Object};
+    ghost use Rattle.xa_decide.specs.indexing.Index.{IsOrder};
+    ghost use Rattle.xa_decide.specs.indexing.Keys.{object_key_of};
+
+    ghost Value = { List Object };
+
+    ghost view = { λ o. map (λ x. x.now) o.objects.items };
+
+    ghost invariant = { λ o. IsOrder object_key_of o.objects.items o.order.items };
+}
+
+/// The object that has the place.
+fn object_at<'a>(objects: &'a [IndexedObject<'a>], place: usize) -> Option<&'a IndexedObject<'a>>
+    ensures { option_map (λ o. o.now) result ≡ slice_get objects.now place }
+{
+    objects.get(place)
+}
+
+/// The objects that have these places.
+fn objects_at<'a>(
+    alloc: Global,
+    objects: &'a [IndexedObject<'a>],
+    places: &[usize],
+) -> Result<Vec<&'a IndexedObject<'a>>, AllocError>
+    ensures { IfOk result (λ chosen. map (λ o. o.now) chosen.items ≡ objects_at objects.now places.now) }
+{
+    let mut chosen = Vec::new(alloc);
+    for place in places {
+        if let Some(object) = object_at(objects, *place) {
+            chosen.push(object)?;
+        }
+    }
+    Ok(chosen)
+}
+
+impl<'a> IndividualObjects<'a> {
+    /// The objects that have these places, put in order.
+    pub(crate) fn new(
+        alloc: Global,
+        objects: &'a [IndexedObject<'a>],
+        places: &[usize],
+    ) -> Result<IndividualObjects<'a>, AllocError>
+        ensures { IfOk result (λ chosen. chosen ≡ objects_at objects.now places.now) }
+    {
+        let objects = objects_at(alloc, objects, places)?;
+        let order = order_of::<ByCategory<'a>>(alloc, objects.as_slice())?;
+        Ok(IndividualObjects { objects, order })
+    }
+
+    /// Places among which are those of all objects of that category.
+    fn places(&self, category: &str) -> &[usize]
+        ensures { filter (λ o. bytes_eq o.category category.now) (filter_map (slice_get self.now) result.now) ≡ filter (λ o. bytes_eq o.category category.now) self.now }
+    {
+        let key = category_key(category);
+        places_with::<ByCategory<'a>>(self.objects.as_slice(), self.order.as_slice(), &key)
+    }
+
+    /// The object that has the place.
+    #[tactic(auto, using(crate::proofs::KeyLemmas::object_got))]
+    fn object(&self, place: usize) -> Option<&'a IndexedObject<'a>>
+        ensures { option_map (λ o. o.now) result ≡ slice_get self.now place }
+    {
+        self.objects.get(place).copied()
+    }
+
+    /// The bag of the values that the request has of that category, id, type and issuer.
+    #[tactic(auto, unfolding(crate::specs::Context::request_values))]
+    pub(crate) fn bag(
+        &self,
+        alloc: Global,
+        category: &str,
+        id: &str,
+        data_type: DataType,
+        issuer: &Option<Text>,
+    ) -> Result<Bag, AllocError>
+        ensures { IfOk result (λ bag. bag ≡ bag_of data_type (request_values self.now category.now id.now data_type issuer.now)) }
+    {
+        let mut bag = Bag::new(alloc, data_type);
+        let places = self.places(category);
+        for place in places {
+            if let Some(object) = self.object(*place) {
+                push_of_category(&mut bag, category, id, data_type, issuer, object)?;
+            }
+        }
+        Ok(bag)
+    }
+}
+
+/// Puts the values of the object's attributes of that id, type and issuer at the end of the bag, if it is of that category.
+fn push_of_category(
+    bag: &mut Bag,
+    category: &str,
+    id: &str,
+    data_type: DataType,
+    issuer: &Option<Text>,
+    object: &IndexedObject<'_>,
+) -> Result<(), AllocError>
+    requires { bag.old.data_type ≡ data_type }
+    ensures { IfOk result (λ _. bag.new ≡ bag_of data_type (bag.old.values ++ (if bytes_eq object.now.category category.now then object_values id.now data_type issuer.now object.now else []))) }
+{
+    if object.category() == category {
+        push_object(bag, id, data_type, issuer, object)?;
+    }
+    Ok(())
+}

@@ -1,0 +1,93 @@
+//! The keys by which attributes, Category objects and rows of the source are found.
+ghost use Rattle.std.specs.Prelude.{◌≡◌};
+ghost use Rattle.xa_decide.specs.indexing.Keys.{name_key, issuer_key, name_key_of, issuer_key_of, category_key, row_key, row_key_of};
+
+use crate::key::Key;
+use crate::order::Keying;
+use crate::source_row::SourceRow;
+use xa_profile::Attribute;
+use xa_value::{DataType, Text};
+
+/// How many data types there are.
+const TYPES: usize = 11;
+
+/// The key of an attribute's id and type.
+pub(crate) fn name_key(id: &str, data_type: DataType) -> Key<'_>
+    ensures { result ≡ name_key id.now data_type }
+{
+    Key::new(usize::from(data_type.number()), id, "", "")
+}
+
+/// The key of an attribute's id, type and issuer, where it has one.
+pub(crate) fn issuer_key<'a>(id: &'a str, data_type: DataType, issuer: &'a Option<Text>) -> Key<'a>
+    ensures { result ≡ issuer_key id.now data_type issuer.now }
+{
+    match issuer {
+        None => name_key(id, data_type),
+        Some(issuer) => {
+            let number = TYPES + usize::from(data_type.number());
+            Key::new(number, id, issuer.as_str(), "")
+        },
+    }
+}
+
+/// The key of a category.
+pub(crate) fn category_key(category: &str) -> Key<'_>
+    ensures { result ≡ category_key category.now }
+{
+    Key::new(0, category, "", "")
+}
+
+/// The key of a row's category, entity, id and type.
+pub(crate) fn row_key<'a>(
+    category: &'a str,
+    entity: &'a str,
+    id: &'a str,
+    data_type: DataType,
+) -> Key<'a>
+    ensures { result ≡ row_key category.now entity.now id.now data_type }
+{
+    Key::new(usize::from(data_type.number()), category, entity, id)
+}
+
+/// Attributes by their ids and types.
+pub(crate) struct ByName;
+
+impl Keying for ByName {
+    type Item = Attribute;
+
+    ghost key_of = { name_key_of };
+
+    fn key(attribute: &Attribute) -> Key<'_> {
+        name_key(attribute.id.as_str(), attribute.values.data_type())
+    }
+}
+
+/// Attributes by their ids, types and issuers.
+pub(crate) struct ByIssuer;
+
+impl Keying for ByIssuer {
+    type Item = Attribute;
+
+    ghost key_of = { issuer_key_of };
+
+    fn key(attribute: &Attribute) -> Key<'_> {
+        let data_type = attribute.values.data_type();
+        issuer_key(attribute.id.as_str(), data_type, &attribute.issuer)
+    }
+}
+
+/// Rows of the source by their categories, entities, ids and types.
+pub(crate) struct ByRow;
+
+impl Keying for ByRow {
+    type Item = SourceRow;
+
+    ghost key_of = { row_key_of };
+
+    fn key(row: &SourceRow) -> Key<'_> {
+        let id = row.attribute_id.as_str();
+        let data_type = row.value.data_type();
+        row_key(row.category.as_str(), row.entity.as_str(), id, data_type)
+    }
+}

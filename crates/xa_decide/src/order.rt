@@ -1,0 +1,65 @@
+//! The places of items in the order of their keys.
+ghost use Rattle.std.specs.Prelude.{◌≡◌, slice_get, IfOk};
+ghost use Rattle.std.specs.List.{filter_map};
+ghost use Rattle.xa_decide.specs.indexing.Index.{Sought, IsOrder, order_at, with_key, key_at};
+
+use crate::key::Key;
+use std::alloc::{AllocError, Global};
+use std::cmp::Ordering;
+
+/// By what items are found.
+pub(crate) trait Keying {
+    /// What is found.
+    type Item;
+
+    /// An item's key.
+    ghost key_of: { Self.Item → Sought };
+
+    /// An item's key.
+    fn key(item: &Self::Item) -> Key<'_>
+        ensures { result ≡ key_of item.now };
+}
+
+/// The key of the item at the place.
+fn key_at<'a, K: Keying>(items: &'a [K::Item], place: usize) -> Option<Key<'a>>
+    ensures { result ≡ key_at K.key_of items.now place }
+{
+    items.get(place).map(|item| K::key(item))
+}
+
+/// How the key of the item at the place compares.
+fn order_at<K: Keying>(items: &[K::Item], place: usize, key: &Key<'_>) -> Ordering
+    ensures { result ≡ order_at K.key_of items.now key.now place }
+{
+    match items.get(place) {
+        Some(item) => K::key(item).cmp(key),
+        None => Ordering::Less,
+    }
+}
+
+/// The places of the items, in the order of their keys; of items of one key, in their own.
+pub(crate) fn order_of<K: Keying>(
+    alloc: Global,
+    items: &[K::Item],
+) -> Result<Vec<usize>, AllocError>
+    ensures { IfOk result (λ order. IsOrder K.key_of items.now order.items) }
+{
+    let mut order: Vec<usize> = (0..items.len()).collect(alloc)?;
+    order.sort_by_key(|place| key_at::<K>(items, *place))?;
+    Ok(order)
+}
+
+/// The places of the items of that key.
+pub(crate) fn places_with<'o, K: Keying>(
+    items: &[K::Item],
+    order: &'o [usize],
+    key: &Key<'_>,
+) -> &'o [usize]
+    requires { IsOrder K.key_of items.now order.now }
+    ensures { filter_map (slice_get items.now) result.now ≡ with_key K.key_of key.now items.now }
+{
+    let start = order.partition_point(|place| order_at::<K>(items, *place, key).is_lt());
+    let rest = order.split_at(start).1;
+    let count = rest.partition_point(|place| order_at::<K>(items, *place, key).is_le());
+    rest.split_at(count).0
+}

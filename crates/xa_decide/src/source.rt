@@ -1,0 +1,114 @@
+//! The source of attributes.
+ghost use Rattle.std.specs.Prelude.{◌≡◌, true, [], ◌∷◌, ◌++◌, filter, option_map, slice_get, IfOk, if◌then◌else◌};
+ghost use Rattle.std.specs.List.{filter_map};
+ghost use Rattle.xa_value.specs.Order.{type_of};
+ghost use Rattle.xa_bag.specs.Bag.{bag_of};
+ghost use Rattle.xa_decide.specs.Context.{is_row, source_values};
+
+use crate::bag::push_value;
+use crate::keys::{ByRow, row_key};
+use crate::naming::is_same_type;
+use crate::order::{order_of, places_with};
+use crate::source_row::SourceRow;
+use std::alloc::{AllocError, Global};
+use std::marker::Model;
+use xa_bag::Bag;
+use xa_value::{DataType, Items};
+
+/// The rows of the source, to be found by their categories, entities, ids and types.
+#[derive(Debug, Drop)]
+pub(crate) struct Source {
+    rows: Items<SourceRow>,
+    order: Vec<usize>,
+}
+
+impl Model for Source {
+    ghost use Rattle.std.specs.Prelude.{List};
+    ghost use Rattle.xa_decide.specs.declared.source_row.SourceRow.{SourceRow as Row};
+    ghost use Rattle.xa_decide.specs.indexing.Index.{IsOrder};
+    ghost use Rattle.xa_decide.specs.indexing.Keys.{row_key_of};
+
+    ghost Value = { List Row };
+
+    ghost view = { λ s. s.rows };
+
+    ghost invariant = { λ s. IsOrder row_key_of s.rows s.order.items };
+}
+
+impl Source {
+    /// The source of these rows, put in order.
+    pub(crate) fn new(alloc: Global, rows: Items<SourceRow>) -> Result<Source, AllocError>
+        ensures { IfOk result (λ source. source ≡ rows) }
+    {
+        let order = order_of::<ByRow>(alloc, rows.as_slice())?;
+        Ok(Source { rows, order })
+    }
+
+    /// Places among which are those of all rows of that category, entity, id and type.
+    #[tactic(auto, using(crate::proofs::KeyLemmas::rows_found))]
+    fn places(&self, category: &str, entity: &str, id: &str, data_type: DataType) -> &[usize]
+        ensures { filter (is_row category.now entity.now id.now data_type) (filter_map (slice_get self.now) result.now) ≡ filter (is_row category.now entity.now id.now data_type) self.now }
+    {
+        let key = row_key(category, entity, id, data_type);
+        places_with::<ByRow>(self.rows.as_slice(), self.order.as_slice(), &key)
+    }
+
+    /// The bag of the values of the rows of that category, entity, id and type.
+    #[tactic(auto, unfolding(crate::specs::Context::source_values))]
+    pub(crate) fn bag(
+        &self,
+        alloc: Global,
+        category: &str,
+        entity: &str,
+        id: &str,
+        data_type: DataType,
+    ) -> Result<Bag, AllocError>
+        ensures { IfOk result (λ bag. bag ≡ bag_of data_type (source_values self.now category.now entity.now id.now data_type)) }
+    {
+        let places = self.places(category, entity, id, data_type);
+        let rows = self.rows.as_slice();
+        let mut bag = Bag::new(alloc, data_type);
+        for place in places {
+            if let Some(row) = row_at(rows, *place) {
+                push_row(&mut bag, category, entity, id, data_type, row)?;
+            }
+        }
+        Ok(bag)
+    }
+}
+
+/// The row that has the place.
+fn row_at(rows: &[SourceRow], place: usize) -> Option<&SourceRow>
+    ensures { option_map (λ r. r.now) result ≡ slice_get rows.now place }
+{
+    rows.get(place)
+}
+
+/// Puts the row's value at the end of the bag, if it is a row of that category, entity, id and type.
+fn push_row(
+    bag: &mut Bag,
+    category: &str,
+    entity: &str,
+    id: &str,
+    data_type: DataType,
+    row: &SourceRow,
+) -> Result<(), AllocError>
+    requires { bag.old.data_type ≡ data_type }
+    ensures { IfOk result (λ _. bag.new ≡ bag_of data_type (bag.old.values ++ (if is_row category.now entity.now id.now data_type row.now then row.now.value ∷ [] else []))) }
+{
+    if is_row(category, entity, id, data_type, row) {
+        push_value(bag, &row.value)?;
+    }
+    Ok(())
+}
+
+/// Whether it is a row of that category, entity, id and type.
+fn is_row(category: &str, entity: &str, id: &str, data_type: DataType, row: &SourceRow) -> bool
+    ensures value { result ≡ is_row category.now entity.now id.now data_type row.now }
+    ensures of_type { result ≡ true → type_of row.now.value ≡ data_type }
+{
+    row.category.as_str() == category
+        && row.entity.as_str() == entity
+        && row.attribute_id.as_str() == id
+        && is_same_type(row.value.data_type(), data_type)
+}
