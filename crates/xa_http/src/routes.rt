@@ -1,5 +1,5 @@
 //! The route of a message, by its target, its method and the media type of its body.
-ghost use Rattle.std.specs.Prelude.{◌≡◌, IfOk, IsErr, option_map};
+ghost use Rattle.std.specs.Prelude.{◌≡◌, Some, codes, IfOk, IsErr, option_map};
 ghost use Rattle.xa_value.specs.Gives.{Gives, answered};
 ghost use Rattle.xa_http.specs.Routes.{address_of, decoded_part, path_of_plain, path_of, place_at, route_of, takes_body};
 ghost use Rattle.xa_http.specs.Table.{table};
@@ -23,6 +23,8 @@ pub struct Routes {
 }
 
 impl fmt::Debug for Routes {
+    ghost debug_output = { λ _. Some (codes "Routes") };
+
     fn fmt<W: fmt::Write>(&self, f: &mut fmt::Formatter<W>) -> fmt::Result {
         f.write_str("Routes")
     }

@@ -1,8 +1,9 @@
 //! The tree that a reference leads to.
-ghost use Rattle.std.specs.Prelude.{◌≡◌, ◌∷◌, map, slice_get, Some, IfOk};
-ghost use Rattle.xa_value.specs.Gives.{Gives};
+ghost use Rattle.std.specs.Prelude.{◌≡◌, ◌∷◌, map, slice_get, Some, None, IfOk};
+ghost use Rattle.xa_value.specs.Gives.{Gives, answered};
 ghost use Rattle.xa_policy.specs.declared.linked.Linked.TheVariants.{Unresolved};
 ghost use Rattle.xa_link.specs.Linking.{link, next_place, replaced, replaced_in, tree_within};
+ghost use Rattle.xa_link.specs.Resolution.{resolve};
 ghost use Rattle.xa_link.specs.Room.{all_fitted, fitted, policy_fitted, set_fitted};
 
 use crate::active::Active;
@@ -28,7 +29,8 @@ pub fn link(
     active: &[Active],
     root: &Reference,
 ) -> Result<Linked, OrMemory<LinkError>>
-    ensures { Gives result (link active.now root.now) }
+    ensures value { Gives result (link active.now root.now) }
+    ensures exact { resolve active.now root.now ≡ None → result ≡ answered (link active.now root.now) }
 {
     let fitted = linked_reference(alloc, active, &[], MAX_DOCUMENTS, root, MAX_SIZE)?;
     Ok(fitted.part)
@@ -93,7 +95,8 @@ fn linked_reference(
     reference: &Reference,
     room: usize,
 ) -> Result<Fitted<Linked>, OrMemory<LinkError>>
-    ensures { Gives result (fitted room (tree_within more active.now path.now reference.now)) }
+    ensures value { Gives result (fitted room (tree_within more active.now path.now reference.now)) }
+    ensures exact { next_place active.now path.now reference.now ≡ None → result ≡ answered (fitted room (tree_within more active.now path.now reference.now)) }
 {
     if more == 0 {
         return Ok(unresolved(room));

@@ -1,5 +1,5 @@
 //! The names of the members of documents.
-ghost use Rattle.std.specs.Prelude.{◌≡◌};
+ghost use Rattle.std.specs.Prelude.{◌≡◌, Some};
 ghost use Rattle.xa_notation.specs.Tables.{name_of};
 
 use std::fmt;
@@ -156,6 +156,8 @@ impl Member {
 }
 
 impl fmt::Display for Member {
+    ghost output = { λ member. Some (name_of member) };
+
     fn fmt<W: fmt::Write>(&self, f: &mut fmt::Formatter<W>) -> fmt::Result {
         f.write_str(self.name())
     }

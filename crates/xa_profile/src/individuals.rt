@@ -1,7 +1,7 @@
 //! The individual requests that a request stands for.
-ghost use Rattle.std.specs.Prelude.{◌≡◌, true, Some, None, map, option_map, if◌then◌else◌, IfOk};
+ghost use Rattle.std.specs.Prelude.{◌≡◌, true, Some, None, map, length, nat_lt, option_map, if◌then◌else◌, IfOk, IsTrue};
 ghost use Rattle.std.specs.List.{range_with_len, slice_set};
-ghost use Rattle.xa_value.specs.Gives.{Gives};
+ghost use Rattle.xa_value.specs.Gives.{Gives, answered};
 ghost use Rattle.xa_value.specs.declared.or_memory.OrMemory.TheVariants.{Error as AnError};
 ghost use Rattle.xa_profile.specs.declared.individuals.Individual.TheVariants.{Places};
 ghost use Rattle.xa_profile.specs.Individuals.{has_unknown, places_named, is_chosen, in_request_order, category_at, categories_at, of_places, individual_named, all_combinations, at_most_64, individuals};
@@ -165,7 +165,8 @@ fn individuals_named(
     objects: &[CategoryObject],
     references: &[Items<Text>],
 ) -> Result<Items<Individual>, OrMemory<TooMany>>
-    ensures { Gives result (at_most_64 (map (individual_named objects.now) references.now)) }
+    ensures value { Gives result (at_most_64 (map (individual_named objects.now) references.now)) }
+    ensures exact { IsTrue (nat_lt 64 (length references.now)) → result ≡ answered (at_most_64 (map (individual_named objects.now) references.now)) }
 {
     if references.len() > MOST {
         return Err(OrMemory::Error(TooMany));
@@ -201,7 +202,8 @@ impl Request {
     /// one object a category. They hold the places of their objects, and copy none.
     #[tactic(auto, unfolding(crate::specs::Individuals::individuals))]
     pub fn individuals(&self, alloc: Global) -> Result<Items<Individual>, OrMemory<TooMany>>
-        ensures { Gives result (individuals self.now) }
+        ensures value { Gives result (individuals self.now) }
+        ensures exact { IsTrue (nat_lt 64 (length self.now.references)) → result ≡ answered (individuals self.now) }
     {
         let objects = self.objects.as_slice();
         if self.references.is_empty() {
