@@ -1,9 +1,9 @@
 -- The kinds of the values of arguments, by the arguments' own kinds.
-use Rattle.std.proofs.Common.{◌≡◌, refl, ap, List, [], ◌∷◌, map}
+use Rattle.std.proofs.Common.{ap, List, [], ◌∷◌, map}
 use Rattle.xa_value.specs.declared.data_type.DataType.{DataType}
 use Rattle.xa_func.specs.declared.signature.Kind.{Kind}
 use Rattle.xa_func.specs.declared.signature.Kind.TheVariants as kind
-use Rattle.xa_func.specs.Signature.{Every, of_each, type_of_kind}
+use Rattle.xa_func.specs.Signature.{Every, of_each}
 use Rattle.xa_bag.specs.declared.value_or_bag.ValueOrBag.{ValueOrBag}
 use Rattle.xa_bag.specs.ValueOrBag.{kind_of_argument, kind_of_each}
 

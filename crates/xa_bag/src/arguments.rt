@@ -30,7 +30,6 @@ fn bag_of(data_type: DataType, argument: &ValueOrBag) -> &Bag
     }
 }
 
-/// The one bag.
 pub(crate) fn one_bag(data_type: DataType, arguments: &[ValueOrBag]) -> &Bag
     requires { map kind_of_argument arguments.now ≡ kind.Bag data_type ∷ [] }
     ensures { arguments.now ≡ given.Bag result.now ∷ [] }
@@ -41,7 +40,6 @@ pub(crate) fn one_bag(data_type: DataType, arguments: &[ValueOrBag]) -> &Bag
     bag_of(data_type, bag)
 }
 
-/// The value and the bag.
 pub(crate) fn value_and_bag(data_type: DataType, arguments: &[ValueOrBag]) -> (&Value, &Bag)
     requires { map kind_of_argument arguments.now ≡ kind.Value data_type ∷ kind.Bag data_type ∷ [] }
     ensures { arguments.now ≡ given.Value result.0.now ∷ given.Bag result.1.now ∷ [] }
@@ -52,7 +50,6 @@ pub(crate) fn value_and_bag(data_type: DataType, arguments: &[ValueOrBag]) -> (&
     (value_of(data_type, value), bag_of(data_type, bag))
 }
 
-/// The two bags.
 pub(crate) fn two_bags(data_type: DataType, arguments: &[ValueOrBag]) -> (&Bag, &Bag)
     requires { map kind_of_argument arguments.now ≡ kind.Bag data_type ∷ kind.Bag data_type ∷ [] }
     ensures { arguments.now ≡ given.Bag result.0.now ∷ given.Bag result.1.now ∷ [] }

@@ -96,7 +96,6 @@ impl<'a> Distinct<'a> {
         Ok(all)
     }
 
-    /// The bag.
     pub(crate) fn into_bag(self) -> Bag
         ensures { result ≡ self.entry }
     {

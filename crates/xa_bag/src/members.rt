@@ -77,7 +77,6 @@ pub(crate) fn is_among(values: &[Value], value: &Value) -> bool
     values.iter().any(|other| value.same(other))
 }
 
-/// The keys of the values.
 fn keys_of<'a>(alloc: Global, values: &'a [Value]) -> Result<BTreeSet<SortKey<'a>>, AllocError>
     ensures { IfOk result (λ keys. IsFromIterResult compare_keys (map key_of values.now) keys) }
 {

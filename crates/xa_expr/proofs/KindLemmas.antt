@@ -7,7 +7,7 @@ use Rattle.std.proofs.lemmas.Bool.{eqb-true, eq-eqb, leb-true, le-leb}
 use Rattle.std.proofs.lemmas.Bool.Decides.{Decides-and, Decides-like, same_from_decides}
 use Rattle.xa_value.specs.declared.data_type.DataType.{DataType}
 use Rattle.xa_value.specs.declared.data_type.DataType.TheVariants.{String, Boolean, Integer, Date, Time, DateTime, DayTimeDuration, YearMonthDuration, AnyUri, HexBinary, Base64Binary}
-use Rattle.xa_value.specs.Types.{all_types, place_of}
+use Rattle.xa_value.specs.Types.{all_types, place_of, same_type}
 use Rattle.xa_func.specs.declared.signature.Kind.{Kind}
 use Rattle.xa_func.specs.declared.signature.Kind.TheVariants as kind
 use Rattle.xa_func.specs.declared.signature.Parameters.{Parameters}
@@ -15,7 +15,7 @@ use Rattle.xa_func.specs.declared.signature.Parameters.TheVariants.{One, Two, Th
 use Rattle.xa_func.specs.declared.signature.Signature.{Signature}
 use Rattle.xa_func.specs.declared.signature.Signature.TheVariants as signature
 use Rattle.xa_func.specs.Signature.{Every, Fits, AcceptsKinds}
-use Rattle.xa_expr.specs.Typed.{same_type, same_kind, same_kinds, fits, accepted}
+use Rattle.xa_expr.specs.Typed.{same_kind, same_kinds, fits, accepted}
 
 -- the type at a place
 type_at : ℕ → DataType

@@ -1,17 +1,15 @@
 -- What a match's function takes, and what equality makes of a match.
 use Rattle.std.proofs.Common.{◌≡◌, Bool, true, false, ◌&&◌, ◌||◌, List, [], ◌∷◌, map, refl, ap, sym, subst, ◌∙◌}
-use Rattle.std.specs.Prelude.{if◌then◌else◌, IsTrue, Ok}
+use Rattle.std.specs.Prelude.{if◌then◌else◌, Ok}
 use Rattle.std.specs.List.{list_any}
 use Rattle.xa_value.specs.declared.data_type.DataType.{DataType}
 use Rattle.xa_value.specs.declared.value.Value.{Value}
 use Rattle.xa_value.specs.declared.value.Value.TheVariants as value
 use Rattle.xa_value.specs.Order.{type_of, same}
 use Rattle.xa_func.specs.declared.func_id.FuncId.TheVariants as function
-use Rattle.xa_func.specs.declared.signature.Kind.TheVariants as kind
 use Rattle.xa_func.specs.Application.{applied}
-use Rattle.xa_func.specs.Signature.{TakesKinds, kind_of, signature_of, result_type_of}
+use Rattle.xa_func.specs.Signature.{TakesKinds, kind_of, signature_of}
 use Rattle.xa_func.specs.Table.{is_scalar}
-use Rattle.xa_expr.specs.declared.designator.Designator.{Designator}
 use Rattle.xa_expr.specs.declared.matching.Matching.{Matching}
 use Rattle.xa_expr.specs.declared.matching.Matching.TheVariants as matching
 use Rattle.xa_expr.specs.Fault.{of_function}

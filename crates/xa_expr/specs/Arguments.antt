@@ -22,7 +22,7 @@ abbrev pub AreValueKinds : List Kind → Type 0
 AreValueKinds [] = Unit {0}
 AreValueKinds (k ∷ ks) = IsValueKind k × AreValueKinds ks
 
--- what an argument comes to that is none but a value
+-- what an argument comes to that can only be a value
 abbrev pub value_result : Outcome → Result Value Fault
 value_result (Ok given) = Ok (value_in given)
 value_result (Err fault) = Err fault

@@ -42,7 +42,7 @@ attribute values_of d =
     if is_empty (values_of d) && d.must_be_present then Err MissingAttribute
     else Ok (given.Bag (bag_of d.data_type (values_of d)))
 
--- the value of an argument that is none but a value
+-- the value of an argument that can only be a value
 abbrev pub value_in : ValueOrBag → Value
 value_in (given.Value v) = v
 value_in (given.Bag b) = value.Boolean false

@@ -12,7 +12,8 @@ use Rattle.xa_func.specs.Table.{is_scalar}
 use Rattle.xa_expr.specs.declared.check_error.CheckError.{CheckError}
 use Rattle.xa_expr.specs.declared.check_error.CheckError.TheVariants.{UnknownFunction, WrongType}
 use Rattle.xa_expr.specs.declared.designator.Designator.{Designator}
-use Rattle.xa_expr.specs.Typed.{accepted, same_type}
+use Rattle.xa_value.specs.Types.{same_type}
+use Rattle.xa_expr.specs.Typed.{accepted}
 
 -- what a match asks: its function, of the literal and of each value of the designator's bag
 pub record Question : Type 0 where

@@ -1,9 +1,8 @@
 -- The kind of a checked expression, and what makes it right under variables (XACML 3.0, core, appendix A.3).
 use Rattle.std.specs.Prelude.{ℕ, suc, Bool, true, false, ◌&&◌, ◌==◌, nat_le, if◌then◌else◌, List, [], ◌∷◌, map, length, slice_get, Option, Some, None}
 use Rattle.std.specs.List.{list_all}
-use Rattle.xa_value.specs.declared.data_type.DataType.{DataType}
 use Rattle.xa_value.specs.declared.data_type.DataType.TheVariants as type
-use Rattle.xa_value.specs.Types.{place_of}
+use Rattle.xa_value.specs.Types.{same_type}
 use Rattle.xa_func.specs.declared.func_id.FuncId.{FuncId}
 use Rattle.xa_func.specs.declared.func_id.HigherOrder.{HigherOrder}
 use Rattle.xa_func.specs.declared.func_id.HigherOrder.TheVariants as higher
@@ -34,10 +33,6 @@ kind_at (Typed-F.HigherOrder h f ks) = kind_given h (result_type_of (signature_o
 
 abbrev pub kind_of_typed : Typed → Kind
 kind_of_typed t = kind_at (out-Typed t)
-
--- two types are one
-abbrev pub same_type : DataType → DataType → Bool
-same_type t u = place_of t == place_of u
 
 -- two kinds are one
 abbrev pub same_kind : Kind → Kind → Bool
@@ -80,11 +75,6 @@ abbrev pub higher_counted : HigherOrder → FuncId → ℕ → Bool
 higher_counted higher.AllOfAny f n = n == 2
 higher_counted higher.AllOfAll f n = n == 2
 higher_counted _ f n = counted (signature_of f) n
-
--- a bag
-abbrev pub is_bag : Kind → Bool
-is_bag (kind.Bag t) = true
-is_bag (kind.Value t) = false
 
 -- two bags
 abbrev pub are_two_bags : List Kind → Bool

@@ -5,7 +5,7 @@ ghost use Rattle.xa_func.specs.Names.{function_named};
 ghost use Rattle.xa_func.specs.Signature.{of_each, signature_of};
 ghost use Rattle.xa_func.specs.Table.{is_scalar};
 ghost use Rattle.xa_expr.specs.declared.variables.Definition.{Definition as Defined};
-ghost use Rattle.xa_expr.specs.Typed.{kind_of_typed, kind_under, counted, accepted, higher_counted, is_bag, bag_count, are_two_bags, has_bags, gives_boolean, higher_accepted, all_there};
+ghost use Rattle.xa_expr.specs.Typed.{kind_of_typed, kind_under, counted, accepted, higher_counted, bag_count, are_two_bags, has_bags, gives_boolean, higher_accepted, all_there};
 ghost use Rattle.xa_expr.specs.Typing.{at_depth, judged, arguments as arguments_of, apply, first_order, applied, higher_order, higher_applied, inner_named, known_inner, checked};
 ghost use Rattle.xa_expr.specs.Variables.{kinds};
 
@@ -273,7 +273,7 @@ fn bag_count(arguments: &[Typed]) -> usize
 {
     let mut count = 0;
     for argument in arguments {
-        if is_bag(argument.kind()) {
+        if matches!(argument.kind(), Kind::Bag(_)) {
             count += 1;
         }
     }
@@ -287,12 +287,5 @@ fn are_two_bags(arguments: &[Typed]) -> bool
     let [first, second] = arguments else {
         return false;
     };
-    is_bag(first.kind()) && is_bag(second.kind())
-}
-
-/// Whether the kind is that of bags.
-fn is_bag(kind: Kind) -> bool
-    ensures { result ≡ is_bag kind }
-{
-    matches!(kind, Kind::Bag(_))
+    matches!((first.kind(), second.kind()), (Kind::Bag(_), Kind::Bag(_)))
 }

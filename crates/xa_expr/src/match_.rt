@@ -1,7 +1,6 @@
 //! Matches of a literal against the values of an attribute.
 ghost use Rattle.std.specs.Prelude.{◌≡◌, [], ◌∷◌, ◌++◌, map, if◌then◌else◌, Some, Ok, IfOk};
 ghost use Rattle.std.specs.List.{list_any};
-ghost use Rattle.xa_value.specs.declared.data_type.DataType.TheVariants as type;
 ghost use Rattle.xa_value.specs.Order.{type_of, same};
 ghost use Rattle.xa_func.specs.Application.{applied};
 ghost use Rattle.xa_func.specs.Signature.{TakesKinds, kind_of};
@@ -10,7 +9,7 @@ ghost use Rattle.xa_expr.specs.declared.matching.Matching.TheVariants as matchin
 ghost use Rattle.xa_expr.specs.Fault.{of_function};
 ghost use Rattle.xa_expr.specs.Match.{argument_kinds, may_ask, matched, matched_by};
 ghost use Rattle.xa_expr.specs.Target.{answer, match_value, matching_of, some_match};
-ghost use Rattle.xa_expr.specs.Typed.{accepted, same_type};
+ghost use Rattle.xa_expr.specs.Typed.{accepted};
 
 use crate::check_error::CheckError;
 use crate::context::Context;
@@ -146,7 +145,7 @@ fn may_ask(function: FuncId, literal: &Value, data_type: DataType) -> bool
     let signature = function.signature();
     function.is_scalar()
         && takes_both(signature, literal.kind(), Kind::Value(data_type))
-        && is_boolean(signature.result_type())
+        && signature.result_type().is_same(DataType::Boolean)
 }
 
 /// Whether a function of the signature takes arguments of these two kinds.
@@ -154,12 +153,6 @@ fn takes_both(signature: Signature, first: Kind, second: Kind) -> bool
     ensures { result ≡ accepted signature (first ∷ second ∷ []) }
 {
     signature.accepts(&[first, second])
-}
-
-fn is_boolean(data_type: DataType) -> bool
-    ensures { result ≡ same_type data_type type.Boolean }
-{
-    data_type == DataType::Boolean
 }
 
 /// Puts a copy of the value at the end.

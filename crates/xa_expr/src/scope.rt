@@ -42,7 +42,7 @@ pub(crate) fn attribute<C: Context>(
 }
 
 /// A copy of what a variable came to.
-fn recalled(outcome: &Result<ValueOrBag, Fault>) -> Result<ValueOrBag, OrMemory<Fault>>
+fn outcome_copy(outcome: &Result<ValueOrBag, Fault>) -> Result<ValueOrBag, OrMemory<Fault>>
     ensures { Gives result outcome.now }
 {
     match outcome {
@@ -62,6 +62,6 @@ impl<'a, C: Context> Scope<'a, C> {
         let Some(Some(outcome)) = self.results.get(place) else {
             return Err(Stop::Wanted(place));
         };
-        Ok(recalled(outcome)?)
+        Ok(outcome_copy(outcome)?)
     }
 }

@@ -43,10 +43,10 @@ abbrev pub read_result : PrintedType → List Value → Result Value FuncFault
 read_result t (value.String text ∷ []) = value_of (printed_type t) text
 read_result t _ = misfit
 
--- days and moments, moved by durations
+-- dates, and dates with a time, moved by durations
 abbrev pub move_result : Moved → Direction → List Value → Result Value FuncFault
-move_result DateTimeByDayTime d (value.DateTime moment ∷ value.DayTimeDuration nanos ∷ []) = as_value value.DateTime (date_time_after_nanos moment (directed d nanos))
-move_result DateTimeByYearMonth d (value.DateTime moment ∷ value.YearMonthDuration months ∷ []) = as_value value.DateTime (date_time_after_months moment (directed d months))
+move_result DateTimeByDayTime d (value.DateTime date_time ∷ value.DayTimeDuration nanos ∷ []) = as_value value.DateTime (date_time_after_nanos date_time (directed d nanos))
+move_result DateTimeByYearMonth d (value.DateTime date_time ∷ value.YearMonthDuration months ∷ []) = as_value value.DateTime (date_time_after_months date_time (directed d months))
 move_result DateByYearMonth d (value.Date date ∷ value.YearMonthDuration months ∷ []) = as_value value.Date (date_after_months date (directed d months))
 move_result _ _ _ = misfit
 

@@ -1,7 +1,5 @@
 -- The arguments of a function, each seen as what its type holds.
 use Rattle.std.specs.Prelude.{ℕ, Bool, List, [], ◌∷◌, ℤ, Result, Ok, Err}
-use Rattle.xa_value.specs.declared.data_type.DataType.{DataType}
-use Rattle.xa_value.specs.declared.data_type.DataType.TheVariants as type
 use Rattle.xa_value.specs.declared.value.Value.{Value}
 use Rattle.xa_value.specs.declared.value.Value.TheVariants as value
 use Rattle.xa_func.specs.declared.fault.FuncFault.{FuncFault}
@@ -34,12 +32,6 @@ texts [] = []
 texts (value.String text ∷ vs) = text ∷ texts vs
 texts (value.AnyUri text ∷ vs) = text ∷ texts vs
 texts (_ ∷ vs) = texts vs
-
--- the types that are texts
-abbrev pub IsText : DataType → Type 0
-IsText type.String = Unit {0}
-IsText type.AnyUri = Unit {0}
-IsText _ = ⊥
 
 -- a function of one value, and of two
 abbrev pub of_one : {X : Type 0} → (Value → Result X FuncFault) → List Value → Result X FuncFault

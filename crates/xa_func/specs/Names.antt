@@ -42,6 +42,6 @@ all_functions =
     ∷ flat_map (λ f. map (function.Bag f) all_types) (bag.OneAndOnly ∷ bag.BagSize ∷ bag.IsIn ∷ bag.Bag ∷ bag.Intersection ∷ bag.Union ∷ bag.AtLeastOneMemberOf ∷ bag.Subset ∷ bag.SetEquals ∷ [])
     ++ map function.HigherOrder (higher.AnyOf ∷ higher.AllOf ∷ higher.AnyOfAny ∷ higher.Map ∷ higher.AllOfAny ∷ higher.AllOfAll ∷ [])
 
--- the function that a name names
+-- the function that a name names; a name names one at most, so the order of the list is of no account
 unfoldable pub function_named : List ℕ → Option FuncId
 function_named name = find (names name) all_functions

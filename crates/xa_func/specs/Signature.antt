@@ -1,5 +1,5 @@
 -- What each function takes and gives (XACML 3.0, core, appendix A.3).
-use Rattle.std.specs.Prelude.{◌≡◌, ℕ, ◌≤◌, ◌<◌, Bool, IsTrue, nat_le, ◌==◌, if◌then◌else◌, List, [], ◌∷◌, map, length, slice_get, Option, Some}
+use Rattle.std.specs.Prelude.{◌≡◌, ℕ, ◌≤◌, ◌<◌, Bool, IsTrue, nat_le, ◌==◌, if◌then◌else◌, List, [], ◌∷◌, length, slice_get, Option, Some}
 use Rattle.xa_value.specs.declared.data_type.DataType.{DataType}
 use Rattle.xa_value.specs.declared.data_type.DataType.TheVariants as type
 use Rattle.xa_value.specs.declared.value.Value.{Value}
@@ -163,10 +163,6 @@ AcceptsKinds (HigherOrder f) ks = ⊥
 -- it is a function of values, and its signature takes arguments of these kinds
 abbrev pub TakesKinds : FuncId → List Kind → Type 0
 TakesKinds f ks = IsTrue (is_scalar f) × AcceptsKinds (signature_of f) ks
-
--- the values are arguments that it takes
-abbrev pub Accepts : Signature → List Value → Type 0
-Accepts signature vs = AcceptsKinds signature (map kind_of vs)
 
 -- the value is what a function of the signature gives
 abbrev pub IsResult : Signature → Value → Type 0

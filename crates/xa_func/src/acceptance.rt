@@ -11,7 +11,7 @@ use xa_value::Value;
 pub trait HasKind {
     ghost kind_of: { Self → Kind };
 
-    /// The kind.
+    /// The kind that a function's signature is compared with.
     fn kind(&self) -> Kind
         ensures { result ≡ kind_of self.now };
 }

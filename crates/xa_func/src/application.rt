@@ -3,7 +3,7 @@ ghost use Rattle.std.specs.Prelude.{◌≡◌, false, map, IfOk};
 ghost use Rattle.xa_value.specs.Gives.{Gives, answered};
 ghost use Rattle.xa_value.specs.Reading.{grows as reading_grows};
 ghost use Rattle.xa_func.specs.Table.{printed_type};
-ghost use Rattle.xa_func.specs.Signature.{Accepts, IsResult, TakesKinds, kind_of, signature_of};
+ghost use Rattle.xa_func.specs.Signature.{AcceptsKinds, IsResult, TakesKinds, kind_of, signature_of};
 ghost use Rattle.xa_func.specs.Application.{applied, grows};
 ghost use Rattle.xa_func.specs.declared.func_id.FuncId.TheVariants as function_id;
 ghost use Rattle.xa_func.specs.declared.func_id.Logic.TheVariants as logic;
@@ -15,7 +15,7 @@ use crate::arguments::{
     time_of, two, year_month_of,
 };
 use crate::arithmetic::{absolute, arithmetic};
-use crate::comparison::compared;
+use crate::comparison::is_as_asked;
 use crate::conversion::value_of;
 use crate::dates::{
     date_after_months, date_time_after_months, date_time_after_nanos, directed_months,
@@ -33,7 +33,7 @@ use xa_value::{DataType, OrMemory, Value};
 
 /// Whether two values of the type are equal.
 fn equal(data_type: DataType, arguments: &[Value]) -> Result<Value, FuncFault>
-    requires { Accepts (signature_of (function_id.Equal data_type)) arguments.now }
+    requires { AcceptsKinds (signature_of (function_id.Equal data_type)) (map kind_of arguments.now) }
     ensures value { result ≡ applied (function_id.Equal data_type) arguments.now }
     ensures typed { IfOk result (IsResult (signature_of (function_id.Equal data_type))) }
 {
@@ -47,17 +47,17 @@ fn compare(
     ordered: OrderedType,
     arguments: &[Value],
 ) -> Result<Value, FuncFault>
-    requires { Accepts (signature_of (function_id.Compare comparison ordered)) arguments.now }
+    requires { AcceptsKinds (signature_of (function_id.Compare comparison ordered)) (map kind_of arguments.now) }
     ensures value { result ≡ applied (function_id.Compare comparison ordered) arguments.now }
     ensures typed { IfOk result (IsResult (signature_of (function_id.Compare comparison ordered))) }
 {
     let (left, right) = two(arguments);
-    Ok(Value::Boolean(compared(comparison, left, right)))
+    Ok(Value::Boolean(is_as_asked(comparison, left, right)))
 }
 
 /// A function of integers, from left to right.
 fn calculate(function: Arithmetic, arguments: &[Value]) -> Result<Value, FuncFault>
-    requires { Accepts (signature_of (function_id.Arithmetic function)) arguments.now }
+    requires { AcceptsKinds (signature_of (function_id.Arithmetic function)) (map kind_of arguments.now) }
     ensures value { result ≡ applied (function_id.Arithmetic function) arguments.now }
     ensures typed { IfOk result (IsResult (signature_of (function_id.Arithmetic function))) }
 {
@@ -66,7 +66,7 @@ fn calculate(function: Arithmetic, arguments: &[Value]) -> Result<Value, FuncFau
 
 /// The absolute value of an integer.
 fn integer_abs(arguments: &[Value]) -> Result<Value, FuncFault>
-    requires { Accepts (signature_of function_id.IntegerAbs) arguments.now }
+    requires { AcceptsKinds (signature_of function_id.IntegerAbs) (map kind_of arguments.now) }
     ensures value { result ≡ applied function_id.IntegerAbs arguments.now }
     ensures typed { IfOk result (IsResult (signature_of function_id.IntegerAbs)) }
 {
@@ -79,7 +79,7 @@ fn string_from(
     printed: PrintedType,
     arguments: &[Value],
 ) -> Result<Value, OrMemory<FuncFault>>
-    requires { Accepts (signature_of (function_id.StringFrom printed)) arguments.now }
+    requires { AcceptsKinds (signature_of (function_id.StringFrom printed)) (map kind_of arguments.now) }
     ensures value { Gives result (applied (function_id.StringFrom printed) arguments.now) }
     ensures typed { IfOk result (IsResult (signature_of (function_id.StringFrom printed))) }
 {
@@ -92,7 +92,7 @@ fn from_string(
     printed: PrintedType,
     arguments: &[Value],
 ) -> Result<Value, OrMemory<FuncFault>>
-    requires { Accepts (signature_of (function_id.FromString printed)) arguments.now }
+    requires { AcceptsKinds (signature_of (function_id.FromString printed)) (map kind_of arguments.now) }
     ensures value { Gives result (applied (function_id.FromString printed) arguments.now) }
     ensures exact { reading_grows (printed_type printed) ≡ false → result ≡ answered (applied (function_id.FromString printed) arguments.now) }
     ensures typed { IfOk result (IsResult (signature_of (function_id.FromString printed))) }
@@ -106,7 +106,7 @@ fn from_string(
 
 /// Whether one of the booleans, or each of them, or this many of them are true; or the negation of one.
 fn decide(function: Logic, arguments: &[Value]) -> Result<Value, FuncFault>
-    requires { Accepts (signature_of (function_id.Logic function)) arguments.now }
+    requires { AcceptsKinds (signature_of (function_id.Logic function)) (map kind_of arguments.now) }
     ensures value { result ≡ applied (function_id.Logic function) arguments.now }
     ensures typed { IfOk result (IsResult (signature_of (function_id.Logic function))) }
 {
@@ -120,7 +120,7 @@ fn decide(function: Logic, arguments: &[Value]) -> Result<Value, FuncFault>
 
 /// Whether this many of the booleans are true.
 fn n_true(arguments: &[Value]) -> Result<Value, FuncFault>
-    requires { Accepts (signature_of (function_id.Logic logic.NOf)) arguments.now }
+    requires { AcceptsKinds (signature_of (function_id.Logic logic.NOf)) (map kind_of arguments.now) }
     ensures value { result ≡ applied (function_id.Logic logic.NOf) arguments.now }
     ensures typed { IfOk result (IsResult (signature_of (function_id.Logic logic.NOf))) }
 {
@@ -136,7 +136,7 @@ fn compose(
     function: TextFunction,
     arguments: &[Value],
 ) -> Result<Value, OrMemory<FuncFault>>
-    requires { Accepts (signature_of (function_id.Text function)) arguments.now }
+    requires { AcceptsKinds (signature_of (function_id.Text function)) (map kind_of arguments.now) }
     ensures value { Gives result (applied (function_id.Text function) arguments.now) }
     ensures typed { IfOk result (IsResult (signature_of (function_id.Text function))) }
 {
@@ -149,7 +149,7 @@ fn compose(
 
 /// The text without white space at its ends.
 fn normalize_space(alloc: Global, arguments: &[Value]) -> Result<Value, OrMemory<FuncFault>>
-    requires { Accepts (signature_of (function_id.Text text_function.NormalizeSpace)) arguments.now }
+    requires { AcceptsKinds (signature_of (function_id.Text text_function.NormalizeSpace)) (map kind_of arguments.now) }
     ensures value { Gives result (applied (function_id.Text text_function.NormalizeSpace) arguments.now) }
     ensures typed { IfOk result (IsResult (signature_of (function_id.Text text_function.NormalizeSpace))) }
 {
@@ -158,7 +158,7 @@ fn normalize_space(alloc: Global, arguments: &[Value]) -> Result<Value, OrMemory
 
 /// The characters of a text from one place up to another.
 fn string_substring(alloc: Global, arguments: &[Value]) -> Result<Value, OrMemory<FuncFault>>
-    requires { Accepts (signature_of (function_id.Text text_function.Substring)) arguments.now }
+    requires { AcceptsKinds (signature_of (function_id.Text text_function.Substring)) (map kind_of arguments.now) }
     ensures value { Gives result (applied (function_id.Text text_function.Substring) arguments.now) }
     ensures typed { IfOk result (IsResult (signature_of (function_id.Text text_function.Substring))) }
 {
@@ -173,7 +173,7 @@ fn string_substring(alloc: Global, arguments: &[Value]) -> Result<Value, OrMemor
 
 /// Whether the first text stands in the second.
 fn find_part(place: TextPart, text_type: TextType, arguments: &[Value]) -> Result<Value, FuncFault>
-    requires { Accepts (signature_of (function_id.Part place text_type)) arguments.now }
+    requires { AcceptsKinds (signature_of (function_id.Part place text_type)) (map kind_of arguments.now) }
     ensures value { result ≡ applied (function_id.Part place text_type) arguments.now }
     ensures typed { IfOk result (IsResult (signature_of (function_id.Part place text_type))) }
 {
@@ -181,9 +181,9 @@ fn find_part(place: TextPart, text_type: TextType, arguments: &[Value]) -> Resul
     Ok(Value::Boolean(has_part(place, text_of(text).as_bytes(), text_of(part).as_bytes())))
 }
 
-/// A day or a moment, moved by a duration.
+/// A date, or a date with a time, moved by a duration.
 fn move_by(moved: Moved, direction: Direction, arguments: &[Value]) -> Result<Value, FuncFault>
-    requires { Accepts (signature_of (function_id.Move moved direction)) arguments.now }
+    requires { AcceptsKinds (signature_of (function_id.Move moved direction)) (map kind_of arguments.now) }
     ensures value { result ≡ applied (function_id.Move moved direction) arguments.now }
     ensures typed { IfOk result (IsResult (signature_of (function_id.Move moved direction))) }
 {
@@ -196,29 +196,29 @@ fn move_by(moved: Moved, direction: Direction, arguments: &[Value]) -> Result<Va
 
 /// A day and time, moved by days, hours, minutes and seconds.
 fn date_time_by_day_time(direction: Direction, arguments: &[Value]) -> Result<Value, FuncFault>
-    requires { Accepts (signature_of (function_id.Move moved_by.DateTimeByDayTime direction)) arguments.now }
+    requires { AcceptsKinds (signature_of (function_id.Move moved_by.DateTimeByDayTime direction)) (map kind_of arguments.now) }
     ensures value { result ≡ applied (function_id.Move moved_by.DateTimeByDayTime direction) arguments.now }
     ensures typed { IfOk result (IsResult (signature_of (function_id.Move moved_by.DateTimeByDayTime direction))) }
 {
-    let (moment, duration) = two(arguments);
+    let (date_time, duration) = two(arguments);
     let nanos = directed_nanos(direction, day_time_of(duration));
-    Ok(Value::DateTime(date_time_after_nanos(date_time_of(moment), nanos)?))
+    Ok(Value::DateTime(date_time_after_nanos(date_time_of(date_time), nanos)?))
 }
 
 /// A day and time, moved by years and months.
 fn date_time_by_year_month(direction: Direction, arguments: &[Value]) -> Result<Value, FuncFault>
-    requires { Accepts (signature_of (function_id.Move moved_by.DateTimeByYearMonth direction)) arguments.now }
+    requires { AcceptsKinds (signature_of (function_id.Move moved_by.DateTimeByYearMonth direction)) (map kind_of arguments.now) }
     ensures value { result ≡ applied (function_id.Move moved_by.DateTimeByYearMonth direction) arguments.now }
     ensures typed { IfOk result (IsResult (signature_of (function_id.Move moved_by.DateTimeByYearMonth direction))) }
 {
-    let (moment, duration) = two(arguments);
+    let (date_time, duration) = two(arguments);
     let months = directed_months(direction, year_month_of(duration));
-    Ok(Value::DateTime(date_time_after_months(date_time_of(moment), months)?))
+    Ok(Value::DateTime(date_time_after_months(date_time_of(date_time), months)?))
 }
 
 /// A day, moved by years and months.
 fn date_by_year_month(direction: Direction, arguments: &[Value]) -> Result<Value, FuncFault>
-    requires { Accepts (signature_of (function_id.Move moved_by.DateByYearMonth direction)) arguments.now }
+    requires { AcceptsKinds (signature_of (function_id.Move moved_by.DateByYearMonth direction)) (map kind_of arguments.now) }
     ensures value { result ≡ applied (function_id.Move moved_by.DateByYearMonth direction) arguments.now }
     ensures typed { IfOk result (IsResult (signature_of (function_id.Move moved_by.DateByYearMonth direction))) }
 {
@@ -229,7 +229,7 @@ fn date_by_year_month(direction: Direction, arguments: &[Value]) -> Result<Value
 
 /// Whether a time lies in a range of times.
 fn is_in_range(arguments: &[Value]) -> Result<Value, FuncFault>
-    requires { Accepts (signature_of function_id.TimeInRange) arguments.now }
+    requires { AcceptsKinds (signature_of function_id.TimeInRange) (map kind_of arguments.now) }
     ensures value { result ≡ applied function_id.TimeInRange arguments.now }
     ensures typed { IfOk result (IsResult (signature_of function_id.TimeInRange)) }
 {

@@ -1,9 +1,9 @@
 //! The arguments of a function, each as what its type holds.
-ghost use Rattle.std.specs.Prelude.{◌≡◌, ◌∷◌, [], length};
+ghost use Rattle.std.specs.Prelude.{◌≡◌, ◌⊎◌, ◌∷◌, [], length};
 ghost use Rattle.xa_value.specs.Order.{type_of};
 ghost use Rattle.xa_value.specs.declared.data_type.DataType.TheVariants as data_type;
 ghost use Rattle.xa_value.specs.declared.value.Value.TheVariants as value_of;
-ghost use Rattle.xa_func.specs.Arguments.{texts, IsText};
+ghost use Rattle.xa_func.specs.Arguments.{texts};
 
 use xa_value::{Date, DateTime, DayTimeDuration, Text, Time, Value, YearMonthDuration};
 
@@ -68,7 +68,7 @@ pub(crate) fn date_time_of(value: &Value) -> DateTime
     ensures { value.now ≡ value_of.DateTime result }
 {
     match value {
-        Value::DateTime(moment) => *moment,
+        Value::DateTime(date_time) => *date_time,
         _ => unreachable!(),
     }
 }
@@ -97,7 +97,7 @@ pub(crate) fn year_month_of(value: &Value) -> YearMonthDuration
 
 /// The text of a string or a URI.
 pub(crate) fn text_of(value: &Value) -> &str
-    requires { IsText (type_of value.now) }
+    requires { (type_of value.now ≡ data_type.String) ⊎ (type_of value.now ≡ data_type.AnyUri) }
     ensures { texts (value.now ∷ []) ≡ result.now ∷ [] }
 {
     match value {
@@ -106,7 +106,6 @@ pub(crate) fn text_of(value: &Value) -> &str
     }
 }
 
-/// The one argument.
 pub(crate) fn one(arguments: &[Value]) -> &Value
     requires { length arguments.now ≡ 1 }
     ensures { arguments.now ≡ result.now ∷ [] }
@@ -114,7 +113,6 @@ pub(crate) fn one(arguments: &[Value]) -> &Value
     &arguments[0]
 }
 
-/// The two arguments.
 pub(crate) fn two(arguments: &[Value]) -> (&Value, &Value)
     requires { length arguments.now ≡ 2 }
     ensures { arguments.now ≡ result.0.now ∷ result.1.now ∷ [] }
@@ -122,7 +120,6 @@ pub(crate) fn two(arguments: &[Value]) -> (&Value, &Value)
     (&arguments[0], &arguments[1])
 }
 
-/// The three arguments.
 pub(crate) fn three(arguments: &[Value]) -> (&Value, &Value, &Value)
     requires { length arguments.now ≡ 3 }
     ensures { arguments.now ≡ result.0.now ∷ result.1.now ∷ result.2.now ∷ [] }

@@ -12,10 +12,9 @@ ghost use Rattle.xa_func.specs.Dates.{directed, months_later, month_number, day_
 use crate::fault::FuncFault;
 use crate::func_id::Direction;
 use jiff_core::civil;
-use xa_value::{DAY_NANOS, Date, DateTime, DayTimeDuration, Offset, Time, YearMonthDuration};
-
-/// Nanoseconds of a minute.
-const MINUTE: i128 = 60_000_000_000;
+use xa_value::{
+    DAY_NANOS, Date, DateTime, DayTimeDuration, MINUTE_NANOS, Offset, Time, YearMonthDuration,
+};
 
 /// The months of the duration, added or subtracted.
 pub(crate) fn directed_months(direction: Direction, duration: YearMonthDuration) -> i32
@@ -101,12 +100,12 @@ fn day_at(number: i64) -> Result<civil::Date, FuncFault>
 }
 
 /// The nanoseconds as written, this many later.
-fn nanos_later(moment: DateTime, nanos: i128) -> i128
+fn nanos_later(date_time: DateTime, nanos: i128) -> i128
     requires { IsNanos nanos }
-    ensures value { result ≡ local_nanos moment +ℤ nanos }
+    ensures value { result ≡ local_nanos date_time +ℤ nanos }
     ensures within { IsWithin 2_000_000_000_000_000_000_000 result }
 {
-    moment.local_nanos() + nanos
+    date_time.local_nanos() + nanos
 }
 
 /// Whole days of this many nanoseconds.
@@ -135,12 +134,15 @@ pub(crate) fn date_after_months(date: Date, months: i32) -> Result<Date, FuncFau
 }
 
 /// The day and time this many months later, at the same time of day.
-pub(crate) fn date_time_after_months(moment: DateTime, months: i32) -> Result<DateTime, FuncFault>
+pub(crate) fn date_time_after_months(
+    date_time: DateTime,
+    months: i32,
+) -> Result<DateTime, FuncFault>
     requires { IsMonths months }
-    ensures { result ≡ date_time_after_months moment months }
+    ensures { result ≡ date_time_after_months date_time months }
 {
-    let day = months_later(moment.civil(), months)?;
-    DateTime::new(day, moment.nanos(), moment.zone()).ok_or(FuncFault::CalendarRange)
+    let day = months_later(date_time.civil(), months)?;
+    DateTime::new(day, date_time.nanos(), date_time.zone()).ok_or(FuncFault::CalendarRange)
 }
 
 /// The day and time of this many nanoseconds.
@@ -153,11 +155,11 @@ fn date_time_at(nanos: i128, zone: Option<Offset>) -> Result<DateTime, FuncFault
 }
 
 /// The day and time this many nanoseconds later, as written.
-pub(crate) fn date_time_after_nanos(moment: DateTime, nanos: i128) -> Result<DateTime, FuncFault>
+pub(crate) fn date_time_after_nanos(date_time: DateTime, nanos: i128) -> Result<DateTime, FuncFault>
     requires { IsNanos nanos }
-    ensures { result ≡ date_time_after_nanos moment nanos }
+    ensures { result ≡ date_time_after_nanos date_time nanos }
 {
-    date_time_at(nanos_later(moment, nanos), moment.zone())
+    date_time_at(nanos_later(date_time, nanos), date_time.zone())
 }
 
 /// The time's nanoseconds in UTC, where an absent zone is the other one, and without that UTC.
@@ -169,7 +171,7 @@ fn nanos_in_utc(time: Time, zone: Option<Offset>) -> i128
         None => 0,
         Some(offset) => offset.minutes(),
     };
-    i128::from(time.nanos()) - i128::from(minutes) * MINUTE
+    i128::from(time.nanos()) - i128::from(minutes) * i128::from(MINUTE_NANOS)
 }
 
 /// How long it takes a clock that goes round to come from one time to another.

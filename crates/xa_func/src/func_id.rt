@@ -25,7 +25,7 @@ pub enum FuncId {
     StringFrom(PrintedType),
     /// The value of a text.
     FromString(PrintedType),
-    /// A day or a moment, moved by a duration.
+    /// A date, or a date with a time, moved by a duration.
     Move(Moved, Direction),
     /// Whether a time lies in a range of times.
     TimeInRange,

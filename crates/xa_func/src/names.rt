@@ -189,7 +189,7 @@ fn text_name(function: TextFunction) -> Name
     }
 }
 
-/// The name of what moves a day or a moment.
+/// The name of what moves a date, or a date with a time.
 fn move_name(moved: Moved, direction: Direction) -> Name
     ensures version { result.version.now ≡ (move_row moved direction).version }
     ensures subject { result.subject.now ≡ (move_row moved direction).subject }

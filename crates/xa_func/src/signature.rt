@@ -23,7 +23,7 @@ pub enum Parameters {
     Two(Kind, Kind),
     /// Three arguments.
     Three(Kind, Kind, Kind),
-    /// So many arguments of one kind, and any number more.
+    /// This many arguments of one kind, and any number more.
     AtLeast(usize, Kind),
     /// One argument, and any number of the second kind.
     OneAndMore(Kind, Kind),
@@ -162,19 +162,22 @@ fn texts(function: TextFunction) -> Parameters
     }
 }
 
-/// What a day or a moment is moved by, and what that gives.
+/// What a date, or a date with a time, is moved by, and what that gives.
 fn move_signature(moved: Moved) -> Signature
     ensures { result ≡ move_signature moved }
 {
     match moved {
-        Moved::DateTimeByDayTime => moving(DataType::DateTime, DataType::DayTimeDuration),
-        Moved::DateTimeByYearMonth => moving(DataType::DateTime, DataType::YearMonthDuration),
-        Moved::DateByYearMonth => moving(DataType::Date, DataType::YearMonthDuration),
+        Moved::DateTimeByDayTime => moved_signature(DataType::DateTime, DataType::DayTimeDuration),
+        Moved::DateTimeByYearMonth => moved_signature(
+            DataType::DateTime,
+            DataType::YearMonthDuration,
+        ),
+        Moved::DateByYearMonth => moved_signature(DataType::Date, DataType::YearMonthDuration),
     }
 }
 
 /// A value of a type, moved by one of the other.
-fn moving(data_type: DataType, duration: DataType) -> Signature
+fn moved_signature(data_type: DataType, duration: DataType) -> Signature
     ensures { result ≡ moving data_type duration }
 {
     of_values(

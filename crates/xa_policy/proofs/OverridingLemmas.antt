@@ -7,7 +7,7 @@ use Rattle.xa_policy.specs.declared.decision.Effect.{Effect}
 use Rattle.xa_policy.specs.declared.decision.Effect.TheVariants as effect
 use Rattle.xa_policy.specs.Combining.{is, deny_overrides, permit_overrides, deny_unless_permit, permit_unless_deny}
 use Rattle.xa_policy.specs.Mirror.{mirrored}
-use Rattle.xa_policy.specs.Effect.{decision_with, other}
+use Rattle.xa_policy.specs.Effect.{decision_with}
 use Rattle.xa_policy.specs.Overriding.{overrides, otherwise}
 use Rattle.xa_policy.proofs.CombiningLemmas.{deny_overrides_joined, deny_overrides_single}
 use Rattle.xa_policy.proofs.MirrorLemmas.{mirrored_twice, permit_overrides_mirrors}
@@ -86,7 +86,7 @@ otherwise_passed effect.Deny IndeterminatePermit ds h = refl
 otherwise_passed effect.Deny IndeterminateDeny ds h = refl
 otherwise_passed effect.Deny IndeterminateDenyPermit ds h = refl
 
-pub otherwise_none : (e : Effect) → otherwise e [] ≡ decision_with (other e)
+pub otherwise_none : (e : Effect) → otherwise e [] ≡ mirrored (decision_with e)
 unfolding deny_unless_permit permit_unless_deny
 otherwise_none effect.Permit = refl
 otherwise_none effect.Deny = refl

@@ -66,7 +66,7 @@ deny_unless_permit decisions = if list_any (is Permit) decisions then Permit els
 unfoldable pub permit_unless_deny : List Decision → Decision
 permit_unless_deny decisions = if list_any (is Deny) decisions then Deny else Permit
 
--- first-applicable (C.8): the first decision but NotApplicable. That an Indeterminate of any kind gives {DP} is this project's choice.
+-- first-applicable (C.8): the first decision but NotApplicable. It doesn't track extended Indeterminates, so its own is {DP} (C.1).
 unfoldable pub first_applicable : List Decision → Decision
 first_applicable decisions =
     let first = unwrap_or (find (λ d. not (is NotApplicable d)) decisions) NotApplicable in
@@ -79,13 +79,14 @@ applies child = is_match child.target
 abbrev pub may_apply : Child → Bool
 may_apply child = target.is_indeterminate child.target
 
--- of the decisions of the applicable children: the only one; {DP} where there are more is this project's choice
+-- of the decisions of the applicable children: the only one (C.9), and {DP} where there are more (C.1). That the only one stays {P} or {D}
+-- where it is that, which C.1 by itself would make {DP}, is this project's choice.
 abbrev pub the_only_one : List Decision → Decision
 the_only_one [] = NotApplicable
 the_only_one (decision ∷ []) = decision
 the_only_one _ = IndeterminateDenyPermit
 
--- only-one-applicable (C.9), by the targets. That an Indeterminate target gives {DP} is this project's choice.
+-- only-one-applicable (C.9), by the targets. It doesn't track extended Indeterminates, so an Indeterminate target gives {DP} (C.1).
 unfoldable pub only_one_applicable : List Child → Decision
 only_one_applicable children =
     if list_any may_apply children then IndeterminateDenyPermit

@@ -1,5 +1,5 @@
 -- Obligations and advice (XACML 3.0, core, sections 5.39 to 5.41 and 7.18).
-use Rattle.std.specs.Prelude.{Bool, true, false, if◌then◌else◌, List, [], ◌∷◌, ◌++◌, map, filter, flat_map, Option, Some, None, Result, Ok, Err}
+use Rattle.std.specs.Prelude.{Bool, true, false, List, [], ◌++◌, map, filter, flat_map, Option, Some, None, Result, Ok}
 use Rattle.xa_value.specs.declared.value.Value.{Value}
 use Rattle.xa_value.specs.Gives.{◌>>=◌}
 use Rattle.xa_bag.specs.HigherOrder.{collected}

@@ -13,8 +13,3 @@ decision_with Deny = decision.Deny
 abbrev pub decision_left_open : Effect → Decision
 decision_left_open Permit = decision.IndeterminatePermit
 decision_left_open Deny = decision.IndeterminateDeny
-
--- the other effect
-abbrev pub other : Effect → Effect
-other Permit = Deny
-other Deny = Permit

@@ -1,5 +1,5 @@
 -- Policies, policy sets, and trees of them (XACML 3.0, core, sections 7.12 to 7.15 and 7.18).
-use Rattle.std.specs.Prelude.{Bool, true, false, if◌then◌else◌, List, [], ◌∷◌, map, filter, Option, Some, None, is_some}
+use Rattle.std.specs.Prelude.{Bool, false, if◌then◌else◌, List, [], ◌∷◌, map, filter, is_some}
 use Rattle.xa_func.specs.declared.status.Status.{Status}
 use Rattle.xa_expr.specs.declared.fault.Fault.TheVariants.{ProcessingError}
 use Rattle.xa_expr.specs.declared.matching.Matching.{Matching}
@@ -13,7 +13,7 @@ use Rattle.xa_policy.specs.declared.combining.Alg.{Alg}
 use Rattle.xa_policy.specs.declared.combining.Alg.TheVariants.{DenyOverrides, PermitOverrides, OrderedDenyOverrides, OrderedPermitOverrides, DenyUnlessPermit, PermitUnlessDeny, FirstApplicable, OnlyOneApplicable}
 use Rattle.xa_policy.specs.declared.combining.Child.{Child}
 use Rattle.xa_policy.specs.declared.decision.Decision.{Decision}
-use Rattle.xa_policy.specs.declared.decision.Decision.TheVariants.{Permit, Deny, NotApplicable, IndeterminatePermit, IndeterminateDeny, IndeterminateDenyPermit}
+use Rattle.xa_policy.specs.declared.decision.Decision.TheVariants.{Permit, Deny, NotApplicable, IndeterminatePermit, IndeterminateDeny}
 use Rattle.xa_policy.specs.declared.evaluated.Evaluated.{Evaluated}
 use Rattle.xa_policy.specs.declared.linked.Linked.{Linked, fold-Linked}
 use Rattle.xa_policy.specs.declared.linked.Linked.TheOpen.{Linked-F}

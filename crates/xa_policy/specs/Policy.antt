@@ -1,5 +1,5 @@
 -- Policies and policy sets, whose expressions are checked (XACML 3.0, core, sections 5.1, 5.14, 5.21 and 5.37 to 5.41).
-use Rattle.std.specs.Prelude.{◌≡◌, List, [], ◌∷◌, map, Option, Some, None}
+use Rattle.std.specs.Prelude.{◌≡◌, List, [], ◌∷◌, Option, Some, None}
 use Rattle.xa_value.specs.declared.data_type.DataType.TheVariants as type
 use Rattle.xa_func.specs.declared.signature.Kind.{Kind}
 use Rattle.xa_func.specs.declared.signature.Kind.TheVariants as kind
@@ -7,7 +7,7 @@ use Rattle.xa_expr.specs.declared.target.Target.{Target}
 use Rattle.xa_expr.specs.declared.typed.Typed.{Typed}
 use Rattle.xa_expr.specs.declared.variables.Definition.{Definition}
 use Rattle.xa_expr.specs.Typed.{kind_of_typed, kind_under}
-use Rattle.xa_expr.specs.Variables.{AreTyped, kinds}
+use Rattle.xa_expr.specs.Variables.{kinds}
 use Rattle.xa_policy.specs.declared.combining.Alg.{Alg}
 use Rattle.xa_policy.specs.declared.duty.AttributeAssignmentExpression.{AttributeAssignmentExpression}
 use Rattle.xa_policy.specs.declared.duty.DutyExpression.{DutyExpression}

@@ -33,7 +33,6 @@ fn check_condition(
     Ok(Some(condition))
 }
 
-/// The checked assignment.
 fn check_assignment(
     alloc: Global,
     assignment: &AttributeAssignmentExpression<Expr>,
@@ -51,7 +50,6 @@ fn check_assignment(
     })
 }
 
-/// The checked assignments.
 fn check_assignments(
     alloc: Global,
     assignments: &[AttributeAssignmentExpression<Expr>],
@@ -117,7 +115,6 @@ pub(crate) fn check_duties(
     })
 }
 
-/// The checked rule.
 pub(crate) fn check_rule(
     alloc: Global,
     rule: Rule<Expr>,

@@ -49,7 +49,7 @@ impl Alg {
     }
 
     /// The decision so far with that of a child that doesn't end it.
-    fn joined(self, so_far: Decision, decision: Decision) -> Decision
+    fn joined_decision(self, so_far: Decision, decision: Decision) -> Decision
         ensures { result ≡ joined_decision self so_far decision }
     {
         match self {
@@ -64,7 +64,7 @@ impl Alg {
     }
 
     /// The decision of a child that ends it.
-    fn ending(self, decision: Decision) -> Decision
+    fn ending_decision(self, decision: Decision) -> Decision
         ensures { result ≡ ending_decision self decision }
     {
         match self {
@@ -104,13 +104,15 @@ impl Combination {
         ensures ended { IfOk result (λ end. end ≡ ends self.old.algorithm child.decision) }
     {
         if self.algorithm.ends(child.decision) {
-            self.decision = self.algorithm.ending(child.decision);
+            self.decision = self.algorithm.ending_decision(child.decision);
             self.fault = fault_in(&child);
             self.duties = child.duties;
             return Ok(true);
         }
         self.fault = self.fault.or(fault_in(&child));
-        self.decision = self.algorithm.joined(self.decision, child.decision);
+        self.decision = self
+            .algorithm
+            .joined_decision(self.decision, child.decision);
         if child.decision.effect().is_some() {
             self.duties.append(child.duties)?;
         }
@@ -118,7 +120,7 @@ impl Combination {
     }
 
     /// What the children decide, if there is no other.
-    pub(crate) fn decided(self, alloc: Global) -> Evaluated
+    pub(crate) fn result_so_far(self, alloc: Global) -> Evaluated
         ensures { result ≡ decided self }
     {
         if self.decision.is_indeterminate() {

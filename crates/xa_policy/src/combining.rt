@@ -62,8 +62,8 @@ pub fn combine(algorithm: Alg, children: &[Child]) -> Decision
     match algorithm {
         Alg::DenyOverrides | Alg::OrderedDenyOverrides => overrides(Effect::Deny, children),
         Alg::PermitOverrides | Alg::OrderedPermitOverrides => overrides(Effect::Permit, children),
-        Alg::DenyUnlessPermit => otherwise(Effect::Permit, children),
-        Alg::PermitUnlessDeny => otherwise(Effect::Deny, children),
+        Alg::DenyUnlessPermit => effect_or_other(Effect::Permit, children),
+        Alg::PermitUnlessDeny => effect_or_other(Effect::Deny, children),
         Alg::FirstApplicable => first_applicable(children),
         Alg::OnlyOneApplicable => only_one_applicable(children),
     }
@@ -124,12 +124,12 @@ fn deny_overrides_of_two(first: Decision, second: Decision) -> Decision
 fn permit_overrides_of_two(first: Decision, second: Decision) -> Decision
     ensures { result ≡ permit_overrides (first ∷ second ∷ []) }
 {
-    deny_overrides_of_two(first.mirrored(), second.mirrored()).mirrored()
+    deny_overrides_of_two(first.mirror_of(), second.mirror_of()).mirror_of()
 }
 
 /// Deny-unless-permit or permit-unless-deny. The first decision with the effect settles it.
 #[tactic(auto, using(crate::proofs::OverridingLemmas::otherwise_steps))]
-fn otherwise(effect: Effect, children: &[Child]) -> Decision
+fn effect_or_other(effect: Effect, children: &[Child]) -> Decision
     ensures { result ≡ otherwise effect (map decision_of children.now) }
 {
     for child in children {
@@ -137,7 +137,7 @@ fn otherwise(effect: Effect, children: &[Child]) -> Decision
             return effect.decision();
         }
     }
-    effect.other().decision()
+    effect.decision().mirror_of()
 }
 
 /// First-applicable.
@@ -153,7 +153,7 @@ fn first_applicable(children: &[Child]) -> Decision
     Decision::NotApplicable
 }
 
-/// First-applicable of one: an Indeterminate could have been either.
+/// First-applicable of one. The algorithm doesn't track extended Indeterminates, so its own is {DP} (appendix C.1).
 #[tactic(auto, unfolding(crate::specs::Combining::first_applicable))]
 pub(crate) fn first_applicable_of_one(decision: Decision) -> Decision
     ensures { result ≡ first_applicable (decision ∷ []) }

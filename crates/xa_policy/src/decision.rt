@@ -4,7 +4,7 @@ ghost use Rattle.xa_policy.specs.Combining.{is, is_indeterminate};
 ghost use Rattle.xa_policy.specs.declared.decision.Decision.TheVariants.{NotApplicable};
 ghost use Rattle.xa_policy.specs.Duties.{effect_of, same_effect};
 ghost use Rattle.xa_policy.specs.Mirror.{mirrored};
-ghost use Rattle.xa_policy.specs.Effect.{decision_with, decision_left_open, other};
+ghost use Rattle.xa_policy.specs.Effect.{decision_with, decision_left_open};
 
 /// What a rule gives where it applies (XACML 3.0, section 5.22).
 #[derive(Clone, Copy, Debug, PartialEq, Eq)]
@@ -62,16 +62,6 @@ impl Effect {
             Effect::Deny => Decision::IndeterminateDeny,
         }
     }
-
-    /// The other effect.
-    pub(crate) fn other(self) -> Effect
-        ensures { result ≡ other self }
-    {
-        match self {
-            Effect::Permit => Effect::Deny,
-            Effect::Deny => Effect::Permit,
-        }
-    }
 }
 
 impl Decision {
@@ -116,7 +106,7 @@ impl Decision {
     }
 
     /// The decision with Permit and Deny exchanged.
-    pub(crate) fn mirrored(self) -> Decision
+    pub(crate) fn mirror_of(self) -> Decision
         ensures { result ≡ mirrored self }
     {
         match self {

@@ -10,8 +10,8 @@ use crate::policy_set::PolicySet;
 use crate::rule::Rule;
 use xa_expr::{HasDesignators, Typed, all_timeless};
 
-/// Two contexts that give each designator of a tree the same values get the same decision of it, with the same status, obligations and
-/// advice: the contract says so, and the body does nothing.
+/// Law: two contexts that give each designator of a tree the same values get the same decision of it, with the same status, obligations
+/// and advice.
 pub fn decisions_rest_on_designators()
     ensures { DecisionsRestOnDesignators }
 {}

@@ -32,7 +32,6 @@ impl Evaluated {
         }
     }
 
-    /// NotApplicable.
     pub(crate) fn not_applicable(alloc: Global) -> Evaluated
         ensures { result ≡ not_applicable }
     {

@@ -21,7 +21,6 @@ use crate::policy_set::PolicySet;
 use crate::rule::{Rule, evaluate_rule};
 use std::alloc::{AllocError, Global};
 use xa_expr::{Context, Evaluator, Fault, Matching, Typed, Variables};
-use xa_func::Status;
 
 /// What the tree decides (XACML 3.0, core, sections 7.9 to 7.15 and 7.18), why where that is Indeterminate, and its obligations and advice. No
 /// child is evaluated after the one that settles its parent, and none where its parent's target is No match. Want of memory is the only
@@ -64,7 +63,7 @@ fn evaluate_linked<C: Context>(
     ensures { IfOk result (λ e. e ≡ evaluation (C.values_of context.now) linked.now) }
 {
     match linked {
-        Linked::Unresolved => Ok(undecided(alloc, Fault::ProcessingError)),
+        Linked::Unresolved => Ok(undecided_result(alloc, Fault::ProcessingError)),
         Linked::Policy(policy) => evaluate_policy(alloc, policy.get(), target, context),
         Linked::PolicySet(set, children) => {
             evaluate_set(alloc, set.get(), children.as_slice(), target, context)
@@ -73,7 +72,7 @@ fn evaluate_linked<C: Context>(
 }
 
 /// {DP}, left open by the fault.
-fn undecided(alloc: Global, fault: Fault) -> Evaluated
+fn undecided_result(alloc: Global, fault: Fault) -> Evaluated
     ensures { result ≡ undecided fault }
 {
     Evaluated::without_duties(alloc, Decision::IndeterminateDenyPermit, fault.status())
@@ -137,10 +136,10 @@ fn walk_rules<'a, C: Context>(
         let target = rule.target.matching(alloc, context)?;
         let child = evaluate_rule(alloc, evaluator, rule, target)?;
         if so_far.add(child)? {
-            return Ok(so_far.decided(alloc));
+            return Ok(so_far.result_so_far(alloc));
         }
     }
-    Ok(so_far.decided(alloc))
+    Ok(so_far.result_so_far(alloc))
 }
 
 /// What only-one-applicable makes of the rules. The first target that isn't No match leaves it to the others, or settles it.
@@ -159,7 +158,7 @@ fn only_applicable_rule<'a, C: Context>(
     for (place, rule) in rules.iter().enumerate() {
         match rule.target.matching(alloc, context)? {
             Matching::NoMatch => continue,
-            Matching::Indeterminate(fault) => return Ok(undecided(alloc, fault)),
+            Matching::Indeterminate(fault) => return Ok(undecided_result(alloc, fault)),
             Matching::Match => {
                 let others = rules.split_at(place + 1).1;
                 return rule_unless_another(alloc, context, evaluator, rule, others);
@@ -187,8 +186,8 @@ fn rule_unless_another<'a, C: Context>(
     for other in others {
         match other.target.matching(alloc, context)? {
             Matching::NoMatch => continue,
-            Matching::Indeterminate(fault) => return Ok(undecided(alloc, fault)),
-            Matching::Match => return Ok(undecided(alloc, Fault::ProcessingError)),
+            Matching::Indeterminate(fault) => return Ok(undecided_result(alloc, fault)),
+            Matching::Match => return Ok(undecided_result(alloc, Fault::ProcessingError)),
         }
     }
     evaluate_rule(alloc, evaluator, rule, Matching::Match)
@@ -248,10 +247,10 @@ fn walk_children<C: Context>(
         let target = target_of(alloc, child, context)?;
         let child = evaluate_linked(alloc, child, target, context)?;
         if so_far.add(child)? {
-            return Ok(so_far.decided(alloc));
+            return Ok(so_far.result_so_far(alloc));
         }
     }
-    Ok(so_far.decided(alloc))
+    Ok(so_far.result_so_far(alloc))
 }
 
 /// What only-one-applicable makes of the children. The first target that isn't No match leaves it to the others, or settles it.
@@ -267,7 +266,7 @@ fn only_applicable_child<C: Context>(
     for (place, child) in children.iter().enumerate() {
         match target_of(alloc, child, context)? {
             Matching::NoMatch => continue,
-            Matching::Indeterminate(fault) => return Ok(undecided(alloc, fault)),
+            Matching::Indeterminate(fault) => return Ok(undecided_result(alloc, fault)),
             Matching::Match => {
                 let others = children.split_at(place + 1).1;
                 return child_unless_another(alloc, context, child, others);
@@ -292,8 +291,8 @@ fn child_unless_another<C: Context>(
     for other in others {
         match target_of(alloc, other, context)? {
             Matching::NoMatch => continue,
-            Matching::Indeterminate(fault) => return Ok(undecided(alloc, fault)),
-            Matching::Match => return Ok(undecided(alloc, Fault::ProcessingError)),
+            Matching::Indeterminate(fault) => return Ok(undecided_result(alloc, fault)),
+            Matching::Match => return Ok(undecided_result(alloc, Fault::ProcessingError)),
         }
     }
     evaluate_linked(alloc, child, Matching::Match, context)

@@ -93,7 +93,7 @@ impl Policy {
         &self.target
     }
 
-    /// The variables.
+    /// The variables that the rules, obligations and advice may name.
     pub fn variables(&self) -> &Variables
         ensures { result.now ≡ self.now.variables }
     {

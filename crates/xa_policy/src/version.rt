@@ -22,7 +22,7 @@ pub(crate) const MOST_NUMBERS: usize = 8;
 /// The most digits of a number.
 const MOST_DIGITS: usize = 9;
 
-/// The greatest number of so many digits.
+/// The greatest number of this many digits.
 const GREATEST: usize = 999_999_999;
 
 /// A version (XACML 3.0, section 5.12): the list of its numbers.

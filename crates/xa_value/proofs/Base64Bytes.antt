@@ -1,9 +1,8 @@
 -- What base64 decodes to is bytes.
-use Rattle.std.proofs.Common.{◌≡◌, ℕ, zero, suc, ◌+◌, ◌*◌, ◌<◌, inl, inr, List, [], ◌∷◌, ◌++◌, length, drop, slice_index, Option, Some, None, Result, Ok, Err, refl, sym, ap, subst, ◌∙◌, arith}
+use Rattle.std.proofs.Common.{◌≡◌, ℕ, zero, suc, ◌+◌, ◌*◌, ◌<◌, inl, inr, List, [], ◌∷◌, ◌++◌, length, drop, slice_index, Option, Some, None, Result, Ok, Err, refl, sym, subst, ◌∙◌, arith}
 use Rattle.std.proofs.lemmas.List.{get_or-drop}
 use Rattle.base64.specs.declared.decode.DecodeError.{DecodeError}
-use Rattle.base64.specs.Tables.{is_inverse}
-use Rattle.base64.specs.Decode.{IsDecodeTable, decode_group, or_else, symbol_error, group_error, group_bytes, groups_error, groups_bytes, groups_before_last, lone_error, no_leftover, push_leftover, scan_steps, scan, scan_last, scan_bytes, suffix_error, suffix_bytes, leftover_bytes, decode_error, decoded_bytes, decode_outcome}
+use Rattle.base64.specs.Decode.{IsDecodeTable, decode_group, or_else, symbol_error, group_error, group_bytes, groups_error, groups_bytes, groups_before_last, lone_error, no_leftover, push_leftover, scan_steps, scan, scan_last, scan_bytes, suffix_bytes, decode_error, decoded_bytes, decode_outcome}
 use Rattle.base64.specs.GeneralPurpose.{IsBytes, decode_of}
 use Rattle.base64.specs.Engines.{standard}
 use Rattle.base64.proofs.Tables.{IsDecodeTable_from, are_tables_inverse}

@@ -1,5 +1,5 @@
 -- Reading base64 agrees with its grammar.
-use Rattle.std.proofs.Common.{◌≡◌, ℕ, zero, suc, ◌+◌, ◌-◌, ◌*◌, ◌/◌, ◌%◌, ◌<◌, Bool, true, false, not, ◌⊎◌, inl, inr, List, [], ◌∷◌, ◌++◌, length, reverse, replicate, slice_index, Result, Ok, Err, refl, sym, ap, ◌∙◌, arith}
+use Rattle.std.proofs.Common.{◌≡◌, ℕ, suc, ◌+◌, ◌*◌, ◌/◌, ◌%◌, ◌<◌, Bool, true, false, not, ◌⊎◌, inl, inr, List, [], ◌∷◌, ◌++◌, length, reverse, Result, Ok, Err, refl, sym, ap, ◌∙◌, arith}
 use Rattle.std.specs.List.{list_all}
 use Rattle.std.proofs.lemmas.Bool.{and_parts}
 use Rattle.std.proofs.lemmas.List.{reverse-append, reverse-reverse, append-nil}
@@ -16,7 +16,7 @@ use Rattle.xa_value.specs.Binary.{without_blanks}
 use Rattle.xa_value.specs.BinaryGrammar.{alphabet, symbol, Base64, end, one_byte, two_bytes, three_bytes, print_base64, IsBase64, base64_value}
 use Rattle.xa_value.specs.parsing.Binary.{or_not_this_type}
 use Rattle.xa_value.proofs.SolidLemmas.{Solid, Solid-at, without_blanks_solid}
-use Rattle.xa_value.proofs.BinaryReads.{IsBytes-cons, IsBytes-without_blanks}
+use Rattle.xa_value.proofs.BinaryReads.{IsBytes-cons}
 use Rattle.xa_value.proofs.Base64Bytes.{decoded_are_bytes}
 
 -- ---- trees and encodings

@@ -1,5 +1,5 @@
 -- Facts on days of the calendar.
-use Rattle.std.proofs.Common.{◌≡◌, ℕ, ◌≤◌, true, List, drop, codes, Ok, Err, refl, arith}
+use Rattle.std.proofs.Common.{◌≡◌, ℕ, ◌≤◌, true, List, drop, codes, Err, refl, arith}
 use Rattle.std.proofs.lemmas.Bool.{and_parts}
 use Rattle.std.specs.Prelude.{nat_le, ◌&&◌, ℤ, pos, negsuc, unsigned_abs, ◌≤ℤ◌}
 use borrow.Author.Tests.{leb-true, le-leb}

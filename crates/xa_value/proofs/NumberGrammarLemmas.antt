@@ -1,26 +1,29 @@
 -- Reading integers agrees with their grammar.
 use Rattle.std.proofs.Common.{◌≡◌, ℕ, ◌-◌, ◌^◌, Bool, true, false, ◌⊎◌, inl, inr, List, [], ◌++◌, length, drop, Ok, Err, refl, sym, ap, ◌∙◌}
-use Rattle.std.specs.Prelude.{◌==◌, ◌||◌, if◌then◌else◌, nat_lt, nat_le}
+use Rattle.std.specs.Prelude.{◌||◌, if◌then◌else◌, nat_lt, nat_le}
+use Rattle.std.specs.List.{list_all}
+use Rattle.std.specs.Char.{is_ascii_digit}
 use Rattle.std.proofs.lemmas.List.{append-nil}
-use Rattle.std.proofs.lemmas.Bool.{and_parts, eqb-true}
-use borrow.Author.Tests.{lt-ltb, ltb-true, eq-eqb}
+use Rattle.std.proofs.lemmas.Bool.{and_parts}
+use borrow.Author.Tests.{lt-ltb, ltb-true}
 use Rattle.xa_value.specs.declared.read_error.ReadError.TheVariants.{NotThisType, OutOfRange}
+use Rattle.xa_value.specs.Digits.{is_number}
 use Rattle.xa_value.specs.Lexical.{number, trimmed, with_sign}
-use Rattle.xa_value.specs.parsing.Lexical.{begins_with, digit_count, is_number}
+use Rattle.xa_value.specs.parsing.Lexical.{begins_with}
 use Rattle.xa_value.specs.parsing.Number.{integer_of, without_sign, read_integer}
 use Rattle.xa_value.specs.DigitGrammar.{IsNumeral}
 use Rattle.xa_value.specs.NumberGrammar.{Sign, plus, minus, neither, print_sign, is_minus, Integer, IsInteger, print_integer, integer_value, is_integer_in_range}
 use Rattle.xa_value.proofs.NumeralLemmas.{digits_begin}
-use Rattle.xa_value.proofs.DigitGrammarLemmas.{Digits-from_all, all-from_Digits, begins_at, Solid-numeral}
+use Rattle.xa_value.proofs.DigitGrammarLemmas.{Digits-from_all, begins_at, Solid-numeral}
 use Rattle.xa_value.proofs.SolidLemmas.{Solid, Solid-append, trimmed_solid}
 
 numeral_is_number : (ds : List ℕ) → IsNumeral ds → is_number ds ≡ true
-numeral_is_number ds valid = rw (lt-ltb 0 (length ds) valid.0, eq-eqb (digit_count ds) (length ds) (Digits-from_all ds valid.1)) refl
+numeral_is_number ds valid = rw (lt-ltb 0 (length ds) valid.0, valid.1) refl
 
 number_is_numeral : (ds : List ℕ) → is_number ds ≡ true → IsNumeral ds
 number_is_numeral ds h =
-    let k = and_parts (nat_lt 0 (length ds)) (digit_count ds == length ds) h in
-    (ltb-true 0 (length ds) k.0, all-from_Digits ds (eqb-true (digit_count ds) (length ds) k.1))
+    let k = and_parts (nat_lt 0 (length ds)) (list_all is_ascii_digit ds) h in
+    (ltb-true 0 (length ds) k.0, k.1)
 
 -- a numeral begins with no sign
 numeral_unsigned : (ds : List ℕ) → IsNumeral ds → (begins_with 45 ds ≡ false) × (begins_with 43 ds ≡ false)

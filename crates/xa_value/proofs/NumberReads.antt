@@ -5,8 +5,9 @@ use Rattle.std.specs.Fmt.{signed_decimal}
 use borrow.Author.Tests.{le-leb, leb-true}
 use Rattle.jiff_core.proofs.SignedLemmas.{signed_arith}
 use Rattle.xa_value.specs.declared.read_error.ReadError.TheVariants.{NotThisType, OutOfRange}
+use Rattle.xa_value.specs.Digits.{is_number}
 use Rattle.xa_value.specs.Lexical.{number, trimmed, trimmed_start, trimmed_end}
-use Rattle.xa_value.specs.parsing.Lexical.{begins_with, is_number}
+use Rattle.xa_value.specs.parsing.Lexical.{begins_with}
 use Rattle.xa_value.specs.Number.{boolean_text}
 use Rattle.xa_value.specs.parsing.Number.{read_boolean, integer_of, without_sign, read_integer}
 use Rattle.xa_value.specs.NumberGrammar.{neither, minus, Integer, IsInteger as IsIntegerTree, print_integer, integer_value, is_integer_in_range}

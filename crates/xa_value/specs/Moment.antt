@@ -3,7 +3,7 @@
 use Rattle.std.specs.Prelude.{ℕ, ◌*◌, ℤ, pos, negsuc, ◌≤ℤ◌, unsigned_abs, Option, Some}
 use Rattle.std.specs.Int.{int_div_euclid, int_rem_euclid}
 use Rattle.xa_value.specs.Calendar.{CivilDate, CivilDateTime}
-use Rattle.xa_value.specs.Days.{Day, day_of_number}
+use Rattle.xa_value.specs.Days.{day_of_number}
 use Rattle.xa_value.specs.Time.{ClockTime}
 
 -- from 0001-01-01T00:00:00Z to 9999-12-31T23:59:59Z

@@ -1,5 +1,5 @@
 -- The text of booleans (XML Schema, part 2, section 3.2.2).
-use Rattle.std.specs.Prelude.{ℕ, Bool, true, false, if◌then◌else◌, List, codes}
+use Rattle.std.specs.Prelude.{ℕ, Bool, if◌then◌else◌, List, codes}
 
 unfoldable pub boolean_text : Bool → List ℕ
 boolean_text b = if b then codes "true" else codes "false"

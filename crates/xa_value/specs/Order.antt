@@ -1,5 +1,5 @@
 -- Equality and order of values (XACML 3.0, core, appendix A.3; XML Schema, part 2, section 3.2.7.4).
-use Rattle.std.specs.Prelude.{◌≡◌, option_map, ℕ, Bool, true, false, ◌&&◌, ◌==◌, if◌then◌else◌, List, [], bytes_eq, ℤ, pos, Option, Some, None}
+use Rattle.std.specs.Prelude.{◌≡◌, option_map, ℕ, Bool, true, false, ◌&&◌, if◌then◌else◌, List, [], bytes_eq, ℤ, pos, Option, Some, None}
 use Rattle.std.specs.Ordering.{int_eq, int_cmp, nat_cmp, on, then_cmp, ordering_reverse, is_eq}
 use Rattle.std.specs.Cmp.Lexicographic.{slice_cmp}
 use Rattle.std.specs.declared.cmp.Ordering.{Ordering}
@@ -9,7 +9,7 @@ use Rattle.xa_value.specs.declared.data_type.DataType.TheVariants as type
 use Rattle.xa_value.specs.declared.value.Value.{Value}
 use Rattle.xa_value.specs.declared.value.Value.TheVariants as value
 use Rattle.xa_value.specs.Calendar.{instant, day_number}
-use Rattle.xa_value.specs.Types.{place_of}
+use Rattle.xa_value.specs.Types.{same_type}
 
 -- a value's type
 abbrev pub type_of : Value → DataType
@@ -74,12 +74,12 @@ key_of v = number_and_bytes (number_of v) (bytes_of v)
 
 -- the same type, number and bytes
 unfoldable pub same : Value → Value → Bool
-same a b = (place_of (type_of a) == place_of (type_of b)) && equal_keys (key_of a) (key_of b)
+same a b = (same_type (type_of a) (type_of b)) && equal_keys (key_of a) (key_of b)
 
 -- the order of two values of one type that has an order
 unfoldable pub order : Value → Value → Option Ordering
 order a b =
-    if (place_of (type_of a) == place_of (type_of b)) && is_ordered (type_of a) then Some (compare_keys (key_of a) (key_of b)) else None
+    if (same_type (type_of a) (type_of b)) && is_ordered (type_of a) then Some (compare_keys (key_of a) (key_of b)) else None
 
 -- `order` orders the values that it compares, and agrees with `same`
 pub record IsOrder : Type 0 where

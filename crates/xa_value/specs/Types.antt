@@ -43,6 +43,10 @@ place_of AnyUri = 8
 place_of HexBinary = 9
 place_of Base64Binary = 10
 
+-- two types are one
+abbrev pub same_type : DataType → DataType → Bool
+same_type t u = place_of t == place_of u
+
 -- the type that has that place
 abbrev pub type_at : ℕ → Option DataType
 type_at place = find (λ type. place_of type == place) all_types

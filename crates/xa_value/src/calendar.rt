@@ -263,11 +263,11 @@ pub(crate) fn read_date_time(text: &[u8]) -> Result<DateTime, ReadError>
     }
 }
 
-pub(crate) fn push_date_time(text: &mut String, moment: DateTime) -> Result<(), AllocError>
-    ensures { OnOk result (string_bytes text.new ≡ string_bytes text.old ++ date_time_text moment) }
+pub(crate) fn push_date_time(text: &mut String, date_time: DateTime) -> Result<(), AllocError>
+    ensures { OnOk result (string_bytes text.new ≡ string_bytes text.old ++ date_time_text date_time) }
 {
-    push_day(text, moment.year, moment.month, moment.day)?;
+    push_day(text, date_time.year, date_time.month, date_time.day)?;
     text.push('T')?;
-    push_clock(text, moment.nanos)?;
-    push_zone(text, moment.zone)
+    push_clock(text, date_time.nanos)?;
+    push_zone(text, date_time.zone)
 }

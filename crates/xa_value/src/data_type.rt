@@ -1,6 +1,6 @@
 //! The data types, with their names and numbers.
-ghost use Rattle.std.specs.Prelude.{◌≡◌, find};
-ghost use Rattle.xa_value.specs.Types.{name_of, uri_of, place_of, type_at, names, type_named};
+ghost use Rattle.std.specs.Prelude.{◌≡◌, true, find};
+ghost use Rattle.xa_value.specs.Types.{name_of, uri_of, place_of, type_at, same_type, names, type_named};
 
 /// A data type (XACML 3.0, appendix A.2).
 #[derive(Clone, Copy, Debug, PartialEq, Eq)]
@@ -67,6 +67,14 @@ impl DataType {
         ensures inverse { type_at (place_of self) ≡ Some self }
     {
         self as u8
+    }
+
+    /// Whether the types are the same.
+    pub fn is_same(self, other: DataType) -> bool
+        ensures value { result ≡ same_type self other }
+        ensures same { result ≡ true → self ≡ other }
+    {
+        self == other
     }
 
     /// Whether the text is the type's URI or its name alone.

@@ -48,7 +48,7 @@ impl YearMonthDuration {
         }
     }
 
-    /// The months.
+    /// The months, negative for a duration backwards.
     pub fn months(self) -> i32
         ensures value { result ≡ self }
         ensures within { IsMonths result }
@@ -88,7 +88,7 @@ impl DayTimeDuration {
         }
     }
 
-    /// The nanoseconds.
+    /// The nanoseconds, negative for a duration backwards.
     pub fn nanos(self) -> i128
         ensures value { result ≡ self }
         ensures within { IsNanos result }

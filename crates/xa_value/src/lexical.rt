@@ -2,7 +2,7 @@
 ghost use Rattle.std.specs.Prelude.{◌≡◌, ◌+◌, ◌-◌, ◌<◌, ◌≤◌, ◌^◌, [], ◌∷◌, length, min, OnOk, ◌++◌, IsTrue, string_bytes};
 ghost use Rattle.std.specs.List.{prefix_len};
 ghost use Rattle.xa_value.specs.Lexical.{is_blank, trimmed_start, trimmed_end, trimmed, number, last_digits};
-ghost use Rattle.xa_value.specs.parsing.Lexical.{begins_with, fits_place, has_shape, two_digits, digit_count, is_number};
+ghost use Rattle.xa_value.specs.parsing.Lexical.{begins_with, fits_place, has_shape, two_digits, digit_count};
 
 use std::alloc::AllocError;
 
@@ -126,13 +126,6 @@ pub(crate) fn digit_count(text: &[u8]) -> usize
         }
     }
     text.len()
-}
-
-/// Whether the text has digits alone, and at least one.
-pub(crate) fn is_number(text: &[u8]) -> bool
-    ensures { result ≡ is_number text.now }
-{
-    !text.is_empty() && digit_count(text) == text.len()
 }
 
 /// The number that the digits write, or `u64::MAX` where it is larger.

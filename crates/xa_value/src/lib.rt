@@ -43,6 +43,6 @@ pub use read_error::ReadError;
 pub use shared::Shared;
 pub use sort_key::SortKey;
 pub use text::{Text, TextRef};
-pub use time::{DAY as DAY_NANOS, Time};
+pub use time::{DAY as DAY_NANOS, MINUTE as MINUTE_NANOS, Time};
 pub use value::Value;
 pub use zone::Offset;

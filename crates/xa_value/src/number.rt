@@ -4,7 +4,8 @@ ghost use Rattle.std.specs.Fmt.{signed_decimal};
 ghost use Rattle.xa_value.specs.Number.{boolean_text};
 ghost use Rattle.xa_value.specs.parsing.Number.{read_boolean, integer_of, without_sign, read_integer};
 
-use crate::lexical::{begins_with, is_number, number};
+use crate::digits::is_number;
+use crate::lexical::{begins_with, number};
 use crate::read_error::ReadError;
 use std::alloc::AllocError;
 

@@ -1,7 +1,6 @@
 //! Equality and order of values.
-ghost use Rattle.std.specs.Prelude.{◌≡◌, ◌==◌};
+ghost use Rattle.std.specs.Prelude.{◌≡◌};
 ghost use Rattle.std.specs.Cmp.{IsEquivalence};
-ghost use Rattle.xa_value.specs.Types.{place_of};
 ghost use Rattle.xa_value.specs.Order.{type_of, number_of, bytes_of, key_of, compare_keys, same, is_ordered, order, IsOrder, KeysTellApart};
 
 use crate::data_type::DataType;
@@ -9,13 +8,6 @@ use crate::instant::instant;
 use crate::sort_key::SortKey;
 use crate::value::Value;
 use std::cmp::Ordering;
-
-/// Whether the types are the same.
-fn is_same_type(left: DataType, right: DataType) -> bool
-    ensures { result ≡ (place_of left == place_of right) }
-{
-    left == right
-}
 
 /// Whether values of the type have an order.
 fn is_ordered(data_type: DataType) -> bool
@@ -38,10 +30,10 @@ impl Value {
             Value::Integer(value) => i128::from(*value),
             Value::Date(date) => instant(date.civil().to_unix_epoch_day(), 0, date.zone()),
             Value::Time(time) => instant(0, time.nanos(), time.zone()),
-            Value::DateTime(moment) => instant(
-                moment.civil().to_unix_epoch_day(),
-                moment.nanos(),
-                moment.zone(),
+            Value::DateTime(date_time) => instant(
+                date_time.civil().to_unix_epoch_day(),
+                date_time.nanos(),
+                date_time.zone(),
             ),
             Value::DayTimeDuration(duration) => duration.nanos(),
             Value::YearMonthDuration(duration) => i128::from(duration.months()),
@@ -75,7 +67,7 @@ impl Value {
         ensures value { result ≡ same self.now other.now }
         ensures law { IsEquivalence same }
     {
-        is_same_type(self.data_type(), other.data_type())
+        self.data_type().is_same(other.data_type())
             && self.number() == other.number()
             && self.bytes() == other.bytes()
     }
@@ -86,15 +78,15 @@ impl Value {
         ensures value { result ≡ order self.now other.now }
         ensures law { IsOrder }
     {
-        if is_same_type(self.data_type(), other.data_type()) && is_ordered(self.data_type()) {
-            Some(self.compared(other))
+        if self.data_type().is_same(other.data_type()) && is_ordered(self.data_type()) {
+            Some(self.key_order(other))
         } else {
             None
         }
     }
 
     /// The order by the number, and then by the bytes.
-    fn compared(&self, other: &Value) -> Ordering
+    fn key_order(&self, other: &Value) -> Ordering
         ensures { result ≡ compare_keys (key_of self.now) (key_of other.now) }
     {
         self.number()

@@ -27,7 +27,7 @@ impl Value {
             Value::Integer(value) => integer_text(alloc, *value),
             Value::Date(date) => date_text(alloc, *date),
             Value::Time(time) => time_text(alloc, *time),
-            Value::DateTime(moment) => date_time_text(alloc, *moment),
+            Value::DateTime(date_time) => date_time_text(alloc, *date_time),
             Value::DayTimeDuration(duration) => day_time_text(alloc, *duration),
             Value::YearMonthDuration(duration) => year_month_text(alloc, *duration),
             Value::AnyUri(text) => text.clone(),
@@ -69,11 +69,11 @@ fn time_text(alloc: Global, time: Time) -> Result<Text, AllocError>
     Ok(Text::from_string(text))
 }
 
-fn date_time_text(alloc: Global, moment: DateTime) -> Result<Text, AllocError>
-    ensures { IfOk result (λ t. t ≡ date_time_text moment) }
+fn date_time_text(alloc: Global, date_time: DateTime) -> Result<Text, AllocError>
+    ensures { IfOk result (λ t. t ≡ date_time_text date_time) }
 {
     let mut text = String::new(alloc);
-    push_date_time(&mut text, moment)?;
+    push_date_time(&mut text, date_time)?;
     Ok(Text::from_string(text))
 }
 

@@ -4,7 +4,7 @@ ghost use Rattle.xa_value.specs.parsing.Lexical.{digit_count};
 ghost use Rattle.xa_value.specs.Time.{day_nanos, nanoseconds, significant_digits, fraction_text, clock_text, time_text};
 ghost use Rattle.xa_value.specs.parsing.Time.{fraction_length, fraction_digits, is_clock, clock_nanos, time_of, read_clock};
 
-use crate::lexical::{begins_with, digit_count, has_shape, number, push_padded, two_digits};
+use crate::lexical::{digit_count, has_shape, number, push_padded, two_digits};
 use crate::read_error::ReadError;
 use crate::zone::{Offset, push_zone, read_zone};
 use std::alloc::AllocError;
@@ -14,7 +14,7 @@ use std::marker::Model;
 pub(crate) const SECOND: u64 = 1_000_000_000;
 
 /// The nanoseconds of a minute.
-pub(crate) const MINUTE: u64 = 60_000_000_000;
+pub const MINUTE: u64 = 60_000_000_000;
 
 /// The nanoseconds of an hour.
 pub(crate) const HOUR: u64 = 3_600_000_000_000;

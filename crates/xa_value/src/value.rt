@@ -1,3 +1,4 @@
+//! Values of the data types.
 ghost use Rattle.std.specs.Prelude.{◌≡◌};
 ghost use Rattle.xa_value.specs.Order.{type_of};
 

@@ -58,7 +58,7 @@ fn is_offset_text(text: &[u8]) -> bool
     text.len() == 6 && (has_shape(b"+99:99", text) || has_shape(b"-99:99", text))
 }
 
-/// So many minutes before or after UTC.
+/// This many minutes before or after UTC.
 fn signed_offset(negative: bool, minutes: i16) -> Offset
     requires { IsOffset minutes }
     ensures { result ≡ (if negative then neg_ℤ minutes else minutes) }

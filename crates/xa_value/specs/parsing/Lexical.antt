@@ -1,5 +1,5 @@
 -- Shapes and digits that the readers look for.
-use Rattle.std.specs.Prelude.{ℕ, ◌+◌, ◌-◌, ◌*◌, Bool, true, false, ◌&&◌, ◌==◌, if◌then◌else◌, List, [], ◌∷◌, length, slice_index, nat_lt}
+use Rattle.std.specs.Prelude.{ℕ, ◌+◌, ◌-◌, ◌*◌, Bool, true, false, ◌&&◌, ◌==◌, if◌then◌else◌, List, [], ◌∷◌, slice_index}
 use Rattle.std.specs.List.{prefix_len}
 use Rattle.std.specs.Char.{is_ascii_digit}
 
@@ -25,7 +25,3 @@ two_digits text at = (slice_index text at - 48) * 10 + (slice_index text (at + 1
 -- how many digits the text begins with
 abbrev pub digit_count : List ℕ → ℕ
 digit_count text = prefix_len is_ascii_digit text
-
--- the text has digits alone, and at least one
-abbrev pub is_number : List ℕ → Bool
-is_number text = nat_lt 0 (length text) && (digit_count text == length text)

@@ -2,8 +2,9 @@
 use Rattle.std.specs.Prelude.{ℕ, Bool, true, false, ◌||◌, nat_le, if◌then◌else◌, List, codes, drop, bytes_eq, ℤ, pos, neg_ℤ, Result, Ok, Err}
 use Rattle.xa_value.specs.declared.read_error.ReadError.{ReadError}
 use Rattle.xa_value.specs.declared.read_error.ReadError.TheVariants.{NotThisType, OutOfRange}
+use Rattle.xa_value.specs.Digits.{is_number}
 use Rattle.xa_value.specs.Lexical.{number}
-use Rattle.xa_value.specs.parsing.Lexical.{begins_with, is_number}
+use Rattle.xa_value.specs.parsing.Lexical.{begins_with}
 
 -- `true`, `false`, `1` and `0`
 unfoldable pub read_boolean : List ℕ → Result Bool ReadError

@@ -1,4 +1,4 @@
-use Rattle.std.proofs.Common.{rules, refl, ◌∙◌, ap, sym, ◌-◌, [], ◌∷◌, ◌++◌, length, map, take, drop}
+use Rattle.std.proofs.Common.{rules, refl, ◌∙◌, ap, ◌-◌, [], ◌∷◌, ◌++◌, length, map, take, drop}
 use Rattle.std.specs.Prelude.{Ok}
 use Rattle.xa_bag.specs.HigherOrder.{outcome, collected}
 use Rattle.std.proofs.lemmas.List.{drop_all}

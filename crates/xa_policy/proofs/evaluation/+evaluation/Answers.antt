@@ -1,4 +1,3 @@
-use Rattle.std.proofs.Common.{rules, drop}
 use Rattle.std.proofs.lemmas.List.{drop_all}
 use Rattle.xa_bag.proofs.SetLemmas as list
 use Rattle.xa_policy.specs.Evaluation.{evaluated}
@@ -15,12 +14,12 @@ pub child_unless_another-returns-in-Indeterminate :
     goal.child_unless_another-returns-in-Indeterminate
 child_unless_another-returns-in-Indeterminate g t c =
     let at = list.walked c.args.others.now c.loop-other.other-index c.other-item.result c.other-item.is c.loop-other-test.true in
-    other_open (evaluated (g.C.Context.values_of c.args.context.now)) _ _ _ _ c.in_ok-target_of.field-0 _ _ _ c.requires at c.in_ok-target_of.ensures c.in-Indeterminate.is c.undecided.ensures c.loop-other.invariant
+    other_open (evaluated (g.C.Context.values_of c.args.context.now)) _ _ _ _ c.in_ok-target_of.field-0 _ _ _ c.requires at c.in_ok-target_of.ensures c.in-Indeterminate.is c.undecided_result.ensures c.loop-other.invariant
 
 pub child_unless_another-returns-in-Match : goal.child_unless_another-returns-in-Match
 child_unless_another-returns-in-Match g t c =
     let at = list.walked c.args.others.now c.loop-other.other-index c.other-item.result c.other-item.is c.loop-other-test.true in
-    other_applies (evaluated (g.C.Context.values_of c.args.context.now)) _ _ _ _ c.in_ok-target_of.field-0 _ _ c.requires at c.in_ok-target_of.ensures c.in-Match.is c.undecided-in-Match.ensures c.loop-other.invariant
+    other_applies (evaluated (g.C.Context.values_of c.args.context.now)) _ _ _ _ c.in_ok-target_of.field-0 _ _ c.requires at c.in_ok-target_of.ensures c.in-Match.is c.undecided_result-in-Match.ensures c.loop-other.invariant
 
 pub child_unless_another-returns : goal.child_unless_another-returns
 child_unless_another-returns g t c =
@@ -36,12 +35,12 @@ pub only_applicable_child-returns-in-Indeterminate :
     goal.only_applicable_child-returns-in-Indeterminate
 only_applicable_child-returns-in-Indeterminate g t c =
     let at = list.walked c.args.children.now c.loop-place.place c.index-children-place.result c.index-children-place.is c.loop-place-test.true in
-    child_open (evaluated (g.C.Context.values_of c.args.context.now)) _ _ _ c.in_ok-target_of.field-0 _ _ _ at c.in_ok-target_of.ensures c.in-Indeterminate.is c.undecided.ensures c.loop-place.invariant
+    child_open (evaluated (g.C.Context.values_of c.args.context.now)) _ _ _ c.in_ok-target_of.field-0 _ _ _ at c.in_ok-target_of.ensures c.in-Indeterminate.is c.undecided_result.ensures c.loop-place.invariant
 
 pub walk_children-returns-then-branch : goal.walk_children-returns-then-branch
 walk_children-returns-then-branch g t c =
     let at = list.walked c.args.children.now c.loop-child.child-index c.child-item.result c.child-item.is c.loop-child-test.true in
-    child_ends (evaluated (g.C.Context.values_of c.args.context.now)) c.loop-child.so_far _ _ _ _ c.in_ok-child.child _ _ c.in_ok-add.field-0 at c.in_ok-child.ensures c.in_ok-add.ensures.ok c.in_ok-add.ensures.ended c.if-branch.true c.decided.ensures c.loop-child.invariant.1
+    child_ends (evaluated (g.C.Context.values_of c.args.context.now)) c.loop-child.so_far _ _ _ _ c.in_ok-child.child _ _ c.in_ok-add.field-0 at c.in_ok-child.ensures c.in_ok-add.ensures.ok c.in_ok-add.ensures.ended c.if-branch.true c.result_so_far.ensures c.loop-child.invariant.1
 
 pub walk_children-loop-child-preserved : goal.walk_children-loop-child-preserved
 walk_children-loop-child-preserved g t c =

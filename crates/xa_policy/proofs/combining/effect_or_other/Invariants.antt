@@ -1,7 +1,7 @@
 use Rattle.std.proofs.Common.{◌≡◌, map, drop}
 use Rattle.xa_policy.specs.Combining.{decision_of}
 use Rattle.xa_policy.specs.Overriding.{otherwise}
-use Rattle.xa_policy.proofs.combining.otherwise.Given as goal
+use Rattle.xa_policy.proofs.combining.effect_or_other.Given as goal
 
 -- the children that were seen change nothing
 abbrev pub invariant-loop-child : goal.invariant-loop-child
