@@ -1,6 +1,6 @@
 -- What an index finds: the items of a key, in their own order.
 use Rattle.std.proofs.Common.{◌≡◌, ℕ, zero, suc, ◌+◌, ◌≤◌, Bool, true, false, cond, List, [], ◌∷◌, ◌++◌, take, drop, length, get_or, refl, ap, sym, subst, ◌∙◌, arith, append_assoc}
-use Rattle.std.specs.Prelude.{filter, not, ◌&&◌, Some, option_map, slice_get}
+use Rattle.std.specs.Prelude.{filter, not, ◌&&◌, Option, Some, None, option_map, slice_get}
 use Rattle.std.specs.Cmp.{IsTotalOrder, nat_cmp_total, on_total, then_total}
 use Rattle.std.specs.Cmp.Lexicographic.{on_texts, options_total}
 use Rattle.std.specs.List.{All, AllWithin, filter_map, cons_option, range_with_len}
@@ -15,7 +15,7 @@ use Rattle.std.proofs.lemmas.List.Elements.{filter_agree, filter_passes}
 use Rattle.std.proofs.lemmas.List.Sorted.{IsNonDecreasingBy-drop}
 use Rattle.std.proofs.lemmas.Option.{slice_get-get_or}
 use Rattle.std.proofs.Math.Seq.{get_or-append_seam}
-use Rattle.xa_decide.specs.indexing.Index.{Sought, compare_keys, order_at, with_key}
+use Rattle.xa_decide.specs.indexing.Index.{Sought, compare_keys, key_at, order_at, with_key}
 
 -- ---- orderings
 
@@ -129,6 +129,29 @@ module _ {K X : Type 0} {R : K → K → Ordering} (o : IsTotalOrder R) (key : X
     by_case (x ∷ found) wanted e f = by_one x (first_passes ys x found e)
     by_case [] (x ∷ wanted) e f = by_one x (first_passes xs x wanted f)
 
+-- ---- keys
+
+pub compare_total : IsTotalOrder compare_keys
+compare_total =
+    then_total (then_total (then_total (on_total (λ k. k.number) nat_cmp_total) (on_texts (λ k. k.first))) (on_texts (λ k. k.second))) (on_texts (λ k. k.third))
+
+pub keys_total : IsTotalOrder (option_cmp compare_keys)
+keys_total = options_total compare_total
+
+-- ---- what is left out doesn't pass either
+
+module _ {X : Type 0} (p q : X → Bool) (within : (x : X) → p x ≡ true → q x ≡ true) where
+  one_of : (x : X) (xs : List X) (a b : Bool) → p x ≡ a → q x ≡ b → filter p (filter q xs) ≡ filter p xs → filter p (filter q (x ∷ xs)) ≡ filter p (x ∷ xs)
+  one_of x xs a true e f rest =
+      ap (λ c. filter p (cond c (x ∷ filter q xs) (filter q xs))) f ∙ ap (λ ys. cond (p x) (x ∷ ys) ys) rest
+  one_of x xs true false e f rest = absurd (true≢false (sym (within x e) ∙ f))
+  one_of x xs false false e f rest =
+      ap (λ c. filter p (cond c (x ∷ filter q xs) (filter q xs))) f ∙ rest ∙ sym (ap (λ c. cond c (x ∷ filter p xs) (filter p xs)) e)
+
+  pub filter_within : (xs : List X) → filter p (filter q xs) ≡ filter p xs
+  filter_within [] = refl
+  filter_within (x ∷ xs) = one_of x xs (p x) (q x) refl refl (filter_within xs)
+
 -- ---- from places to items
 
 module _ {X : Type 0} (key_of : X → Sought) (key : Sought) where
@@ -167,11 +190,26 @@ module _ {X : Type 0} (key_of : X → Sought) (key : Sought) where
   pub items_found : (items : List X) → filter_map (slice_get items) (filter (λ q. is_eq (order_at key_of items key q)) (range_with_len 0 (length items))) ≡ with_key key_of key items
   items_found items = items_behind [] items 0 refl
 
--- ---- keys
+  places_kept : (all : List X) (ps : List ℕ)
+      → with_key key_of key (filter_map (slice_get all) ps) ≡ filter_map (slice_get all) (filter (λ q. is_eq (order_at key_of all key q)) ps)
+  places_kept all [] = refl
+  places_kept all (p ∷ ps) = by_case (slice_get all p) refl (places_kept all ps) where
+    by_case : (o : Option X) → slice_get all p ≡ o
+        → with_key key_of key (filter_map (slice_get all) ps) ≡ filter_map (slice_get all) (filter (λ q. is_eq (order_at key_of all key q)) ps)
+        → with_key key_of key (filter_map (slice_get all) (p ∷ ps)) ≡ filter_map (slice_get all) (filter (λ q. is_eq (order_at key_of all key q)) (p ∷ ps))
+    by_case None e rest =
+        ap (λ o. with_key key_of key (cons_option o (filter_map (slice_get all) ps))) e ∙ rest
+        ∙ sym (ap (λ o. filter_map (slice_get all) (cond (is_eq (option_cmp compare_keys (option_map key_of o) (Some key)))
+        (p ∷ filter (λ q. is_eq (order_at key_of all key q)) ps) (filter (λ q. is_eq (order_at key_of all key q)) ps))) e)
+    by_case (Some x) e rest =
+        ap (λ o. with_key key_of key (cons_option o (filter_map (slice_get all) ps))) e
+        ∙ ap (λ ys. cond (is_eq (compare_keys (key_of x) key)) (x ∷ ys) ys) rest ∙ sym (one_place all p ps x e)
 
-pub compare_total : IsTotalOrder compare_keys
-compare_total =
-    then_total (then_total (then_total (on_total (λ k. k.number) nat_cmp_total) (on_texts (λ k. k.first))) (on_texts (λ k. k.second))) (on_texts (λ k. k.third))
+  -- all places have the items of the key in their own order
+  pub few_found : (items : List X) → with_key key_of key (filter_map (slice_get items) (range_with_len 0 (length items))) ≡ with_key key_of key items
+  few_found items = places_kept items (range_with_len 0 (length items)) ∙ items_found items
 
-pub keys_total : IsTotalOrder (option_cmp compare_keys)
-keys_total = options_total compare_total
+  pub found_twice : (items found : List X) → found ≡ with_key key_of key items → with_key key_of key found ≡ with_key key_of key items
+  found_twice items found e =
+      ap (λ xs. with_key key_of key xs) e
+      ∙ filter_within (λ x. is_eq (compare_keys (key_of x) key)) (λ x. is_eq (compare_keys (key_of x) key)) (λ x h. h) items

@@ -1,2 +1,3 @@
 mod IndexLemmas
 mod KeyLemmas
+mod NamingLemmas

@@ -12,7 +12,7 @@ use Rattle.xa_value.specs.Category.{all_categories, is_subject, uri_of}
 use Rattle.xa_value.specs.Moment.{date_of, date_time_of, time_of}
 use Rattle.xa_value.specs.Order.{type_of}
 use Rattle.xa_expr.specs.declared.designator.Designator.{Designator}
-use Rattle.xa_expr.specs.Typed.{same_type}
+use Rattle.xa_value.specs.Types.{same_type}
 use Rattle.xa_profile.specs.declared.attribute.Attribute.{Attribute}
 use Rattle.xa_profile.specs.declared.category_object.CategoryObject.{CategoryObject}
 use Rattle.xa_decide.specs.declared.source_row.SourceRow.{SourceRow}
@@ -58,17 +58,18 @@ clock_value moment id _ = None
 unfoldable pub category_of : List ℕ → Option Category
 category_of uri = find (λ category. bytes_eq uri (uri_of category)) all_categories
 
--- the id of the attribute that names a category's entity, where one does
+-- the id of the attribute that names a category's entity, where one does (core, appendix B.4 to B.6)
 abbrev pub naming_id : Category → Option (List ℕ)
 naming_id Resource = Some (codes "urn:oasis:names:tc:xacml:1.0:resource:resource-id")
 naming_id Action = Some (codes "urn:oasis:names:tc:xacml:1.0:action:action-id")
 naming_id category = if is_subject category then Some (codes "urn:oasis:names:tc:xacml:1.0:subject:subject-id") else None
 
--- a text, where there is one value, and the empty one otherwise
+-- the text of a value, and the empty one of a value that is no text
 abbrev pub text_of : Value → List ℕ
 text_of (value.String text) = text
 text_of _ = []
 
+-- a text, where there is one value, and the empty one otherwise
 abbrev pub only_text : List Value → List ℕ
 only_text [] = []
 only_text (v ∷ []) = text_of v
@@ -106,7 +107,7 @@ or_source None vs = vs
 abbrev pub clock_value_in : ℤ → List ℕ → List ℕ → DataType → Option Value
 clock_value_in moment category id t = if bytes_eq category (uri_of Environment) then clock_value moment id t else None
 
--- those that are not in the request: none where an issuer is named
+-- those that are not in the request, where no issuer is named
 unfoldable pub outside_values : AskContext → Designator → List Value
 outside_values c d =
     or_source (clock_value_in c.moment d.category d.attribute_id d.data_type)

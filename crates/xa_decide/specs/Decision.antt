@@ -24,9 +24,9 @@ use Rattle.xa_profile.specs.Individuals.{individuals}
 use Rattle.xa_profile.specs.Request.{request_of}
 use Rattle.xa_profile.specs.Response.{response_body}
 use Rattle.xa_decide.specs.declared.source_row.SourceRow.{SourceRow}
-use Rattle.xa_decide.specs.Context.{AskContext, values_of}
+use Rattle.xa_decide.specs.Context.{values_of}
 
--- what decides: the active documents, what refers to the one at the root, if anything does, and the rows of the source of attributes
+-- what decides: the active documents, the reference to the root, if one is set, and the rows of the source of attributes
 pub record Viewed : Type 0 where
   pub active : List Active
   pub root : Option Reference
@@ -52,9 +52,9 @@ decision view objects moment =
 
 -- ---- a request
 
--- the one result of a request that is refused as a whole, and that of a bad reference
-abbrev pub refused : Fault → ResultObject
-refused fault = record { evaluated = undecided fault; places = [] }
+-- the one result of a request whose individual requests aren't decided, and that of a bad reference
+abbrev pub result_without_objects : Fault → ResultObject
+result_without_objects fault = record { evaluated = undecided fault; places = [] }
 
 -- the objects that have these places
 abbrev pub objects_at : List CategoryObject → List ℕ → List CategoryObject
@@ -63,17 +63,17 @@ objects_at objects places = filter_map (slice_get objects) places
 -- the result of an individual request
 abbrev pub result_of : Viewed → List CategoryObject → ℤ → Individual → ResultObject
 result_of view objects moment (Places places) = record { evaluated = decision view (objects_at objects places) moment; places = places }
-result_of view objects moment BadReference = refused SyntaxError
+result_of view objects moment BadReference = result_without_objects SyntaxError
 
 -- the results of all, and the one result where there are too many
 abbrev pub results_of : Viewed → List CategoryObject → ℤ → Result (List Individual) TooMany → List ResultObject
 results_of view objects moment (Ok individuals) = map (result_of view objects moment) individuals
-results_of view objects moment (Err e) = refused ProcessingError ∷ []
+results_of view objects moment (Err e) = result_without_objects ProcessingError ∷ []
 
--- the results of a request. One decision for all individual requests (Multiple Decision Profile) isn't given
+-- the results of a request. One decision for all individual requests (CombinedDecision, core, section 5.42; Multiple Decision Profile) isn't given
 unfoldable pub decided : Viewed → Request → ℤ → List ResultObject
 decided view request moment =
-    if request.combined_decision then refused ProcessingError ∷ [] else results_of view request.objects moment (individuals request)
+    if request.combined_decision then result_without_objects ProcessingError ∷ [] else results_of view request.objects moment (individuals request)
 
 -- ---- a body
 
@@ -82,11 +82,11 @@ pub record Answered : Type 0 where
   pub objects : List CategoryObject
   pub results : List ResultObject
 
--- a body that is no JSON isn't answered by a response, and one that is no request by one result
+-- no JSON: no response; JSON but no request: one result
 abbrev pub answer_to : Viewed → ℤ → Result Request RequestError → Option Answered
 answer_to view moment (Ok request) = Some (record { objects = request.objects; results = decided view request moment })
 answer_to view moment (Err NotJson) = None
-answer_to view moment (Err NotProfile) = Some (record { objects = []; results = refused SyntaxError ∷ [] })
+answer_to view moment (Err NotProfile) = Some (record { objects = []; results = result_without_objects SyntaxError ∷ [] })
 
 -- what is answered to a body
 unfoldable pub answer : Viewed → List ℕ → ℤ → Option Answered

@@ -22,7 +22,7 @@ pub(crate) fn push_all(bag: &mut Bag, values: &[Value]) -> Result<(), AllocError
     ensures { IfOk result (λ _. bag.new ≡ bag_of bag.old.data_type (bag.old.values ++ values.now)) }
 {
     for value in values {
-        bag.push(value.clone()?)?;
+        push_value(bag, value)?;
     }
     Ok(())
 }

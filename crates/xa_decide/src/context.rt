@@ -1,12 +1,11 @@
 //! The values of attributes in the context of a decision.
 ghost use Rattle.std.specs.Prelude.{◌≡◌, IfOk};
 ghost use Rattle.xa_bag.specs.Bag.{bag_of};
-ghost use Rattle.xa_decide.specs.Context.{only_text, entity, source_values, outside_values, values_of};
+ghost use Rattle.xa_decide.specs.Context.{entity, source_values, outside_values, values_of};
 ghost use Rattle.xa_decide.specs.Decision.{objects_at};
 
 use crate::bag::bag_of_one;
 use crate::clock::clock_value_in;
-use crate::entity::{naming_id_of, only_text};
 use crate::indexed_object::IndexedObject;
 use crate::individual_objects::IndividualObjects;
 use crate::source::Source;
@@ -51,20 +50,8 @@ impl<'a> IndividualContext<'a> {
         })
     }
 
-    /// The bag of the values that name the entity of the category.
-    #[tactic(auto, unfolding(crate::specs::Context::entity))]
-    fn naming_bag(&self, alloc: Global, category: &str) -> Result<Bag, AllocError>
-        ensures { IfOk result (λ bag. only_text bag.values ≡ entity self.now.objects category.now) }
-    {
-        match naming_id_of(category) {
-            Some(id) => self
-                .objects
-                .bag(alloc, category, id, DataType::String, &None),
-            None => Ok(Bag::new(alloc, DataType::String)),
-        }
-    }
-
     /// The bag of the values that the source has.
+    #[tactic(auto, unfolding(crate::specs::Context::source_values))]
     fn source_bag(
         &self,
         alloc: Global,
@@ -74,8 +61,10 @@ impl<'a> IndividualContext<'a> {
     ) -> Result<Bag, AllocError>
         ensures { IfOk result (λ bag. bag ≡ bag_of data_type (source_values self.now.source category.now (entity self.now.objects category.now) id.now data_type)) }
     {
-        let naming = self.naming_bag(alloc, category)?;
-        let entity = only_text(naming.values());
+        if self.source.is_empty() {
+            return Ok(Bag::new(alloc, data_type));
+        }
+        let entity = self.objects.entity(category);
         self.source.bag(alloc, category, entity, id, data_type)
     }
 

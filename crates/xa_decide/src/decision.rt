@@ -4,7 +4,7 @@ ghost use Rattle.xa_link.specs.Linking.{link};
 ghost use Rattle.xa_policy.specs.Rule.{undecided};
 ghost use Rattle.xa_profile.specs.declared.individuals.Individual.TheVariants.{Places};
 ghost use Rattle.xa_profile.specs.Response.{response_body};
-ghost use Rattle.xa_decide.specs.Decision.{tree_of, by_tree, refused, result_of, decided, body_of, answer};
+ghost use Rattle.xa_decide.specs.Decision.{tree_of, by_tree, result_without_objects, result_of, decided, body_of, answer};
 
 use crate::context::IndividualContext;
 use crate::indexed_object::IndexedObject;
@@ -20,7 +20,6 @@ use xa_value::{Items, Moment, OrMemory};
 /// The response to a request, and whether it is the same at every moment.
 #[derive(Debug, Drop)]
 pub struct Decided<'a> {
-    /// The response.
     pub response: Response<'a>,
     /// Whether the response is known to be the same at every moment.
     pub timeless: bool,
@@ -52,7 +51,7 @@ fn tree_of(alloc: Global, view: &View) -> Result<Option<Result<Linked, LinkError
 }
 
 /// Indeterminate, for the fault's reason.
-fn undecided(alloc: Global, fault: Fault) -> Evaluated
+fn undecided_result(alloc: Global, fault: Fault) -> Evaluated
     ensures { result ≡ undecided fault }
 {
     Evaluated::without_duties(alloc, Decision::IndeterminateDenyPermit, fault.status())
@@ -68,7 +67,7 @@ fn by_tree<C: Context>(
 {
     match tree {
         Some(Ok(linked)) => evaluate(alloc, linked, context),
-        Some(Err(_)) => Ok(undecided(alloc, Fault::ProcessingError)),
+        Some(Err(_)) => Ok(undecided_result(alloc, Fault::ProcessingError)),
         None => {
             let decision = Decision::NotApplicable;
             Ok(Evaluated::without_duties(alloc, decision, Status::Ok))
@@ -76,64 +75,77 @@ fn by_tree<C: Context>(
     }
 }
 
-/// The one result of a request that is refused as a whole, and that of a bad reference.
-fn refused(alloc: Global, fault: Fault) -> ResultObject
-    ensures { result ≡ refused fault }
+/// The one result of a request whose individual requests aren't decided, and that of a bad reference.
+fn result_without_objects(alloc: Global, fault: Fault) -> ResultObject
+    ensures { result ≡ result_without_objects fault }
 {
     ResultObject {
-        evaluated: undecided(alloc, fault),
+        evaluated: undecided_result(alloc, fault),
         places: Items::new(alloc),
     }
 }
 
-/// The results of a request that is refused as a whole.
-fn refused_whole(alloc: Global, fault: Fault) -> Result<Items<ResultObject>, AllocError>
-    ensures { IfOk result (λ results. results ≡ refused fault ∷ []) }
+/// The results of a request whose individual requests aren't decided.
+fn one_result(alloc: Global, fault: Fault) -> Result<Items<ResultObject>, AllocError>
+    ensures { IfOk result (λ results. results ≡ result_without_objects fault ∷ []) }
 {
     let mut results = Items::new(alloc);
-    results.push(refused(alloc, fault))?;
+    results.push(result_without_objects(alloc, fault))?;
     Ok(results)
 }
 
-/// The result of the individual request that has the objects at these places.
-#[tactic(auto, unfolding(crate::specs::Decision::decision))]
-fn result_at(
-    alloc: Global,
-    view: &View,
-    tree: &Option<Result<Linked, LinkError>>,
-    objects: &[IndexedObject<'_>],
+/// What the individual requests of a request are decided by: a view and the tree that its root stands for, the Category objects of the
+/// request, and a moment.
+#[derive(Drop)]
+struct Deciding<'a> {
+    view: &'a View,
+    tree: Option<Result<Linked, LinkError>>,
+    objects: &'a [IndexedObject<'a>],
     moment: Moment,
-    places: Items<usize>,
-) -> Result<ResultObject, AllocError>
-    requires { tree.now ≡ tree_of view.now.active view.now.root }
-    ensures { IfOk result (λ r. r ≡ result_of view.now objects.now moment (Places places)) }
-{
-    let source = view.source();
-    let context = IndividualContext::new(alloc, objects, places.as_slice(), source, moment)?;
-    let evaluated = by_tree(alloc, tree, &context)?;
-    Ok(ResultObject { evaluated, places })
+    ghost linked: { tree ≡ tree_of view.now.active view.now.root },
 }
 
-/// The result of an individual request.
-fn result_of(
-    alloc: Global,
-    view: &View,
-    tree: &Option<Result<Linked, LinkError>>,
-    objects: &[IndexedObject<'_>],
-    moment: Moment,
-    individual: Individual,
-) -> Result<ResultObject, AllocError>
-    requires { tree.now ≡ tree_of view.now.active view.now.root }
-    ensures { IfOk result (λ r. r ≡ result_of view.now objects.now moment individual) }
-{
-    match individual {
-        Individual::Places(places) => result_at(alloc, view, tree, objects, moment, places),
-        Individual::BadReference => Ok(refused(alloc, Fault::SyntaxError)),
+impl<'a> Deciding<'a> {
+    /// The result of the individual request that has the objects at these places.
+    #[tactic(auto, unfolding(crate::specs::Decision::decision))]
+    fn result_at(&self, alloc: Global, places: Items<usize>) -> Result<ResultObject, AllocError>
+        ensures { IfOk result (λ r. r ≡ result_of self.now.view.now self.now.objects.now self.now.moment (Places places)) }
+    {
+        let source = self.view.source();
+        let chosen = places.as_slice();
+        let context = IndividualContext::new(alloc, self.objects, chosen, source, self.moment)?;
+        let evaluated = by_tree(alloc, &self.tree, &context)?;
+        Ok(ResultObject { evaluated, places })
+    }
+
+    /// The result of an individual request.
+    fn result_of(&self, alloc: Global, individual: Individual) -> Result<ResultObject, AllocError>
+        ensures { IfOk result (λ r. r ≡ result_of self.now.view.now self.now.objects.now self.now.moment individual) }
+    {
+        match individual {
+            Individual::Places(places) => self.result_at(alloc, places),
+            Individual::BadReference => Ok(result_without_objects(alloc, Fault::SyntaxError)),
+        }
+    }
+
+    /// The results of individual requests.
+    fn results_of(
+        &self,
+        alloc: Global,
+        individuals: Items<Individual>,
+    ) -> Result<Items<ResultObject>, AllocError>
+        ensures { IfOk result (λ results. results ≡ map (result_of self.now.view.now self.now.objects.now self.now.moment) individuals) }
+    {
+        let mut results = Items::new(alloc);
+        for individual in individuals.into_vec() {
+            results.push(self.result_of(alloc, individual)?)?;
+        }
+        Ok(results)
     }
 }
 
 /// The objects, each with its attributes put in order.
-fn indexed<'a>(
+fn indexed_objects<'a>(
     alloc: Global,
     objects: &'a [CategoryObject],
 ) -> Result<Vec<IndexedObject<'a>>, AllocError>
@@ -146,27 +158,8 @@ fn indexed<'a>(
     Ok(indexed)
 }
 
-/// The results of the individual requests, by the one tree.
-fn results_by(
-    alloc: Global,
-    view: &View,
-    tree: &Option<Result<Linked, LinkError>>,
-    objects: &[IndexedObject<'_>],
-    moment: Moment,
-    individuals: Items<Individual>,
-) -> Result<Items<ResultObject>, AllocError>
-    requires { tree.now ≡ tree_of view.now.active view.now.root }
-    ensures { IfOk result (λ results. results ≡ map (result_of view.now objects.now moment) individuals) }
-{
-    let mut results = Items::new(alloc);
-    for individual in individuals.into_vec() {
-        results.push(result_of(alloc, view, tree, objects, moment, individual)?)?;
-    }
-    Ok(results)
-}
-
 /// The results of the individual requests. For all of them the tree is linked once, and each object put in order once.
-fn results_of(
+fn results_of_individuals(
     alloc: Global,
     view: &View,
     objects: &[CategoryObject],
@@ -176,13 +169,19 @@ fn results_of(
     ensures { IfOk result (λ results. results ≡ map (result_of view.now objects.now moment) individuals) }
 {
     let tree = tree_of(alloc, view)?;
-    let objects = indexed(alloc, objects)?;
-    results_by(alloc, view, &tree, objects.as_slice(), moment, individuals)
+    let indexed = indexed_objects(alloc, objects)?;
+    let deciding = Deciding {
+        view,
+        tree,
+        objects: indexed.as_slice(),
+        moment,
+    };
+    deciding.results_of(alloc, individuals)
 }
 
 /// The results of the request.
 #[tactic(auto, unfolding(crate::specs::Decision::decided))]
-fn results(
+fn results_of_request(
     alloc: Global,
     view: &View,
     request: &Request,
@@ -191,19 +190,20 @@ fn results(
     ensures { IfOk result (λ results. results ≡ decided view.now request.now moment) }
 {
     if request.combined_decision {
-        return refused_whole(alloc, Fault::ProcessingError);
+        return one_result(alloc, Fault::ProcessingError);
     }
     match request.individuals(alloc) {
         Ok(individuals) => {
-            results_of(alloc, view, request.objects.as_slice(), moment, individuals)
+            let objects = request.objects.as_slice();
+            results_of_individuals(alloc, view, objects, moment, individuals)
         },
         Err(OrMemory::Memory) => Err(AllocError),
-        Err(OrMemory::Error(_)) => refused_whole(alloc, Fault::ProcessingError),
+        Err(OrMemory::Error(_)) => one_result(alloc, Fault::ProcessingError),
     }
 }
 
 /// The response to the request at the moment: a result for each of its individual requests, by the tree that the view's root stands for,
-/// or one result where it is refused as a whole. The tree is linked once.
+/// or one result where these aren't decided. The tree is linked once.
 pub fn decide<'a>(
     alloc: Global,
     view: &View,
@@ -214,7 +214,7 @@ pub fn decide<'a>(
     ensures results { IfOk result (λ d. d.response.results ≡ decided view.now request.now moment) }
     ensures timeless { IfOk result (λ d. d.timeless ≡ false) }
 {
-    let results = results(alloc, view, request, moment)?;
+    let results = results_of_request(alloc, view, request, moment)?;
     Ok(Decided {
         response: Response {
             objects: request.objects.as_slice(),
@@ -224,13 +224,13 @@ pub fn decide<'a>(
     })
 }
 
-/// The body of the response to what is no request.
-fn refused_body(alloc: Global, fault: Fault) -> Result<Vec<u8>, AllocError>
-    ensures { IfOk result (λ body. body.items ≡ response_body [] (refused fault ∷ [])) }
+/// The body of the response to a body that is no request.
+fn body_of_one_result(alloc: Global, fault: Fault) -> Result<Vec<u8>, AllocError>
+    ensures { IfOk result (λ body. body.items ≡ response_body [] (result_without_objects fault ∷ [])) }
 {
     let response = Response {
         objects: &[],
-        results: refused_whole(alloc, fault)?,
+        results: one_result(alloc, fault)?,
     };
     response.to_body(alloc)
 }
@@ -263,7 +263,7 @@ pub fn answer(
         Err(OrMemory::Memory) => Err(AllocError),
         Err(OrMemory::Error(RequestError::NotJson)) => Ok(None),
         Err(OrMemory::Error(RequestError::NotProfile)) => {
-            Ok(Some(refused_body(alloc, Fault::SyntaxError)?))
+            Ok(Some(body_of_one_result(alloc, Fault::SyntaxError)?))
         },
     }
 }

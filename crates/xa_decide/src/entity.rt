@@ -1,10 +1,9 @@
 //! Entities: by what the source of attributes knows the subject, the resource or the action of a request.
 ghost use Rattle.std.specs.Prelude.{◌≡◌, find, bytes_eq, option_map};
-ghost use Rattle.xa_value.specs.declared.value.Value.{Value as AValue};
 ghost use Rattle.xa_value.specs.Category.{uri_of};
-ghost use Rattle.xa_decide.specs.Context.{category_of, naming_id, naming_id_of, only_text, text_of};
+ghost use Rattle.xa_decide.specs.Context.{category_of, naming_id, naming_id_of};
 
-use xa_value::{Category, Value};
+use xa_value::Category;
 
 /// The category of a URI.
 #[tactic(auto, unfolding(crate::specs::Context::category_of))]
@@ -45,14 +44,4 @@ pub(crate) fn naming_id_of(category: &str) -> Option<&'static str>
     ensures { option_map (λ id. id.now) result ≡ naming_id_of (category_of category.now) }
 {
     naming_id(category_of(category)?)
-}
-
-/// The text, where there is one value, and the empty one otherwise.
-pub(crate) fn only_text(values: &[Value]) -> &str
-    ensures { result.now ≡ only_text values.now }
-{
-    match values {
-        [Value::String(text)] => text.as_str(),
-        _ => "",
-    }
 }

@@ -1,37 +1,42 @@
 //! Category objects, with their attributes to be found.
-ghost use Rattle.std.specs.Prelude.{◌≡◌, ◌++◌, filter, option_map, slice_get, IfOk};
-ghost use Rattle.std.specs.List.{filter_map};
+ghost use Rattle.std.specs.Prelude.{◌≡◌, [], ◌++◌, bytes_eq, filter, slice_get, IfOk, if◌then◌else◌};
+ghost use Rattle.std.specs.List.{filter_map, flat_map};
 ghost use Rattle.xa_bag.specs.Bag.{bag_of};
 ghost use Rattle.xa_decide.specs.Context.{is_named, object_values};
+ghost use Rattle.xa_decide.specs.indexing.Naming.{naming_values, said, said_by};
 
+use crate::attribute::push_attribute;
 use crate::keys::{ByIssuer, ByName, issuer_key};
-use crate::naming::push_attribute;
-use crate::order::{order_of, places_with};
+use crate::naming::{Naming, naming_of};
+use crate::order::{item_at, order_of, places_among};
 use std::alloc::{AllocError, Global};
 use std::marker::Model;
 use xa_bag::Bag;
 use xa_profile::{Attribute, CategoryObject};
 use xa_value::{DataType, Text};
 
-/// A Category object, with its attributes to be found by their ids and types, and by their issuers as well. It is made once for an
-/// object, whatever the number of the individual requests that have it.
+/// A Category object, with its attributes to be found by their ids and types, and by their issuers as well, and with what names its
+/// entity. It is made once for an object, whatever the number of the individual requests that have it.
 #[derive(Drop)]
 pub(crate) struct IndexedObject<'a> {
     object: &'a CategoryObject,
     by_name: Vec<usize>,
     by_issuer: Vec<usize>,
+    naming: Naming<'a>,
 }
 
 impl<'a> Model for IndexedObject<'a> {
+    ghost use Rattle.std.specs.Prelude.{◌≡◌};
     ghost use Rattle.xa_profile.specs.declared.category_object.CategoryObject.{CategoryObject as Object};
     ghost use Rattle.xa_decide.specs.indexing.Index.{IsOrder};
     ghost use Rattle.xa_decide.specs.indexing.Keys.{name_key_of, issuer_key_of};
+    ghost use Rattle.xa_decide.specs.indexing.Naming.{naming_values, said, said_by};
 
     ghost Value = { Object };
 
     ghost view = { λ o. o.object.now };
 
-    ghost invariant = { λ o. IsOrder name_key_of o.object.now.attributes o.by_name.items × IsOrder issuer_key_of o.object.now.attributes o.by_issuer.items };
+    ghost invariant = { λ o. IsOrder name_key_of o.object.now.attributes o.by_name.items × IsOrder issuer_key_of o.object.now.attributes o.by_issuer.items × (said_by o.naming ≡ said (naming_values o.object.now)) };
 }
 
 impl<'a> IndexedObject<'a> {
@@ -49,6 +54,7 @@ impl<'a> IndexedObject<'a> {
             object,
             by_name,
             by_issuer,
+            naming: naming_of(object),
         })
     }
 
@@ -66,25 +72,29 @@ impl<'a> IndexedObject<'a> {
         self.object.attributes.as_slice()
     }
 
-    /// Places among which are those of all attributes of that id, type and issuer.
+    /// What names the object's entity, if the object is of the category.
+    pub(crate) fn naming_in(&self, category: &str) -> Naming<'a>
+        ensures { said_by result ≡ said (if bytes_eq self.now.category category.now then naming_values self.now else []) }
+    {
+        if self.category() == category {
+            self.naming
+        } else {
+            Naming::Nobody
+        }
+    }
+
+    /// Places among which are those of all attributes of that id, type and issuer that have values.
     #[tactic(auto, using(crate::proofs::KeyLemmas::named_found, crate::proofs::KeyLemmas::issued_found))]
     fn places(&self, id: &str, data_type: DataType, issuer: &Option<Text>) -> &[usize]
-        ensures { filter (is_named id.now data_type issuer.now) (filter_map (slice_get self.now.attributes) result.now) ≡ filter (is_named id.now data_type issuer.now) self.now.attributes }
+        ensures { flat_map (λ a. a.values.values) (filter (is_named id.now data_type issuer.now) (filter_map (slice_get self.now.attributes) result.now)) ≡ object_values id.now data_type issuer.now self.now }
     {
         let attributes = self.object.attributes.as_slice();
         let key = issuer_key(id, data_type, issuer);
         match issuer {
-            None => places_with::<ByName>(attributes, self.by_name.as_slice(), &key),
-            Some(_) => places_with::<ByIssuer>(attributes, self.by_issuer.as_slice(), &key),
+            None => places_among::<ByName>(attributes, self.by_name.as_slice(), &key),
+            Some(_) => places_among::<ByIssuer>(attributes, self.by_issuer.as_slice(), &key),
         }
     }
-}
-
-/// The attribute that has the place.
-fn attribute_at(attributes: &[Attribute], place: usize) -> Option<&Attribute>
-    ensures { option_map (λ a. a.now) result ≡ slice_get attributes.now place }
-{
-    attributes.get(place)
 }
 
 /// Puts the values of the object's attributes of that id, type and issuer at the end of the bag.
@@ -101,7 +111,7 @@ pub(crate) fn push_object(
     let places = object.places(id, data_type, issuer);
     let attributes = object.attributes();
     for place in places {
-        if let Some(attribute) = attribute_at(attributes, *place) {
+        if let Some(attribute) = item_at(attributes, *place) {
             push_attribute(bag, id, data_type, issuer, attribute)?;
         }
     }

@@ -1,14 +1,16 @@
 //! The Category objects of an individual request.
 ghost use Rattle.std.specs.Prelude.{◌≡◌, [], ◌++◌, map, filter, bytes_eq, option_map, slice_get, IfOk, if◌then◌else◌};
-ghost use Rattle.std.specs.List.{filter_map};
+ghost use Rattle.std.specs.List.{filter_map, flat_map};
 ghost use Rattle.xa_bag.specs.Bag.{bag_of};
-ghost use Rattle.xa_decide.specs.Context.{object_values, request_values};
+ghost use Rattle.xa_decide.specs.Context.{entity, object_values, request_values};
 ghost use Rattle.xa_decide.specs.Decision.{objects_at};
+ghost use Rattle.xa_decide.specs.indexing.Naming.{naming_values, said, said_by};
 
 use crate::indexed_object::{IndexedObject, push_object};
 use crate::key::Key;
 use crate::keys::category_key;
-use crate::order::{Keying, order_of, places_with};
+use crate::naming::Naming;
+use crate::order::{Keying, item_at, order_of, places_among};
 use std::alloc::{AllocError, Global};
 use std::marker::{Model, PhantomData};
 use xa_bag::Bag;
@@ -51,13 +53,6 @@ impl<'a> Model for IndividualObjects<'a> {
     ghost invariant = { λ o. IsOrder object_key_of o.objects.items o.order.items };
 }
 
-/// The object that has the place.
-fn object_at<'a>(objects: &'a [IndexedObject<'a>], place: usize) -> Option<&'a IndexedObject<'a>>
-    ensures { option_map (λ o. o.now) result ≡ slice_get objects.now place }
-{
-    objects.get(place)
-}
-
 /// The objects that have these places.
 fn objects_at<'a>(
     alloc: Global,
@@ -68,7 +63,7 @@ fn objects_at<'a>(
 {
     let mut chosen = Vec::new(alloc);
     for place in places {
-        if let Some(object) = object_at(objects, *place) {
+        if let Some(object) = item_at(objects, *place) {
             chosen.push(object)?;
         }
     }
@@ -94,7 +89,7 @@ impl<'a> IndividualObjects<'a> {
         ensures { filter (λ o. bytes_eq o.category category.now) (filter_map (slice_get self.now) result.now) ≡ filter (λ o. bytes_eq o.category category.now) self.now }
     {
         let key = category_key(category);
-        places_with::<ByCategory<'a>>(self.objects.as_slice(), self.order.as_slice(), &key)
+        places_among::<ByCategory<'a>>(self.objects.as_slice(), self.order.as_slice(), &key)
     }
 
     /// The object that has the place.
@@ -125,6 +120,28 @@ impl<'a> IndividualObjects<'a> {
             }
         }
         Ok(bag)
+    }
+
+    /// What names the entity of the category.
+    #[tactic(auto, using(crate::proofs::NamingLemmas::both_behind, crate::proofs::NamingLemmas::both_none))]
+    fn naming(&self, category: &str) -> Naming<'a>
+        ensures { said_by result ≡ said (flat_map naming_values (filter (λ o. bytes_eq o.category category.now) self.now)) }
+    {
+        let mut naming = Naming::Nobody;
+        let places = self.places(category);
+        for place in places {
+            if let Some(object) = self.object(*place) {
+                naming = naming.joined(object.naming_in(category));
+            }
+        }
+        naming
+    }
+
+    /// The entity of the category.
+    pub(crate) fn entity(&self, category: &str) -> &'a str
+        ensures { result.now ≡ entity self.now category.now }
+    {
+        self.naming(category).text()
     }
 }
 

@@ -1,4 +1,4 @@
-//! Keys.
+//! The keys of an index: a number and three texts, and their order.
 ghost use Rattle.std.specs.Prelude.{◌≡◌};
 ghost use Rattle.std.specs.Cmp.{partial_order_from_own_ties};
 ghost use Rattle.std.specs.Cmp.Rules.{comparing};
@@ -10,7 +10,7 @@ use std::marker::Model;
 
 /// What is looked up in an index: a number and texts.
 #[derive(Debug, Drop)]
-pub struct Key<'a> {
+pub(crate) struct Key<'a> {
     number: usize,
     first: &'a str,
     second: &'a str,

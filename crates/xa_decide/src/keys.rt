@@ -1,6 +1,6 @@
 //! The keys by which attributes, Category objects and rows of the source are found.
 ghost use Rattle.std.specs.Prelude.{◌≡◌};
-ghost use Rattle.xa_decide.specs.indexing.Keys.{name_key, issuer_key, name_key_of, issuer_key_of, category_key, row_key, row_key_of};
+ghost use Rattle.xa_decide.specs.indexing.Keys.{unsought, name_key, issuer_key, name_key_of, issuer_key_of, category_key, row_key, row_key_of};
 
 use crate::key::Key;
 use crate::order::Keying;
@@ -10,6 +10,13 @@ use xa_value::{DataType, Text};
 
 /// How many data types there are.
 const TYPES: usize = 11;
+
+/// A key that nobody asks for, past those of all types. Attributes without values have it: they give nothing to a bag, and would be in the way.
+fn unsought_key<'a>() -> Key<'a>
+    ensures { result ≡ unsought }
+{
+    Key::new(2 * TYPES, "", "", "")
+}
 
 /// The key of an attribute's id and type.
 pub(crate) fn name_key(id: &str, data_type: DataType) -> Key<'_>
@@ -59,7 +66,10 @@ impl Keying for ByName {
     ghost key_of = { name_key_of };
 
     fn key(attribute: &Attribute) -> Key<'_> {
-        name_key(attribute.id.as_str(), attribute.values.data_type())
+        match attribute.values.values() {
+            [] => unsought_key(),
+            _ => name_key(attribute.id.as_str(), attribute.values.data_type()),
+        }
     }
 }
 
@@ -73,7 +83,10 @@ impl Keying for ByIssuer {
 
     fn key(attribute: &Attribute) -> Key<'_> {
         let data_type = attribute.values.data_type();
-        issuer_key(attribute.id.as_str(), data_type, &attribute.issuer)
+        match attribute.values.values() {
+            [] => unsought_key(),
+            _ => issuer_key(attribute.id.as_str(), data_type, &attribute.issuer),
+        }
     }
 }
 

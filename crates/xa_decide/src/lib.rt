@@ -1,6 +1,7 @@
 //! The decision on a request: each of its individual requests in its context, by the tree of policies that the root stands for.
 #![tactic(auto)]
 
+mod attribute;
 mod bag;
 mod clock;
 mod context;

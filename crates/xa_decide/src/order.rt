@@ -1,11 +1,17 @@
 //! The places of items in the order of their keys.
-ghost use Rattle.std.specs.Prelude.{◌≡◌, slice_get, IfOk};
-ghost use Rattle.std.specs.List.{filter_map};
-ghost use Rattle.xa_decide.specs.indexing.Index.{Sought, IsOrder, order_at, with_key, key_at};
+ghost use Rattle.std.specs.Prelude.{◌≡◌, true, nat_le, option_map, slice_get, IfOk};
+ghost use Rattle.std.specs.List.{filter_map, range_with_len};
+ghost use Rattle.xa_decide.specs.indexing.Index.{Sought, IsInOrder, IsOrder, order_at, with_key, key_at};
 
 use crate::key::Key;
 use std::alloc::{AllocError, Global};
 use std::cmp::Ordering;
+
+/// How many items are looked at one after another, since a search among so few would take longer.
+const FEW: usize = 8;
+
+/// The places of that many items.
+const PLACES: &[usize] = &[0, 1, 2, 3, 4, 5, 6, 7];
 
 /// By what items are found.
 pub(crate) trait Keying {
@@ -18,6 +24,13 @@ pub(crate) trait Keying {
     /// An item's key.
     fn key(item: &Self::Item) -> Key<'_>
         ensures { result ≡ key_of item.now };
+}
+
+/// The item that has the place.
+pub(crate) fn item_at<T>(items: &[T], place: usize) -> Option<&T>
+    ensures { option_map (λ item. item.now) result ≡ slice_get items.now place }
+{
+    items.get(place)
 }
 
 /// The key of the item at the place.
@@ -37,12 +50,23 @@ fn order_at<K: Keying>(items: &[K::Item], place: usize, key: &Key<'_>) -> Orderi
     }
 }
 
-/// The places of the items, in the order of their keys; of items of one key, in their own.
+/// The places of the items, in the order of their keys, where there are more than a few items.
 pub(crate) fn order_of<K: Keying>(
     alloc: Global,
     items: &[K::Item],
 ) -> Result<Vec<usize>, AllocError>
     ensures { IfOk result (λ order. IsOrder K.key_of items.now order.items) }
+{
+    if items.len() <= FEW {
+        Ok(Vec::new(alloc))
+    } else {
+        places_in_order::<K>(alloc, items)
+    }
+}
+
+/// The places of the items, in the order of their keys; of items of one key, in their own.
+fn places_in_order<K: Keying>(alloc: Global, items: &[K::Item]) -> Result<Vec<usize>, AllocError>
+    ensures { IfOk result (λ order. IsInOrder K.key_of items.now order.items) }
 {
     let mut order: Vec<usize> = (0..items.len()).collect(alloc)?;
     order.sort_by_key(|place| key_at::<K>(items, *place))?;
@@ -50,16 +74,37 @@ pub(crate) fn order_of<K: Keying>(
 }
 
 /// The places of the items of that key.
-pub(crate) fn places_with<'o, K: Keying>(
-    items: &[K::Item],
-    order: &'o [usize],
-    key: &Key<'_>,
-) -> &'o [usize]
-    requires { IsOrder K.key_of items.now order.now }
+fn places_with<'o, K: Keying>(items: &[K::Item], order: &'o [usize], key: &Key<'_>) -> &'o [usize]
+    requires { IsInOrder K.key_of items.now order.now }
     ensures { filter_map (slice_get items.now) result.now ≡ with_key K.key_of key.now items.now }
 {
     let start = order.partition_point(|place| order_at::<K>(items, *place, key).is_lt());
     let rest = order.split_at(start).1;
     let count = rest.partition_point(|place| order_at::<K>(items, *place, key).is_le());
     rest.split_at(count).0
+}
+
+/// The places of a few items.
+fn few_places(count: usize) -> &'static [usize]
+    requires { nat_le count 8 ≡ true }
+    ensures { result.now ≡ range_with_len 0 count }
+{
+    PLACES.split_at(count).0
+}
+
+/// Places among which are those of all items of that key, in their own order: all places where there are few, and else those of the key.
+#[tactic(auto, using(crate::proofs::IndexLemmas::found_twice))]
+pub(crate) fn places_among<'o, K: Keying>(
+    items: &[K::Item],
+    order: &'o [usize],
+    key: &Key<'_>,
+) -> &'o [usize]
+    requires { IsOrder K.key_of items.now order.now }
+    ensures { with_key K.key_of key.now (filter_map (slice_get items.now) result.now) ≡ with_key K.key_of key.now items.now }
+{
+    if items.len() <= FEW {
+        few_places(items.len())
+    } else {
+        places_with::<K>(items, order, key)
+    }
 }

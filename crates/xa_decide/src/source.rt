@@ -1,5 +1,5 @@
 //! The source of attributes.
-ghost use Rattle.std.specs.Prelude.{◌≡◌, true, [], ◌∷◌, ◌++◌, filter, option_map, slice_get, IfOk, if◌then◌else◌};
+ghost use Rattle.std.specs.Prelude.{◌≡◌, ◌↔◌, true, [], ◌∷◌, ◌++◌, filter, slice_get, IfOk, IsTrue, if◌then◌else◌};
 ghost use Rattle.std.specs.List.{filter_map};
 ghost use Rattle.xa_value.specs.Order.{type_of};
 ghost use Rattle.xa_bag.specs.Bag.{bag_of};
@@ -7,8 +7,7 @@ ghost use Rattle.xa_decide.specs.Context.{is_row, source_values};
 
 use crate::bag::push_value;
 use crate::keys::{ByRow, row_key};
-use crate::naming::is_same_type;
-use crate::order::{order_of, places_with};
+use crate::order::{item_at, order_of, places_among};
 use crate::source_row::SourceRow;
 use std::alloc::{AllocError, Global};
 use std::marker::Model;
@@ -44,13 +43,20 @@ impl Source {
         Ok(Source { rows, order })
     }
 
+    /// Whether there is no row at all.
+    pub(crate) fn is_empty(&self) -> bool
+        ensures { IsTrue result ↔ (self.now ≡ []) }
+    {
+        self.rows.is_empty()
+    }
+
     /// Places among which are those of all rows of that category, entity, id and type.
     #[tactic(auto, using(crate::proofs::KeyLemmas::rows_found))]
     fn places(&self, category: &str, entity: &str, id: &str, data_type: DataType) -> &[usize]
         ensures { filter (is_row category.now entity.now id.now data_type) (filter_map (slice_get self.now) result.now) ≡ filter (is_row category.now entity.now id.now data_type) self.now }
     {
         let key = row_key(category, entity, id, data_type);
-        places_with::<ByRow>(self.rows.as_slice(), self.order.as_slice(), &key)
+        places_among::<ByRow>(self.rows.as_slice(), self.order.as_slice(), &key)
     }
 
     /// The bag of the values of the rows of that category, entity, id and type.
@@ -69,19 +75,12 @@ impl Source {
         let rows = self.rows.as_slice();
         let mut bag = Bag::new(alloc, data_type);
         for place in places {
-            if let Some(row) = row_at(rows, *place) {
+            if let Some(row) = item_at(rows, *place) {
                 push_row(&mut bag, category, entity, id, data_type, row)?;
             }
         }
         Ok(bag)
     }
-}
-
-/// The row that has the place.
-fn row_at(rows: &[SourceRow], place: usize) -> Option<&SourceRow>
-    ensures { option_map (λ r. r.now) result ≡ slice_get rows.now place }
-{
-    rows.get(place)
 }
 
 /// Puts the row's value at the end of the bag, if it is a row of that category, entity, id and type.
@@ -110,5 +109,5 @@ fn is_row(category: &str, entity: &str, id: &str, data_type: DataType, row: &Sou
     row.category.as_str() == category
         && row.entity.as_str() == entity
         && row.attribute_id.as_str() == id
-        && is_same_type(row.value.data_type(), data_type)
+        && row.value.data_type().is_same(data_type)
 }

@@ -1,10 +1,6 @@
 //! Rows of the source of attributes.
-ghost use Rattle.std.specs.Prelude.{◌≡◌};
-ghost use Rattle.xa_expr.specs.Typed.{same_type};
-ghost use Rattle.xa_value.specs.Order.{type_of};
-ghost use Rattle.xa_decide.specs.Context.{is_row};
 
-use xa_value::{DataType, Text, Value};
+use xa_value::{Text, Value};
 
 /// A value that the source has of an entity's attribute (XACML 3.0, core, section 7.3.5). The attribute's data type is the value's.
 #[derive(Clone, Debug, Drop)]
@@ -15,6 +11,5 @@ pub struct SourceRow {
     pub entity: Text,
     /// The attribute's id.
     pub attribute_id: Text,
-    /// The value.
     pub value: Value,
 }

@@ -1,4 +1,4 @@
-//! What decides.
+//! The view of a domain: what its decisions depend on.
 ghost use Rattle.std.specs.Prelude.{◌≡◌, option_map, IfOk};
 
 use crate::source::Source;
@@ -9,7 +9,7 @@ use xa_link::Active;
 use xa_policy::Reference;
 use xa_value::Items;
 
-/// What decides: the active documents, what refers to the one at the root, if anything does, and the rows of the source of attributes.
+/// What a domain's decisions depend on: its active documents, its root, if it has one, and its source rows.
 #[derive(Debug, Drop)]
 pub struct View {
     active: Items<Active>,
@@ -54,14 +54,13 @@ impl View {
         self.active.as_slice()
     }
 
-    /// What refers to the document at the root.
+    /// The reference to the root, if one is set.
     pub(crate) fn root(&self) -> Option<&Reference>
         ensures { option_map (λ r. r.now) result ≡ self.now.root }
     {
         self.root.as_ref()
     }
 
-    /// The source.
     pub(crate) fn source(&self) -> &Source
         ensures { result.now ≡ self.now.source }
     {

@@ -1,5 +1,5 @@
 -- Items by their keys.
-use Rattle.std.specs.Prelude.{ℕ, Bool, ◌&&◌, ◌==◌, List, filter, length, Option, Some, option_map, bytes_eq, slice_get}
+use Rattle.std.specs.Prelude.{◌≡◌, ℕ, Bool, false, ◌&&◌, ◌==◌, nat_le, List, filter, length, Option, Some, option_map, bytes_eq, slice_get}
 use Rattle.std.specs.Cmp.Lexicographic.{slice_cmp}
 use Rattle.std.specs.List.{range_with_len}
 use Rattle.std.specs.List.Sorted.{IsSortedByKey, IsStableByKey}
@@ -36,10 +36,14 @@ abbrev pub order_at : {X : Type 0} → (X → Sought) → List X → Sought → 
 order_at key_of items key place = option_cmp compare_keys (key_at key_of items place) (Some key)
 
 -- all places in the order of the keys; those of one key in their own order
-abbrev pub IsOrder : {X : Type 0} → (X → Sought) → List X → List ℕ → Type 0
-IsOrder key_of items order =
+abbrev pub IsInOrder : {X : Type 0} → (X → Sought) → List X → List ℕ → Type 0
+IsInOrder key_of items order =
     IsSortedByKey (key_at key_of items) (option_cmp compare_keys) order
     × IsStableByKey (key_at key_of items) (option_cmp compare_keys) (range_with_len 0 (length items)) order
+
+-- so they are where there are more than eight items; fewer are looked at one after another
+abbrev pub IsOrder : {X : Type 0} → (X → Sought) → List X → List ℕ → Type 0
+IsOrder key_of items order = nat_le (length items) 8 ≡ false → IsInOrder key_of items order
 
 -- the items of that key
 abbrev pub with_key : {X : Type 0} → (X → Sought) → Sought → List X → List X

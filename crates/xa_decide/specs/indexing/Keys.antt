@@ -1,7 +1,8 @@
 -- The keys by which attributes, Category objects and rows of the source are found.
-use Rattle.std.specs.Prelude.{ℕ, ◌+◌, List, [], Option, Some, None}
+use Rattle.std.specs.Prelude.{ℕ, ◌+◌, List, [], ◌∷◌, Option, Some, None}
 use denote.Ref.{Bor}
 use Rattle.xa_value.specs.declared.data_type.DataType.{DataType}
+use Rattle.xa_value.specs.declared.value.Value.{Value}
 use Rattle.xa_value.specs.Order.{type_of}
 use Rattle.xa_value.specs.Types.{place_of}
 use Rattle.xa_profile.specs.declared.attribute.Attribute.{Attribute}
@@ -18,11 +19,20 @@ abbrev pub issuer_key : List ℕ → DataType → Option (List ℕ) → Sought
 issuer_key id t None = name_key id t
 issuer_key id t (Some issuer) = sought (11 + place_of t) id issuer []
 
+-- what nobody asks for: its number is past those of all types
+abbrev pub unsought : Sought
+unsought = sought 22 [] [] []
+
+-- an attribute without values isn't to be found
+abbrev pub if_valued : List Value → Sought → Sought
+if_valued [] key = unsought
+if_valued (v ∷ vs) key = key
+
 abbrev pub name_key_of : Attribute → Sought
-name_key_of a = name_key a.id a.values.data_type
+name_key_of a = if_valued a.values.values (name_key a.id a.values.data_type)
 
 abbrev pub issuer_key_of : Attribute → Sought
-issuer_key_of a = issuer_key a.id a.values.data_type a.issuer
+issuer_key_of a = if_valued a.values.values (issuer_key a.id a.values.data_type a.issuer)
 
 -- a category
 abbrev pub category_key : List ℕ → Sought

@@ -7,7 +7,7 @@ use Rattle.std.specs.declared.alloc.AllocError.{AllocError}
 use Rattle.std.proofs.lemmas.Fn.{always_returns_same}
 use Rattle.std.proofs.lemmas.Iterator.{YieldsList-from_range, items_from_collect}
 use Rattle.xa_decide.specs.indexing.Index.{compare_keys, key_at}
-use Rattle.xa_decide.proofs.order.order_of.Goals as goal
+use Rattle.xa_decide.proofs.order.places_in_order.Goals as goal
 
 pub returns : goal.returns
 returns g c =
