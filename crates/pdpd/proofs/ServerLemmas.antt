@@ -8,7 +8,7 @@ use Rattle.json.specs.Text.{content}
 use Rattle.json.specs.Json.{items, members, value}
 use Rattle.xa_notation.specs.Algorithms.{rule_uri_of, rule_algorithm_named}
 use Rattle.xa_notation.specs.Document.{document_of}
-use Rattle.xa_notation.specs.Json.{json, fits, chosen}
+use Rattle.xa_notation.specs.Json.{json, fits, chosen_member}
 use Rattle.xa_notation.specs.Shape.{effect_named, written_duties, written_rule, written_policy, written_document}
 use Rattle.xa_notation.specs.Tables.{name_of, members_of, alternatives_of, first_of}
 use Rattle.xa_notation.specs.Typing.{typed_policy}
@@ -21,7 +21,7 @@ use Rattle.pdpd.specs.FirstDomain.{acme, permit_all}
 
 -- the policy's text is read: what it says is worked out here
 server_domains_acme : is_ok (server_domains (acme ∷ [])) ≡ true
-unfolding server_domains is_domain_name acme permit_all document_of is_utf8 encode_utf8 chars lex punctuate content items members value rule_uri_of rule_algorithm_named json fits chosen effect_named written_duties written_rule written_policy written_document name_of members_of alternatives_of first_of typed_policy
+unfolding server_domains is_domain_name acme permit_all document_of is_utf8 encode_utf8 chars lex punctuate content items members value rule_uri_of rule_algorithm_named json fits chosen_member effect_named written_duties written_rule written_policy written_document name_of members_of alternatives_of first_of typed_policy
 server_domains_acme = rw typed_alone refl
 
 not_both : {X E : Type 0} (r : Result X E) (e : E) → is_ok r ≡ true → r ≡ Err e → ⊥

@@ -31,7 +31,7 @@ fn whole_messages(
     Err(AllocError)
 }
 
-/// The replies to the bytes that a stream takes. What follows the end of the stream is answered by nothing.
+/// The replies to the bytes that a stream takes. What follows the end of the stream gets no reply.
 #[tactic(auto, using(crate::proofs::EntryLemmas::answered_without_fault, crate::proofs::EntryLemmas::answered_with_fault))]
 pub fn replies_to(
     alloc: Global,

@@ -1,4 +1,4 @@
-//! The 64 connections.
+//! A connection of a transcript: closed, open, or ended.
 ghost use Rattle.std.specs.Prelude.{◌≡◌, IfOk, replicate};
 ghost use Rattle.pdpd.specs.declared.connection.Connection.TheVariants.{Closed};
 

@@ -1,4 +1,4 @@
-//! Streams that go on.
+//! The stream of an open connection: a session that hasn't ended.
 ghost use Rattle.std.specs.Prelude.{◌≡◌, false};
 
 use xa_http::Session;

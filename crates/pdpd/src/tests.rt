@@ -114,15 +114,26 @@ fn entries_of_a_connection(rt: HostRuntime) -> Result<(), Fail> {
         &["1 ", BAD_HEAD, "1 ", BAD_HEAD, PERMIT],
     )?;
     // A message may come in two entries, others between, and closing what isn't open does nothing.
-    let first = "2 0 40\nPOST /domains/acme/pdp HTTP/1.1\r\nAuthori\n";
+    let first = "63 0 40\nPOST /domains/acme/pdp HTTP/1.1\r\nAuthori\n";
     let rest =
-        "2 0 65\nzation: Bearer acme-token-1\r\nContent-Length: 14\r\n\r\n{\"Request\":{}}\n";
+        "63 0 65\nzation: Bearer acme-token-1\r\nContent-Length: 14\r\n\r\n{\"Request\":{}}\n";
     let unnumbered = PERMIT.get(1..).ok_or("a rest")?;
     expect(
         &rt,
         &[close, first, ASK, rest],
         Exit::Done,
-        &[PERMIT, "2", unnumbered],
+        &[PERMIT, "63", unnumbered],
+    )?;
+    // The longest entry.
+    let mut longest = String::new(rt.alloc());
+    for _ in 0..1_048_576 {
+        longest.push_str(":")?;
+    }
+    expect(
+        &rt,
+        &["2 0 1048576\n", longest.as_str(), "\n"],
+        Exit::Done,
+        &["2 ", BAD_HEAD],
     )
 }
 

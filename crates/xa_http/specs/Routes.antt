@@ -57,13 +57,13 @@ address_at path = option_map (λ place. record { place = place; path = path }) (
 unfoldable pub address_of : List ℕ → Option Address
 address_of target = option_and_then address_at (path_of target)
 
--- the part of its path that names a domain
-abbrev pub domain_segment : Address → List ℕ
-domain_segment address = decoded_part address.path (domain_part address.place)
+-- the part of its path that names a domain, decoded
+abbrev pub decoded_domain : Address → List ℕ
+decoded_domain address = decoded_part address.path (domain_part address.place)
 
 -- what is asked for, with the parts of the path
 abbrev pub route_to : Address → Command → Route
-route_to address command.Decide = Decide (domain_segment address)
+route_to address command.Decide = Decide (decoded_domain address)
 
 -- the body, if it is read, has a media type that is
 abbrev pub takes_body : Message → Command → Bool

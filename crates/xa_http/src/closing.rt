@@ -47,7 +47,7 @@ fn skip_last_ows(bytes: &[u8]) -> &[u8]
 
 /// The bytes without the white space around them.
 #[tactic(auto, unfolding(httparse::specs::Grammar::trim_ows))]
-pub fn trim_ows(bytes: &[u8]) -> &[u8]
+pub(crate) fn trim_ows(bytes: &[u8]) -> &[u8]
     ensures { result.now ≡ trim_ows bytes.now }
 {
     skip_last_ows(skip_ows(bytes))
@@ -76,7 +76,7 @@ fn names_close(list: &[u8]) -> bool
 
 /// Whether no message follows one of that minor version with these fields.
 #[tactic(auto, unfolding(crate::specs::Closing::closes))]
-pub fn closes(minor: u8, fields: &[Field]) -> bool
+pub(crate) fn closes(minor: u8, fields: &[Field]) -> bool
     ensures { result ≡ closes minor fields.now }
 {
     minor == 0 || connection_names_close(fields)

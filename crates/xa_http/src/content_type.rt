@@ -31,7 +31,7 @@ fn is_json(value: &[u8]) -> bool
 
 /// Whether the fields say nothing of the body's media type, or that it is JSON.
 #[tactic(auto, unfolding(crate::specs::ContentType::allows_json))]
-pub fn allows_json(fields: &[Field]) -> bool
+pub(crate) fn allows_json(fields: &[Field]) -> bool
     ensures { result ≡ allows_json fields.now }
 {
     let Some((value, others)) = first_value(fields, "Content-Type") else {

@@ -15,21 +15,21 @@ use std::alloc::{AllocError, Global};
 use xa_value::Items;
 
 /// The offsets of at most this many field lines are read. More don't fit into a head: each has a colon and a line end.
-pub const HEADER_ROOM: usize = 8_192;
+pub(crate) const HEADER_ROOM: usize = 8_192;
 
 /// A whole head.
 #[derive(Debug, Drop)]
-pub struct Head {
+pub(crate) struct Head {
     /// The message without its body.
-    pub message: Message,
+    pub(crate) message: Message,
     /// How many bytes the head has.
-    pub len: usize,
+    pub(crate) len: usize,
     /// How many bytes the body has.
-    pub body_len: usize,
+    pub(crate) body_len: usize,
 }
 
 /// What stands at the front of a stream.
-pub enum Front {
+pub(crate) enum Front {
     /// A whole head.
     Head(Head),
     /// Not yet a whole head.
@@ -40,7 +40,11 @@ pub enum Front {
 
 /// What stands at the front of the bytes.
 #[tactic(auto, unfolding(crate::specs::Messages::IsFaulty))]
-pub fn read_front(alloc: Global, held: &[u8], room: &mut [HeaderSpan]) -> Result<Front, AllocError>
+pub(crate) fn read_front(
+    alloc: Global,
+    held: &[u8],
+    room: &mut [HeaderSpan],
+) -> Result<Front, AllocError>
     requires { 8192 ≤ length room.old }
     ensures { IfOk result (IsFront held.now) }
 {
@@ -97,7 +101,11 @@ fn whole_head(held: &[u8], message: Message, len: usize) -> Front
 
 /// The body that follows the head, once it is whole.
 #[tactic(auto, using(crate::proofs::FrontLemmas::head_within, crate::proofs::FrontLemmas::body_open, crate::proofs::FrontLemmas::whole))]
-pub fn whole_body(alloc: Global, held: &[u8], head: &Head) -> Result<Option<Items<u8>>, AllocError>
+pub(crate) fn whole_body(
+    alloc: Global,
+    held: &[u8],
+    head: &Head,
+) -> Result<Option<Items<u8>>, AllocError>
     requires { HasHead held.now head.now }
     ensures message { IfOk result (λ body. MatchOption body (IsUnfinished held.now) (λ bytes. BeginsWithMessage held.now (record head.now.message { body = bytes }) (drop (head.now.len + head.now.body_len) held.now))) }
     ensures within { IfOk result (λ body. IsSome body → head.now.len + head.now.body_len ≤ length held.now) }

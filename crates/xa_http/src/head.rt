@@ -10,7 +10,7 @@ use std::alloc::{AllocError, Global};
 use xa_value::Items;
 
 /// The head that the spans cover, as a message without a body.
-pub fn read_head(
+pub(crate) fn read_head(
     alloc: Global,
     window: &[u8],
     spans: &RequestSpans,

@@ -1,7 +1,7 @@
 //! The law of a stream: however it is cut into pieces, its messages are the same.
 ghost use Rattle.xa_http.specs.Laws.{KeepsMessages, KeepsFaults, AnswersMessages, FeedsOn, TakesOn, HasOneCut, AnswersFirstMessages};
 
-/// However a stream is cut into pieces, its messages are the same: the contract says so, and the body does nothing.
+/// Law: however a stream is cut into pieces, its messages are the same.
 pub fn pieces_make_no_difference()
     // Bytes that follow leave a message at the front, and a fault there, as they were.
     ensures messages { KeepsMessages }

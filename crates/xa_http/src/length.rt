@@ -12,7 +12,7 @@ use xa_value::{is_number, number_up_to};
 
 /// The length of the body after a head of those fields.
 #[tactic(auto, unfolding(crate::specs::Length::body_length))]
-pub fn body_length(fields: &[Field]) -> Result<usize, SessionFault>
+pub(crate) fn body_length(fields: &[Field]) -> Result<usize, SessionFault>
     ensures { result ≡ body_length fields.now }
 {
     if fields.len() > MAX_FIELDS {
@@ -25,7 +25,7 @@ pub fn body_length(fields: &[Field]) -> Result<usize, SessionFault>
 }
 
 /// Whether the field has that name.
-pub fn is_named(field: &Field, name: &str) -> bool
+pub(crate) fn is_named(field: &Field, name: &str) -> bool
     ensures { result ≡ is_named name.now field.now }
 {
     field.name.as_slice().eq_ignore_ascii_case(name.as_bytes())
@@ -59,7 +59,7 @@ fn agreed_length(fields: &[Field], name: &str) -> Result<usize, SessionFault>
 }
 
 /// The value of the first field of that name, and the fields after it.
-pub fn first_value<'a>(fields: &'a [Field], name: &str) -> Option<(&'a [u8], &'a [Field])>
+pub(crate) fn first_value<'a>(fields: &'a [Field], name: &str) -> Option<(&'a [u8], &'a [Field])>
     ensures { MatchOption result (values_of name.now fields.now ≡ []) (λ found. values_of name.now fields.now ≡ found.0.now ∷ values_of name.now found.1.now) }
 {
     for (i, field) in fields.iter().enumerate() {

@@ -6,7 +6,7 @@ ghost use Rattle.xa_http.specs.Parts.{before, from_first, parts_of};
 
 /// The text before the first byte of that value, and the text after it.
 #[tactic(auto, using(crate::proofs::PartLemmas::none_more))]
-pub fn split_once(text: &[u8], by: u8) -> Option<(&[u8], &[u8])>
+pub(crate) fn split_once(text: &[u8], by: u8) -> Option<(&[u8], &[u8])>
     ensures parts { MatchOption result (parts_of by text.now ≡ text.now ∷ []) (λ found. parts_of by text.now ≡ found.0.now ∷ parts_of by found.1.now) }
     ensures shorter { IfSome result (λ found. length found.1.now < length text.now) }
 {
@@ -19,7 +19,7 @@ pub fn split_once(text: &[u8], by: u8) -> Option<(&[u8], &[u8])>
 }
 
 /// The bytes before the first of that value, or all of them.
-pub fn before(bytes: &[u8], byte: u8) -> &[u8]
+pub(crate) fn before(bytes: &[u8], byte: u8) -> &[u8]
     ensures { result.now ≡ before byte bytes.now }
 {
     for (i, b) in bytes.iter().enumerate() {
@@ -31,7 +31,7 @@ pub fn before(bytes: &[u8], byte: u8) -> &[u8]
 }
 
 /// The bytes from the first of that value on.
-pub fn from_first(bytes: &[u8], byte: u8) -> Option<&[u8]>
+pub(crate) fn from_first(bytes: &[u8], byte: u8) -> Option<&[u8]>
     ensures { option_map (λ rest. rest.now) result ≡ from_first byte bytes.now }
 {
     for (i, b) in bytes.iter().enumerate() {
@@ -43,7 +43,7 @@ pub fn from_first(bytes: &[u8], byte: u8) -> Option<&[u8]>
 }
 
 /// A part of the path. Part 0 is what stands before the first slash.
-pub fn part_at(path: &[u8], part: usize) -> &[u8]
+pub(crate) fn part_at(path: &[u8], part: usize) -> &[u8]
     ensures { result.now ≡ get_or (parts_of 47 path.now) part [] }
 {
     let mut rest = path;
@@ -75,7 +75,7 @@ fn some_is_empty(path: &[u8]) -> bool
 
 /// Whether a part of the path that follows a slash is empty.
 #[tactic(auto, unfolding(crate::specs::Routes::has_empty_part))]
-pub fn has_empty_part(path: &[u8]) -> bool
+pub(crate) fn has_empty_part(path: &[u8]) -> bool
     ensures { result ≡ has_empty_part path.now }
 {
     match split_once(path, b'/') {

@@ -9,7 +9,7 @@ use xa_value::{Items, OrMemory};
 /// What a message asks for.
 #[derive(Debug, Drop)]
 pub enum Route {
-    /// A decision of the domain that the path names. What it names may be no domain's name, nor a text.
+    /// A decision of the domain that the path names. The part of the path needn't be a domain name, nor a text.
     Decide { domain: Items<u8> },
 }
 

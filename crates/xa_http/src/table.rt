@@ -22,7 +22,7 @@ pub enum Command {
 
 impl Place {
     /// The methods that are served there, in the order of their names, with a comma and a space between two.
-    pub fn methods(self) -> &'static str
+    pub(crate) fn methods(self) -> &'static str
         ensures { result.now ≡ methods_text self }
     {
         match self {
@@ -31,7 +31,7 @@ impl Place {
     }
 
     /// What the method asks for there.
-    pub fn command(self, method: &[u8]) -> Option<Command>
+    pub(crate) fn command(self, method: &[u8]) -> Option<Command>
         ensures { result ≡ command_at method.now self }
     {
         match self {
@@ -41,7 +41,7 @@ impl Place {
     }
 
     /// Which part of its path names the domain. Part 0 is what stands before the first slash.
-    pub fn domain_part(self) -> usize
+    pub(crate) fn domain_part(self) -> usize
         ensures { result ≡ domain_part self }
     {
         match self {
@@ -52,7 +52,7 @@ impl Place {
 
 impl Command {
     /// Whether the body is read where that is asked for.
-    pub fn reads_body(self) -> bool
+    pub(crate) fn reads_body(self) -> bool
         ensures { result ≡ reads_body self }
     {
         match self {
@@ -74,7 +74,7 @@ fn add(router: &mut Router<Place>, pattern: &str, place: Place) -> Result<(), Al
 }
 
 /// The router of all patterns.
-pub fn router(alloc: Global) -> Result<Router<Place>, AllocError>
+pub(crate) fn router(alloc: Global) -> Result<Router<Place>, AllocError>
     ensures { IfOk result (λ router. router ≡ table) }
 {
     let mut router = Router::new(alloc);

@@ -26,7 +26,7 @@ depth_of a = the_size a.document.document
 abbrev pub greatest_depth : List Active → ℕ
 greatest_depth active = most depth_of active
 
--- how far a reference can lead, where so many more documents may stand on the path
+-- how far a reference can lead, where this many more documents may stand on the path
 abbrev pub further : List Active → ℕ → ℕ
 further active zero = 0
 further active (suc more) = further active more + (4 * greatest_depth active + 4)

@@ -42,7 +42,7 @@ abbrev pub tree_at : (ℕ → Reference → Linked) → List Active → Option �
 tree_at below active None = Unresolved
 tree_at below active (Some place) = replaced_in (below place) (slice_get active place)
 
--- what a reference leads to at the end of a path of documents, where at most so many more may stand on the path
+-- what a reference leads to at the end of a path of documents, to which at most that many may be added
 unfoldable pub tree_within : ℕ → List Active → List ℕ → Reference → Linked
 tree_within zero active path reference = Unresolved
 tree_within (suc more) active path reference =

@@ -29,15 +29,17 @@ same_kind Policy PolicySet = false
 same_kind PolicySet Policy = false
 same_kind PolicySet PolicySet = true
 
--- a pattern and bounds, each where there is one; the bounds are inclusive
+-- the version matches the pattern, where there is one
 abbrev pub fits_pattern : Option (List PatternPart) → List ℕ → Bool
 fits_pattern None v = true
 fits_pattern (Some pattern) v = matches pattern v
 
+-- it isn't before the earliest version, where there is one
 abbrev pub not_before : Option (List ℕ) → List ℕ → Bool
 not_before None v = true
 not_before (Some earliest) v = not (is_before v earliest)
 
+-- it isn't after the latest, where there is one
 abbrev pub not_after : Option (List ℕ) → List ℕ → Bool
 not_after None v = true
 not_after (Some latest) v = not (is_before latest v)

@@ -3,7 +3,7 @@ use xa_notation::Parsed;
 use xa_policy::{DocumentKind, Version};
 use xa_value::{Shared, Text};
 
-/// An active document, to which a reference may resolve. A policy or a set inside it is none.
+/// An active document, to which a reference may resolve. A policy or a set inside a document isn't one.
 #[derive(Debug, Drop)]
 pub struct Active {
     /// Whether it is a policy or a policy set.

@@ -15,10 +15,10 @@ use xa_notation::Document;
 use xa_policy::{Linked, Policy, PolicySet, Reference};
 use xa_value::{Items, OrMemory, Shared};
 
-/// How many documents may stand on a path, the first one too: a bound of this project's own.
+/// How many documents may stand on a path, the first one too. The standard sets no bound; linking recurses once for each.
 const MAX_DOCUMENTS: usize = 17;
 
-/// How many policies and policy sets a tree may have: a bound of this project's own.
+/// How many policies and policy sets a tree may have. The standard sets no bound; 17 sets that each name the next one twice make 2^17.
 const MAX_SIZE: usize = 1_000;
 
 /// The tree that the reference leads to among the active documents (XACML 3.0, core, sections 5.10, 5.11 and 7.15). A reference that
@@ -60,7 +60,7 @@ fn longer_path(alloc: Global, place: usize, path: &[usize]) -> Result<Items<usiz
 }
 
 /// A reference that leads to nothing takes no room.
-fn unresolved(room: usize) -> Fitted<Linked>
+fn leaf(room: usize) -> Fitted<Linked>
     ensures { result ≡ record { part = Unresolved; room = room } }
 {
     Fitted {
@@ -84,7 +84,7 @@ fn linked_policy(
     })
 }
 
-/// What the reference leads to at the end of the path, where at most so many more documents may stand on it.
+/// What the reference leads to at the end of the path, where at most `more` documents may be added to it.
 #[cycle(linking)]
 #[tactic(auto, unfolding(crate::specs::Linking::tree_within), using(crate::proofs::RoomLemmas::unresolved_fits))]
 fn linked_reference(
@@ -99,11 +99,11 @@ fn linked_reference(
     ensures exact { next_place active.now path.now reference.now ≡ None → result ≡ answered (fitted room (tree_within more active.now path.now reference.now)) }
 {
     if more == 0 {
-        return Ok(unresolved(room));
+        return Ok(leaf(room));
     }
     match next_place(active, path, reference) {
         Some(place) => linked_active(alloc, active, path, more - 1, place, room),
-        None => Ok(unresolved(room)),
+        None => Ok(leaf(room)),
     }
 }
 
@@ -120,7 +120,7 @@ fn linked_active(
     ensures { Gives result (fitted room (replaced_in (tree_within more active.now (place ∷ path.now)) (slice_get active.now place))) }
 {
     let Some(found) = active.get(place) else {
-        return Ok(unresolved(room));
+        return Ok(leaf(room));
     };
     let path = longer_path(alloc, place, path)?;
     let document = found.document.get().document();

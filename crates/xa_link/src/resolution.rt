@@ -91,8 +91,7 @@ pub fn resolve(active: &[Active], reference: &Reference) -> Option<usize>
     found
 }
 
-/// Documents can be told apart by their places: `resolve` gives one place alone to each kind, id and version. The contract says so, and
-/// the body does nothing.
+/// Law: documents can be told apart by their places, since `resolve` gives one place alone to each kind, id and version.
 pub fn one_place_for_each_version()
     ensures { OnePlaceForEachVersion }
 {}

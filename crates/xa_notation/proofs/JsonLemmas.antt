@@ -8,7 +8,8 @@ use Rattle.serde_json.specs.View.{items_view, members_view}
 use Rattle.serde_json.specs.declared.value.Value.{Value}
 use Rattle.serde_json.specs.Read.{read}
 use Rattle.xa_notation.specs.declared.notation_error.NotationError.TheVariants.{NotJson}
-use Rattle.xa_notation.specs.Json.{json, or_fault, behind, count_of, not_empty}
+use Rattle.xa_notation.specs.Json.{json, or_fault, count_of, not_empty}
+use Rattle.xa_notation.specs.parsing.Json.{behind}
 
 -- a text in UTF-8 that reads as a value is that JSON
 pub json_of_read : (text : List ℕ) (d : Data) → IsUtf8 text → read text ≡ Some d → json text ≡ Ok d

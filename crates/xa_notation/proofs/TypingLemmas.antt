@@ -2,7 +2,7 @@
 use Rattle.std.proofs.Common.{List, [], ◌∷◌, ◌++◌, ◌≡◌, refl, ap, sym, append_assoc}
 use Rattle.std.specs.Prelude.{Result, Ok, Err}
 use Rattle.xa_bag.specs.HigherOrder.{with_first}
-use Rattle.xa_notation.specs.Json.{behind}
+use Rattle.xa_notation.specs.parsing.Json.{behind}
 
 -- one more is done
 pub behind_next : {X E : Type 0} (done : List X) (x : X) (rest : Result (List X) E) → behind done (with_first x rest) ≡ behind (done ++ x ∷ []) rest

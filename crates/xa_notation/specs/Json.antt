@@ -1,5 +1,5 @@
 -- How objects, their members and plain values are read from JSON. Of several members of one name the last one counts.
-use Rattle.std.specs.Prelude.{ℕ, zero, suc, ◌+◌, Bool, true, ◌&&◌, bytes_eq, find, List, [], ◌∷◌, ◌++◌, Option, Some, None, is_some, Result, Ok, Err, if◌then◌else◌}
+use Rattle.std.specs.Prelude.{ℕ, zero, suc, ◌+◌, Bool, true, ◌&&◌, bytes_eq, find, List, [], ◌∷◌, Option, Some, None, is_some, Result, Ok, Err, if◌then◌else◌}
 use Rattle.std.specs.List.{list_any}
 use Rattle.std.specs.Str.{is_utf8}
 use Rattle.serde_json.specs.Data.{Data, Items, no_items, item, Members, no_members, member}
@@ -29,8 +29,8 @@ abbrev pub at : Member → Data → Option Data
 at name d = get (name_of name) d
 
 -- the member, which has to be there
-abbrev pub needed : Member → Data → Result Data NotationError
-needed name d = or_fault (MissingMember name) (at name d)
+abbrev pub needed_member : Member → Data → Result Data NotationError
+needed_member name d = or_fault (MissingMember name) (at name d)
 
 -- the table has a member of the name
 abbrev pub is_named : List Entry → List ℕ → Bool
@@ -47,7 +47,7 @@ knows entries d = or_fault BadValue (as_object d) >>= (λ ms. if has_only entrie
 
 -- a member is there, where it has to be
 abbrev pub has_entry : Entry → Data → Result (Unit {0}) NotationError
-has_entry (Required name) d = needed name d >>= (λ _. Ok tt)
+has_entry (Required name) d = needed_member name d >>= (λ _. Ok tt)
 has_entry (Optional name) d = Ok tt
 
 -- those that have to be there are, in table order
@@ -69,19 +69,19 @@ abbrev pub size_of : Data → Result ℕ NotationError
 size_of d = or_fault BadValue (as_object d) >>= (λ ms. Ok (count_of ms))
 
 -- which of the alternatives is there
-abbrev pub present : List Member → Data → Option Member
-present names d = find (λ name. is_some (at name d)) names
+abbrev pub present_member : List Member → Data → Option Member
+present_member names d = find (λ name. is_some (at name d)) names
 
--- one of so many members: none is missing, and no second one may stand beside it
-abbrev pub sole : Member → ℕ → Option Member → Result Member NotationError
-sole first zero found = Err (MissingMember first)
-sole first (suc zero) (Some name) = Ok name
-sole first (suc zero) None = Err UnknownMember
-sole first (suc (suc n)) found = Err UnknownMember
+-- the one member of an object of that many members: it must be there, and none beside it
+abbrev pub sole_member : Member → ℕ → Option Member → Result Member NotationError
+sole_member first zero found = Err (MissingMember first)
+sole_member first (suc zero) (Some name) = Ok name
+sole_member first (suc zero) None = Err UnknownMember
+sole_member first (suc (suc n)) found = Err UnknownMember
 
 -- the one of the alternatives that is there
-unfoldable pub chosen : Choice → Data → Result Member NotationError
-chosen choice d = size_of d >>= (λ size. sole (first_of choice) size (present (alternatives_of choice) d))
+unfoldable pub chosen_member : Choice → Data → Result Member NotationError
+chosen_member choice d = size_of d >>= (λ size. sole_member (first_of choice) size (present_member (alternatives_of choice) d))
 
 -- a text
 abbrev pub text : Data → Result (List ℕ) NotationError
@@ -114,8 +114,3 @@ optional reads (Some d) = reads d >>= (λ x. Ok (Some x))
 abbrev pub each : {X : Type 0} → (Data → Result X NotationError) → Items → Result (List X) NotationError
 each reads no_items = Ok []
 each reads (item d ds) = reads d >>= (λ x. each reads ds >>= (λ xs. Ok (x ∷ xs)))
-
--- others, behind those that are there
-abbrev pub behind : {X E : Type 0} → List X → Result (List X) E → Result (List X) E
-behind before (Ok others) = Ok (before ++ others)
-behind before (Err e) = Err e

@@ -44,7 +44,7 @@ use Rattle.xa_notation.specs.declared.written.WrittenTree.{WrittenTree}
 use Rattle.xa_notation.specs.declared.written.WrittenTree.TheVariants as tree
 use Rattle.xa_notation.specs.declared.written.WrittenVariable.{WrittenVariable}
 use Rattle.xa_notation.specs.Algorithms.{rule_algorithm_named, policy_algorithm_named}
-use Rattle.xa_notation.specs.Json.{at, chosen, each, fits, flag, items, items_if_any, needed, not_empty, optional, or_fault, text}
+use Rattle.xa_notation.specs.Json.{at, chosen_member, each, fits, flag, items, items_if_any, needed_member, not_empty, optional, or_fault, text}
 
 -- ---- plain values
 
@@ -113,17 +113,17 @@ literal type d = or_fault BadValue (plain_value d) >>= (λ p. or_bad (from_plain
 unfoldable pub attribute_value : Data → Result Value NotationError
 attribute_value d = do
   _ ← fits table.AttributeValue d
-  type ← needed member.DataType d >>= data_type
-  needed member.Value d >>= literal type
+  type ← needed_member member.DataType d >>= data_type
+  needed_member member.Value d >>= literal type
 
 -- an attribute designator (5.29)
 unfoldable pub designator : Data → Result Designator NotationError
 designator d = do
   _ ← fits table.AttributeDesignator d
-  category ← needed member.Category d >>= category
-  attribute_id ← needed member.AttributeId d >>= text
-  type ← needed member.DataType d >>= data_type
-  must_be_present ← needed member.MustBePresent d >>= flag
+  category ← needed_member member.Category d >>= category
+  attribute_id ← needed_member member.AttributeId d >>= text
+  type ← needed_member member.DataType d >>= data_type
+  must_be_present ← needed_member member.MustBePresent d >>= flag
   issuer ← optional text (at member.Issuer d)
   Ok (record { category = category; attribute_id = attribute_id; data_type = type; must_be_present = must_be_present; issuer = issuer })
 
@@ -133,7 +133,7 @@ designator d = do
 unfoldable pub apply : (Data → Result Expr NotationError) → Data → Result Expr NotationError
 apply below d = do
   _ ← fits table.Apply d
-  function ← needed member.FunctionId d >>= text
+  function ← needed_member member.FunctionId d >>= text
   _ ← description (at member.Description d)
   ds ← items_if_any (at member.Expression d)
   arguments ← each below ds
@@ -143,14 +143,14 @@ apply below d = do
 unfoldable pub function : Data → Result Expr NotationError
 function d = do
   _ ← fits table.Function d
-  name ← needed member.FunctionId d >>= text
+  name ← needed_member member.FunctionId d >>= text
   Ok (expr.Function name)
 
 -- a variable (5.24)
 unfoldable pub variable_reference : Data → Result Expr NotationError
 variable_reference d = do
   _ ← fits table.VariableReference d
-  name ← needed member.VariableId d >>= text
+  name ← needed_member member.VariableId d >>= text
   Ok (expr.Variable name)
 
 -- the expression that stands under the member's name
@@ -165,11 +165,11 @@ expression_named below _ d = Err UnknownMember
 -- an expression (5.25), by those inside it
 unfoldable pub expression_of : (Data → Result Expr NotationError) → Data → Result Expr NotationError
 expression_of below d = do
-  name ← chosen choice.Expression d
-  inner ← needed name d
+  name ← chosen_member choice.Expression d
+  inner ← needed_member name d
   expression_named below name inner
 
--- an expression in which at most so many stand inside one another, it being one of them
+-- an expression in which at most this many stand inside one another, it being one of them
 unfoldable pub expression_within : ℕ → Data → Result Expr NotationError
 expression_within zero d = Err NotJson
 expression_within (suc depth) d = expression_of (expression_within depth) d
@@ -184,16 +184,16 @@ expression d = expression_within 128 d
 unfoldable pub written_match : Data → Result WrittenMatch NotationError
 written_match d = do
   _ ← fits table.Match d
-  function ← needed member.MatchId d >>= text
-  literal ← needed member.AttributeValue d >>= attribute_value
-  designator ← needed member.AttributeDesignator d >>= designator
+  function ← needed_member member.MatchId d >>= text
+  literal ← needed_member member.AttributeValue d >>= attribute_value
+  designator ← needed_member member.AttributeDesignator d >>= designator
   Ok (record { function = function; literal = literal; designator = designator })
 
 -- matches that must all be true (5.8)
 unfoldable pub written_all_of : Data → Result WrittenAllOf NotationError
 written_all_of d = do
   _ ← fits table.AllOf d
-  ds ← needed member.Match d >>= items >>= not_empty
+  ds ← needed_member member.Match d >>= items >>= not_empty
   matches ← each written_match ds
   Ok (record { matches = matches })
 
@@ -201,7 +201,7 @@ written_all_of d = do
 unfoldable pub written_any_of : Data → Result WrittenAnyOf NotationError
 written_any_of d = do
   _ ← fits table.AnyOf d
-  ds ← needed member.AllOf d >>= items >>= not_empty
+  ds ← needed_member member.AllOf d >>= items >>= not_empty
   all_of ← each written_all_of ds
   Ok (record { all_of = all_of })
 
@@ -231,8 +231,8 @@ free_name variables name = if is_taken variables name then Err BadValue else Ok 
 unfoldable pub behind_one : List WrittenVariable → Data → Result (List WrittenVariable) NotationError
 behind_one variables d = do
   _ ← fits table.VariableDefinition d
-  name ← needed member.VariableId d >>= text >>= free_name variables
-  expression ← needed member.Expression d >>= expression
+  name ← needed_member member.VariableId d >>= text >>= free_name variables
+  expression ← needed_member member.Expression d >>= expression
   Ok (variables ++ record { name = name; expression = expression } ∷ [])
 
 -- definitions behind others, in order
@@ -246,10 +246,10 @@ written_variables variables (item d ds) = behind_one variables d >>= (λ vs. wri
 unfoldable pub written_assignment : Data → Result (AttributeAssignmentExpression Expr) NotationError
 written_assignment d = do
   _ ← fits table.AttributeAssignmentExpression d
-  attribute_id ← needed member.AttributeId d >>= text
+  attribute_id ← needed_member member.AttributeId d >>= text
   category ← optional category (at member.Category d)
   issuer ← optional text (at member.Issuer d)
-  expression ← needed member.Expression d >>= expression
+  expression ← needed_member member.Expression d >>= expression
   Ok (record { attribute_id = attribute_id; category = category; issuer = issuer; expression = expression })
 
 abbrev pub written_assignments : Data → Result (List (AttributeAssignmentExpression Expr)) NotationError
@@ -259,8 +259,8 @@ written_assignments d = items_if_any (at member.AttributeAssignmentExpression d)
 unfoldable pub written_duty : Object → Member → Member → Data → Result (DutyExpression Expr) NotationError
 written_duty duty id_name effect_name d = do
   _ ← fits duty d
-  id ← needed id_name d >>= text
-  effect ← needed effect_name d >>= effect
+  id ← needed_member id_name d >>= text
+  effect ← needed_member effect_name d >>= effect
   assignments ← written_assignments d
   Ok (record { id = id; effect = effect; assignments = assignments })
 
@@ -283,8 +283,8 @@ written_duties d = do
 unfoldable pub written_rule : Data → Result WrittenRule NotationError
 written_rule d = do
   _ ← fits table.Rule d
-  _ ← needed member.RuleId d >>= text
-  effect ← needed member.Effect d >>= effect
+  _ ← needed_member member.RuleId d >>= text
+  effect ← needed_member member.Effect d >>= effect
   _ ← description (at member.Description d)
   target ← written_target (at member.Target d)
   condition ← optional expression (at member.Condition d)
@@ -295,9 +295,9 @@ written_rule d = do
 unfoldable pub written_policy : Data → Result WrittenDocument NotationError
 written_policy d = do
   _ ← fits table.Policy d
-  id ← needed member.PolicyId d >>= id
-  version ← needed member.Version d >>= version
-  algorithm ← needed member.RuleCombiningAlgId d >>= rule_algorithm
+  id ← needed_member member.PolicyId d >>= id
+  version ← needed_member member.Version d >>= version
+  algorithm ← needed_member member.RuleCombiningAlgId d >>= rule_algorithm
   _ ← description (at member.Description d)
   target ← written_target (at member.Target d)
   variables ← items_if_any (at member.VariableDefinition d) >>= written_variables []
@@ -309,7 +309,7 @@ written_policy d = do
 unfoldable pub reference : DocumentKind → Data → Result Reference NotationError
 reference kind d = do
   _ ← fits table.Reference d
-  id ← needed member.Id d >>= text
+  id ← needed_member member.Id d >>= text
   pattern ← optional pattern (at member.Version d)
   earliest ← optional version (at member.EarliestVersion d)
   latest ← optional version (at member.LatestVersion d)
@@ -319,9 +319,9 @@ reference kind d = do
 unfoldable pub written_set_of : (Data → Result WrittenTree NotationError) → Data → Result WrittenDocument NotationError
 written_set_of child d = do
   _ ← fits table.PolicySet d
-  id ← needed member.PolicySetId d >>= id
-  version ← needed member.Version d >>= version
-  algorithm ← needed member.PolicyCombiningAlgId d >>= policy_algorithm
+  id ← needed_member member.PolicySetId d >>= id
+  version ← needed_member member.Version d >>= version
+  algorithm ← needed_member member.PolicyCombiningAlgId d >>= policy_algorithm
   _ ← description (at member.Description d)
   target ← written_target (at member.Target d)
   children ← items_if_any (at member.Children d) >>= each child
@@ -339,15 +339,15 @@ child_named set _ d = Err UnknownMember
 -- a child of a policy set
 unfoldable pub written_child : (Data → Result WrittenDocument NotationError) → Data → Result WrittenTree NotationError
 written_child set d = do
-  name ← chosen choice.Child d
-  inner ← needed name d
+  name ← chosen_member choice.Child d
+  inner ← needed_member name d
   child_named set name inner
 
 -- a policy set inside too many others is too large as soon as its object is met
 abbrev pub too_deep : Data → Result WrittenDocument NotationError
 too_deep d = if is_some (as_object d) then Err TooLarge else Err BadValue
 
--- a policy set in which at most so many stand inside one another, it being one of them
+-- a policy set in which at most this many stand inside one another, it being one of them
 unfoldable pub written_set_within : ℕ → Data → Result WrittenDocument NotationError
 written_set_within zero d = too_deep d
 written_set_within (suc depth) d = written_set_of (written_child (written_set_within depth)) d
@@ -361,6 +361,6 @@ document_named _ d = Err UnknownMember
 -- the whole document
 unfoldable pub written_document : Data → Result WrittenDocument NotationError
 written_document d = do
-  name ← chosen choice.Document d
-  inner ← needed name d
+  name ← chosen_member choice.Document d
+  inner ← needed_member name d
   document_named name inner

@@ -6,7 +6,7 @@ ghost use Rattle.xa_value.specs.Gives.{Gives};
 ghost use Rattle.xa_value.specs.Plain.{from_plain};
 ghost use Rattle.xa_notation.specs.Shape.{attribute_value, designator, literal, or_bad, plain_value};
 
-use crate::json::{check_members, flag, member_at, needed, optional_text, text_copy};
+use crate::json::{check_members, flag, member_at, needed_member, optional_text, text_copy};
 use crate::member::Member;
 use crate::notation_error::NotationError;
 use crate::plain_members::{category, data_type};
@@ -77,8 +77,8 @@ pub(crate) fn attribute_value(alloc: Global, value: &Json) -> Result<Value, OrMe
     ensures { Gives result (attribute_value (view value.now)) }
 {
     check_members(value, Object::AttributeValue)?;
-    let data_type = data_type(needed(value, Member::DataType)?)?;
-    literal(alloc, data_type, needed(value, Member::Value)?)
+    let data_type = data_type(needed_member(value, Member::DataType)?)?;
+    literal(alloc, data_type, needed_member(value, Member::Value)?)
 }
 
 /// An attribute designator (core, section 5.29).
@@ -87,10 +87,10 @@ pub(crate) fn designator(alloc: Global, value: &Json) -> Result<Designator, OrMe
     ensures { Gives result (designator (view value.now)) }
 {
     check_members(value, Object::AttributeDesignator)?;
-    let category = category(alloc, needed(value, Member::Category)?)?;
-    let attribute_id = text_copy(alloc, needed(value, Member::AttributeId)?)?;
-    let data_type = data_type(needed(value, Member::DataType)?)?;
-    let must_be_present = flag(needed(value, Member::MustBePresent)?)?;
+    let category = category(alloc, needed_member(value, Member::Category)?)?;
+    let attribute_id = text_copy(alloc, needed_member(value, Member::AttributeId)?)?;
+    let data_type = data_type(needed_member(value, Member::DataType)?)?;
+    let must_be_present = flag(needed_member(value, Member::MustBePresent)?)?;
     let issuer = optional_text(alloc, member_at(value, Member::Issuer))?;
     Ok(Designator {
         category,

@@ -10,7 +10,6 @@ use crate::policy_set::written_document;
 use crate::typing::typed_tree;
 use crate::written::{WrittenDocument, WrittenTree};
 use std::alloc::Global;
-use xa_expr::CheckError;
 use xa_policy::{DocumentKind, Policy, PolicySet, Reference, Version};
 use xa_value::{Items, OrMemory, Shared, Text};
 

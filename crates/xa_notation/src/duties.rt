@@ -6,7 +6,7 @@ ghost use Rattle.xa_notation.specs.Shape.{written_assignment, written_assignment
 
 use crate::expression::expression;
 use crate::json::{
-    Reader, check_members, each, items_if_any, member_at, needed, optional_text, text_copy,
+    Reader, check_members, each, items_if_any, member_at, needed_member, optional_text, text_copy,
 };
 use crate::member::Member;
 use crate::notation_error::NotationError;
@@ -34,10 +34,10 @@ impl Reader for AssignmentReader {
         value: &Json,
     ) -> Result<AttributeAssignmentExpression<Expr>, OrMemory<NotationError>> {
         check_members(value, Object::AttributeAssignmentExpression)?;
-        let attribute_id = text_copy(alloc, needed(value, Member::AttributeId)?)?;
+        let attribute_id = text_copy(alloc, needed_member(value, Member::AttributeId)?)?;
         let category = optional_category(alloc, member_at(value, Member::Category))?;
         let issuer = optional_text(alloc, member_at(value, Member::Issuer))?;
-        let expression = expression(alloc, needed(value, Member::Expression)?)?;
+        let expression = expression(alloc, needed_member(value, Member::Expression)?)?;
         Ok(AttributeAssignmentExpression {
             attribute_id,
             category,
@@ -78,8 +78,8 @@ impl Reader for DutyReader {
         value: &Json,
     ) -> Result<DutyExpression<Expr>, OrMemory<NotationError>> {
         check_members(value, self.object)?;
-        let id = text_copy(alloc, needed(value, self.id)?)?;
-        let effect = effect(needed(value, self.effect)?)?;
+        let id = text_copy(alloc, needed_member(value, self.id)?)?;
+        let effect = effect(needed_member(value, self.effect)?)?;
         let assignments = written_assignments(alloc, value)?;
         Ok(DutyExpression {
             id,

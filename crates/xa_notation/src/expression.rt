@@ -6,7 +6,9 @@ ghost use Rattle.xa_notation.specs.Json.{each, optional};
 ghost use Rattle.xa_notation.specs.Shape.{apply, expression, expression_named, expression_of, expression_within, function, variable_reference};
 
 use crate::attribute::{attribute_value, designator};
-use crate::json::{check_members, chosen, items_if_any, member_at, needed, text_copy};
+use crate::json::{
+    check_members, chosen_member, items_if_any, member_at, needed_member, text_copy,
+};
 use crate::member::Member;
 use crate::notation_error::NotationError;
 use crate::plain_members::check_description;
@@ -25,7 +27,7 @@ fn function(alloc: Global, value: &Json) -> Result<Expr, OrMemory<NotationError>
     ensures { Gives result (function (view value.now)) }
 {
     check_members(value, Object::Function)?;
-    let name = text_copy(alloc, needed(value, Member::FunctionId)?)?;
+    let name = text_copy(alloc, needed_member(value, Member::FunctionId)?)?;
     Ok(Expr::Function(name))
 }
 
@@ -35,11 +37,11 @@ fn variable_reference(alloc: Global, value: &Json) -> Result<Expr, OrMemory<Nota
     ensures { Gives result (variable_reference (view value.now)) }
 {
     check_members(value, Object::VariableReference)?;
-    let name = text_copy(alloc, needed(value, Member::VariableId)?)?;
+    let name = text_copy(alloc, needed_member(value, Member::VariableId)?)?;
     Ok(Expr::Variable(name))
 }
 
-/// Expressions in which at most so many stand inside one another.
+/// Expressions in which at most `depth` stand inside one another.
 #[cycle(expressions)]
 fn expressions(
     alloc: Global,
@@ -55,14 +57,14 @@ fn expressions(
     Ok(expressions)
 }
 
-/// A function of arguments (core, section 5.27), in which at most so many expressions stand inside one another.
+/// A function of arguments (core, section 5.27), in which at most `depth` expressions stand inside one another.
 #[cycle(expressions)]
 #[tactic(auto, unfolding(crate::specs::Shape::apply))]
 fn apply(alloc: Global, value: &Json, depth: usize) -> Result<Expr, OrMemory<NotationError>>
     ensures { Gives result (apply (expression_within depth) (view value.now)) }
 {
     check_members(value, Object::Apply)?;
-    let function = text_copy(alloc, needed(value, Member::FunctionId)?)?;
+    let function = text_copy(alloc, needed_member(value, Member::FunctionId)?)?;
     check_description(member_at(value, Member::Description))?;
     let values = items_if_any(member_at(value, Member::Expression))?;
     let arguments = expressions(alloc, values, depth)?;
@@ -89,17 +91,17 @@ fn expression_named(
     }
 }
 
-/// An expression in which at most so many others stand inside one another.
+/// An expression in which at most `depth` others stand inside one another.
 #[cycle(expressions)]
 #[tactic(auto, unfolding(crate::specs::Shape::expression_of))]
 fn expression_of(alloc: Global, value: &Json, depth: usize) -> Result<Expr, OrMemory<NotationError>>
     ensures { Gives result (expression_of (expression_within depth) (view value.now)) }
 {
-    let name = chosen(value, Choice::Expression)?;
-    expression_named(alloc, name, needed(value, name)?, depth)
+    let name = chosen_member(value, Choice::Expression)?;
+    expression_named(alloc, name, needed_member(value, name)?, depth)
 }
 
-/// An expression in which at most so many stand inside one another, it being one of them.
+/// An expression in which at most `depth` stand inside one another, it being one of them.
 #[cycle(expressions)]
 #[tactic(auto, unfolding(crate::specs::Shape::expression_within))]
 fn expression_within(

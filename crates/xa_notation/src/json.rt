@@ -6,7 +6,8 @@ ghost use Rattle.serde_json.specs.Find.{as_object};
 ghost use Rattle.serde_json.specs.View.{view, items_view, members_view};
 ghost use Rattle.xa_value.specs.Gives.{Gives};
 ghost use Rattle.xa_notation.specs.declared.notation_error.NotationError.{NotationError as ReadFault};
-ghost use Rattle.xa_notation.specs.Json.{json, at, needed, is_named, has_only, knows, has_entry, has_needed, fits, size_of, or_fault, present, sole, chosen, text, flag, items, items_if_any, not_empty, optional, each, behind};
+ghost use Rattle.xa_notation.specs.Json.{json, at, needed_member, is_named, has_only, knows, has_entry, has_needed, fits, size_of, or_fault, present_member, sole_member, chosen_member, text, flag, items, items_if_any, not_empty, optional, each};
+ghost use Rattle.xa_notation.specs.parsing.Json.{behind};
 
 use crate::member::Member;
 use crate::notation_error::NotationError;
@@ -35,8 +36,8 @@ pub(crate) fn member_at(value: &Json, name: Member) -> Option<&Json>
 }
 
 /// The member, which has to be there.
-pub(crate) fn needed(value: &Json, name: Member) -> Result<&Json, NotationError>
-    ensures { result_map_both (λ v. view v.now) (λ e. e) result ≡ needed name (view value.now) }
+pub(crate) fn needed_member(value: &Json, name: Member) -> Result<&Json, NotationError>
+    ensures { result_map_both (λ v. view v.now) (λ e. e) result ≡ needed_member name (view value.now) }
 {
     match member_at(value, name) {
         Some(member) => Ok(member),
@@ -95,7 +96,7 @@ fn check_entry(value: &Json, entry: Entry) -> Result<(), NotationError>
 {
     match entry {
         Entry::Required(name) => {
-            needed(value, name)?;
+            needed_member(value, name)?;
             Ok(())
         }
         Entry::Optional(_) => Ok(()),
@@ -122,8 +123,8 @@ pub(crate) fn check_members(value: &Json, object: Object) -> Result<(), Notation
 }
 
 /// Which of the members is there.
-fn present(value: &Json, names: &[Member]) -> Option<Member>
-    ensures { result ≡ present names.now (view value.now) }
+fn present_member(value: &Json, names: &[Member]) -> Option<Member>
+    ensures { result ≡ present_member names.now (view value.now) }
 {
     for name in names {
         if member_at(value, *name).is_some() {
@@ -133,9 +134,9 @@ fn present(value: &Json, names: &[Member]) -> Option<Member>
     None
 }
 
-/// The one that is there, of so many members.
-fn sole(first: Member, count: usize, found: Option<Member>) -> Result<Member, NotationError>
-    ensures { result ≡ sole first count found }
+/// The one that is there, of an object of that many members.
+fn sole_member(first: Member, count: usize, found: Option<Member>) -> Result<Member, NotationError>
+    ensures { result ≡ sole_member first count found }
 {
     match (count, found) {
         (0, _) => Err(NotationError::MissingMember(first)),
@@ -153,15 +154,18 @@ fn member_count(value: &Json) -> Result<usize, NotationError>
 }
 
 /// The one of the alternatives that is there.
-#[tactic(auto, unfolding(crate::specs::Json::chosen))]
-pub(crate) fn chosen(value: &Json, choice: Choice) -> Result<Member, NotationError>
-    ensures { result ≡ chosen choice (view value.now) }
+#[tactic(auto, unfolding(crate::specs::Json::chosen_member))]
+pub(crate) fn chosen_member(value: &Json, choice: Choice) -> Result<Member, NotationError>
+    ensures { result ≡ chosen_member choice (view value.now) }
 {
     let count = member_count(value)?;
-    sole(choice.first(), count, present(value, choice.alternatives()))
+    sole_member(
+        choice.first(),
+        count,
+        present_member(value, choice.alternatives()),
+    )
 }
 
-/// A text.
 pub(crate) fn text(value: &Json) -> Result<&str, NotationError>
     ensures { result_map_both (λ t. t.now) (λ e. e) result ≡ text (view value.now) }
 {

@@ -27,7 +27,6 @@ pub(crate) fn id(alloc: Global, value: &Json) -> Result<Text, OrMemory<NotationE
     Ok(Text::new(alloc, id)?)
 }
 
-/// A version.
 pub(crate) fn version(value: &Json) -> Result<Version, NotationError>
     ensures { result ≡ version (view value.now) }
 {
@@ -81,7 +80,6 @@ fn effect_named(text: &str) -> Result<Effect, NotationError>
     Err(NotationError::BadValue)
 }
 
-/// An effect.
 pub(crate) fn effect(value: &Json) -> Result<Effect, NotationError>
     ensures { result ≡ effect (view value.now) }
 {
@@ -108,7 +106,6 @@ pub(crate) fn policy_algorithm(value: &Json) -> Result<Alg, NotationError>
     }
 }
 
-/// A data type.
 pub(crate) fn data_type(value: &Json) -> Result<DataType, NotationError>
     ensures { result ≡ data_type (view value.now) }
 {

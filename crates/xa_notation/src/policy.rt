@@ -5,7 +5,7 @@ ghost use Rattle.xa_value.specs.Gives.{Gives};
 ghost use Rattle.xa_notation.specs.Shape.{written_policy};
 
 use crate::duties::written_duties;
-use crate::json::{check_members, each, items_if_any, member_at, needed};
+use crate::json::{check_members, each, items_if_any, member_at, needed_member};
 use crate::member::Member;
 use crate::notation_error::NotationError;
 use crate::plain_members::{check_description, id, rule_algorithm, version};
@@ -28,9 +28,9 @@ pub(crate) fn written_policy(
     ensures { Gives result (written_policy (view value.now)) }
 {
     check_members(value, Object::Policy)?;
-    let id = id(alloc, needed(value, Member::PolicyId)?)?;
-    let version = version(needed(value, Member::Version)?)?;
-    let algorithm = rule_algorithm(needed(value, Member::RuleCombiningAlgId)?)?;
+    let id = id(alloc, needed_member(value, Member::PolicyId)?)?;
+    let version = version(needed_member(value, Member::Version)?)?;
+    let algorithm = rule_algorithm(needed_member(value, Member::RuleCombiningAlgId)?)?;
     check_description(member_at(value, Member::Description))?;
     let target = written_target(alloc, member_at(value, Member::Target))?;
     let variables = items_if_any(member_at(value, Member::VariableDefinition))?;

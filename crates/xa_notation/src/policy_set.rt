@@ -6,7 +6,9 @@ ghost use Rattle.xa_notation.specs.Json.{each};
 ghost use Rattle.xa_notation.specs.Shape.{child_named, document_named, reference, too_deep, written_child, written_document, written_set_of, written_set_within};
 
 use crate::duties::written_duties;
-use crate::json::{check_members, chosen, items_if_any, member_at, needed, text_copy};
+use crate::json::{
+    check_members, chosen_member, items_if_any, member_at, needed_member, text_copy,
+};
 use crate::member::Member;
 use crate::notation_error::NotationError;
 use crate::plain_members::{
@@ -34,7 +36,7 @@ fn reference(
     ensures { Gives result (reference kind (view value.now)) }
 {
     check_members(value, Object::Reference)?;
-    let id = text_copy(alloc, needed(value, Member::Id)?)?;
+    let id = text_copy(alloc, needed_member(value, Member::Id)?)?;
     let pattern = optional_pattern(member_at(value, Member::Version))?;
     let earliest = optional_version(member_at(value, Member::EarliestVersion))?;
     let latest = optional_version(member_at(value, Member::LatestVersion))?;
@@ -47,7 +49,7 @@ fn reference(
     })
 }
 
-/// Children in which at most so many policy sets stand inside one another.
+/// Children in which at most `depth` policy sets stand inside one another.
 #[cycle(sets)]
 fn written_children(
     alloc: Global,
@@ -88,7 +90,7 @@ fn child_named(
     }
 }
 
-/// A child in which at most so many policy sets stand inside one another.
+/// A child in which at most `depth` policy sets stand inside one another.
 #[cycle(sets)]
 #[tactic(auto, unfolding(crate::specs::Shape::written_child))]
 fn written_child(
@@ -98,11 +100,11 @@ fn written_child(
 ) -> Result<WrittenTree, OrMemory<NotationError>>
     ensures { Gives result (written_child (written_set_within depth) (view value.now)) }
 {
-    let name = chosen(value, Choice::Child)?;
-    child_named(alloc, name, needed(value, name)?, depth)
+    let name = chosen_member(value, Choice::Child)?;
+    child_named(alloc, name, needed_member(value, name)?, depth)
 }
 
-/// A policy set (core, section 5.1), in which at most so many others stand inside one another.
+/// A policy set (core, section 5.1), in which at most `depth` others stand inside one another.
 #[cycle(sets)]
 #[tactic(auto, unfolding(crate::specs::Shape::written_set_of))]
 fn written_set_of(
@@ -113,9 +115,9 @@ fn written_set_of(
     ensures { Gives result (written_set_of (written_child (written_set_within depth)) (view value.now)) }
 {
     check_members(value, Object::PolicySet)?;
-    let id = id(alloc, needed(value, Member::PolicySetId)?)?;
-    let version = version(needed(value, Member::Version)?)?;
-    let algorithm = policy_algorithm(needed(value, Member::PolicyCombiningAlgId)?)?;
+    let id = id(alloc, needed_member(value, Member::PolicySetId)?)?;
+    let version = version(needed_member(value, Member::Version)?)?;
+    let algorithm = policy_algorithm(needed_member(value, Member::PolicyCombiningAlgId)?)?;
     check_description(member_at(value, Member::Description))?;
     let target = written_target(alloc, member_at(value, Member::Target))?;
     let children = items_if_any(member_at(value, Member::Children))?;
@@ -147,7 +149,7 @@ fn too_deep(value: &Json) -> Result<WrittenDocument, NotationError>
     }
 }
 
-/// A policy set in which at most so many stand inside one another, it being one of them.
+/// A policy set in which at most `depth` stand inside one another, it being one of them.
 #[cycle(sets)]
 #[tactic(auto, unfolding(crate::specs::Shape::written_set_within))]
 fn written_set_within(
@@ -186,6 +188,6 @@ pub(crate) fn written_document(
 ) -> Result<WrittenDocument, OrMemory<NotationError>>
     ensures { Gives result (written_document (view value.now)) }
 {
-    let name = chosen(value, Choice::Document)?;
-    document_named(alloc, name, needed(value, name)?)
+    let name = chosen_member(value, Choice::Document)?;
+    document_named(alloc, name, needed_member(value, name)?)
 }

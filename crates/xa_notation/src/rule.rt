@@ -3,7 +3,7 @@ ghost use Rattle.xa_notation.specs.Shape.{written_rule};
 
 use crate::duties::written_duties;
 use crate::expression::optional_expression;
-use crate::json::{Reader, check_members, member_at, needed, text};
+use crate::json::{Reader, check_members, member_at, needed_member, text};
 use crate::member::Member;
 use crate::notation_error::NotationError;
 use crate::plain_members::{check_description, effect};
@@ -26,8 +26,8 @@ impl Reader for RuleReader {
     #[tactic(auto, unfolding(crate::specs::Shape::written_rule))]
     fn read(&self, alloc: Global, value: &Json) -> Result<WrittenRule, OrMemory<NotationError>> {
         check_members(value, Object::Rule)?;
-        text(needed(value, Member::RuleId)?)?;
-        let effect = effect(needed(value, Member::Effect)?)?;
+        text(needed_member(value, Member::RuleId)?)?;
+        let effect = effect(needed_member(value, Member::Effect)?)?;
         check_description(member_at(value, Member::Description))?;
         let target = written_target(alloc, member_at(value, Member::Target))?;
         let condition = optional_expression(alloc, member_at(value, Member::Condition))?;

@@ -8,7 +8,8 @@ ghost use Rattle.xa_notation.specs.Shape.{written_all_of, written_any_of, writte
 
 use crate::attribute::{attribute_value, designator};
 use crate::json::{
-    Reader, check_members, each, items, items_if_any, member_at, needed, not_empty, text_copy,
+    Reader, check_members, each, items, items_if_any, member_at, needed_member, not_empty,
+    text_copy,
 };
 use crate::member::Member;
 use crate::notation_error::NotationError;
@@ -30,9 +31,9 @@ impl Reader for MatchReader {
     #[tactic(auto, unfolding(crate::specs::Shape::written_match))]
     fn read(&self, alloc: Global, value: &Json) -> Result<WrittenMatch, OrMemory<NotationError>> {
         check_members(value, Object::Match)?;
-        let function = text_copy(alloc, needed(value, Member::MatchId)?)?;
-        let literal = attribute_value(alloc, needed(value, Member::AttributeValue)?)?;
-        let designator = designator(alloc, needed(value, Member::AttributeDesignator)?)?;
+        let function = text_copy(alloc, needed_member(value, Member::MatchId)?)?;
+        let literal = attribute_value(alloc, needed_member(value, Member::AttributeValue)?)?;
+        let designator = designator(alloc, needed_member(value, Member::AttributeDesignator)?)?;
         Ok(WrittenMatch {
             function,
             literal,
@@ -53,7 +54,7 @@ impl Reader for AllOfReader {
     #[tactic(auto, unfolding(crate::specs::Shape::written_all_of))]
     fn read(&self, alloc: Global, value: &Json) -> Result<WrittenAllOf, OrMemory<NotationError>> {
         check_members(value, Object::AllOf)?;
-        let values = not_empty(items(needed(value, Member::Match)?)?)?;
+        let values = not_empty(items(needed_member(value, Member::Match)?)?)?;
         let matches = each(alloc, &MatchReader, values)?;
         Ok(WrittenAllOf { matches })
     }
@@ -71,7 +72,7 @@ impl Reader for AnyOfReader {
     #[tactic(auto, unfolding(crate::specs::Shape::written_any_of))]
     fn read(&self, alloc: Global, value: &Json) -> Result<WrittenAnyOf, OrMemory<NotationError>> {
         check_members(value, Object::AnyOf)?;
-        let values = not_empty(items(needed(value, Member::AllOf)?)?)?;
+        let values = not_empty(items(needed_member(value, Member::AllOf)?)?)?;
         let all_of = each(alloc, &AllOfReader, values)?;
         Ok(WrittenAnyOf { all_of })
     }

@@ -15,7 +15,6 @@ use xa_expr::{AllOf, AnyOf, CheckError, Match, Target, Variables};
 use xa_policy::{Policy, PolicySet, Rule};
 use xa_value::{Items, OrMemory, Shared};
 
-/// The typed match.
 fn typed_match(written: WrittenMatch) -> Result<Match, CheckError>
     ensures { result ≡ typed_match written }
 {
@@ -27,7 +26,6 @@ fn typed_match(written: WrittenMatch) -> Result<Match, CheckError>
     Match::new(function.as_str(), literal, designator)
 }
 
-/// The typed matches.
 #[tactic(auto, using(crate::proofs::TypingLemmas::behind_next, crate::proofs::JsonLemmas::behind_none))]
 fn typed_matches(
     alloc: Global,
@@ -74,7 +72,6 @@ fn typed_any_of(
     Ok(typed)
 }
 
-/// The typed target.
 fn typed_target(alloc: Global, written: WrittenTarget) -> Result<Target, OrMemory<CheckError>>
     ensures { Gives result (typed_target written) }
 {
@@ -137,7 +134,6 @@ fn with_rules(
     Ok(policy)
 }
 
-/// The typed policy.
 #[tactic(auto, unfolding(crate::specs::Typing::typed_policy))]
 fn typed_policy(alloc: Global, written: WrittenPolicy) -> Result<Policy, OrMemory<CheckError>>
     ensures { Gives result (typed_policy written) }
@@ -157,7 +153,6 @@ fn typed_policy(alloc: Global, written: WrittenPolicy) -> Result<Policy, OrMemor
     Ok(policy)
 }
 
-/// The typed children.
 #[cycle(typing)]
 #[tactic(auto, using(crate::proofs::TypingLemmas::behind_next, crate::proofs::JsonLemmas::behind_none))]
 fn typed_children(
@@ -173,7 +168,6 @@ fn typed_children(
     Ok(typed)
 }
 
-/// The typed policy set.
 #[cycle(typing)]
 #[tactic(auto, unfolding(crate::specs::Typing::typed_set))]
 fn typed_set(

@@ -6,7 +6,7 @@ ghost use Rattle.xa_value.specs.Gives.{Gives};
 ghost use Rattle.xa_notation.specs.Shape.{behind_one, free_name, is_taken, written_variables};
 
 use crate::expression::expression;
-use crate::json::{check_members, needed, text};
+use crate::json::{check_members, needed_member, text};
 use crate::member::Member;
 use crate::notation_error::NotationError;
 use crate::tables::Object;
@@ -95,8 +95,8 @@ impl Definitions {
         ensures { Gives (result_map_both (λ _. self.new) (λ e. e) result) (behind_one self.old (view value.now)) }
     {
         check_members(value, Object::VariableDefinition)?;
-        let name = self.free_name(alloc, text(needed(value, Member::VariableId)?)?)?;
-        let expression = expression(alloc, needed(value, Member::Expression)?)?;
+        let name = self.free_name(alloc, text(needed_member(value, Member::VariableId)?)?)?;
+        let expression = expression(alloc, needed_member(value, Member::Expression)?)?;
         self.push(WrittenVariable { name, expression })?;
         Ok(())
     }

@@ -1,5 +1,5 @@
 -- Attributes of a request and their values (JSON Profile of XACML 3.0, sections 3.3 and 4.2).
-use Rattle.std.specs.Prelude.{ℕ, Bool, true, ◌==◌, List, [], ◌∷◌, Option, Some, None, option_and_then, option_map, Result, Ok, Err}
+use Rattle.std.specs.Prelude.{ℕ, Bool, true, List, [], ◌∷◌, Option, Some, None, option_and_then, option_map, Result, Ok, Err}
 use Rattle.std.specs.List.{list_all}
 use Rattle.serde_json.specs.Data.{Data, null, boolean, number, string, array, object, Items}
 use Rattle.serde_json.specs.Find.{as_str, as_integer}
@@ -11,13 +11,13 @@ use Rattle.xa_value.specs.declared.plain.Plain.TheVariants as plain
 use Rattle.xa_value.specs.declared.read_error.ReadError.{ReadError}
 use Rattle.xa_value.specs.declared.value.Value.{Value}
 use Rattle.xa_value.specs.Plain.{type_of_plain, from_plain}
-use Rattle.xa_value.specs.Types.{type_named, place_of}
+use Rattle.xa_value.specs.Types.{type_named, same_type}
 use Rattle.xa_bag.specs.Bag.{Contents, bag_of}
 use Rattle.xa_profile.specs.declared.attribute.Attribute.{Attribute}
 use Rattle.xa_profile.specs.declared.member.Member.TheVariants as member
 use Rattle.xa_profile.specs.declared.request_error.RequestError.{RequestError}
 use Rattle.xa_profile.specs.declared.request_error.RequestError.TheVariants.{NotProfile}
-use Rattle.xa_profile.specs.Json.{at, or_not_profile, holds_or_not_profile, needed_text, optional_text, flag, listed_if_any, each}
+use Rattle.xa_profile.specs.Json.{at, or_not_profile, holds_or_not_profile, needed_text, optional_text, flag, items_if_any, each}
 
 -- a text, a boolean or a whole number
 abbrev pub plain_of : Data → Option (Plain (List ℕ))
@@ -28,16 +28,16 @@ plain_of (string s) = Some (plain.Text s)
 plain_of (array ds) = None
 plain_of (object ms) = None
 
--- its kind, as the type that it has where none is named
+-- the data type of its JSON type, which it has where none is named
 unfoldable pub kind : Data → Result DataType RequestError
 kind d = or_not_profile (option_map type_of_plain (plain_of d))
 
--- all values of an attribute are of one kind
+-- all values of an attribute are of one JSON type
 abbrev pub is_one_kind : List DataType → Bool
 is_one_kind [] = true
-is_one_kind (first ∷ others) = list_all (λ other. place_of other == place_of first) others
+is_one_kind (first ∷ others) = list_all (λ other. same_type other first) others
 
--- the type of an attribute's values: the one that is named, else that of their kind, and string where there is no value either
+-- the type of an attribute's values: the one that is named, else that of their JSON type, and string where there is no value either
 abbrev pub type_of_values : Option DataType → List DataType → DataType
 type_of_values (Some named) kinds = named
 type_of_values None [] = type.String
@@ -55,7 +55,7 @@ value t d = or_not_profile (plain_of d) >>= λ p. or_not_of_type (from_plain t p
 abbrev pub bag : DataType → Items → Result Contents RequestError
 bag t ds = each (value t) ds >>= λ values. Ok (bag_of t values)
 
--- the values of an attribute, under the type that it names or by their kind
+-- the values of an attribute, under the type that it names, else by their JSON type
 unfoldable pub values : Option DataType → Items → Result Contents RequestError
 values named ds = do
   kinds ← each kind ds
@@ -74,5 +74,5 @@ attribute d = do
   issuer ← optional_text (at member.Issuer d)
   include ← flag (at member.IncludeInResult d)
   named ← named_type (at member.DataType d)
-  contents ← values named (listed_if_any (at member.Value d))
+  contents ← values named (items_if_any (at member.Value d))
   Ok (record { id = id; issuer = issuer; include_in_result = include; values = contents })

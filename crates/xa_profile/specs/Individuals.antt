@@ -57,11 +57,12 @@ with_new texts text = if list_any (bytes_eq text) texts then texts else texts ++
 abbrev pub categories : List CategoryObject → List (List ℕ)
 categories objects = fold with_new [] (map (λ object. object.category) objects)
 
--- the places of a category's objects
+-- an object of a category that may be absent is of this one
 abbrev pub is_of : List ℕ → Option (List ℕ) → Bool
 is_of category None = false
 is_of category (Some own) = bytes_eq category own
 
+-- the places of a category's objects
 abbrev pub places_of : List CategoryObject → List ℕ → List ℕ
 places_of objects category = filter (λ place. is_of category (category_at objects place)) (range_with_len 0 (length objects))
 

@@ -56,18 +56,18 @@ flag None = Ok false
 flag (Some d) = or_not_profile (as_bool d)
 
 -- an array's items; anything else stands for an array of itself (section 3.2)
-abbrev pub listed : Data → Items
-listed null = item null no_items
-listed (boolean b) = item (boolean b) no_items
-listed (number n) = item (number n) no_items
-listed (string s) = item (string s) no_items
-listed (array ds) = ds
-listed (object ms) = item (object ms) no_items
+abbrev pub items_or_itself : Data → Items
+items_or_itself null = item null no_items
+items_or_itself (boolean b) = item (boolean b) no_items
+items_or_itself (number n) = item (number n) no_items
+items_or_itself (string s) = item (string s) no_items
+items_or_itself (array ds) = ds
+items_or_itself (object ms) = item (object ms) no_items
 
 -- no items, where the member is left out
-abbrev pub listed_if_any : Option Data → Items
-listed_if_any None = no_items
-listed_if_any (Some d) = listed d
+abbrev pub items_if_any : Option Data → Items
+items_if_any None = no_items
+items_if_any (Some d) = items_or_itself d
 
 -- each of them, read in order
 abbrev pub each : {X : Type 0} → (Data → Result X RequestError) → Items → Result (List X) RequestError

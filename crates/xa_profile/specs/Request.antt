@@ -11,7 +11,7 @@ use Rattle.xa_profile.specs.declared.category_object.CategoryObject.{CategoryObj
 use Rattle.xa_profile.specs.declared.member.Member.TheVariants as member
 use Rattle.xa_profile.specs.declared.request.Request.{Request}
 use Rattle.xa_profile.specs.declared.request_error.RequestError.{RequestError}
-use Rattle.xa_profile.specs.Json.{json, at, or_not_profile, holds_or_not_profile, check_object, text, needed_text, optional_text, flag, listed, listed_if_any, each}
+use Rattle.xa_profile.specs.Json.{json, at, or_not_profile, holds_or_not_profile, check_object, text, needed_text, optional_text, flag, items_or_itself, items_if_any, each}
 
 -- the category that an object names
 abbrev pub named_category : Option Data → Result (List ℕ) RequestError
@@ -28,21 +28,21 @@ category_object shorthand d = do
   _ ← check_object d
   category ← category_of shorthand d
   id ← optional_text (at member.Id d)
-  attributes ← each attribute (listed_if_any (at member.Attribute d))
+  attributes ← each attribute (items_if_any (at member.Attribute d))
   Ok (record { category = category; id = id; attributes = attributes })
 
 -- the objects under shorthands, in the order of these
 abbrev pub under_shorthands : List Category → Data → Result (List CategoryObject) RequestError
 under_shorthands [] d = Ok []
 under_shorthands (category ∷ others) d = do
-  objects ← each (category_object (Some category)) (listed_if_any (get (shorthand_of category) d))
+  objects ← each (category_object (Some category)) (items_if_any (get (shorthand_of category) d))
   more ← under_shorthands others d
   Ok (objects ++ more)
 
 -- all objects: those of the member Category, and then those under shorthands
 unfoldable pub all_objects : Data → Result (List CategoryObject) RequestError
 all_objects d = do
-  objects ← each (category_object None) (listed_if_any (at member.Category d))
+  objects ← each (category_object None) (items_if_any (at member.Category d))
   more ← under_shorthands all_categories d
   Ok (objects ++ more)
 
@@ -59,13 +59,13 @@ ids_of objects = filter_map (λ object. object.id) objects
 unfoldable pub reference : Data → Result (List (List ℕ)) RequestError
 reference d = do
   ids ← or_not_profile (at member.ReferenceId d)
-  each text (listed ids)
+  each text (items_or_itself ids)
 
 -- all of them
 unfoldable pub references_in : Data → Result (List (List (List ℕ))) RequestError
 references_in d = do
   references ← or_not_profile (at member.RequestReference d)
-  each reference (listed references)
+  each reference (items_or_itself references)
 
 -- none, where MultiRequests is left out
 abbrev pub all_references : Option Data → Result (List (List (List ℕ))) RequestError

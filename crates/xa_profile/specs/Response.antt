@@ -80,15 +80,15 @@ attribute_data a =
     (with member.Value (values_data a.values.values) no_members))))
 
 -- the attributes that are to stand in the result
-abbrev pub included : List Attribute → List Attribute
-included attributes = filter (λ a. a.include_in_result) attributes
+abbrev pub included_attributes : List Attribute → List Attribute
+included_attributes attributes = filter (λ a. a.include_in_result) attributes
 
 abbrev pub has_included : CategoryObject → Bool
 has_included o = list_any (λ a. a.include_in_result) o.attributes
 
 -- a Category object, with these attributes alone
 unfoldable pub category_data : CategoryObject → Data
-category_data o = object (with member.Attribute (listing (map attribute_data (included o.attributes))) (with member.CategoryId (string o.category) no_members))
+category_data o = object (with member.Attribute (listing (map attribute_data (included_attributes o.attributes))) (with member.CategoryId (string o.category) no_members))
 
 -- the objects at places, those that have such an attribute
 abbrev pub if_included : Option CategoryObject → Option CategoryObject

@@ -1,17 +1,17 @@
 //! Attributes of a request.
-ghost use Rattle.std.specs.Prelude.{◌≡◌, ◌==◌, option_map, option_and_then, IfOk};
+ghost use Rattle.std.specs.Prelude.{◌≡◌, option_map, option_and_then, IfOk};
 ghost use Rattle.std.specs.List.{list_all};
 ghost use Rattle.serde_json.specs.Find.{as_str};
 ghost use Rattle.serde_json.specs.View.{view, items_view};
 ghost use Rattle.xa_value.specs.Gives.{Gives};
 ghost use Rattle.xa_value.specs.Order.{type_of};
-ghost use Rattle.xa_value.specs.Types.{type_named, place_of};
+ghost use Rattle.xa_value.specs.Types.{type_named, same_type};
 ghost use Rattle.xa_profile.specs.Attribute.{plain_of, kind, is_one_kind, type_of_values, named_type, bag, value, values, attribute};
-ghost use Rattle.xa_profile.specs.Json.{or_not_profile, listed_if_any, each};
+ghost use Rattle.xa_profile.specs.Json.{or_not_profile, items_if_any, each};
 
 use crate::member::Member;
 use crate::reading::{
-    Reader, each, flag, holds_or_not_profile, listed_if_any, member_at, needed_text, optional_text,
+    Reader, each, flag, holds_or_not_profile, items_if_any, member_at, needed_text, optional_text,
 };
 use crate::request_error::RequestError;
 use serde_json::Value as Json;
@@ -62,19 +62,12 @@ impl Reader for KindReader {
     }
 }
 
-/// Whether the two types are the same.
-fn is_same_type(a: DataType, b: DataType) -> bool
-    ensures { result ≡ (place_of a == place_of b) }
-{
-    a == b
-}
-
 /// Whether the others are of the type.
 fn are_all(data_type: DataType, others: &[DataType]) -> bool
-    ensures { result ≡ list_all (λ other. place_of other == place_of data_type) others.now }
+    ensures { result ≡ list_all (λ other. same_type other data_type) others.now }
 {
     for other in others {
-        if !is_same_type(*other, data_type) {
+        if !other.is_same(data_type) {
             return false;
         }
     }
@@ -186,7 +179,7 @@ impl Reader for AttributeReader {
         let issuer = optional_text(alloc, member_at(value, Member::Issuer))?;
         let include_in_result = flag(member_at(value, Member::IncludeInResult))?;
         let named = named_type(member_at(value, Member::DataType))?;
-        let items = listed_if_any(member_at(value, Member::Value));
+        let items = items_if_any(member_at(value, Member::Value));
         let values = values_of(alloc, named, items)?;
         Ok(Attribute {
             id,
@@ -202,7 +195,7 @@ pub(crate) fn attributes_of(
     alloc: Global,
     member: Option<&Json>,
 ) -> Result<Items<Attribute>, OrMemory<RequestError>>
-    ensures { Gives result (each attribute (listed_if_any (option_map (λ v. view v.now) member.entry))) }
+    ensures { Gives result (each attribute (items_if_any (option_map (λ v. view v.now) member.entry))) }
 {
-    each(alloc, &AttributeReader, listed_if_any(member))
+    each(alloc, &AttributeReader, items_if_any(member))
 }

@@ -2,14 +2,14 @@
 ghost use Rattle.std.specs.Prelude.{◌≡◌, option_map};
 ghost use Rattle.serde_json.specs.View.{view};
 ghost use Rattle.xa_value.specs.Gives.{Gives};
-ghost use Rattle.xa_profile.specs.Json.{each, listed_if_any};
+ghost use Rattle.xa_profile.specs.Json.{each, items_if_any};
 ghost use Rattle.xa_profile.specs.parsing.Json.{behind};
 ghost use Rattle.xa_profile.specs.Request.{named_category, category_of, category_object, under_shorthands, all_objects};
 
 use crate::attribute::{Attribute, attributes_of};
 use crate::member::Member;
 use crate::reading::{
-    Reader, check_object, each_behind, listed_if_any, member_at, optional_text, shorthand_at,
+    Reader, check_object, each_behind, items_if_any, member_at, optional_text, shorthand_at,
 };
 use crate::request_error::RequestError;
 use serde_json::Value as Json;
@@ -83,10 +83,10 @@ fn with_objects(
     shorthand: Option<Category>,
     value: Option<&Json>,
 ) -> Result<Items<CategoryObject>, OrMemory<RequestError>>
-    ensures { Gives result (behind objects (each (category_object shorthand) (listed_if_any (option_map (λ v. view v.now) value.entry)))) }
+    ensures { Gives result (behind objects (each (category_object shorthand) (items_if_any (option_map (λ v. view v.now) value.entry)))) }
 {
     let reader = ObjectReader { shorthand };
-    each_behind(alloc, objects, &reader, listed_if_any(value))
+    each_behind(alloc, objects, &reader, items_if_any(value))
 }
 
 /// The objects under shorthands, behind those that are there.

@@ -1,7 +1,7 @@
 //! The attributes of a request that stand in a result.
 ghost use Rattle.std.specs.Prelude.{◌≡◌, map, option_map, IfOk};
 ghost use Rattle.std.specs.List.{slice_get};
-ghost use Rattle.xa_profile.specs.Response.{attribute_data, category_data, included, has_included, if_included, included_objects};
+ghost use Rattle.xa_profile.specs.Response.{attribute_data, category_data, included_attributes, has_included, if_included, included_objects};
 
 use crate::attribute::Attribute;
 use crate::category_object::CategoryObject;
@@ -54,8 +54,11 @@ pub(crate) fn included_objects<'a>(
 }
 
 /// The attributes that are to stand in the result.
-fn included(alloc: Global, attributes: &[Attribute]) -> Result<Vec<&Attribute>, AllocError>
-    ensures { IfOk result (λ found. map (λ a. attribute_data a.now) found.items ≡ map attribute_data (included attributes.now)) }
+fn included_attributes(
+    alloc: Global,
+    attributes: &[Attribute],
+) -> Result<Vec<&Attribute>, AllocError>
+    ensures { IfOk result (λ found. map (λ a. attribute_data a.now) found.items ≡ map attribute_data (included_attributes attributes.now)) }
 {
     let mut found = Vec::new(alloc);
     for attribute in attributes {
@@ -86,7 +89,7 @@ impl ToJson for &CategoryObject {
 
     #[tactic(auto, unfolding(crate::specs::Response::category_data))]
     fn write(&self, alloc: Global, out: &mut Writer) -> Result<(), AllocError> {
-        let attributes = included(alloc, self.attributes.as_slice())?;
+        let attributes = included_attributes(alloc, self.attributes.as_slice())?;
         out.begin_object()?;
         out.key(Member::Attribute.name())?;
         write_items(alloc, out, attributes.as_slice())?;

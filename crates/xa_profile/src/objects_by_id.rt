@@ -49,7 +49,6 @@ impl<'a> ObjectsById<'a> {
         Ok(ObjectsById { objects, places })
     }
 
-    /// The objects.
     pub(crate) fn objects(&self) -> &'a [CategoryObject]
         ensures { result.now ≡ self.now }
     {

@@ -6,7 +6,7 @@ ghost use Rattle.serde_json.specs.View.{view, items_view};
 ghost use Rattle.xa_value.specs.Category.{shorthand_of};
 ghost use Rattle.xa_value.specs.Gives.{Gives};
 ghost use Rattle.xa_profile.specs.declared.request_error.RequestError.{RequestError as ReadFault};
-ghost use Rattle.xa_profile.specs.Json.{json, at, text, check_object, holds_or_not_profile, needed_text, optional_text, flag, listed, listed_if_any, each};
+ghost use Rattle.xa_profile.specs.Json.{json, at, text, check_object, holds_or_not_profile, needed_text, optional_text, flag, items_or_itself, items_if_any, each};
 ghost use Rattle.xa_profile.specs.parsing.Json.{behind};
 
 use crate::member::Member;
@@ -107,8 +107,8 @@ pub(crate) fn flag(value: Option<&Json>) -> Result<bool, RequestError>
 }
 
 /// An array's items; anything else stands for an array of itself.
-pub(crate) fn listed(value: &Json) -> &[Json]
-    ensures { items_view result.now ≡ listed (view value.now) }
+pub(crate) fn items_or_itself(value: &Json) -> &[Json]
+    ensures { items_view result.now ≡ items_or_itself (view value.now) }
 {
     match value.as_array() {
         Some(items) => items.as_slice(),
@@ -117,11 +117,11 @@ pub(crate) fn listed(value: &Json) -> &[Json]
 }
 
 /// The items of a member, and none where it is left out.
-pub(crate) fn listed_if_any<'a>(value: Option<&'a Json>) -> &'a [Json]
-    ensures { items_view result.now ≡ listed_if_any (option_map (λ v. view v.now) value.entry) }
+pub(crate) fn items_if_any<'a>(value: Option<&'a Json>) -> &'a [Json]
+    ensures { items_view result.now ≡ items_if_any (option_map (λ v. view v.now) value.entry) }
 {
     match value {
-        Some(value) => listed(value),
+        Some(value) => items_or_itself(value),
         None => &[],
     }
 }

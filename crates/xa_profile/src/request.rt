@@ -8,7 +8,7 @@ ghost use Rattle.xa_profile.specs.Request.{has_twice, ids_of, reference, referen
 use crate::category_object::{CategoryObject, all_objects};
 use crate::member::Member;
 use crate::reading::{
-    Reader, check_object, each, flag, holds_or_not_profile, json, listed, member_at, text,
+    Reader, check_object, each, flag, holds_or_not_profile, items_or_itself, json, member_at, text,
 };
 use crate::repetition::has_twice;
 use crate::request_error::RequestError;
@@ -55,7 +55,7 @@ impl Reader for ReferenceReader {
     #[tactic(auto, unfolding(crate::specs::Request::reference))]
     fn read(&self, alloc: Global, value: &Json) -> Result<Items<Text>, OrMemory<RequestError>> {
         match member_at(value, Member::ReferenceId) {
-            Some(ids) => each(alloc, &TextReader, listed(ids)),
+            Some(ids) => each(alloc, &TextReader, items_or_itself(ids)),
             None => Err(OrMemory::Error(RequestError::NotProfile)),
         }
     }
@@ -67,7 +67,7 @@ fn references_in(alloc: Global, value: &Json) -> Result<Items<Items<Text>>, OrMe
     ensures { Gives result (references_in (view value.now)) }
 {
     match member_at(value, Member::RequestReference) {
-        Some(references) => each(alloc, &ReferenceReader, listed(references)),
+        Some(references) => each(alloc, &ReferenceReader, items_or_itself(references)),
         None => Err(OrMemory::Error(RequestError::NotProfile)),
     }
 }

@@ -18,8 +18,8 @@ use xa_value::Items;
 pub struct ResultObject {
     /// The decision, why, and what comes with it.
     pub evaluated: Evaluated,
-    /// The places of its Category objects among those of the request; none where it stands for a request that was refused as a whole,
-    /// or for a bad reference.
+    /// The places of its Category objects among those of the request; none where it stands for a request whose individual requests
+    /// aren't decided, or for a bad reference.
     pub places: Items<usize>,
 }
 
@@ -28,7 +28,6 @@ pub struct ResultObject {
 pub struct Response<'a> {
     /// The Category objects of the request.
     pub objects: &'a [CategoryObject],
-    /// The results.
     pub results: Items<ResultObject>,
 }
 

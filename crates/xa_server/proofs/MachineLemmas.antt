@@ -11,22 +11,23 @@ use Rattle.xa_http.specs.declared.route.RouteFault.TheVariants.{BadMediaType}
 use Rattle.xa_http.specs.declared.table.Command.{Command}
 use Rattle.xa_http.specs.declared.table.Command.TheVariants as command
 use Rattle.xa_http.specs.Table.{command_at}
-use Rattle.xa_http.specs.Routes.{Address, address_of, commanded, domain_segment, route_of, route_to, routed, takes_body}
+use Rattle.xa_http.specs.Routes.{Address, address_of, commanded, decoded_domain, route_of, route_to, routed, takes_body}
 use Rattle.xa_server.specs.declared.error_code.ErrorCode.{ErrorCode}
 use Rattle.xa_server.specs.declared.error_code.ErrorCode.TheVariants.{Unauthorized}
 use Rattle.xa_server.specs.declared.token.Role.{Role}
 use Rattle.xa_server.specs.declared.domain.Domain.{Domain}
-use Rattle.xa_server.specs.DomainState.{DomainState, domain_of, domain_of_route, state_for, state_of, state_of_domain}
+use Rattle.xa_server.specs.DomainState.{DomainState, domain_of, state_of, state_of_domain}
+use Rattle.xa_server.specs.Lookup.{domain_of_route, state_for}
 use Rattle.xa_server.specs.Machine.{answer, effect_of, may, role_shown, route_or_error, step}
 use Rattle.xa_server.specs.Owner.{domain_of_address, is_domain_name, owner}
 
 -- the state for the domain of an address is that of the route's domain
 at_route : (address : Address) (asked : Command) (domains : List Domain)
     → state_for (domain_of_address (Some address)) domains ≡ option_map state_of_domain (domain_of_route (route_to address asked) domains)
-at_route address command.Decide domains = by_name (is_domain_name (domain_segment address)) where
+at_route address command.Decide domains = by_name (is_domain_name (decoded_domain address)) where
   by_name : (b : Bool)
-      → state_for (if b then Some (domain_segment address) else None) domains
-      ≡ option_map state_of_domain (if b then domain_of (domain_segment address) domains else None)
+      → state_for (if b then Some (decoded_domain address) else None) domains
+      ≡ option_map state_of_domain (if b then domain_of (decoded_domain address) domains else None)
   by_name true = unfold state_of in refl
   by_name false = refl
 

@@ -4,7 +4,7 @@ use Rattle.xa_http.specs.declared.message.Message.{Message}
 use Rattle.xa_server.specs.Alone.{Event}
 use Rattle.xa_server.specs.declared.replies.Reply.{Reply}
 use Rattle.xa_server.specs.declared.domain.Domain.{Domain}
-use Rattle.xa_server.specs.DomainState.{state_for}
+use Rattle.xa_server.specs.Lookup.{state_for}
 use Rattle.xa_server.specs.Machine.{step, general_reply}
 use Rattle.xa_server.specs.Owner.{owner}
 use Rattle.xa_server.specs.Served.{IsRun, IsSent, IsServed}

@@ -9,12 +9,12 @@ use Rattle.xa_server.specs.Owner.{owner}
 abbrev pub Event : Type 0
 Event = ℤ × Message
 
--- the message is the domain's
+-- the name, if there is one, is the domain's
 abbrev pub is_owner : List ℕ → Option (List ℕ) → Bool
 is_owner domain None = false
 is_owner domain (Some name) = bytes_eq name domain
 
--- so is the event
+-- the message of the event is the domain's own
 abbrev pub is_own : List ℕ → Event → Bool
 is_own domain event = is_owner domain (owner event.1)
 

@@ -2,11 +2,8 @@
 -- its source of attributes.
 use Rattle.std.specs.Prelude.{ℕ, List, [], ◌∷◌, Option, Some, None, option_map, if◌then◌else◌, bytes_eq}
 use Rattle.xa_decide.specs.Decision.{Viewed}
-use Rattle.xa_http.specs.declared.route.Route.{Route}
-use Rattle.xa_http.specs.declared.route.Route.TheVariants.{Decide}
 use Rattle.xa_server.specs.declared.domain.Domain.{Domain}
 use Rattle.xa_server.specs.declared.token.Token.{Token}
-use Rattle.xa_server.specs.Owner.{is_domain_name}
 
 pub record DomainState : Type 0 where
   pub tokens : List Token
@@ -24,12 +21,3 @@ state_of_domain domain = record { tokens = domain.tokens; view = domain.view }
 -- the state of the domain of that name
 unfoldable pub state_of : List ℕ → List Domain → Option DomainState
 state_of name domains = option_map state_of_domain (domain_of name domains)
-
--- the same where there may be no name
-abbrev pub state_for : Option (List ℕ) → List Domain → Option DomainState
-state_for None domains = None
-state_for (Some name) domains = state_of name domains
-
--- the domain that a route is in
-abbrev pub domain_of_route : Route → List Domain → Option Domain
-domain_of_route (Decide name) domains = if is_domain_name name then domain_of name domains else None

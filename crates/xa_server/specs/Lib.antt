@@ -5,6 +5,7 @@ pub mod ErrorCode
 pub mod Documents
 pub mod Given
 pub mod DomainState
+pub mod Lookup
 pub mod Machine
 pub mod Alone
 pub mod World

@@ -3,7 +3,7 @@ use Rattle.std.specs.Prelude.{ℕ, ◌==◌, ◌||◌, ◌&&◌, Bool, false, Li
 use Rattle.std.specs.List.{list_all}
 use Rattle.std.specs.Char.{is_ascii_digit, is_ascii_lowercase}
 use Rattle.xa_http.specs.declared.message.Message.{Message}
-use Rattle.xa_http.specs.Routes.{Address, address_of, domain_segment}
+use Rattle.xa_http.specs.Routes.{Address, address_of, decoded_domain}
 
 -- a small letter or a digit
 abbrev pub begins_name : ℕ → Bool
@@ -22,7 +22,7 @@ is_domain_name (c ∷ cs) = nat_le (length cs) 31 && begins_name c && list_all c
 abbrev pub domain_of_address : Option Address → Option (List ℕ)
 domain_of_address None = None
 domain_of_address (Some address) =
-    if is_domain_name (domain_segment address) then Some (domain_segment address) else None
+    if is_domain_name (decoded_domain address) then Some (decoded_domain address) else None
 
 -- the domain that the message's path names, whether or not it exists
 unfoldable pub owner : Message → Option (List ℕ)

@@ -1,4 +1,4 @@
--- The answers to messages, as bytes.
+-- What goes back for a message, as bytes.
 use Rattle.std.specs.Prelude.{ℕ, List, codes}
 use Rattle.xa_http.specs.declared.replies.Media.TheVariants.{Json}
 use Rattle.xa_http.specs.declared.replies.Extra.TheVariants.{Nothing}

@@ -1,4 +1,4 @@
--- All that a server keeps.
+-- What the replies of a server may depend on.
 use Rattle.std.specs.Prelude.{ℕ, List}
 use Rattle.xa_server.specs.declared.domain.Domain.{Domain}
 

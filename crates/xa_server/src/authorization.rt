@@ -1,5 +1,5 @@
 //! The token that a message shows.
-ghost use Rattle.std.specs.Prelude.{◌≡◌, codes, option_map, option_and_then};
+ghost use Rattle.std.specs.Prelude.{◌≡◌, codes, option_map};
 ghost use Rattle.std.specs.List.{list_all};
 ghost use Rattle.xa_http.specs.Length.{is_named, values_of};
 ghost use Rattle.xa_server.specs.Authorization.{after_spaces, is_visible, is_token, credentials_of, token_if, the_only, token_in};
@@ -9,10 +9,10 @@ use xa_http::Field;
 /// The scheme, and the first of the spaces after it.
 const SCHEME: &[u8] = b"Bearer ";
 
-/// A token has at least this many bytes.
+/// A token has at least this many bytes: a shorter one is too easily guessed.
 const MIN_TOKEN_BYTES: usize = 8;
 
-/// A token has at most this many bytes.
+/// A token has at most this many bytes, enough for 256 bits in hexadecimal.
 const MAX_TOKEN_BYTES: usize = 64;
 
 /// The text from its first byte that is no space.
@@ -29,7 +29,7 @@ fn after_spaces(text: &[u8]) -> &[u8]
 fn all_visible(text: &[u8]) -> bool
     ensures { result ≡ list_all is_visible text.now }
 {
-    text.iter().all(|c| 33 <= *c && *c <= 126)
+    text.iter().all(|byte| byte.is_ascii_graphic())
 }
 
 /// Whether it is a token: 8 to 64 visible ASCII characters.

@@ -1,6 +1,5 @@
 //! The domains that a server is given when it is made.
 ghost use Rattle.std.specs.Prelude.{◌≡◌};
-ghost use Rattle.std.specs.List.{list_all, list_any};
 ghost use Rattle.xa_server.specs.Given.{all_apart, all_named, has_name};
 
 use crate::owner::is_domain_name;
@@ -20,7 +19,7 @@ pub struct Given {
     pub tokens: Items<Token>,
     /// Its policies and policy sets, no two of one kind, id and version.
     pub documents: Items<GivenDocument>,
-    /// What refers to the document that decides; without it no request is applicable.
+    /// The reference at which decisions start; without it every decision is NotApplicable.
     pub root: Option<Reference>,
     /// The rows of its source of attributes.
     pub source: Items<SourceRow>,

@@ -1,10 +1,10 @@
 //! The answer to one message, from the domains as they are.
-ghost use Rattle.std.specs.Prelude.{◌≡◌, ℕ, List, Some, Ok, Err, IfOk, IfErr, MatchResult, option_map, option_and_then};
+ghost use Rattle.std.specs.Prelude.{◌≡◌, ℕ, List, Some, Ok, Err, IfOk, IfErr, MatchResult, option_map};
 ghost use Rattle.xa_http.specs.Routes.{route_of};
 ghost use Rattle.xa_value.specs.Gives.{Gives};
-ghost use Rattle.xa_server.specs.DomainState.{domain_of_route, state_for, state_of_domain};
+ghost use Rattle.xa_server.specs.DomainState.{state_of_domain};
+ghost use Rattle.xa_server.specs.Lookup.{domain_of_route, state_for};
 ghost use Rattle.xa_server.specs.Machine.{answer, decision_reply, effect_of, may, response_to, role_shown, route_or_error, step};
-ghost use Rattle.sha2.specs.Sha256.{sha256};
 ghost use Rattle.xa_server.specs.Authorization.{token_in};
 ghost use Rattle.xa_server.specs.Tokens.{role_of};
 ghost use Rattle.xa_server.specs.Owner.{owner};
@@ -18,7 +18,7 @@ use http::StatusCode;
 use std::alloc::{AllocError, Global};
 use xa_decide::View;
 use xa_http::{Extra, Media, Message, Route, Routes, reply};
-use xa_value::{Items, Moment, OrMemory};
+use xa_value::{Moment, OrMemory};
 
 /// The body of the response to a request.
 fn response_to(
@@ -26,13 +26,12 @@ fn response_to(
     view: &View,
     body: &[u8],
     moment: Moment,
-) -> Result<Items<u8>, OrMemory<ErrorCode>>
-    ensures { Gives result (response_to view.now body.now moment) }
+) -> Result<Vec<u8>, OrMemory<ErrorCode>>
+    ensures { MatchResult result (λ bytes. response_to view.now body.now moment ≡ Ok bytes.items)
+        (λ e. Gives (Err e) (response_to view.now body.now moment)) }
 {
-    match xa_decide::answer(alloc, view, body, moment)? {
-        Some(response) => Ok(Items::from_vec(response)),
-        None => Err(OrMemory::Error(ErrorCode::NotJson)),
-    }
+    let response = xa_decide::answer(alloc, view, body, moment)?;
+    Ok(response.ok_or(ErrorCode::NotJson)?)
 }
 
 /// The reply with a response.
@@ -88,12 +87,12 @@ fn effect_of(
     match route {
         Route::Decide { .. } => {
             let body = response_to(alloc, &domain.view, message.body.as_slice(), moment)?;
-            Ok(decision_reply(alloc, body.as_slice())?)
+            Ok(decision_reply(alloc, &body)?)
         }
     }
 }
 
-/// The domain that a route is in. A segment that is no domain name stands for none.
+/// The domain that a route names. A part of the path that is no domain name stands for none.
 fn domain_of_route<'a>(route: &Route, domains: &'a [Domain]) -> Option<&'a Domain>
     ensures { option_map (λ domain. domain.now) result ≡ domain_of_route route.now domains.now }
 {

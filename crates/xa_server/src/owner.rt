@@ -3,7 +3,7 @@ ghost use Rattle.std.specs.Prelude.{◌≡◌};
 ghost use Rattle.std.specs.List.{list_all};
 ghost use Rattle.xa_server.specs.Owner.{begins_name, continues_name, is_domain_name};
 
-/// The most bytes that may follow the first of a domain's name.
+/// The most bytes that may follow the first of a domain's name, which each path of the domain repeats.
 const MAX_LATER_BYTES: usize = 31;
 
 /// A small letter or a digit.

@@ -11,7 +11,7 @@ pub enum Refusal {
     Memory,
 }
 
-/// The answer to a message.
+/// What a message gets: the bytes of its reply, or a refusal.
 #[derive(Debug, Drop)]
 pub enum Reply {
     /// The bytes of the reply.

@@ -1,5 +1,5 @@
 //! The tokens that open a domain.
-ghost use Rattle.std.specs.Prelude.{◌≡◌, nat_eq, option_map};
+ghost use Rattle.std.specs.Prelude.{◌≡◌, nat_eq};
 ghost use Rattle.std.specs.Cmp.{partial_equiv_from_equiv};
 ghost use Rattle.std.specs.Cmp.Lexicographic.{pointwise, nat_list_eq_equiv};
 ghost use Rattle.sha2.specs.Sha256.{sha256};
@@ -47,6 +47,7 @@ impl PartialEq for Digest {
 
     ghost laws = { partial_equiv_from_equiv nat_list_eq_equiv };
 
+    // It may end at the first byte that differs: these are SHA-256 digests, and how far two of them agree doesn't help to find a token.
     fn eq(&self, other: &Digest) -> bool {
         self.bytes.as_slice() == other.bytes.as_slice()
     }
@@ -70,7 +71,7 @@ pub enum Role {
 pub struct Token {
     /// The token's digest.
     pub digest: Digest,
-    /// What it may do. No route looks at it yet.
+    /// What it may do. Every role may ask for decisions; no route asks for more yet.
     pub role: Role,
 }
 

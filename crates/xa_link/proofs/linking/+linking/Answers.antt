@@ -11,7 +11,7 @@ pub linked_active-returns-in_default : goal.linked_active-returns-in_default
 linked_active-returns-in_default t c =
     let nothing = none_at c.args.active.now c.args.place c.get.result c.get.ensures.lookup c.in_default.is in
     ap (λ found. fitted c.args.room (replaced_in (tree_within c.args.more c.args.active.now (c.args.place ∷ c.args.path.now)) found)) nothing
-    ∙ unresolved_fits c.args.room ∙ ap Ok (sym c.unresolved.ensures)
+    ∙ unresolved_fits c.args.room ∙ ap Ok (sym c.leaf.ensures)
 
 pub linked_active-returns : goal.linked_active-returns
 linked_active-returns t c =

@@ -1,6 +1,7 @@
 use Rattle.std.proofs.Common.{◌≡◌, ◌+◌, ◌*◌, drop}
 use Rattle.serde_json.specs.View.{items_view}
-use Rattle.xa_notation.specs.Json.{behind, each}
+use Rattle.xa_notation.specs.Json.{each}
+use Rattle.xa_notation.specs.parsing.Json.{behind}
 use Rattle.xa_notation.specs.Shape.{written_child, written_set_within}
 use Rattle.xa_notation.proofs.policy_set.+sets.Given as goal
 

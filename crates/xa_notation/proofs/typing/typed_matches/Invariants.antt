@@ -1,7 +1,7 @@
 use Rattle.std.proofs.Common.{◌≡◌, map}
 use Rattle.std.specs.Vec.Iter.{into_iter_items}
 use Rattle.xa_bag.specs.HigherOrder.{collected}
-use Rattle.xa_notation.specs.Json.{behind}
+use Rattle.xa_notation.specs.parsing.Json.{behind}
 use Rattle.xa_notation.specs.Typing.{typed_match}
 use Rattle.xa_notation.proofs.typing.typed_matches.Given as goal
 

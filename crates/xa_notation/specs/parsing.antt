@@ -1,0 +1,2 @@
+-- How the code reads: words that only contracts of private functions cite.
+pub mod Json
