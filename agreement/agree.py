@@ -24,7 +24,7 @@ from views import Decisions, Links
 
 # The kinds of rows, and of each how many there are to how many others.
 SHARES = {"values": 16, "expressions": 30, "requests": 15, "documents": 10, "links": 4, "decisions": 10, "servers": 1}
-# One run of `rt try` answers at most 1 MiB, and gives up after ten minutes: so many rows a file, of so many bytes.
+# One run of `rt try` answers at most 1 MiB, and gives up after ten minutes: this many rows a file, of this many bytes.
 ROWS_A_FILE, BYTES_A_FILE = 500, 1_500_000
 
 

@@ -63,23 +63,23 @@ def apply(name, *fields):
     kinds = [kind_of(argument) for argument in arguments]
     if name in FUNCTIONS:
         takes, _, meaning = FUNCTIONS[name]
-        return given(lambda: meaning(*arguments), None) if fits(takes, kinds) else ["!Refused"]
+        return given(lambda: meaning(*arguments), None) if fits(takes, kinds) else ["!NotTaken"]
     found = bag_function_named(name)
     if found is None:
-        return ["!Refused"]
+        return ["!NotTaken"]
     verb, data_type = found
     if not fits([kind.replace("T", data_type) for kind in BAG_SIGNATURES[verb][0]], kinds):
-        return ["!Refused"]
+        return ["!NotTaken"]
     return given(lambda: BAG_FUNCTIONS[verb](*lists(arguments)), data_type)
 
 
 def higher(name, inner, *fields):
     arguments = arguments_of(fields)
     if name not in HIGHER_ORDER or inner not in FUNCTIONS:
-        return ["!Refused"]
+        return ["!NotTaken"]
     verb, (takes, gives, meaning) = HIGHER_ORDER[name], FUNCTIONS[inner]
     if not fits(takes, [argument[0] for argument in arguments]):
-        return ["!Refused"]
+        return ["!NotTaken"]
     if verb.startswith("all-of-") and [is_bag(argument) for argument in arguments] != [True, True]:
         return ["!NotOne", STATUS + "processing-error"]
     return given(lambda: higher_order(verb, meaning, lists(arguments)), gives)

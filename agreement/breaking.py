@@ -95,7 +95,7 @@ class Breaking:
         return draft
 
     def nested(self, draft):
-        """The draft, or what is none, in so many more sets that there are seven, eight, nine or ten."""
+        """The draft, or what is none, in as many more sets as make seven, eight, nine or ten."""
         draft = self.one_of([draft, draft, draft, {"PolicySet": Raw("5")}, {"PolicySet": {"X": True}}])
         for _ in range(self.one_of([6, 7, 8, 9])):
             draft = {"PolicySet": {**self.drafts.key("PolicySetId"), "PolicyCombiningAlgId": ALGORITHM, "Children": [draft]}}

@@ -122,7 +122,7 @@ class Exchanges:
         return ["stream", *map(encoded, self.pieces(b"".join(self.some(self.message, [1, 1, 2, 3]))))]
 
     def server(self, count):
-        """A row of a server and so many messages, one to four on a stream."""
+        """A row of a server and this many messages, one to four on a stream."""
         fields = ["server", *self.domains()]
         while count > 0:
             often = min(self.one_of([1, 2, 3, 4]), count)

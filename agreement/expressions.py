@@ -42,7 +42,7 @@ class Variables:
 
 
 def check(expression, variables, depth=1):
-    """The kind of an expression that stands inside so many, itself counted; or the first fault."""
+    """The kind of an expression that stands inside this many, itself counted; or the first fault."""
     form, held = expression
     if depth > MAX_DEPTH:
         raise CheckError("TooDeep")

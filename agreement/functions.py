@@ -206,7 +206,7 @@ def bag_function_named(name):
 
 
 def takes_so_many(takes, count):
-    """Whether the function takes so many arguments."""
+    """Whether the function takes this many arguments."""
     more = bool(takes) and takes[-1].endswith("*")
     return count >= len(takes) - 1 if more else count == len(takes)
 

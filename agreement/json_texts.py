@@ -49,7 +49,7 @@ def of_pairs(pairs):
 
 
 def is_deep(text):
-    """Whether more than so many arrays and objects stand inside one another."""
+    """Whether more than this many arrays and objects stand inside one another."""
     depth = 0
     for bracket in re.findall(r"[][{}]", re.sub(r'"(?:[^"\\]|\\.)*"', "", text, flags=re.DOTALL)):
         depth += 1 if bracket in "[{" else -1

@@ -22,7 +22,7 @@ def active_of(field):
 
 
 class Linking:
-    """Trees over active documents, of so many policies and sets so far; references that have no document are not counted."""
+    """Trees over active documents, of this many policies and sets so far; references that have no document are not counted."""
 
     def __init__(self, active):
         self.active, self.keys, self.size = active, [held[:3] for held in active], 0

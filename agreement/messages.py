@@ -157,7 +157,7 @@ def reply(status, media, body, extra=""):
     return f"HTTP/1.1 {status}\r\nContent-Type: application/{media}\r\nContent-Length: {len(held)}\r\n{extra}\r\n".encode() + held
 
 
-def refusal(status, code, extra=""):
+def error_answer(status, code, extra=""):
     return reply(status, "json", f'{{"Error":"{code}"}}', extra)
 
 

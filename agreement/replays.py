@@ -3,7 +3,7 @@ import re
 
 from decisions import View
 from linking import active_of
-from messages import FAULTS, Fault, Stream, refusal
+from messages import FAULTS, Fault, Stream, error_answer
 from servers import answered
 from versions import reference_of
 
@@ -34,7 +34,7 @@ def replies(stream, moment):
     while isinstance(found := stream.next(), tuple):
         made.append(answered(DOMAINS, found, moment))
     if isinstance(found, Fault):
-        made.append(refusal(FAULTS[str(found)], str(found)))
+        made.append(error_answer(FAULTS[str(found)], str(found)))
     return made
 
 

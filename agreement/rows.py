@@ -1,13 +1,15 @@
 """The rows of the program xa_trials as text: a row is a line of fields with a tab between, and so is its answer.
 
-In a field a backslash begins an escape: \\n, \\r, \\t, \\\\, \\xHH for a byte, and \\{COUNT,TEXT\\} for so many times the text.
+In a field a backslash begins an escape: \\n, \\r, \\t, \\\\, \\xHH for a byte, and \\{COUNT,TEXT\\} for COUNT times the text.
 Sources may also write \\u{HEX} for a character, letters beyond ASCII as they are, \\(NAME) for a text that a line `define NAME TEXT` gave
-before, where `file:PATH` is the text of a file of the repository, and \\[COUNT,TEXT\\] for so many times the text; two spaces or more part
-fields too, fields between `[COUNT` and `]` stand so often, and a field that begins with `(` or `<` is parted at spaces and before `)` and `>`.
+before, where `file:PATH` is the text of a file of the repository and `rows:PATH` a field `row:..` for each source row in one, and \\[COUNT,TEXT\\]
+for COUNT times the text; two spaces or more part fields too, fields between `[COUNT` and `]` stand COUNT times, and a field that begins with `(` or `<` is parted at spaces and before `)` and `>`.
 """
+import json
 import pathlib
 import re
 
+from identifiers import category
 from values import read, to_text
 
 TOP = pathlib.Path(__file__).resolve().parents[1]
@@ -96,6 +98,9 @@ def parted(field):
 
 def given(held):
     """The text that a definition gives: its own, or that of a file."""
+    if held.startswith("rows:"):
+        rows = json.loads((TOP / held.removeprefix("rows:")).read_text())["Row"]
+        return "  ".join(f"row:{category(row['Category'])}|{row['Entity']}|{row['AttributeId']}|{row['DataType']}={row['Value']}" for row in rows)
     if not held.startswith("file:"):
         return held
     return encoded((TOP / held.removeprefix("file:")).read_bytes()).replace(" ", "\\x20")

@@ -4,7 +4,7 @@ from decisions import View, response
 from documents import DocumentFault
 from json_texts import NotJson
 from linking import active_of
-from messages import FAULTS, Fault, Stream, domain_asked, refusal, reply, takes_body, token_shown
+from messages import FAULTS, Fault, Stream, domain_asked, error_answer, reply, takes_body, token_shown
 from rows import decoded, encoded, text_of, value_of
 from versions import reference_of
 
@@ -76,18 +76,18 @@ def answered(domains, message, moment):
     method, target, fields, body = message
     name = domain_asked(target)
     if name is None:
-        return refusal("404 Not Found", "NoRoute")
+        return error_answer("404 Not Found", "NoRoute")
     if method != b"POST":
-        return refusal("405 Method Not Allowed", "BadMethod", "Allow: POST\r\n")
+        return error_answer("405 Method Not Allowed", "BadMethod", "Allow: POST\r\n")
     if not takes_body(fields):
-        return refusal("415 Unsupported Media Type", "BadMediaType")
+        return error_answer("415 Unsupported Media Type", "BadMediaType")
     tokens, view = domains.get(name.decode(errors="replace"), ((), None))
     if token_shown(fields) not in tokens:
-        return refusal("401 Unauthorized", "Unauthorized", "WWW-Authenticate: Bearer\r\n")
+        return error_answer("401 Unauthorized", "Unauthorized", "WWW-Authenticate: Bearer\r\n")
     try:
         return reply("200 OK", "xacml+json", response(view, body, moment))
     except NotJson:
-        return refusal("400 Bad Request", "NotJson")
+        return error_answer("400 Bad Request", "NotJson")
 
 
 def in_runs(replies):
@@ -109,7 +109,7 @@ def piece(stream, domains, moment, held):
         replies.append(answered(domains, found, moment))
     fields = in_runs(replies)
     if isinstance(found, Fault):
-        fields.append(encoded(refusal(FAULTS[str(found)], str(found))))
+        fields.append(encoded(error_answer(FAULTS[str(found)], str(found))))
     if found != "More":
         fields.append("!Ended")
     return fields or ["More"]

@@ -38,7 +38,7 @@ class Transcripts:
         return f"{self.number(connection).lstrip('-')} {self.number(moment)} {self.number(len(held)).lstrip('-')}\n".encode() + held + b"\n"
 
     def entries(self, connection, count):
-        """The entries of a connection with so many messages, on one stream after another."""
+        """The entries of a connection with this many messages, on one stream after another."""
         found = []
         while count > 0:
             often = min(self.one_of([1, 1, 2, 3, 5]), count)

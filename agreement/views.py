@@ -67,7 +67,7 @@ class Links:
         return f"{kind}|{name}|{self.one_of([''] * 15 + PATTERNS)}|{self.one_of([''] * 60 + VERSIONS)}|{self.one_of([''] * 60 + VERSIONS)}"
 
     def chain(self):
-        """About so many sets one after another as may be on a path, and at the end a policy, a circle, or nothing."""
+        """About as many sets one after another as may be on a path, and at the end a policy, a circle, or nothing."""
         count = self.one_of([3, 15, 16, 17, 18])
         found = [policy_set(f"urn:{place}", [to_set(f"urn:{place + 1}")]) for place in range(count - 1)]
         last = self.one_of([[{"PolicyIdReference": {"Id": "urn:end"}}], [to_set("urn:0")], [to_set(f"urn:{count - 1}")], [policy("urn:x")], []])
@@ -84,7 +84,7 @@ class Links:
         return found + [policy(f"urn:{count}") if self.seldom(0.5) else policy_set(f"urn:{count}", [])], "set|urn:0|||"
 
     def wide(self):
-        """A tree of about so many policies and sets as may be."""
+        """A tree of about as many policies and sets as may be."""
         inner = self.one_of([9, 24, 60])
         often = 999 // (inner + 1)
         own = 999 - often * (inner + 1) + self.one_of([-1, 0, 1])

@@ -3,7 +3,7 @@ use Rattle.std.specs.Prelude.{ℕ, Bool, true, false, ◌&&◌, bytes_eq, List, 
 use Rattle.xa_value.specs.declared.value.Value.{Value}
 use Rattle.xa_value.specs.Order.{type_of}
 use Rattle.xa_expr.specs.declared.designator.Designator.{Designator}
-use Rattle.xa_expr.specs.Typed.{same_type}
+use Rattle.xa_value.specs.Types.{same_type}
 use Rattle.xa_trials.specs.declared.attributes.Held.{Held}
 use Rattle.xa_trials.specs.declared.attributes.Attributes.{Attributes}
 

@@ -86,15 +86,18 @@ impl Answer {
     }
 
     /// Adds a field that shows something by its name in the code, or that there is nothing.
-    pub fn found<T: Debug + Drop>(&mut self, shown: Option<T>) {
+    pub fn name_or_none<T: Debug + Drop>(&mut self, shown: Option<T>) {
         match shown {
             Some(shown) => self.name("", &shown),
             None => self.word("!None"),
         }
     }
 
-    /// What a call gave; where it refused, that is answered.
-    pub fn given<T: Drop, E: Debug + Drop>(&mut self, given: Result<T, OrMemory<E>>) -> Option<T> {
+    /// What a call gave; its error is answered.
+    pub fn success<T: Drop, E: Debug + Drop>(
+        &mut self,
+        given: Result<T, OrMemory<E>>,
+    ) -> Option<T> {
         match given {
             Ok(given) => Some(given),
             Err(OrMemory::Error(error)) => {

@@ -2,7 +2,6 @@
 ghost use Rattle.std.specs.Prelude.{◌≡◌, [], ◌∷◌, ◌++◌, IfOk};
 ghost use Rattle.xa_value.specs.Order.{type_of};
 ghost use Rattle.xa_bag.specs.Bag.{bag_of};
-ghost use Rattle.xa_expr.specs.Typed.{same_type};
 ghost use Rattle.xa_trials.specs.Attributes.{is_issued_by, is_named, named_values, values_of};
 
 use crate::arguments::{type_named, value_of};
@@ -82,7 +81,7 @@ fn is_named(designator: &Designator, held: &Held) -> bool
     held.place.category.as_bytes() == designator.category.as_bytes()
         && held.place.attribute_id.as_bytes() == designator.attribute_id.as_bytes()
         && is_issued_by(&held.place.issuer, &designator.issuer)
-        && is_of_type(&held.value, designator.data_type)
+        && held.value.data_type().is_same(designator.data_type)
 }
 
 /// Whether the issuer is the one wanted; where none is, any is.
@@ -94,12 +93,6 @@ fn is_issued_by(issuer: &Option<Text>, wanted: &Option<Text>) -> bool
         (Some(issuer), Some(wanted)) => issuer.as_bytes() == wanted.as_bytes(),
         (None, Some(_)) => false,
     }
-}
-
-fn is_of_type(value: &Value, data_type: DataType) -> bool
-    ensures { result ≡ same_type (type_of value.now) data_type }
-{
-    value.data_type() == data_type
 }
 
 /// Puts the value at the end of the designator's bag, where the designator names it.

@@ -27,7 +27,7 @@ fn view(alloc: Global, given: Given) -> Result<View, NoAnswer> {
     Ok(View::new(alloc, active, given.root, given.source)?)
 }
 
-/// The moment of so many seconds.
+/// The moment of this many seconds.
 pub fn moment_of(seconds: &str) -> Result<Moment, NoAnswer> {
     match Moment::new(number_of(seconds)?) {
         Some(moment) => Ok(moment),

@@ -12,7 +12,7 @@ use xa_value::Shared;
 pub fn document(answer: &mut Answer, field: &str) -> Result<(), NoAnswer> {
     let text = bytes_of(answer.alloc(), field)?;
     let read = Parsed::read(answer.alloc(), &text);
-    match answer.given(read) {
+    match answer.success(read) {
         Some(parsed) => show(answer, &parsed),
         None => Ok(()),
     }
@@ -30,7 +30,7 @@ fn show(answer: &mut Answer, parsed: &Parsed) -> Result<(), NoAnswer> {
 }
 
 /// The document of the text.
-pub fn parsed(alloc: Global, text: &[u8]) -> Result<Parsed, NoAnswer> {
+pub fn document_of(alloc: Global, text: &[u8]) -> Result<Parsed, NoAnswer> {
     match Parsed::read(alloc, text) {
         Ok(parsed) => Ok(parsed),
         Err(_) => Err(NoAnswer::Malformed),
@@ -39,7 +39,7 @@ pub fn parsed(alloc: Global, text: &[u8]) -> Result<Parsed, NoAnswer> {
 
 /// The active document of the text.
 pub fn active(alloc: Global, text: &[u8]) -> Result<Active, NoAnswer> {
-    let parsed = parsed(alloc, text)?;
+    let parsed = document_of(alloc, text)?;
     Ok(Active {
         kind: parsed.kind(),
         id: parsed.id().clone()?,

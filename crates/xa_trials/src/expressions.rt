@@ -6,7 +6,7 @@ use crate::answer::Answer;
 use crate::arguments::{type_named, value_of};
 use crate::attributes::{Attributes, designator};
 use crate::field::kept_text;
-use crate::functions::{fault, given};
+use crate::functions::{fault, value_or_bag};
 use crate::no_answer::NoAnswer;
 use std::alloc::Global;
 use std::mem;
@@ -39,7 +39,7 @@ struct Trial {
 }
 
 /// The expression of a field WORD:TEXT that is one alone.
-fn leaf(alloc: Global, word: &str, text: &str) -> Result<Expr, NoAnswer> {
+fn single(alloc: Global, word: &str, text: &str) -> Result<Expr, NoAnswer> {
     match word {
         "any" => Ok(Expr::Designator(designator(alloc, text, false)?)),
         "some" => Ok(Expr::Designator(designator(alloc, text, true)?)),
@@ -85,7 +85,7 @@ impl Trial {
             "has" => self.attributes.push(self.alloc, text),
             "let" => self.name(text),
             _ => {
-                let expression = leaf(self.alloc, word, text)?;
+                let expression = single(self.alloc, word, text)?;
                 self.put(answer, expression)
             }
         }
@@ -128,7 +128,7 @@ impl Trial {
     /// Answers whether the name is a variable now, which stands for the expression.
     fn define(&mut self, answer: &mut Answer, name: Text, expression: &Expr) {
         let defined = self.variables.define(self.alloc, name, expression);
-        if let Some(is_new) = answer.given(defined) {
+        if let Some(is_new) = answer.success(defined) {
             answer.name("", &is_new);
         }
     }
@@ -146,7 +146,7 @@ impl Trial {
         }
     }
 
-    /// Adds the match, or answers why there is none.
+    /// Adds the match, or answers why there is no match.
     fn end_match(&mut self, answer: &mut Answer) -> Result<(), NoAnswer> {
         let Some(mut open) = self.open.pop() else {
             return Err(NoAnswer::Malformed);
@@ -183,7 +183,7 @@ impl Trial {
 /// Answers what an expression came to.
 fn show(answer: &mut Answer, found: Result<ValueOrBag, OrMemory<Fault>>) {
     match found {
-        Ok(found) => given(answer, &found),
+        Ok(found) => value_or_bag(answer, &found),
         Err(OrMemory::Error(found)) => fault(answer, &found, found.status()),
         Err(OrMemory::Memory) => answer.cut(),
     }

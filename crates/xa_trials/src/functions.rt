@@ -21,14 +21,14 @@ pub fn function(answer: &mut Answer, field: &str) -> Result<(), NoAnswer> {
     Ok(())
 }
 
-/// Adds a refusal, with its status.
+/// Adds a fault, with its status.
 pub fn fault(answer: &mut Answer, fault: &impl Debug, status: Status) {
     answer.name("!", fault);
     answer.word(status.uri());
 }
 
 /// Adds the value or the bag.
-pub fn given(answer: &mut Answer, given: &ValueOrBag) {
+pub fn value_or_bag(answer: &mut Answer, given: &ValueOrBag) {
     match given {
         ValueOrBag::Value(value) => answer.value(value),
         ValueOrBag::Bag(bag) => {
@@ -52,7 +52,7 @@ fn outcome(answer: &mut Answer, outcome: Result<Value, OrMemory<FuncFault>>) {
 /// Adds what a function of bags or of a function gave.
 fn bag_outcome(answer: &mut Answer, outcome: Result<ValueOrBag, OrMemory<BagFault<FuncFault>>>) {
     match outcome {
-        Ok(found) => given(answer, &found),
+        Ok(found) => value_or_bag(answer, &found),
         Err(OrMemory::Error(BagFault::Inner(found))) => fault(answer, &found, found.status()),
         Err(OrMemory::Error(found)) => fault(answer, &found, found.status()),
         Err(OrMemory::Memory) => answer.cut(),
@@ -69,7 +69,7 @@ fn apply_to_values(
         Some(values) if function.takes(values.as_slice()) => {
             outcome(answer, function.apply(answer.alloc(), values.as_slice()));
         }
-        _ => answer.word("!Refused"),
+        _ => answer.word("!NotTaken"),
     }
     Ok(())
 }
@@ -89,7 +89,7 @@ fn apply_to_bags(
             apply_bag_function(alloc, function, data_type, arguments),
         );
     } else {
-        answer.word("!Refused");
+        answer.word("!NotTaken");
     }
 }
 
@@ -101,7 +101,7 @@ pub fn apply(answer: &mut Answer, name: &str, fields: &[&str]) -> Result<(), NoA
             apply_to_bags(answer, function, data_type, arguments.as_slice());
         }
         Some(function) => apply_to_values(answer, function, arguments)?,
-        None => answer.word("!Refused"),
+        None => answer.word("!NotTaken"),
     }
     Ok(())
 }
@@ -115,7 +115,7 @@ fn apply_each(answer: &mut Answer, function: HigherOrder, inner: FuncId, argumen
             apply_higher_order(alloc, function, &inner, arguments),
         );
     } else {
-        answer.word("!Refused");
+        answer.word("!NotTaken");
     }
 }
 
@@ -129,7 +129,7 @@ pub fn higher(answer: &mut Answer, name: &str, fields: &[&str]) -> Result<(), No
         (Some(FuncId::HigherOrder(function)), Some(inner)) => {
             apply_each(answer, function, inner, arguments.as_slice());
         }
-        _ => answer.word("!Refused"),
+        _ => answer.word("!NotTaken"),
     }
     Ok(())
 }

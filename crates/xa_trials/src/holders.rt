@@ -8,7 +8,7 @@ use xa_bag::Bag;
 use xa_value::{Boxed, Shared};
 
 /// The value, which was in a box, and then in a share whose other holder is gone.
-pub fn held(answer: &mut Answer, field: &str) -> Result<(), NoAnswer> {
+pub fn held_value(answer: &mut Answer, field: &str) -> Result<(), NoAnswer> {
     let alloc = answer.alloc();
     let boxed = Boxed::new(alloc, value(alloc, field)?)?;
     let share = Shared::new(alloc, boxed.into_inner())?;

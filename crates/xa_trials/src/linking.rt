@@ -8,14 +8,14 @@ use xa_link::link;
 use xa_policy::Linked;
 
 /// The tree that the reference leads to among the active documents of these texts.
-pub fn linked(answer: &mut Answer, root: &str, texts: &[&str]) -> Result<(), NoAnswer> {
+pub fn tree(answer: &mut Answer, root: &str, texts: &[&str]) -> Result<(), NoAnswer> {
     let alloc = answer.alloc();
     let root = reference_of(alloc, root)?;
     let mut documents = Vec::new(alloc);
     for text in texts {
         documents.push(active(alloc, &bytes_of(alloc, text)?)?)?;
     }
-    if let Some(tree) = answer.given(link(alloc, &documents, &root)) {
+    if let Some(tree) = answer.success(link(alloc, &documents, &root)) {
         show(answer, &tree);
     }
     Ok(())

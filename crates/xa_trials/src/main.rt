@@ -31,12 +31,12 @@ use std::io::{self, Write};
 fn answer_one(answer: &mut Answer, kind: &str, field: &str) -> Result<(), NoAnswer> {
     match kind {
         "type" => values::data_type(answer, field),
-        "numbered" => values::numbered(answer, field),
+        "numbered" => values::data_type_of_number(answer, field),
         "category" => values::category(answer, field),
         "moment" => values::moment(answer, field),
         "months" => values::months(answer, field),
         "nanoseconds" => values::nanoseconds(answer, field),
-        "held" => holders::held(answer, field),
+        "held" => holders::held_value(answer, field),
         "function" => functions::function(answer, field),
         _ => answer_text(answer, kind, field),
     }
@@ -65,9 +65,9 @@ fn answer_two(answer: &mut Answer, kind: &str, first: &str, second: &str) -> Res
         "number" => values::number(answer, first, second),
         "plain" => plain::plain(answer, first, second),
         "digest" => messages::digest(answer, first, second),
-        "route" => messages::routing(answer, first, second),
+        "route" => messages::route(answer, first, second),
         "matches" => versions::matching(answer, first, second),
-        "versions" => versions::compared(answer, first, second),
+        "versions" => versions::order(answer, first, second),
         _ => answer_many(answer, kind, &[first, second]),
     }
 }
@@ -96,7 +96,7 @@ fn answer_first(answer: &mut Answer, kind: &str, fields: &[&str]) -> Result<(), 
         "bag" => holders::bag(answer, first, fields),
         "combine" => combining::combination(answer, first, fields),
         "resolve" => references::resolution(answer, first, fields),
-        "link" => linking::linked(answer, first, fields),
+        "link" => linking::tree(answer, first, fields),
         _ => Err(NoAnswer::Malformed),
     }
 }

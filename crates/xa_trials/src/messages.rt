@@ -66,7 +66,7 @@ fn message_of(alloc: Global, method: &str, target: &str) -> Result<Message, NoAn
 }
 
 /// What a message of that method and target asks for.
-pub fn routing(answer: &mut Answer, method: &str, target: &str) -> Result<(), NoAnswer> {
+pub fn route(answer: &mut Answer, method: &str, target: &str) -> Result<(), NoAnswer> {
     let message = message_of(answer.alloc(), method, target)?;
     let routes = Routes::new(answer.alloc())?;
     match routes.route(answer.alloc(), &message) {

@@ -28,7 +28,7 @@ fn both(
     plain: &Plain<TextRef<'_>>,
 ) -> Result<(), NoAnswer> {
     let read = Value::from_plain(answer.alloc(), data_type, plain);
-    if let Some(value) = answer.given(read) {
+    if let Some(value) = answer.success(read) {
         answer.value(&value);
         push_member(answer, &value.to_plain(answer.alloc())?);
     }

@@ -1,6 +1,6 @@
 //! Rows of references: for which document one stands.
 use crate::answer::Answer;
-use crate::documents::parsed;
+use crate::documents::document_of;
 use crate::field::kept_text;
 use crate::no_answer::NoAnswer;
 use crate::versions::{pattern_named, version_named};
@@ -25,7 +25,7 @@ pub fn resolution(
     for document in documents {
         active.push(active_of(answer.alloc(), document)?)?;
     }
-    answer.found(resolve(&active, &reference));
+    answer.name_or_none(resolve(&active, &reference));
     Ok(())
 }
 
@@ -78,6 +78,6 @@ fn active_of(alloc: Global, field: &str) -> Result<Active, NoAnswer> {
         kind: kind_named(kind)?,
         id: kept_text(alloc, id)?,
         version: version_named(version)?,
-        document: Shared::new(alloc, parsed(alloc, ANY_DOCUMENT.as_bytes())?)?,
+        document: Shared::new(alloc, document_of(alloc, ANY_DOCUMENT.as_bytes())?)?,
     })
 }

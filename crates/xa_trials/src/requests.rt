@@ -8,7 +8,7 @@ use xa_profile::{Attribute, CategoryObject, Individual, Request};
 pub fn request(answer: &mut Answer, body: &str) -> Result<(), NoAnswer> {
     let body = bytes_of(answer.alloc(), body)?;
     let read = Request::read(answer.alloc(), &body);
-    if let Some(request) = answer.given(read) {
+    if let Some(request) = answer.success(read) {
         show_request(answer, &request);
     }
     Ok(())
@@ -21,7 +21,7 @@ pub fn individuals(answer: &mut Answer, body: &str) -> Result<(), NoAnswer> {
         return Err(NoAnswer::Malformed);
     };
     let individuals = request.individuals(answer.alloc());
-    if let Some(individuals) = answer.given(individuals) {
+    if let Some(individuals) = answer.success(individuals) {
         for individual in individuals.as_slice() {
             show_individual(answer, individual);
         }

@@ -104,7 +104,7 @@ pub fn server(answer: &mut Answer, fields: &[&str]) -> Result<(), NoAnswer> {
     let alloc = answer.alloc();
     let operator = Digest::of("operator-token-1".as_bytes());
     let given = Server::given(alloc, domains(alloc, fields)?, operator);
-    match answer.given(given) {
+    match answer.success(given) {
         Some(server) => stream(answer, server, fields),
         None => Ok(()),
     }

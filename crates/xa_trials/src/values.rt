@@ -23,7 +23,7 @@ pub fn data_type(answer: &mut Answer, field: &str) -> Result<(), NoAnswer> {
 }
 
 /// The type of that number.
-pub fn numbered(answer: &mut Answer, number: &str) -> Result<(), NoAnswer> {
+pub fn data_type_of_number(answer: &mut Answer, number: &str) -> Result<(), NoAnswer> {
     match DataType::from_number(number_of(number)?) {
         Some(data_type) => answer.word(data_type.name()),
         None => answer.word("!None"),
@@ -45,7 +45,7 @@ pub fn read(answer: &mut Answer, name: &str, field: &str) -> Result<(), NoAnswer
     let data_type = type_named(name)?;
     let text = text_of(answer.alloc(), field)?;
     let read = Value::read(answer.alloc(), data_type, text.as_str());
-    if let Some(value) = answer.given(read) {
+    if let Some(value) = answer.success(read) {
         answer.value(&value);
     }
     Ok(())
@@ -63,7 +63,7 @@ pub fn same(answer: &mut Answer, left: &str, right: &str) -> Result<(), NoAnswer
 pub fn order(answer: &mut Answer, left: &str, right: &str) -> Result<(), NoAnswer> {
     let left = value(answer.alloc(), left)?;
     let right = value(answer.alloc(), right)?;
-    answer.found(left.order(&right));
+    answer.name_or_none(left.order(&right));
     Ok(())
 }
 
@@ -80,7 +80,7 @@ pub fn moment(answer: &mut Answer, seconds: &str) -> Result<(), NoAnswer> {
     Ok(())
 }
 
-/// The duration of so many months.
+/// The duration of this many months.
 pub fn months(answer: &mut Answer, number: &str) -> Result<(), NoAnswer> {
     match YearMonthDuration::new(number_of(number)?) {
         Some(duration) => answer.value(&Value::YearMonthDuration(duration)),
@@ -89,7 +89,7 @@ pub fn months(answer: &mut Answer, number: &str) -> Result<(), NoAnswer> {
     Ok(())
 }
 
-/// The duration of so many nanoseconds.
+/// The duration of this many nanoseconds.
 pub fn nanoseconds(answer: &mut Answer, number: &str) -> Result<(), NoAnswer> {
     match DayTimeDuration::new(number_of(number)?) {
         Some(duration) => answer.value(&Value::DayTimeDuration(duration)),
@@ -98,9 +98,9 @@ pub fn nanoseconds(answer: &mut Answer, number: &str) -> Result<(), NoAnswer> {
     Ok(())
 }
 
-/// The number of at most so much that the digits write.
+/// The number that the digits write, if it is at most `most`.
 pub fn number(answer: &mut Answer, most: &str, field: &str) -> Result<(), NoAnswer> {
     let digits = bytes_of(answer.alloc(), field)?;
-    answer.found(number_up_to(number_of(most)?, &digits));
+    answer.name_or_none(number_up_to(number_of(most)?, &digits));
     Ok(())
 }

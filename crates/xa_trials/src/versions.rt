@@ -35,7 +35,7 @@ pub fn matching(answer: &mut Answer, pattern: &str, version: &str) -> Result<(),
 }
 
 /// How two versions compare.
-pub fn compared(answer: &mut Answer, left: &str, right: &str) -> Result<(), NoAnswer> {
+pub fn order(answer: &mut Answer, left: &str, right: &str) -> Result<(), NoAnswer> {
     answer.name("", &version_named(left)?.cmp(&version_named(right)?));
     Ok(())
 }
