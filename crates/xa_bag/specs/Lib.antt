@@ -2,5 +2,6 @@ pub mod Applying
 pub mod Bag
 pub mod Fault
 pub mod HigherOrder
+pub mod Relation
 pub mod Sets
 pub mod ValueOrBag

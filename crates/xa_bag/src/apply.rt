@@ -184,6 +184,23 @@ pub fn apply_higher_order<F: Inner>(
     ensures typed { IfOk result (λ given. kind_of_argument given ≡ kind_given higher_order (F.result_type function.now)) }
     ensures law { EachInItsPlace }
 {
+    match function.at_once(higher_order, arguments) {
+        Some(answer) => Ok(boolean(answer?)),
+        None => choice_by_choice(alloc, higher_order, function, arguments),
+    }
+}
+
+/// The same, by a call of the inner function for each choice of its arguments, up to the one that decides.
+fn choice_by_choice<F: Inner>(
+    alloc: Global,
+    higher_order: HigherOrder,
+    function: &F,
+    arguments: &[ValueOrBag],
+) -> Result<ValueOrBag, OrMemory<BagFault<F::Fault>>>
+    requires { F.can function.now (map kind_of_each arguments.now) }
+    ensures value { Gives result (higher_order_applied higher_order (F.result_type function.now) (F.gives function.now) arguments.now) }
+    ensures typed { IfOk result (λ given. kind_of_argument given ≡ kind_given higher_order (F.result_type function.now)) }
+{
     match higher_order {
         HigherOrder::AnyOf => Ok(boolean(higher_order::any_of(alloc, function, arguments)?)),
         HigherOrder::AllOf => Ok(boolean(higher_order::all_of(alloc, function, arguments)?)),

@@ -1,5 +1,5 @@
 //! The arguments of the functions that take one bag, a value and a bag, or two bags.
-ghost use Rattle.std.specs.Prelude.{◌≡◌, ◌∷◌, [], map};
+ghost use Rattle.std.specs.Prelude.{◌≡◌, ◌∷◌, [], map, IfSome};
 ghost use Rattle.xa_func.specs.declared.signature.Kind.TheVariants as kind;
 ghost use Rattle.xa_bag.specs.declared.value_or_bag.ValueOrBag.TheVariants as given;
 ghost use Rattle.xa_bag.specs.ValueOrBag.{kind_of_argument};
@@ -58,4 +58,14 @@ pub(crate) fn two_bags(data_type: DataType, arguments: &[ValueOrBag]) -> (&Bag, 
         unreachable!();
     };
     (bag_of(data_type, first), bag_of(data_type, second))
+}
+
+/// The two arguments, where both are bags and there are no others.
+pub(crate) fn both_bags(arguments: &[ValueOrBag]) -> Option<(&Bag, &Bag)>
+    ensures { IfSome result (λ bags. arguments.now ≡ given.Bag bags.0.now ∷ given.Bag bags.1.now ∷ []) }
+{
+    match arguments {
+        [ValueOrBag::Bag(first), ValueOrBag::Bag(second)] => Some((first, second)),
+        _ => None,
+    }
 }

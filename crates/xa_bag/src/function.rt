@@ -1,10 +1,18 @@
 //! Functions of values by their names, as inner functions.
+ghost use Rattle.std.specs.Prelude.{◌≡◌, IfSome};
+ghost use Rattle.xa_value.specs.declared.data_type.DataType.TheVariants as data_type;
 ghost use Rattle.xa_func.specs.Application.{applied};
 ghost use Rattle.xa_func.specs.Signature.{TakesKinds, signature_of, result_type_of};
+ghost use Rattle.xa_bag.specs.Applying.{as_boolean, higher_order_applied};
+ghost use Rattle.xa_bag.specs.Relation.{asked};
 
+use crate::arguments::both_bags;
+use crate::fault::BagFault;
 use crate::inner::Inner;
+use crate::relation::Relation;
+use crate::value_or_bag::ValueOrBag;
 use std::alloc::Global;
-use xa_func::{FuncFault, FuncId, HasKind};
+use xa_func::{FuncFault, FuncId, HasKind, HigherOrder};
 use xa_value::{DataType, OrMemory, Value};
 
 /// A function of values, by its name.
@@ -25,7 +33,34 @@ impl Inner for FuncId {
         self.signature().result_type()
     }
 
+    fn at_once(
+        &self,
+        higher_order: HigherOrder,
+        arguments: &[ValueOrBag],
+    ) -> Option<Result<bool, BagFault<FuncFault>>> {
+        match *self {
+            FuncId::Equal(_) => compared_at_once(Relation::Equal, higher_order, arguments),
+            FuncId::Compare(comparison, _) => {
+                compared_at_once(Relation::Order(comparison), higher_order, arguments)
+            }
+            _ => None,
+        }
+    }
+
     fn call(&self, alloc: Global, arguments: &[Value]) -> Result<Value, OrMemory<FuncFault>> {
         self.apply(alloc, arguments)
     }
+}
+
+/// What the higher-order function gives of the function that compares so, where that is found at once.
+fn compared_at_once(
+    relation: Relation,
+    higher_order: HigherOrder,
+    arguments: &[ValueOrBag],
+) -> Option<Result<bool, BagFault<FuncFault>>>
+    ensures { IfSome result (λ answer. higher_order_applied higher_order data_type.Boolean (asked relation) arguments.now ≡ as_boolean answer) }
+{
+    let (first, second) = both_bags(arguments)?;
+    let answer = relation.of_bags(higher_order, first, second)?;
+    Some(Ok(answer))
 }

@@ -10,6 +10,7 @@ mod function;
 mod higher_order;
 mod inner;
 mod members;
+mod relation;
 mod sets;
 mod value_or_bag;
 

@@ -1,6 +1,7 @@
 pub mod LogicLemmas
 pub mod DateLemmas
 pub mod NameLemmas
+pub mod PartLemmas
 pub mod PlaceLemmas
 pub mod TypingLemmas
 pub mod TableLemmas

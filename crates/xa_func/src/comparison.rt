@@ -19,7 +19,7 @@ fn meets(comparison: Comparison, ordering: Ordering) -> bool
 }
 
 /// Whether the first value lies to the second as the question asks.
-pub(crate) fn is_as_asked(comparison: Comparison, left: &Value, right: &Value) -> bool
+pub fn is_as_asked(comparison: Comparison, left: &Value, right: &Value) -> bool
     ensures { result ≡ compared comparison left.now right.now }
 {
     match left.order(right) {

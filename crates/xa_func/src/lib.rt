@@ -17,6 +17,7 @@ mod status;
 mod text;
 
 pub use acceptance::HasKind;
+pub use comparison::is_as_asked;
 pub use fault::FuncFault;
 pub use func_id::{
     Arithmetic, BagFunction, Comparison, Direction, FuncId, HigherOrder, Logic, Moved, OrderedType,
