@@ -4,6 +4,8 @@ use Rattle.std.specs.Prelude.{Result, Ok, Err, IsErrAnd}
 use Rattle.std.proofs.lemmas.List.{map-append}
 use Rattle.xa_value.specs.declared.data_type.DataType.{DataType}
 use Rattle.xa_value.specs.declared.value.Value.{Value}
+use Rattle.xa_value.specs.declared.or_memory.OrMemory.{OrMemory}
+use Rattle.xa_value.specs.Gives.{Gives}
 use Rattle.xa_func.specs.declared.func_id.FuncId.{FuncId}
 use Rattle.xa_func.specs.declared.func_id.FuncId.TheVariants as function
 use Rattle.xa_func.specs.declared.func_id.Arithmetic.TheVariants as arithmetic
@@ -21,24 +23,15 @@ use Rattle.xa_bag.specs.Applying.{as_argument}
 use Rattle.xa_bag.specs.HigherOrder.{collected, with_first}
 use Rattle.xa_bag.specs.ValueOrBag.{kind_of_argument, kind_of_each}
 use Rattle.xa_expr.specs.declared.fault.Fault.{Fault}
-use Rattle.xa_expr.specs.declared.stop.Stop.{Stop}
-use Rattle.xa_expr.specs.declared.stop.Stop.TheVariants as stop
 use Rattle.xa_expr.specs.Arguments.{AreValueKinds, IsValueKind, value_result}
 use Rattle.xa_expr.specs.Evaluation.{Outcome, applied_to_values, value_in}
 use Rattle.xa_expr.specs.Fault.{of_function}
-use Rattle.xa_expr.specs.Stop.{GivesOrWants}
-use Rattle.xa_expr.proofs.ResultLemmas.{passed_on}
+use Rattle.xa_expr.proofs.CheckLemmas.{fault_first, passed_on}
 
--- a stop of the first is one of the whole
-pub stop_first : {X Y : Type 0} (W : ℕ → Type 0) (e : Stop) (here : Result X Fault) (whole : Result Y Fault)
-    → ((f : Fault) → here ≡ Err f → whole ≡ Err f) → GivesOrWants {X = X} W (Err e) here → GivesOrWants {X = Y} W (Err e) whole
-stop_first W stop.Memory here whole through gives = tt
-stop_first W (stop.Fault f) here whole through gives = through f gives
-stop_first W (stop.Wanted place) here whole through gives = gives
-
-pub stop_passed : {X Y : Type 0} (W : ℕ → Type 0) (e : Stop) (r : Result Y Stop) (here : Result X Fault) (whole : Result Y Fault)
-    → ((f : Fault) → here ≡ Err f → whole ≡ Err f) → IsErrAnd r (λ d. d ≡ e) → GivesOrWants {X = X} W (Err e) here → GivesOrWants W r whole
-stop_passed W e r here whole through same gives = passed_on W e r whole same (stop_first W e here whole through gives)
+-- a fault of a part that is one of the whole was passed on
+pub fault_passed : {X Y : Type 0} (e : OrMemory Fault) (r : Result Y (OrMemory Fault)) (here : Result X Fault) (whole : Result Y Fault)
+    → ((f : Fault) → here ≡ Err f → whole ≡ Err f) → IsErrAnd r (λ d. d ≡ e) → Gives {X = X} (Err e) here → Gives r whole
+fault_passed e r here whole through same gives = passed_on e r whole same (fault_first e here whole through gives)
 
 -- those that are there, and one more
 pub one_more : {X F : Type 0} (done : List X) (x : X) (rs : List (Result X F)) → collected (map Ok (done ++ x ∷ []) ++ rs) ≡ collected (map Ok done ++ Ok x ∷ rs)

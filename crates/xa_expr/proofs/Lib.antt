@@ -5,7 +5,6 @@ pub mod FunctionLemmas
 pub mod KindLemmas
 pub mod MatchLemmas
 pub mod PlaceLemmas
-pub mod ResultLemmas
 pub mod TargetLemmas
 pub mod TimelessLemmas
 pub mod TypedLemmas

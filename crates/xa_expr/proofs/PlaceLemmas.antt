@@ -4,16 +4,16 @@ use Rattle.std.specs.Prelude.{Result, Ok, Err, IsErrAnd, ℤ, pos, int_lt, unsig
 use Rattle.std.proofs.lemmas.Bool.Decides.{nat_tests}
 use Rattle.std.proofs.lemmas.List.{length-drop}
 use mathlib.Core.Bool.{beq}
+use Rattle.xa_value.specs.declared.or_memory.OrMemory.{OrMemory}
+use Rattle.xa_value.specs.Gives.{Gives}
 use Rattle.xa_func.specs.Logic.{n_places, n_among}
 use Rattle.xa_func.proofs.LogicLemmas.{n_among_short, n_places_fault, n_places_one, n_places_true, n_places_false, n_places_short}
 use Rattle.xa_bag.proofs.JoiningLemmas.{verdict, then_verdict, verdict_cons, stop_decides, rest_decides}
 use Rattle.xa_bag.specs.declared.value_or_bag.ValueOrBag.{ValueOrBag}
 use Rattle.xa_expr.specs.declared.fault.Fault.{Fault}
 use Rattle.xa_expr.specs.declared.fault.Fault.TheVariants.{ProcessingError}
-use Rattle.xa_expr.specs.declared.stop.Stop.{Stop}
 use Rattle.xa_expr.specs.Evaluation.{Outcome, place, truth, number, n_of_places}
-use Rattle.xa_expr.specs.Stop.{GivesOrWants}
-use Rattle.xa_expr.proofs.ArgumentLemmas.{stop_passed}
+use Rattle.xa_expr.proofs.ArgumentLemmas.{fault_passed}
 
 -- the next place and those after it decide for all
 pub next_place : {A : Type 0} (stop : Bool) (v : A → Outcome) (ts us : List A) (t : A) (whole : Result Bool Fault)
@@ -21,11 +21,11 @@ pub next_place : {A : Type 0} (stop : Bool) (v : A → Outcome) (ts us : List A)
 next_place stop v ts us t whole walked so_far =
     sym (verdict_cons stop (place (v t)) (map place (map v us))) ∙ sym (ap (λ ss. verdict stop (map place (map v ss))) walked) ∙ so_far
 
--- a fault or a wanted variable at the next place
-pub place_stops : (W : ℕ → Type 0) (stop : Bool) (here : Outcome) (next whole : Result Bool Fault) (r : Result Bool Stop) (e : Stop)
-    → then_verdict stop (place here) next ≡ whole → IsErrAnd r (λ d. d ≡ e) → GivesOrWants {X = ValueOrBag} W (Err e) here → GivesOrWants W r whole
-place_stops W stop here next whole r e so_far same gives =
-    stop_passed W e r here whole (λ f at. sym so_far ∙ ap (λ x. then_verdict stop (place x) next) at) same gives
+-- a fault at the next place
+pub place_stops : (stop : Bool) (here : Outcome) (next whole : Result Bool Fault) (r : Result Bool (OrMemory Fault)) (e : OrMemory Fault)
+    → then_verdict stop (place here) next ≡ whole → IsErrAnd r (λ d. d ≡ e) → Gives {X = ValueOrBag} (Err e) here → Gives r whole
+place_stops stop here next whole r e so_far same gives =
+    fault_passed e r here whole (λ f at. sym so_far ∙ ap (λ x. then_verdict stop (place x) next) at) same gives
 
 pub place_decides : (stop answer : Bool) (given : ValueOrBag) (here : Outcome) (next whole : Result Bool Fault)
     → then_verdict stop (place here) next ≡ whole → here ≡ Ok given → answer ≡ truth given → beq answer stop ≡ true → whole ≡ Ok stop

@@ -12,32 +12,19 @@ use Rattle.xa_expr.specs.declared.typed.Typed.{Typed, out-Typed}
 use Rattle.xa_expr.specs.declared.typed.Typed.TheFolds.{fold-roll-Typed, fold_out-Typed, map-Typed}
 use Rattle.xa_expr.specs.declared.typed.Typed.TheOpen.{Typed-F}
 use Rattle.xa_expr.specs.declared.typed.Typed.TheVariants as typed
-use Rattle.xa_expr.specs.declared.typed.Typed.TheVariants.{rolls-Apply, rolls-HigherOrder, rolls-Variable}
-use Rattle.xa_expr.specs.declared.variables.Definition.{Definition}
+use Rattle.xa_expr.specs.declared.typed.Typed.TheVariants.{rolls-Apply, rolls-HigherOrder}
 use Rattle.xa_expr.specs.Arguments.{AreTypedUnder}
-use Rattle.xa_expr.specs.Evaluation.{Attributes, Outcome, outcome_step, outcomes, value_of, applied, higher_applied}
+use Rattle.xa_expr.specs.Evaluation.{Attributes, Outcome, outcome, outcome_step, applied, higher_applied}
 use Rattle.xa_expr.specs.Typed.{kind_at, kind_of_typed, kind_under, under_step, kind_where, all_there, put_first, variable_kind, result_kind, accepted, higher_accepted, has_bags, gives_boolean, same_kind}
-use Rattle.xa_expr.specs.Variables.{kinds}
 use Rattle.xa_expr.proofs.KindLemmas.{accepts_of}
+use Rattle.xa_expr.proofs.UnderLemmas.{under_apply, under_higher_order}
 
-pub value_of_apply : (values_of : Attributes) (ds : List Definition) (f : FuncId) (ts : List Typed) → value_of values_of ds (typed.Apply f ts) ≡ applied f (map (value_of values_of ds) ts)
-value_of_apply values_of ds f ts = ap (value_of values_of ds) (sym (rolls-Apply f ts)) ∙ fold-roll-Typed Outcome (outcome_step values_of (outcomes values_of ds)) (Typed-F.Apply f ts)
+pub outcome_apply : (values_of : Attributes) (rs : List Outcome) (f : FuncId) (ts : List Typed) → outcome values_of rs (typed.Apply f ts) ≡ applied f (map (outcome values_of rs) ts)
+outcome_apply values_of rs f ts = ap (outcome values_of rs) (sym (rolls-Apply f ts)) ∙ fold-roll-Typed Outcome (outcome_step values_of rs) (Typed-F.Apply f ts)
 
-pub value_of_higher : (values_of : Attributes) (ds : List Definition) (h : HigherOrder) (f : FuncId) (ts : List Typed)
-    → value_of values_of ds (typed.HigherOrder h f ts) ≡ higher_applied h f (map (value_of values_of ds) ts)
-value_of_higher values_of ds h f ts = ap (value_of values_of ds) (sym (rolls-HigherOrder h f ts)) ∙ fold-roll-Typed Outcome (outcome_step values_of (outcomes values_of ds)) (Typed-F.HigherOrder h f ts)
-
-kind_under_apply : (vs : List Kind) (f : FuncId) (ts : List Typed)
-    → kind_under vs (typed.Apply f ts) ≡ kind_where (accepted (signature_of f)) (result_kind (signature_of f)) (all_there (map (kind_under vs) ts))
-kind_under_apply vs f ts = ap (kind_under vs) (sym (rolls-Apply f ts)) ∙ fold-roll-Typed (Option Kind) (under_step vs) (Typed-F.Apply f ts)
-
-kind_under_higher : (vs : List Kind) (h : HigherOrder) (f : FuncId) (ts : List Typed)
-    → kind_under vs (typed.HigherOrder h f ts)
-    ≡ kind_where (λ given. is_scalar f && higher_accepted h f given) (kind_given h (result_type_of (signature_of f))) (all_there (map (kind_under vs) ts))
-kind_under_higher vs h f ts = ap (kind_under vs) (sym (rolls-HigherOrder h f ts)) ∙ fold-roll-Typed (Option Kind) (under_step vs) (Typed-F.HigherOrder h f ts)
-
-kind_under_variable : (vs : List Kind) (place : ℕ) (k : Kind) → kind_under vs (typed.Variable place k) ≡ variable_kind (slice_get vs place) k
-kind_under_variable vs place k = ap (kind_under vs) (sym (rolls-Variable place k)) ∙ fold-roll-Typed (Option Kind) (under_step vs) (Typed-F.Variable place k)
+pub outcome_higher : (values_of : Attributes) (rs : List Outcome) (h : HigherOrder) (f : FuncId) (ts : List Typed)
+    → outcome values_of rs (typed.HigherOrder h f ts) ≡ higher_applied h f (map (outcome values_of rs) ts)
+outcome_higher values_of rs h f ts = ap (outcome values_of rs) (sym (rolls-HigherOrder h f ts)) ∙ fold-roll-Typed Outcome (outcome_step values_of rs) (Typed-F.HigherOrder h f ts)
 
 -- where there is a kind, the arguments are all there and pass
 where_some : (passes : List Kind → Bool) (k l : Kind) (o : Option (List Kind)) → kind_where passes k o ≡ Some l → (ks : List Kind) × (o ≡ Some ks) × (passes ks ≡ true) × (k ≡ l)
@@ -46,27 +33,6 @@ where_some passes k l (Some ks) e = by_case (passes ks) refl e where
   by_case true at same = (ks, refl, at, cc)
   by_case false at same = cc
 where_some passes k l None e = cc
-
--- a variable's kind is there where its place is
-variable_there : (o : Option Kind) (k l : Kind) → variable_kind o k ≡ Some l → (m : Kind) × (o ≡ Some m)
-variable_there (Some m) k l e = (m, refl)
-variable_there None k l e = cc
-
-within : {X : Type 0} (xs : List X) (place : ℕ) (x : X) → slice_get xs place ≡ Some x → place < length xs
-within [] place x e = cc
-within (y ∷ ys) zero x e = omega arith
-within (y ∷ ys) (suc place) x e = let h = within ys place x e in omega arith
-
-length_kinds : (ds : List Definition) → length (kinds ds) ≡ length ds
-length_kinds [] = refl
-length_kinds (d ∷ ds) = ap suc (length_kinds ds)
-
-pub variable_defined : (ds : List Definition) (place : ℕ) (k l : Kind) (t : Typed) → t ≡ typed.Variable place k → kind_under (kinds ds) t ≡ Some l → place < length ds
-variable_defined ds place k l t is e =
-    let there = variable_there (slice_get (kinds ds) place) k l (sym (kind_under_variable (kinds ds) place k) ∙ ap (kind_under (kinds ds)) (sym is) ∙ e) in
-    let h = within (kinds ds) place there.0 there.1 in
-    let same = length_kinds ds in
-    omega arith
 
 -- the kind under variables is the expression's own
 pub kind_is : (vs : List Kind) (t : Typed) (k : Kind) → kind_under vs t ≡ Some k → kind_of_typed t ≡ k
@@ -109,7 +75,7 @@ there_typed vs (t ∷ ts) ks e = first (there_typed vs ts) (kind_under vs t) ref
 pub apply_typed : (vs : List Kind) (f : FuncId) (ts : List Typed) (l : Kind) (t : Typed) → t ≡ typed.Apply f ts → kind_under vs t ≡ Some l
     → AreTypedUnder vs ts × AcceptsKinds (signature_of f) (map kind_of_typed ts)
 apply_typed vs f ts l t is e =
-    let there = where_some _ _ _ _ (sym (kind_under_apply vs f ts) ∙ ap (kind_under vs) (sym is) ∙ e) in
+    let there = where_some _ _ _ _ (sym (under_apply vs f ts) ∙ ap (kind_under vs) (sym is) ∙ e) in
     let typed = there_typed vs ts there.0 there.1 in
     (typed.0, subst (AcceptsKinds (signature_of f)) (sym typed.1) (accepts_of (signature_of f) there.0 there.2))
 
@@ -120,7 +86,7 @@ both false b e = cc
 pub higher_typed : (vs : List Kind) (h : HigherOrder) (f : FuncId) (ts : List Typed) (l : Kind) (t : Typed) → t ≡ typed.HigherOrder h f ts → kind_under vs t ≡ Some l
     → AreTypedUnder vs ts × TakesKinds f (map of_each (map kind_of_typed ts))
 higher_typed vs h f ts l t is e =
-    let there = where_some _ _ _ _ (sym (kind_under_higher vs h f ts) ∙ ap (kind_under vs) (sym is) ∙ e) in
+    let there = where_some _ _ _ _ (sym (under_higher_order vs h f ts) ∙ ap (kind_under vs) (sym is) ∙ e) in
     let typed = there_typed vs ts there.0 there.1 in
     let scalar = both (is_scalar f) (higher_accepted h f there.0) there.2 in
     let bags = both (has_bags h there.0 && accepted (signature_of f) (map of_each there.0)) (gives_boolean h f) scalar.1 in

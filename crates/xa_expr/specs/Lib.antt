@@ -4,7 +4,6 @@ pub mod Evaluation
 pub mod Fault
 pub mod Match
 pub mod Results
-pub mod Stop
 pub mod Target
 pub mod Timeless
 pub mod Typed

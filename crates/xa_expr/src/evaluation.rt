@@ -1,5 +1,6 @@
-//! The values of checked expressions (XACML 3.0, core, section 7.4), as far as they need no variable that was not worked out yet.
+//! The values of checked expressions (XACML 3.0, core, section 7.4), where the results of variables are given.
 ghost use Rattle.std.specs.Prelude.{◌≡◌, map, if◌then◌else◌, Some, IfOk};
+ghost use Rattle.xa_value.specs.Gives.{Gives};
 ghost use Rattle.xa_func.specs.declared.func_id.FuncId.TheVariants as function_id;
 ghost use Rattle.xa_func.specs.Logic.{or_of, and_of, n_among};
 ghost use Rattle.xa_func.specs.Signature.{AcceptsKinds, TakesKinds, kind_of, signature_of, bag_signature, of_each, result_type_of};
@@ -8,9 +9,8 @@ ghost use Rattle.xa_bag.specs.HigherOrder.{collected};
 ghost use Rattle.xa_bag.specs.ValueOrBag.{kind_of_argument};
 ghost use Rattle.xa_expr.specs.declared.fault.Fault.TheVariants.{ProcessingError};
 ghost use Rattle.xa_expr.specs.Arguments.{AreTypedUnder, AreValueKinds, value_result};
-ghost use Rattle.xa_expr.specs.Evaluation.{applied, applied_to_values, higher_applied, n_of_places, number, place, truth, value_in, value_of};
-ghost use Rattle.xa_expr.specs.Results.{AreRight, IsMissing};
-ghost use Rattle.xa_expr.specs.Stop.{GivesOrWants};
+ghost use Rattle.xa_expr.specs.Evaluation.{applied, applied_to_values, higher_applied, n_of_places, number, outcome, place, truth, value_in};
+ghost use Rattle.xa_expr.specs.Results.{AreOfKinds};
 ghost use Rattle.xa_expr.specs.Typed.{kind_of_typed, kind_under, result_kind};
 ghost use Rattle.xa_expr.specs.Variables.{kinds};
 
@@ -18,28 +18,27 @@ use crate::context::Context;
 use crate::fault::Fault;
 use crate::function::{of_bags, of_function, of_values};
 use crate::scope::{Scope, attribute};
-use crate::stop::Stop;
 use crate::typed::Typed;
 use std::alloc::Global;
 use xa_bag::ValueOrBag;
 use xa_func::{BagFunction, FuncId, HigherOrder, Logic};
-use xa_value::{DataType, Items, Value};
+use xa_value::{DataType, Items, OrMemory, Value};
 
-/// What the expression comes to, or the variable that it needs first.
+/// What the expression comes to, where the variables come to the results.
 #[cycle(evaluation)]
 pub(crate) fn evaluate<'a, C: Context>(
     alloc: Global,
     scope: &Scope<'a, C>,
     expression: &Typed,
-) -> Result<ValueOrBag, Stop>
-    requires right { AreRight (C.values_of scope.now.context.now) scope.now.definitions.now scope.now.results.now }
+) -> Result<ValueOrBag, OrMemory<Fault>>
+    requires right { AreOfKinds (kinds scope.now.definitions.now) scope.now.results.now }
     requires typed { kind_under (kinds scope.now.definitions.now) expression.now ≡ Some (kind_of_typed expression.now) }
-    ensures value { GivesOrWants (IsMissing scope.now.definitions.now scope.now.results.now) result (value_of (C.values_of scope.now.context.now) scope.now.definitions.now expression.now) }
+    ensures value { Gives result (outcome (C.values_of scope.now.context.now) scope.now.results.now expression.now) }
     ensures typed { IfOk result (λ given. kind_of_argument given ≡ kind_of_typed expression.now) }
 {
     match expression {
         Typed::Literal(value) => Ok(ValueOrBag::Value(value.clone()?)),
-        Typed::Attribute(designator) => Ok(attribute(alloc, scope.context, designator)?),
+        Typed::Attribute(designator) => attribute(alloc, scope.context, designator),
         Typed::Variable(place, _) => scope.variable(*place),
         Typed::Apply(function, arguments) => apply(alloc, scope, *function, arguments.as_slice()),
         Typed::HigherOrder(function, inner, arguments) => apply_higher_order(
@@ -59,11 +58,11 @@ fn apply<'a, C: Context>(
     scope: &Scope<'a, C>,
     function: FuncId,
     arguments: &[Typed],
-) -> Result<ValueOrBag, Stop>
-    requires right { AreRight (C.values_of scope.now.context.now) scope.now.definitions.now scope.now.results.now }
+) -> Result<ValueOrBag, OrMemory<Fault>>
+    requires right { AreOfKinds (kinds scope.now.definitions.now) scope.now.results.now }
     requires typed { AreTypedUnder (kinds scope.now.definitions.now) arguments.now }
     requires accepted { AcceptsKinds (signature_of function) (map kind_of_typed arguments.now) }
-    ensures value { GivesOrWants (IsMissing scope.now.definitions.now scope.now.results.now) result (applied function (map (value_of (C.values_of scope.now.context.now) scope.now.definitions.now) arguments.now)) }
+    ensures value { Gives result (applied function (map (outcome (C.values_of scope.now.context.now) scope.now.results.now) arguments.now)) }
     ensures typed { IfOk result (λ given. kind_of_argument given ≡ result_kind (signature_of function)) }
 {
     match function {
@@ -82,11 +81,11 @@ fn apply_logic<'a, C: Context>(
     scope: &Scope<'a, C>,
     function: Logic,
     arguments: &[Typed],
-) -> Result<ValueOrBag, Stop>
-    requires right { AreRight (C.values_of scope.now.context.now) scope.now.definitions.now scope.now.results.now }
+) -> Result<ValueOrBag, OrMemory<Fault>>
+    requires right { AreOfKinds (kinds scope.now.definitions.now) scope.now.results.now }
     requires typed { AreTypedUnder (kinds scope.now.definitions.now) arguments.now }
     requires accepted { AcceptsKinds (signature_of (function_id.Logic function)) (map kind_of_typed arguments.now) }
-    ensures value { GivesOrWants (IsMissing scope.now.definitions.now scope.now.results.now) result (applied (function_id.Logic function) (map (value_of (C.values_of scope.now.context.now) scope.now.definitions.now) arguments.now)) }
+    ensures value { Gives result (applied (function_id.Logic function) (map (outcome (C.values_of scope.now.context.now) scope.now.results.now) arguments.now)) }
     ensures typed { IfOk result (λ given. kind_of_argument given ≡ result_kind (signature_of (function_id.Logic function))) }
 {
     match function {
@@ -141,10 +140,10 @@ fn decide<'a, C: Context>(
     scope: &Scope<'a, C>,
     stop: bool,
     arguments: &[Typed],
-) -> Result<bool, Stop>
-    requires right { AreRight (C.values_of scope.now.context.now) scope.now.definitions.now scope.now.results.now }
+) -> Result<bool, OrMemory<Fault>>
+    requires right { AreOfKinds (kinds scope.now.definitions.now) scope.now.results.now }
     requires typed { AreTypedUnder (kinds scope.now.definitions.now) arguments.now }
-    ensures { let found = map place (map (value_of (C.values_of scope.now.context.now) scope.now.definitions.now) arguments.now) in GivesOrWants (IsMissing scope.now.definitions.now scope.now.results.now) result (if stop then or_of found else and_of found) }
+    ensures { let found = map place (map (outcome (C.values_of scope.now.context.now) scope.now.results.now) arguments.now) in Gives result (if stop then or_of found else and_of found) }
 {
     for argument in arguments {
         let given = evaluate(alloc, scope, argument)?;
@@ -161,18 +160,18 @@ fn n_of<'a, C: Context>(
     alloc: Global,
     scope: &Scope<'a, C>,
     arguments: &[Typed],
-) -> Result<bool, Stop>
-    requires right { AreRight (C.values_of scope.now.context.now) scope.now.definitions.now scope.now.results.now }
+) -> Result<bool, OrMemory<Fault>>
+    requires right { AreOfKinds (kinds scope.now.definitions.now) scope.now.results.now }
     requires typed { AreTypedUnder (kinds scope.now.definitions.now) arguments.now }
-    ensures { GivesOrWants (IsMissing scope.now.definitions.now scope.now.results.now) result (n_of_places (map (value_of (C.values_of scope.now.context.now) scope.now.definitions.now) arguments.now)) }
+    ensures { Gives result (n_of_places (map (outcome (C.values_of scope.now.context.now) scope.now.results.now) arguments.now)) }
 {
     let [first, booleans @ ..] = arguments else {
-        return Err(Stop::Fault(Fault::ProcessingError));
+        return Err(OrMemory::Error(Fault::ProcessingError));
     };
     let given = evaluate(alloc, scope, first)?;
     let wanted = number(&given);
     if wanted < 0 {
-        return Err(Stop::Fault(Fault::ProcessingError));
+        return Err(OrMemory::Error(Fault::ProcessingError));
     }
     n_among(alloc, scope, wanted.unsigned_abs() as usize, booleans)
 }
@@ -185,13 +184,13 @@ fn n_among<'a, C: Context>(
     scope: &Scope<'a, C>,
     wanted: usize,
     booleans: &[Typed],
-) -> Result<bool, Stop>
-    requires right { AreRight (C.values_of scope.now.context.now) scope.now.definitions.now scope.now.results.now }
+) -> Result<bool, OrMemory<Fault>>
+    requires right { AreOfKinds (kinds scope.now.definitions.now) scope.now.results.now }
     requires typed { AreTypedUnder (kinds scope.now.definitions.now) booleans.now }
-    ensures { GivesOrWants (IsMissing scope.now.definitions.now scope.now.results.now) result (n_among ProcessingError wanted (map place (map (value_of (C.values_of scope.now.context.now) scope.now.definitions.now) booleans.now))) }
+    ensures { Gives result (n_among ProcessingError wanted (map place (map (outcome (C.values_of scope.now.context.now) scope.now.results.now) booleans.now))) }
 {
     if wanted > booleans.len() {
-        return Err(Stop::Fault(Fault::ProcessingError));
+        return Err(OrMemory::Error(Fault::ProcessingError));
     }
     if wanted == 0 {
         return Ok(true);
@@ -222,15 +221,15 @@ fn apply_to_values<'a, C: Context>(
     scope: &Scope<'a, C>,
     function: FuncId,
     arguments: &[Typed],
-) -> Result<ValueOrBag, Stop>
-    requires right { AreRight (C.values_of scope.now.context.now) scope.now.definitions.now scope.now.results.now }
+) -> Result<ValueOrBag, OrMemory<Fault>>
+    requires right { AreOfKinds (kinds scope.now.definitions.now) scope.now.results.now }
     requires typed { AreTypedUnder (kinds scope.now.definitions.now) arguments.now }
     requires takes { TakesKinds function (map kind_of_typed arguments.now) }
-    ensures value { GivesOrWants (IsMissing scope.now.definitions.now scope.now.results.now) result (applied_to_values function (map (value_of (C.values_of scope.now.context.now) scope.now.definitions.now) arguments.now)) }
+    ensures value { Gives result (applied_to_values function (map (outcome (C.values_of scope.now.context.now) scope.now.results.now) arguments.now)) }
     ensures typed { IfOk result (λ given. kind_of_argument given ≡ result_kind (signature_of function)) }
 {
     let values = all_values(alloc, scope, arguments)?;
-    Ok(of_values(alloc, function, values.as_slice())?)
+    of_values(alloc, function, values.as_slice())
 }
 
 /// What a function of bags comes to on the arguments.
@@ -241,15 +240,15 @@ fn apply_to_bags<'a, C: Context>(
     function: BagFunction,
     data_type: DataType,
     arguments: &[Typed],
-) -> Result<ValueOrBag, Stop>
-    requires right { AreRight (C.values_of scope.now.context.now) scope.now.definitions.now scope.now.results.now }
+) -> Result<ValueOrBag, OrMemory<Fault>>
+    requires right { AreOfKinds (kinds scope.now.definitions.now) scope.now.results.now }
     requires typed { AreTypedUnder (kinds scope.now.definitions.now) arguments.now }
     requires accepted { AcceptsKinds (bag_signature function data_type) (map kind_of_typed arguments.now) }
-    ensures value { GivesOrWants (IsMissing scope.now.definitions.now scope.now.results.now) result (applied (function_id.Bag function data_type) (map (value_of (C.values_of scope.now.context.now) scope.now.definitions.now) arguments.now)) }
+    ensures value { Gives result (applied (function_id.Bag function data_type) (map (outcome (C.values_of scope.now.context.now) scope.now.results.now) arguments.now)) }
     ensures typed { IfOk result (λ given. kind_of_argument given ≡ result_kind (bag_signature function data_type)) }
 {
     let given = all_given(alloc, scope, arguments)?;
-    Ok(of_bags(alloc, function, data_type, given.as_slice())?)
+    of_bags(alloc, function, data_type, given.as_slice())
 }
 
 /// What a higher-order function comes to, with its inner function and the arguments after that.
@@ -260,15 +259,15 @@ fn apply_higher_order<'a, C: Context>(
     function: HigherOrder,
     inner: FuncId,
     arguments: &[Typed],
-) -> Result<ValueOrBag, Stop>
-    requires right { AreRight (C.values_of scope.now.context.now) scope.now.definitions.now scope.now.results.now }
+) -> Result<ValueOrBag, OrMemory<Fault>>
+    requires right { AreOfKinds (kinds scope.now.definitions.now) scope.now.results.now }
     requires typed { AreTypedUnder (kinds scope.now.definitions.now) arguments.now }
     requires takes { TakesKinds inner (map of_each (map kind_of_typed arguments.now)) }
-    ensures value { GivesOrWants (IsMissing scope.now.definitions.now scope.now.results.now) result (higher_applied function inner (map (value_of (C.values_of scope.now.context.now) scope.now.definitions.now) arguments.now)) }
+    ensures value { Gives result (higher_applied function inner (map (outcome (C.values_of scope.now.context.now) scope.now.results.now) arguments.now)) }
     ensures typed { IfOk result (λ given. kind_of_argument given ≡ kind_given function (result_type_of (signature_of inner))) }
 {
     let given = all_given(alloc, scope, arguments)?;
-    Ok(of_function(alloc, function, inner, given.as_slice())?)
+    of_function(alloc, function, inner, given.as_slice())
 }
 
 /// What the arguments come to, none of which is a bag, from the first to the last.
@@ -277,11 +276,11 @@ fn all_values<'a, C: Context>(
     alloc: Global,
     scope: &Scope<'a, C>,
     arguments: &[Typed],
-) -> Result<Items<Value>, Stop>
-    requires right { AreRight (C.values_of scope.now.context.now) scope.now.definitions.now scope.now.results.now }
+) -> Result<Items<Value>, OrMemory<Fault>>
+    requires right { AreOfKinds (kinds scope.now.definitions.now) scope.now.results.now }
     requires typed { AreTypedUnder (kinds scope.now.definitions.now) arguments.now }
     requires values { AreValueKinds (map kind_of_typed arguments.now) }
-    ensures value { GivesOrWants (IsMissing scope.now.definitions.now scope.now.results.now) result (collected (map value_result (map (value_of (C.values_of scope.now.context.now) scope.now.definitions.now) arguments.now))) }
+    ensures value { Gives result (collected (map value_result (map (outcome (C.values_of scope.now.context.now) scope.now.results.now) arguments.now))) }
     ensures typed { IfOk result (λ values. map kind_of values ≡ map kind_of_typed arguments.now) }
 {
     let mut values = Items::new(alloc);
@@ -298,10 +297,10 @@ fn all_given<'a, C: Context>(
     alloc: Global,
     scope: &Scope<'a, C>,
     arguments: &[Typed],
-) -> Result<Items<ValueOrBag>, Stop>
-    requires right { AreRight (C.values_of scope.now.context.now) scope.now.definitions.now scope.now.results.now }
+) -> Result<Items<ValueOrBag>, OrMemory<Fault>>
+    requires right { AreOfKinds (kinds scope.now.definitions.now) scope.now.results.now }
     requires typed { AreTypedUnder (kinds scope.now.definitions.now) arguments.now }
-    ensures value { GivesOrWants (IsMissing scope.now.definitions.now scope.now.results.now) result (collected (map (value_of (C.values_of scope.now.context.now) scope.now.definitions.now) arguments.now)) }
+    ensures value { Gives result (collected (map (outcome (C.values_of scope.now.context.now) scope.now.results.now) arguments.now)) }
     ensures typed { IfOk result (λ given. map kind_of_argument given ≡ map kind_of_typed arguments.now) }
 {
     let mut all = Items::new(alloc);

@@ -1,9 +1,9 @@
 //! The values of expressions under a policy's variables (XACML 3.0, core, sections 7.4 and 7.8).
-ghost use Rattle.std.specs.Prelude.{◌≡◌, Some, IfOk};
+ghost use Rattle.std.specs.Prelude.{◌≡◌, max, min, length, Some, IfOk};
 ghost use Rattle.xa_value.specs.Gives.{Gives};
 ghost use Rattle.xa_bag.specs.ValueOrBag.{kind_of_argument};
 ghost use Rattle.xa_expr.specs.Evaluation.{value_of};
-ghost use Rattle.xa_expr.specs.Results.{AreRight};
+ghost use Rattle.xa_expr.specs.Results.{AreFirst, reach};
 ghost use Rattle.xa_expr.specs.Typed.{kind_of_typed, kind_under};
 ghost use Rattle.xa_expr.specs.Variables.{AreTyped, kinds};
 
@@ -11,22 +11,21 @@ use crate::context::Context;
 use crate::evaluation::evaluate;
 use crate::fault::Fault;
 use crate::scope::Scope;
-use crate::stop::Stop;
 use crate::typed::Typed;
 use crate::variables::{Definition, Variables};
-use crate::working_out::work_out;
-use std::alloc::Global;
+use crate::working_out::{last_variable, work_out};
+use std::alloc::{AllocError, Global};
 use std::marker::Model;
 use xa_bag::ValueOrBag;
 use xa_value::OrMemory;
 
 /// Expressions are evaluated in a context under the variables of a policy, each of which is worked out when an expression first
-/// needs it, and once at most. Clauses see the context and the definitions.
+/// names it or a later one, and once at most. Clauses see the context and the definitions.
 #[derive(Drop)]
 pub struct Evaluator<'a, C: Context> {
     context: &'a C,
     variables: &'a Variables,
-    results: Vec<Option<Result<ValueOrBag, Fault>>>,
+    results: Vec<Result<ValueOrBag, Fault>>,
 }
 
 impl<'a, C: Context> Model for Evaluator<'a, C> {
@@ -34,7 +33,7 @@ impl<'a, C: Context> Model for Evaluator<'a, C> {
     ghost use Rattle.std.specs.Coded.{codes};
     ghost use Rattle.xa_expr.specs.contracts.typed.Typed as typed;
     ghost use Rattle.xa_expr.specs.declared.variables.Definition.{Definition as Defined};
-    ghost use Rattle.xa_expr.specs.Results.{AreRight};
+    ghost use Rattle.xa_expr.specs.Results.{AreFirst};
 
     ghost Value = { C × List Defined };
 
@@ -42,7 +41,29 @@ impl<'a, C: Context> Model for Evaluator<'a, C> {
 
     ghost view = { λ e. (e.context.now, e.variables.now) };
 
-    ghost invariant = { λ e. AreRight (C.values_of e.context.now) e.variables.now e.results.items };
+    ghost invariant = { λ e. AreFirst (C.values_of e.context.now) e.variables.now e.results.items };
+}
+
+/// Works out the variables that the expression names and those before them. Where all were worked out, nobody looks at the expression.
+fn prepare<C: Context>(
+    alloc: Global,
+    context: &C,
+    definitions: &[Definition],
+    results: &mut Vec<Result<ValueOrBag, Fault>>,
+    expression: &Typed,
+) -> Result<(), AllocError>
+    requires right { AreFirst (C.values_of context.now) definitions.now results.old.items }
+    requires typed { AreTyped definitions.now }
+    ensures right { AreFirst (C.values_of context.now) definitions.now results.new.items }
+    ensures exact { IfOk result (λ _. length results.new.items ≡ max (length results.old.items) (min (reach expression.now) (length definitions.now))) }
+{
+    if results.len() == definitions.len() {
+        return Ok(());
+    }
+    match last_variable(expression) {
+        Some(place) => work_out(alloc, context, definitions, results, place),
+        None => Ok(()),
+    }
 }
 
 /// What the expression comes to, and what is worked out for it, in the results.
@@ -50,29 +71,23 @@ fn value_with<C: Context>(
     alloc: Global,
     context: &C,
     definitions: &[Definition],
-    results: &mut Vec<Option<Result<ValueOrBag, Fault>>>,
+    results: &mut Vec<Result<ValueOrBag, Fault>>,
     expression: &Typed,
 ) -> Result<ValueOrBag, OrMemory<Fault>>
-    requires right { AreRight (C.values_of context.now) definitions.now results.old.items }
+    requires right { AreFirst (C.values_of context.now) definitions.now results.old.items }
     requires variables { AreTyped definitions.now }
     requires typed { kind_under (kinds definitions.now) expression.now ≡ Some (kind_of_typed expression.now) }
     ensures value { Gives result (value_of (C.values_of context.now) definitions.now expression.now) }
     ensures typed { IfOk result (λ given. kind_of_argument given ≡ kind_of_typed expression.now) }
-    ensures right { AreRight (C.values_of context.now) definitions.now results.new.items }
+    ensures right { AreFirst (C.values_of context.now) definitions.now results.new.items }
 {
-    loop {
-        let scope = Scope {
-            context,
-            definitions,
-            results: results.as_slice(),
-        };
-        match evaluate(alloc, &scope, expression) {
-            Ok(given) => return Ok(given),
-            Err(Stop::Memory) => return Err(OrMemory::Memory),
-            Err(Stop::Fault(fault)) => return Err(OrMemory::Error(fault)),
-            Err(Stop::Wanted(place)) => work_out(alloc, context, definitions, results, place)?,
-        }
-    }
+    prepare(alloc, context, definitions, results, expression)?;
+    let scope = Scope {
+        context,
+        definitions,
+        results: results.as_slice(),
+    };
+    evaluate(alloc, &scope, expression)
 }
 
 impl<'a, C: Context> Evaluator<'a, C> {

@@ -13,7 +13,6 @@ mod function;
 mod match_;
 mod matching;
 mod scope;
-mod stop;
 mod target;
 mod timeless;
 mod typed;

@@ -1,28 +1,26 @@
 //! Where an expression is evaluated: its context, the variables that it may name, and what was worked out of them.
-ghost use Rattle.std.specs.Prelude.{◌≡◌, ◌<◌, length, slice_get, Some, IfOk};
+ghost use Rattle.std.specs.Prelude.{◌≡◌, slice_get, Some, IfOk};
 ghost use Rattle.xa_value.specs.Gives.{Gives};
 ghost use Rattle.xa_func.specs.declared.signature.Kind.TheVariants as kind;
 ghost use Rattle.xa_bag.specs.ValueOrBag.{kind_of_argument};
-ghost use Rattle.xa_expr.specs.Evaluation.{attribute, outcomes, result_at};
-ghost use Rattle.xa_expr.specs.Results.{AreRight, IsMissing, worked_out};
-ghost use Rattle.xa_expr.specs.Stop.{GivesOrWants};
+ghost use Rattle.xa_expr.specs.Evaluation.{attribute, result_at};
+ghost use Rattle.xa_expr.specs.Results.{AreOfKinds};
 ghost use Rattle.xa_expr.specs.Variables.{kinds};
 
 use crate::context::Context;
 use crate::designator::Designator;
 use crate::fault::Fault;
-use crate::stop::Stop;
 use crate::variables::Definition;
 use std::alloc::Global;
 use xa_bag::ValueOrBag;
 use xa_value::OrMemory;
 
-/// Where an expression is evaluated: its context, the variables that it may name, and what was worked out of them.
+/// Where an expression is evaluated: its context, the variables that it may name, and what was worked out of them, from the first on.
 #[derive(Drop)]
 pub(crate) struct Scope<'a, C> {
     pub(crate) context: &'a C,
     pub(crate) definitions: &'a [Definition],
-    pub(crate) results: &'a [Option<Result<ValueOrBag, Fault>>],
+    pub(crate) results: &'a [Result<ValueOrBag, Fault>],
 }
 
 /// What the designator gives (core, section 7.3.5): its bag, or a fault where that is empty and must not be.
@@ -52,16 +50,15 @@ fn outcome_copy(outcome: &Result<ValueOrBag, Fault>) -> Result<ValueOrBag, OrMem
 }
 
 impl<'a, C: Context> Scope<'a, C> {
-    /// What the variable at the place comes to, where it was worked out.
-    pub(crate) fn variable(&self, place: usize) -> Result<ValueOrBag, Stop>
-        requires right { AreRight (C.values_of self.now.context.now) self.now.definitions.now self.now.results.now }
-        requires defined { place < length self.now.definitions.now }
-        ensures value { GivesOrWants (IsMissing self.now.definitions.now self.now.results.now) result (result_at (slice_get (outcomes (C.values_of self.now.context.now) self.now.definitions.now) place)) }
+    /// The result of the variable at the place.
+    pub(crate) fn variable(&self, place: usize) -> Result<ValueOrBag, OrMemory<Fault>>
+        requires { AreOfKinds (kinds self.now.definitions.now) self.now.results.now }
+        ensures value { Gives result (result_at (slice_get self.now.results.now place)) }
         ensures typed { IfOk result (λ given. slice_get (kinds self.now.definitions.now) place ≡ Some (kind_of_argument given)) }
     {
-        let Some(Some(outcome)) = self.results.get(place) else {
-            return Err(Stop::Wanted(place));
+        let Some(outcome) = self.results.get(place) else {
+            return Err(OrMemory::Error(Fault::ProcessingError));
         };
-        Ok(outcome_copy(outcome)?)
+        outcome_copy(outcome)
     }
 }

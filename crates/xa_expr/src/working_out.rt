@@ -1,127 +1,96 @@
-//! Variables, each worked out when it is first wanted, and once at most (XACML 3.0, core, section 7.8). A definition that needs an
-//! earlier variable waits on a stack until that was worked out, so that long chains of variables take no native stack.
-ghost use Rattle.std.specs.Prelude.{◌≡◌, ◌<◌, [], ◌∷◌, ◌++◌, length, take, slice_get, Some, None, IfOk, OnErr};
-ghost use Rattle.xa_bag.specs.ValueOrBag.{kind_of_argument};
-ghost use Rattle.xa_expr.specs.Evaluation.{outcomes, result_at};
-ghost use Rattle.xa_expr.specs.Results.{AreRight, IsRight, IsMissing, HasResult, SameResults, Waiting, missing, worked_out};
-ghost use Rattle.xa_expr.specs.Stop.{GivesOrWants};
-ghost use Rattle.xa_expr.specs.Variables.{AreTyped, kinds};
+//! Variables are worked out in the order of their definitions, each of which names those before it alone (XACML 3.0, core, section
+//! 7.8): each is evaluated once, and long chains of variables take no native stack.
+ghost use Rattle.std.specs.Prelude.{◌≡◌, ◌<◌, suc, max, min, [], ◌∷◌, ◌++◌, map, length, IfOk};
+ghost use Rattle.xa_expr.specs.Results.{AreFirst, greatest, reach, up_to};
+ghost use Rattle.xa_expr.specs.Variables.{AreTyped};
 
 use crate::context::Context;
 use crate::evaluation::evaluate;
 use crate::fault::Fault;
 use crate::scope::Scope;
-use crate::stop::Stop;
+use crate::typed::Typed;
 use crate::variables::Definition;
 use std::alloc::{AllocError, Global};
 use xa_bag::ValueOrBag;
+use xa_value::OrMemory;
 
-/// Makes the place one of those that results may be at.
-fn make_room(
-    results: &mut Vec<Option<Result<ValueOrBag, Fault>>>,
-    place: usize,
-) -> Result<(), AllocError>
-    ensures same { SameResults results.old.items results.new.items }
-    ensures room { IfOk result (λ _. place < length results.new.items) }
+/// The place of the last variable that the expression names. Its cost is the expression's size.
+#[cycle(last_variable)]
+pub(crate) fn last_variable(expression: &Typed) -> Option<usize>
+    ensures { up_to result ≡ reach expression.now }
 {
-    while results.len() <= place {
-        results.push(None)?;
+    match expression {
+        Typed::Literal(_) | Typed::Attribute(_) => None,
+        Typed::Variable(place, _) => Some(*place),
+        Typed::Apply(_, arguments) => last_of_all(arguments.as_slice()),
+        Typed::HigherOrder(_, _, arguments) => last_of_all(arguments.as_slice()),
     }
-    Ok(())
 }
 
-/// Puts what the variable at the place comes to. Without memory the results are what they were.
-fn put(
-    results: &mut Vec<Option<Result<ValueOrBag, Fault>>>,
-    place: usize,
-    outcome: Result<ValueOrBag, Fault>,
-) -> Result<(), AllocError>
-    ensures ok { IfOk result (λ _. HasResult results.old.items place outcome results.new.items) }
-    ensures err { OnErr result (SameResults results.old.items results.new.items) }
+/// The place of the last variable that one of the expressions names.
+#[cycle(last_variable)]
+fn last_of_all(expressions: &[Typed]) -> Option<usize>
+    ensures { up_to result ≡ greatest (map reach expressions.now) }
 {
-    make_room(results, place)?;
-    results[place] = Some(outcome);
-    Ok(())
+    let mut last = None;
+    for expression in expressions {
+        last = later(last, last_variable(expression));
+    }
+    last
 }
 
-/// What the variable at the place comes to, or which earlier variable it needs first.
-fn define<C: Context>(
+/// The later of two places.
+fn later(first: Option<usize>, second: Option<usize>) -> Option<usize>
+    ensures { up_to result ≡ max (up_to first) (up_to second) }
+{
+    match (first, second) {
+        (Some(first), Some(second)) => Some(first.max(second)),
+        (None, _) => second,
+        (_, None) => first,
+    }
+}
+
+/// What the first variable without a result comes to.
+fn next_outcome<C: Context>(
     alloc: Global,
     context: &C,
     definitions: &[Definition],
-    results: &[Option<Result<ValueOrBag, Fault>>],
-    place: usize,
-) -> Result<ValueOrBag, Stop>
-    requires right { AreRight (C.values_of context.now) definitions.now results.now }
+    results: &[Result<ValueOrBag, Fault>],
+) -> Result<Result<ValueOrBag, Fault>, AllocError>
+    requires right { AreFirst (C.values_of context.now) definitions.now results.now }
     requires typed { AreTyped definitions.now }
-    requires defined { place < length definitions.now }
-    ensures value { GivesOrWants (IsMissing (take place definitions.now) results.now) result (result_at (slice_get (outcomes (C.values_of context.now) definitions.now) place)) }
-    ensures typed { IfOk result (λ given. slice_get (kinds definitions.now) place ≡ Some (kind_of_argument given)) }
+    requires defined { length results.now < length definitions.now }
+    ensures { IfOk result (λ outcome. AreFirst (C.values_of context.now) definitions.now (results.now ++ outcome ∷ [])) }
 {
+    let place = results.len();
     let scope = Scope {
         context,
         definitions: &definitions[..place],
         results,
     };
-    evaluate(alloc, &scope, &definitions[place].expression)
-}
-
-/// Goes from the variable at the place to the one that it needs first, and on from that, until one needs none: those that need
-/// another are put to the waiting ones. Answers the place of the last, and what it comes to.
-fn reach<C: Context>(
-    alloc: Global,
-    context: &C,
-    definitions: &[Definition],
-    results: &[Option<Result<ValueOrBag, Fault>>],
-    waiting: &mut Vec<usize>,
-    place: usize,
-) -> Result<(usize, Result<ValueOrBag, Fault>), AllocError>
-    requires right { AreRight (C.values_of context.now) definitions.now results.now }
-    requires typed { AreTyped definitions.now }
-    requires waiting { Waiting results.now (length definitions.now) (waiting.old.items ++ place ∷ []) }
-    ensures right { IfOk result (λ reached. IsRight (C.values_of context.now) definitions.now reached.0 reached.1) }
-    ensures waiting { IfOk result (λ reached. Waiting results.now (length definitions.now) (waiting.new.items ++ reached.0 ∷ [])) }
-{
-    let mut place = place;
-    loop {
-        match define(alloc, context, definitions, results, place) {
-            Ok(given) => return Ok((place, Ok(given))),
-            Err(Stop::Fault(fault)) => return Ok((place, Err(fault))),
-            Err(Stop::Memory) => return Err(AllocError),
-            Err(Stop::Wanted(earlier)) => {
-                waiting.push(place)?;
-                place = earlier;
-            }
-        }
+    match evaluate(alloc, &scope, &definitions[place].expression) {
+        Ok(given) => Ok(Ok(given)),
+        Err(OrMemory::Error(fault)) => Ok(Err(fault)),
+        Err(OrMemory::Memory) => Err(AllocError),
     }
 }
 
-/// Works out the variable at the place, and those that it needs. Without memory, what was worked out stays.
+/// Works out the variables up to that at the place. Without memory, what was worked out stays.
 pub(crate) fn work_out<C: Context>(
     alloc: Global,
     context: &C,
     definitions: &[Definition],
-    results: &mut Vec<Option<Result<ValueOrBag, Fault>>>,
+    results: &mut Vec<Result<ValueOrBag, Fault>>,
     place: usize,
 ) -> Result<(), AllocError>
-    requires right { AreRight (C.values_of context.now) definitions.now results.old.items }
+    requires right { AreFirst (C.values_of context.now) definitions.now results.old.items }
     requires typed { AreTyped definitions.now }
-    requires missing { IsMissing definitions.now results.old.items place }
-    ensures right { AreRight (C.values_of context.now) definitions.now results.new.items }
-    ensures fewer { IfOk result (λ _. missing results.new.items (length definitions.now) < missing results.old.items (length definitions.now)) }
+    ensures right { AreFirst (C.values_of context.now) definitions.now results.new.items }
+    ensures exact { IfOk result (λ _. length results.new.items ≡ max (length results.old.items) (min (suc place) (length definitions.now))) }
 {
-    let mut waiting = Vec::new(alloc);
-    waiting.push(place)?;
-    while let Some(next) = waiting.pop() {
-        let (reached, outcome) = reach(
-            alloc,
-            context,
-            definitions,
-            results.as_slice(),
-            &mut waiting,
-            next,
-        )?;
-        put(results, reached, outcome)?;
+    while results.len() < definitions.len() && results.len() <= place {
+        let outcome = next_outcome(alloc, context, definitions, results.as_slice())?;
+        results.push(outcome)?;
     }
     Ok(())
 }

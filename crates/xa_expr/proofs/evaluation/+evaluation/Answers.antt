@@ -11,14 +11,10 @@ use Rattle.xa_expr.proofs.PlaceLemmas.{next_place, place_stops, place_decides, p
 use Rattle.xa_func.specs.Signature.{TakesKinds, of_each, kind_of}
 use Rattle.xa_bag.specs.ValueOrBag.{kind_of_argument, kind_of_each}
 use Rattle.xa_expr.specs.declared.typed.Typed.TheVariants as typed
-use Rattle.xa_expr.specs.Evaluation.{value_of}
-use Rattle.xa_expr.proofs.ArgumentLemmas.{kinds_of_each, scalar_values, stop_passed, applied_collected, applied_to, next_there, next_fault, no_more, kinds_next, value_kind, value_kind_at}
-use Rattle.xa_expr.proofs.ResultLemmas.{passed_on, stopped_gives}
-use Rattle.xa_expr.proofs.TypedLemmas.{typed_at, rest_typed, most_rest, variable_defined, apply_typed, higher_typed, value_of_apply, value_of_higher}
+use Rattle.xa_expr.specs.Evaluation.{outcome}
+use Rattle.xa_expr.proofs.ArgumentLemmas.{kinds_of_each, scalar_values, fault_passed, applied_collected, applied_to, next_there, next_fault, no_more, kinds_next, value_kind, value_kind_at}
+use Rattle.xa_expr.proofs.TypedLemmas.{typed_at, rest_typed, most_rest, apply_typed, higher_typed, outcome_apply, outcome_higher}
 use Rattle.xa_expr.proofs.evaluation.+evaluation.Goals as goal
-
-pub evaluate-variable-requires-clause-defined : goal.evaluate-variable-requires-clause-defined
-evaluate-variable-requires-clause-defined g t c = variable_defined _ _ _ _ _ c.in-Variable.is c.requires.typed
 
 pub evaluate-apply-requires : goal.evaluate-apply-requires
 evaluate-apply-requires g t c κs within =
@@ -31,10 +27,10 @@ evaluate-apply_higher_order-requires g t c κs within =
     search (rules, the_lemmas, fit)
 
 pub evaluate-returns-in-Apply-clause-value : goal.evaluate-returns-in-Apply-clause-value
-evaluate-returns-in-Apply-clause-value g t c = rw (c.in-Apply.is, value_of_apply) (rw c.as_slice.ensures at c.apply.ensures.value)
+evaluate-returns-in-Apply-clause-value g t c = rw (c.in-Apply.is, outcome_apply) (rw c.as_slice.ensures at c.apply.ensures.value)
 
 pub evaluate-returns-in-HigherOrder-clause-value : goal.evaluate-returns-in-HigherOrder-clause-value
-evaluate-returns-in-HigherOrder-clause-value g t c = rw (c.in-HigherOrder.is, value_of_higher) (rw c.as_slice-in-HigherOrder.ensures at c.apply_higher_order.ensures.value)
+evaluate-returns-in-HigherOrder-clause-value g t c = rw (c.in-HigherOrder.is, outcome_higher) (rw c.as_slice-in-HigherOrder.ensures at c.apply_higher_order.ensures.value)
 
 pub apply_higher_order-of_function-requires : goal.apply_higher_order-of_function-requires
 apply_higher_order-of_function-requires g t c =
@@ -47,17 +43,12 @@ apply_to_values-all_values-requires g t c κs within =
 
 pub apply_to_values-returns-in_err-values-clause-value : goal.apply_to_values-returns-in_err-values-clause-value
 apply_to_values-returns-in_err-values-clause-value g t c =
-    stop_passed _ c.in_err-values.field-0.0 _ _ _ (λ f at. applied_collected c.args.function (map (value_of (g.C.Context.values_of c.args.scope.now.context.now) c.args.scope.now.definitions.now) c.args.arguments.now) ∙ ap (applied_to c.args.function) at) c.from_residual.ensures.1 c.in_err-values.ensures.value
-
-pub apply_to_values-returns-in_err-of_values-clause-value : goal.apply_to_values-returns-in_err-of_values-clause-value
-apply_to_values-returns-in_err-of_values-clause-value g t c =
-    let all = applied_collected c.args.function (map (value_of (g.C.Context.values_of c.args.scope.now.context.now) c.args.scope.now.definitions.now) c.args.arguments.now) ∙ ap (applied_to c.args.function) (c.in_ok-values.ensures.value ∙ ap Ok (sym c.as_slice.ensures)) in
-    passed_on _ _ _ _ c.from_residual-in_err-of_values.ensures.1 (stopped_gives _ c.in_err-of_values.field-0.0 _ _ (λ f at. all ∙ at) c.in_err-of_values.ensures.value)
+    fault_passed c.in_err-values.field-0.0 _ _ _ (λ f at. applied_collected c.args.function (map (outcome (g.C.Context.values_of c.args.scope.now.context.now) c.args.scope.now.results.now) c.args.arguments.now) ∙ ap (applied_to c.args.function) at) c.from_residual.ensures.1 c.in_err-values.ensures.value
 
 pub apply_to_values-returns-clause-value : goal.apply_to_values-returns-clause-value
 apply_to_values-returns-clause-value g t c =
-    let all = applied_collected c.args.function (map (value_of (g.C.Context.values_of c.args.scope.now.context.now) c.args.scope.now.definitions.now) c.args.arguments.now) ∙ ap (applied_to c.args.function) (c.in_ok-values.ensures.value ∙ ap Ok (sym c.as_slice.ensures)) in
-    all ∙ c.in_ok-of_values.ensures.value
+    let all = applied_collected c.args.function (map (outcome (g.C.Context.values_of c.args.scope.now.context.now) c.args.scope.now.results.now) c.args.arguments.now) ∙ ap (applied_to c.args.function) (c.in_ok-values.ensures.value ∙ ap Ok (sym c.as_slice.ensures)) in
+    rw all c.of_values.ensures.value
 
 pub decide-evaluate-requires : goal.decide-evaluate-requires
 decide-evaluate-requires g t c κs within =
@@ -66,17 +57,17 @@ decide-evaluate-requires g t c κs within =
 
 pub decide-returns-in_err-given : goal.decide-returns-in_err-given
 decide-returns-in_err-given g t c =
-    let so_far = next_place c.args.stop (value_of (g.C.Context.values_of c.args.scope.now.context.now) c.args.scope.now.definitions.now) _ _ _ _ (walked _ _ _ c.argument-item.is c.loop-argument-test.true) c.loop-argument.invariant in
-    place_stops _ c.args.stop _ _ _ _ c.in_err-given.field-0.0 so_far c.from_residual.ensures.1 c.in_err-given.ensures.value
+    let so_far = next_place c.args.stop (outcome (g.C.Context.values_of c.args.scope.now.context.now) c.args.scope.now.results.now) _ _ _ _ (walked _ _ _ c.argument-item.is c.loop-argument-test.true) c.loop-argument.invariant in
+    place_stops c.args.stop _ _ _ _ c.in_err-given.field-0.0 so_far c.from_residual.ensures.1 c.in_err-given.ensures.value
 
 pub decide-returns-then-truth-stop : goal.decide-returns-then-truth-stop
 decide-returns-then-truth-stop g t c =
-    let so_far = next_place c.args.stop (value_of (g.C.Context.values_of c.args.scope.now.context.now) c.args.scope.now.definitions.now) _ _ _ _ (walked _ _ _ c.argument-item.is c.loop-argument-test.true) c.loop-argument.invariant in
+    let so_far = next_place c.args.stop (outcome (g.C.Context.values_of c.args.scope.now.context.now) c.args.scope.now.results.now) _ _ _ _ (walked _ _ _ c.argument-item.is c.loop-argument-test.true) c.loop-argument.invariant in
     place_decides c.args.stop _ c.in_ok-given.given _ _ _ so_far c.in_ok-given.ensures.value c.truth.ensures c.if-truth-stop.true
 
 pub decide-loop-argument-preserved : goal.decide-loop-argument-preserved
 decide-loop-argument-preserved g t c =
-    let so_far = next_place c.args.stop (value_of (g.C.Context.values_of c.args.scope.now.context.now) c.args.scope.now.definitions.now) _ _ _ _ (walked _ _ _ c.argument-item.is c.loop-argument-test.true) c.loop-argument.invariant in
+    let so_far = next_place c.args.stop (outcome (g.C.Context.values_of c.args.scope.now.context.now) c.args.scope.now.results.now) _ _ _ _ (walked _ _ _ c.argument-item.is c.loop-argument-test.true) c.loop-argument.invariant in
     place_passes c.args.stop _ c.in_ok-given.given _ _ _ so_far c.in_ok-given.ensures.value c.truth.ensures c.if-truth-stop.false
 
 pub all_values-evaluate-requires : goal.all_values-evaluate-requires
@@ -86,20 +77,20 @@ all_values-evaluate-requires g t c κs within =
 
 pub all_values-returns-in_err-given-clause-value : goal.all_values-returns-in_err-given-clause-value
 all_values-returns-in_err-given-clause-value g t c =
-    stop_passed _ c.in_err-given.field-0.0 _ ((value_of (g.C.Context.values_of c.args.scope.now.context.now) c.args.scope.now.definitions.now) c.argument-item.result) _
-    (λ f at. next_fault value_result c.loop-argument.values _ _ _ _ (ap (map (value_of (g.C.Context.values_of c.args.scope.now.context.now) c.args.scope.now.definitions.now)) (walked _ _ _ c.argument-item.is c.loop-argument-test.true)) c.loop-argument.invariant.0 f (ap value_result at))
+    fault_passed c.in_err-given.field-0.0 _ ((outcome (g.C.Context.values_of c.args.scope.now.context.now) c.args.scope.now.results.now) c.argument-item.result) _
+    (λ f at. next_fault value_result c.loop-argument.values _ _ _ _ (ap (map (outcome (g.C.Context.values_of c.args.scope.now.context.now) c.args.scope.now.results.now)) (walked _ _ _ c.argument-item.is c.loop-argument-test.true)) c.loop-argument.invariant.0 f (ap value_result at))
     c.from_residual.ensures.1 c.in_err-given.ensures.value
 
 pub all_values-loop-argument-preserved : goal.all_values-loop-argument-preserved
 all_values-loop-argument-preserved g t c =
     let is_value = value_kind_at kind_of_typed _ _ _ c.requires.values c.argument-item.is c.loop-argument-test.true in
     rw (c.in_ok-push.ensures.ok, c.value_in.ensures) (
-      next_there value_result c.loop-argument.values _ _ _ _ _ (ap (map (value_of (g.C.Context.values_of c.args.scope.now.context.now) c.args.scope.now.definitions.now)) (walked _ _ _ c.argument-item.is c.loop-argument-test.true)) c.loop-argument.invariant.0 (ap value_result c.in_ok-given.ensures.value),
+      next_there value_result c.loop-argument.values _ _ _ _ _ (ap (map (outcome (g.C.Context.values_of c.args.scope.now.context.now) c.args.scope.now.results.now)) (walked _ _ _ c.argument-item.is c.loop-argument-test.true)) c.loop-argument.invariant.0 (ap value_result c.in_ok-given.ensures.value),
       kinds_next kind_of kind_of_typed c.loop-argument.values _ _ _ _ _ (walked _ _ _ c.argument-item.is c.loop-argument-test.true) c.loop-argument.invariant.1 (value_kind _ _ is_value c.in_ok-given.ensures.typed),
     )
 
 pub all_values-returns-clause-value : goal.all_values-returns-clause-value
-all_values-returns-clause-value g t c = no_more value_result c.loop-argument.values _ _ (ap (map (value_of (g.C.Context.values_of c.args.scope.now.context.now) c.args.scope.now.definitions.now)) (drop_all _ _ c.loop-argument-test.false)) c.loop-argument.invariant.0
+all_values-returns-clause-value g t c = no_more value_result c.loop-argument.values _ _ (ap (map (outcome (g.C.Context.values_of c.args.scope.now.context.now) c.args.scope.now.results.now)) (drop_all _ _ c.loop-argument-test.false)) c.loop-argument.invariant.0
 
 pub all_given-evaluate-requires : goal.all_given-evaluate-requires
 all_given-evaluate-requires g t c κs within =
@@ -108,19 +99,19 @@ all_given-evaluate-requires g t c κs within =
 
 pub all_given-returns-in_err-given-clause-value : goal.all_given-returns-in_err-given-clause-value
 all_given-returns-in_err-given-clause-value g t c =
-    stop_passed _ c.in_err-given.field-0.0 _ ((value_of (g.C.Context.values_of c.args.scope.now.context.now) c.args.scope.now.definitions.now) c.argument-item.result) _
-    (λ f at. next_fault (value_of (g.C.Context.values_of c.args.scope.now.context.now) c.args.scope.now.definitions.now) c.loop-argument.all _ _ _ _ (walked _ _ _ c.argument-item.is c.loop-argument-test.true) c.loop-argument.invariant.0 f at)
+    fault_passed c.in_err-given.field-0.0 _ ((outcome (g.C.Context.values_of c.args.scope.now.context.now) c.args.scope.now.results.now) c.argument-item.result) _
+    (λ f at. next_fault (outcome (g.C.Context.values_of c.args.scope.now.context.now) c.args.scope.now.results.now) c.loop-argument.all _ _ _ _ (walked _ _ _ c.argument-item.is c.loop-argument-test.true) c.loop-argument.invariant.0 f at)
     c.from_residual.ensures.1 c.in_err-given.ensures.value
 
 pub all_given-loop-argument-preserved : goal.all_given-loop-argument-preserved
 all_given-loop-argument-preserved g t c =
     rw c.in_ok-push.ensures.ok (
-      next_there (value_of (g.C.Context.values_of c.args.scope.now.context.now) c.args.scope.now.definitions.now) c.loop-argument.all _ _ _ _ _ (walked _ _ _ c.argument-item.is c.loop-argument-test.true) c.loop-argument.invariant.0 c.in_ok-given.ensures.value,
+      next_there (outcome (g.C.Context.values_of c.args.scope.now.context.now) c.args.scope.now.results.now) c.loop-argument.all _ _ _ _ _ (walked _ _ _ c.argument-item.is c.loop-argument-test.true) c.loop-argument.invariant.0 c.in_ok-given.ensures.value,
       kinds_next kind_of_argument kind_of_typed c.loop-argument.all _ _ _ _ _ (walked _ _ _ c.argument-item.is c.loop-argument-test.true) c.loop-argument.invariant.1 c.in_ok-given.ensures.typed,
     )
 
 pub all_given-returns-clause-value : goal.all_given-returns-clause-value
-all_given-returns-clause-value g t c = no_more (value_of (g.C.Context.values_of c.args.scope.now.context.now) c.args.scope.now.definitions.now) c.loop-argument.all _ _ (drop_all _ _ c.loop-argument-test.false) c.loop-argument.invariant.0
+all_given-returns-clause-value g t c = no_more (outcome (g.C.Context.values_of c.args.scope.now.context.now) c.args.scope.now.results.now) c.loop-argument.all _ _ (drop_all _ _ c.loop-argument-test.false) c.loop-argument.invariant.0
 
 pub n_of-n_among-requires : goal.n_of-n_among-requires
 n_of-n_among-requires g t c κs within =
@@ -137,13 +128,13 @@ n_among-evaluate-requires g t c κs within =
 pub n_among-returns-in_err-given : goal.n_among-returns-in_err-given
 n_among-returns-in_err-given g t c =
     let i = c.loop-boolean.invariant in
-    let so_far = i.0 ∙ sym (n_whole (value_of (g.C.Context.values_of c.args.scope.now.context.now) c.args.scope.now.definitions.now) _ _ i.4 i.5) in
-    stop_passed _ c.in_err-given.field-0.0 _ ((value_of (g.C.Context.values_of c.args.scope.now.context.now) c.args.scope.now.definitions.now) c.boolean-item.result) _
-    (λ f at. n_fault (value_of (g.C.Context.values_of c.args.scope.now.context.now) c.args.scope.now.definitions.now) _ _ _ _ _ (walked _ _ _ c.boolean-item.is c.loop-boolean-test.true) so_far f at)
+    let so_far = i.0 ∙ sym (n_whole (outcome (g.C.Context.values_of c.args.scope.now.context.now) c.args.scope.now.results.now) _ _ i.4 i.5) in
+    fault_passed c.in_err-given.field-0.0 _ ((outcome (g.C.Context.values_of c.args.scope.now.context.now) c.args.scope.now.results.now) c.boolean-item.result) _
+    (λ f at. n_fault (outcome (g.C.Context.values_of c.args.scope.now.context.now) c.args.scope.now.results.now) _ _ _ _ _ (walked _ _ _ c.boolean-item.is c.loop-boolean-test.true) so_far f at)
     c.from_residual.ensures.1 c.in_err-given.ensures.value
 
 pub n_among-returns-then-wanted-booleans : goal.n_among-returns-then-wanted-booleans
-n_among-returns-then-wanted-booleans g t c = n_too_few (value_of (g.C.Context.values_of c.args.scope.now.context.now) c.args.scope.now.definitions.now) _ _ c.if-wanted-booleans.true
+n_among-returns-then-wanted-booleans g t c = n_too_few (outcome (g.C.Context.values_of c.args.scope.now.context.now) c.args.scope.now.results.now) _ _ c.if-wanted-booleans.true
 
 pub n_among-returns-then-wanted-eq0 : goal.n_among-returns-then-wanted-eq0
 n_among-returns-then-wanted-eq0 g t c = rw c.if-wanted-eq0.true (n_none _ _)
@@ -153,7 +144,7 @@ n_among-loop-boolean-preserved-then-not-truth g t c =
     let i = c.loop-boolean.invariant in
     let behind = left_behind c.args.booleans.now c.loop-boolean.boolean-index c.loop-boolean.left i.2 (omega (arith, i.1, i.3)) in
     let enough = c.if-left-missing.false in (
-      n_passes (value_of (g.C.Context.values_of c.args.scope.now.context.now) c.args.scope.now.definitions.now) _ _ _ _ c.in_ok-given.given _ (walked _ _ _ c.boolean-item.is c.loop-boolean-test.true) i.0 c.in_ok-given.ensures.value (sym c.if-not-truth.ensures) (omega (arith, behind, enough)),
+      n_passes (outcome (g.C.Context.values_of c.args.scope.now.context.now) c.args.scope.now.results.now) _ _ _ _ c.in_ok-given.given _ (walked _ _ _ c.boolean-item.is c.loop-boolean-test.true) i.0 c.in_ok-given.ensures.value (sym c.if-not-truth.ensures) (omega (arith, behind, enough)),
       i.1,
       omega (arith, i.1, i.2, i.3),
       enough,
@@ -166,7 +157,7 @@ n_among-loop-boolean-preserved g t c =
     let i = c.loop-boolean.invariant in
     let differ = c.if-missing-eq1.false in
     let more : 2 ≤ c.loop-boolean.missing = grind (arith, i.1, differ) in (
-      n_less (value_of (g.C.Context.values_of c.args.scope.now.context.now) c.args.scope.now.definitions.now) c.loop-boolean.missing _ _ _ c.in_ok-given.given _ (walked _ _ _ c.boolean-item.is c.loop-boolean-test.true) i.0 c.in_ok-given.ensures.value (sym c.if-not-truth.ensures) more,
+      n_less (outcome (g.C.Context.values_of c.args.scope.now.context.now) c.args.scope.now.results.now) c.loop-boolean.missing _ _ _ c.in_ok-given.given _ (walked _ _ _ c.boolean-item.is c.loop-boolean-test.true) i.0 c.in_ok-given.ensures.value (sym c.if-not-truth.ensures) more,
       omega (arith, more),
       omega (arith, i.1, i.2, i.3),
       omega (arith, i.3),
@@ -177,13 +168,13 @@ n_among-loop-boolean-preserved g t c =
 pub n_among-returns-then-left-missing : goal.n_among-returns-then-left-missing
 n_among-returns-then-left-missing g t c =
     let i = c.loop-boolean.invariant in
-    let so_far = i.0 ∙ sym (n_whole (value_of (g.C.Context.values_of c.args.scope.now.context.now) c.args.scope.now.definitions.now) _ _ i.4 i.5) in
+    let so_far = i.0 ∙ sym (n_whole (outcome (g.C.Context.values_of c.args.scope.now.context.now) c.args.scope.now.results.now) _ _ i.4 i.5) in
     let behind = left_behind c.args.booleans.now c.loop-boolean.boolean-index c.loop-boolean.left i.2 (omega (arith, i.1, i.3)) in
     let short = c.if-left-missing.true in
-    n_ends (value_of (g.C.Context.values_of c.args.scope.now.context.now) c.args.scope.now.definitions.now) c.loop-boolean.missing _ _ _ c.in_ok-given.given _ (walked _ _ _ c.boolean-item.is c.loop-boolean-test.true) so_far c.in_ok-given.ensures.value (sym c.if-not-truth.ensures) (omega (arith, behind, short))
+    n_ends (outcome (g.C.Context.values_of c.args.scope.now.context.now) c.args.scope.now.results.now) c.loop-boolean.missing _ _ _ c.in_ok-given.given _ (walked _ _ _ c.boolean-item.is c.loop-boolean-test.true) so_far c.in_ok-given.ensures.value (sym c.if-not-truth.ensures) (omega (arith, behind, short))
 
 pub n_among-returns-then-missing-eq1 : goal.n_among-returns-then-missing-eq1
 n_among-returns-then-missing-eq1 g t c =
     let i = c.loop-boolean.invariant in
-    let so_far = i.0 ∙ sym (n_whole (value_of (g.C.Context.values_of c.args.scope.now.context.now) c.args.scope.now.definitions.now) _ _ i.4 i.5) in
-    n_last (value_of (g.C.Context.values_of c.args.scope.now.context.now) c.args.scope.now.definitions.now) c.loop-boolean.missing _ _ _ c.in_ok-given.given _ (walked _ _ _ c.boolean-item.is c.loop-boolean-test.true) so_far c.in_ok-given.ensures.value (sym c.if-not-truth.ensures) c.if-missing-eq1.true
+    let so_far = i.0 ∙ sym (n_whole (outcome (g.C.Context.values_of c.args.scope.now.context.now) c.args.scope.now.results.now) _ _ i.4 i.5) in
+    n_last (outcome (g.C.Context.values_of c.args.scope.now.context.now) c.args.scope.now.results.now) c.loop-boolean.missing _ _ _ c.in_ok-given.given _ (walked _ _ _ c.boolean-item.is c.loop-boolean-test.true) so_far c.in_ok-given.ensures.value (sym c.if-not-truth.ensures) c.if-missing-eq1.true

@@ -5,7 +5,7 @@ use Rattle.xa_bag.proofs.JoiningLemmas.{verdict}
 use Rattle.xa_bag.specs.HigherOrder.{collected}
 use Rattle.xa_bag.specs.ValueOrBag.{kind_of_argument}
 use Rattle.xa_expr.specs.Arguments.{value_result}
-use Rattle.xa_expr.specs.Evaluation.{place, value_of}
+use Rattle.xa_expr.specs.Evaluation.{outcome, place}
 use Rattle.xa_expr.specs.Typed.{kind_of_typed}
 use Rattle.xa_expr.proofs.PlaceLemmas.{n_of_these}
 use denote.Param.Weighed.{most}
@@ -49,13 +49,13 @@ decreases-apply g l = 8 * most the_size l.arguments.now + 4
 -- the rest of the places decide for all
 abbrev pub invariant-decide-loop-argument : goal.invariant-decide-loop-argument
 invariant-decide-loop-argument g l =
-    let v = value_of (g.C.Context.values_of l.scope.context.now) l.scope.definitions.now in
+    let v = outcome (g.C.Context.values_of l.scope.context.now) l.scope.results.now in
     verdict l.stop (map place (map v (drop l.argument-index l.arguments))) ≡ verdict l.stop (map place (map v l.arguments))
 
 -- those that are missing, of the rest, are those that are wanted, of all
 abbrev pub invariant-n_among-loop-boolean : goal.invariant-n_among-loop-boolean
 invariant-n_among-loop-boolean g l =
-    let v = value_of (g.C.Context.values_of l.scope.context.now) l.scope.definitions.now in
+    let v = outcome (g.C.Context.values_of l.scope.context.now) l.scope.results.now in
     (n_of_these v l.missing (drop l.boolean-index l.booleans) ≡ n_of_these v l.wanted l.booleans)
     × (1 ≤ l.missing) × (l.left + l.boolean-index ≡ length l.booleans) × (l.missing ≤ l.left)
     × (1 ≤ l.wanted) × (l.wanted ≤ length l.booleans)
@@ -63,12 +63,12 @@ invariant-n_among-loop-boolean g l =
 -- those that are there, and the rest, are all
 abbrev pub invariant-all_values-loop-argument : goal.invariant-all_values-loop-argument
 invariant-all_values-loop-argument g l =
-    let v = value_of (g.C.Context.values_of l.scope.context.now) l.scope.definitions.now in
+    let v = outcome (g.C.Context.values_of l.scope.context.now) l.scope.results.now in
     (collected (map Ok l.values ++ map value_result (map v (drop l.argument-index l.arguments))) ≡ collected (map value_result (map v l.arguments)))
     × (map kind_of l.values ++ map kind_of_typed (drop l.argument-index l.arguments) ≡ map kind_of_typed l.arguments)
 
 abbrev pub invariant-all_given-loop-argument : goal.invariant-all_given-loop-argument
 invariant-all_given-loop-argument g l =
-    let v = value_of (g.C.Context.values_of l.scope.context.now) l.scope.definitions.now in
+    let v = outcome (g.C.Context.values_of l.scope.context.now) l.scope.results.now in
     (collected (map Ok l.all ++ map v (drop l.argument-index l.arguments)) ≡ collected (map v l.arguments))
     × (map kind_of_argument l.all ++ map kind_of_typed (drop l.argument-index l.arguments) ≡ map kind_of_typed l.arguments)

@@ -1,14 +1,14 @@
-use Rattle.std.proofs.Common.{◌≡◌, ◌≤◌, ◌<◌, [], length}
-use Rattle.xa_expr.specs.Results.{AreRight, Waiting, missing}
+use Rattle.std.proofs.Common.{◌≤◌, ◌+◌, ◌-◌, max, length}
+use Rattle.xa_expr.specs.Results.{AreFirst}
 use Rattle.xa_expr.proofs.working_out.work_out.Given as goal
 
--- what was worked out is right, and once nothing waits it is more than before
-abbrev pub invariant-loop-next : goal.invariant-loop-next
-invariant-loop-next g l =
-    AreRight (g.C.Context.values_of l.context) l.definitions l.results.items
-    × Waiting l.results.items (length l.definitions) l.waiting.items
-    × (missing l.results.items (length l.definitions) ≤ missing l.fn.results.items (length l.definitions))
-    × (l.waiting.items ≡ [] → missing l.results.items (length l.definitions) < missing l.fn.results.items (length l.definitions))
+-- the results are those of the first definitions, and no more than those up to the place were added
+abbrev pub invariant-loop-results : goal.invariant-loop-results
+invariant-loop-results g l =
+    AreFirst (g.C.Context.values_of l.context) l.definitions l.results.items
+    × (length l.fn.results.items ≤ length l.results.items)
+    × (length l.results.items ≤ max (length l.fn.results.items) (l.place + 1))
+    × (length l.results.items ≤ max (length l.fn.results.items) (length l.definitions))
 
-abbrev pub decreases-loop-next : goal.decreases-loop-next
-decreases-loop-next g l = missing l.results.items (length l.definitions)
+abbrev pub decreases-loop-results : goal.decreases-loop-results
+decreases-loop-results g l = length l.definitions - length l.results.items
