@@ -13,3 +13,4 @@ pub mod Rule
 pub mod Status
 pub mod Version
 pub mod Walk
+pub mod DocumentKey

@@ -1,5 +1,5 @@
 //! Obligations and advice: as policies state them, and as a decision carries them.
-ghost use Rattle.std.specs.Prelude.{◌≡◌, [], OnOk};
+ghost use Rattle.std.specs.Prelude.{◌≡◌, [], ◌++◌, OnOk};
 ghost use Rattle.xa_policy.specs.Duties.{and_then, no_duties};
 
 use crate::decision::Effect;
@@ -131,10 +131,22 @@ impl Duties {
         ensures { OnOk result (self.new ≡ and_then self.old other) }
     {
         let Duties {
-            mut obligations,
-            mut advice,
+            obligations,
+            advice,
         } = other;
-        self.obligations.append(&mut obligations)?;
-        self.advice.append(&mut advice)
+        put_behind(&mut self.obligations, obligations)?;
+        put_behind(&mut self.advice, advice)
     }
+}
+
+/// Puts the others behind those that there are. Where there are none yet the others are taken as they are, so that what is carried up
+/// through nested sets isn't moved once more at each of them.
+fn put_behind(duties: &mut Vec<Duty>, mut others: Vec<Duty>) -> Result<(), AllocError>
+    ensures { OnOk result (duties.new.items ≡ duties.old.items ++ others.items) }
+{
+    if duties.is_empty() {
+        *duties = others;
+        return Ok(());
+    }
+    duties.append(&mut others)
 }

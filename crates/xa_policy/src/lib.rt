@@ -6,6 +6,7 @@ mod combination;
 mod combining;
 mod decision;
 mod designators;
+mod document_key;
 mod duty;
 mod evaluated;
 mod evaluation;
@@ -23,6 +24,7 @@ mod version_error;
 pub use combining::{Alg, Child, combine};
 pub use decision::{Decision, Effect};
 pub use designators::{decisions_rest_on_designators, timeless};
+pub use document_key::DocumentKey;
 pub use duty::{
     AttributeAssignment, AttributeAssignmentExpression, Duties, Duty, DutyExpression,
     DutyExpressions,

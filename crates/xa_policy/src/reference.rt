@@ -1,4 +1,7 @@
 //! References to documents: policies and policy sets.
+ghost use Rattle.std.specs.Prelude.{◌≡◌};
+ghost use Rattle.xa_policy.specs.DocumentKey.{place_of_kind};
+
 use crate::pattern::Pattern;
 use crate::version::Version;
 use xa_value::Text;
@@ -10,6 +13,18 @@ pub enum DocumentKind {
     Policy,
     /// A policy set (XACML 3.0, section 5.1).
     PolicySet,
+}
+
+impl DocumentKind {
+    /// Its place in the order of kinds: policies stand before policy sets.
+    pub fn place(self) -> u8
+        ensures { result ≡ place_of_kind self }
+    {
+        match self {
+            DocumentKind::Policy => 0,
+            DocumentKind::PolicySet => 1,
+        }
+    }
 }
 
 /// A reference to a policy or a policy set (XACML 3.0, sections 5.10 and 5.11).
