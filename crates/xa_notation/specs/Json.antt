@@ -1,6 +1,7 @@
 -- How objects, their members and plain values are read from JSON. Of several members of one name the last one counts.
 use Rattle.std.specs.Prelude.{ℕ, zero, suc, ◌+◌, Bool, true, ◌&&◌, bytes_eq, find, List, [], ◌∷◌, Option, Some, None, is_some, Result, Ok, Err, if◌then◌else◌}
 use Rattle.std.specs.List.{list_any}
+use Rattle.std.specs.Option.{ok_or}
 use Rattle.std.specs.Str.{is_utf8}
 use Rattle.serde_json.specs.Data.{Data, Items, no_items, item, Members, no_members, member}
 use Rattle.serde_json.specs.Read.{read}
@@ -15,14 +16,9 @@ use Rattle.xa_notation.specs.declared.tables.Entry.TheVariants.{Required, Option
 use Rattle.xa_notation.specs.declared.tables.Object.{Object}
 use Rattle.xa_notation.specs.Tables.{name_of, member_of, members_of, alternatives_of, first_of}
 
--- what is there, and else the fault
-abbrev pub or_fault : {X : Type 0} → NotationError → Option X → Result X NotationError
-or_fault fault None = Err fault
-or_fault fault (Some x) = Ok x
-
 -- the JSON of a text, which has to be UTF-8 (RFC 8259, section 8.1)
 unfoldable pub json : List ℕ → Result Data NotationError
-json text = if is_utf8 text then or_fault NotJson (read text) else Err NotJson
+json text = if is_utf8 text then ok_or (read text) NotJson else Err NotJson
 
 -- the member, where it is an object and has it
 abbrev pub at : Member → Data → Option Data
@@ -30,7 +26,7 @@ at name d = get (name_of name) d
 
 -- the member, which has to be there
 abbrev pub needed_member : Member → Data → Result Data NotationError
-needed_member name d = or_fault (MissingMember name) (at name d)
+needed_member name d = ok_or (at name d) (MissingMember name)
 
 -- the table has a member of the name
 abbrev pub is_named : List Entry → List ℕ → Bool
@@ -43,7 +39,7 @@ has_only entries (member name d ms) = is_named entries name && has_only entries 
 
 -- it is an object without other members
 abbrev pub knows : List Entry → Data → Result (Unit {0}) NotationError
-knows entries d = or_fault BadValue (as_object d) >>= (λ ms. if has_only entries ms then Ok tt else Err UnknownMember)
+knows entries d = ok_or (as_object d) BadValue >>= (λ ms. if has_only entries ms then Ok tt else Err UnknownMember)
 
 -- a member is there, where it has to be
 abbrev pub has_entry : Entry → Data → Result (Unit {0}) NotationError
@@ -66,7 +62,7 @@ count_of (member name d ms) = 1 + count_of ms
 
 -- how many members an object has
 abbrev pub size_of : Data → Result ℕ NotationError
-size_of d = or_fault BadValue (as_object d) >>= (λ ms. Ok (count_of ms))
+size_of d = ok_or (as_object d) BadValue >>= (λ ms. Ok (count_of ms))
 
 -- which of the alternatives is there
 abbrev pub present_member : List Member → Data → Option Member
@@ -85,15 +81,15 @@ chosen_member choice d = size_of d >>= (λ size. sole_member (first_of choice) s
 
 -- a text
 abbrev pub text : Data → Result (List ℕ) NotationError
-text d = or_fault BadValue (as_str d)
+text d = ok_or (as_str d) BadValue
 
 -- true or false
 abbrev pub flag : Data → Result Bool NotationError
-flag d = or_fault BadValue (as_bool d)
+flag d = ok_or (as_bool d) BadValue
 
 -- an array
 abbrev pub items : Data → Result Items NotationError
-items d = or_fault BadValue (as_array d)
+items d = ok_or (as_array d) BadValue
 
 -- an array that may be left out, and is empty then
 abbrev pub items_if_any : Option Data → Result Items NotationError

@@ -1,7 +1,9 @@
 pub mod Algorithms
+pub mod Bodies
 pub mod Document
 pub mod Json
 pub mod parsing
 pub mod Shape
 pub mod Tables
+pub mod Tokens
 pub mod Typing

@@ -2,6 +2,7 @@
 -- in table order, each with all that is inside it before the next.
 use Rattle.std.specs.Prelude.{ℕ, zero, suc, Bool, ◌&&◌, nat_le, bytes_eq, codes, if◌then◌else◌, List, [], ◌∷◌, ◌++◌, length, Option, Some, None, is_some, option_and_then, Result, Ok, Err}
 use Rattle.std.specs.List.{list_any}
+use Rattle.std.specs.Option.{ok_or}
 use Rattle.serde_json.specs.Data.{Data, null, boolean, number, string, array, object, Items, no_items, item}
 use Rattle.serde_json.specs.Find.{as_object, as_integer}
 use Rattle.xa_value.specs.declared.data_type.DataType.{DataType}
@@ -44,7 +45,7 @@ use Rattle.xa_notation.specs.declared.written.WrittenTree.{WrittenTree}
 use Rattle.xa_notation.specs.declared.written.WrittenTree.TheVariants as tree
 use Rattle.xa_notation.specs.declared.written.WrittenVariable.{WrittenVariable}
 use Rattle.xa_notation.specs.Algorithms.{rule_algorithm_named, policy_algorithm_named}
-use Rattle.xa_notation.specs.Json.{at, chosen_member, each, fits, flag, items, items_if_any, needed_member, not_empty, optional, or_fault, text}
+use Rattle.xa_notation.specs.Json.{at, chosen_member, each, fits, flag, items, items_if_any, needed_member, not_empty, optional, text}
 
 -- ---- plain values
 
@@ -76,14 +77,14 @@ effect d = text d >>= effect_named
 
 -- the algorithm of a policy, and of a policy set
 abbrev pub rule_algorithm : Data → Result Alg NotationError
-rule_algorithm d = text d >>= (λ t. or_fault UnknownAlgorithm (rule_algorithm_named t))
+rule_algorithm d = text d >>= (λ t. ok_or (rule_algorithm_named t) UnknownAlgorithm)
 
 abbrev pub policy_algorithm : Data → Result Alg NotationError
-policy_algorithm d = text d >>= (λ t. or_fault UnknownAlgorithm (policy_algorithm_named t))
+policy_algorithm d = text d >>= (λ t. ok_or (policy_algorithm_named t) UnknownAlgorithm)
 
 -- a data type, by its URI or its name alone
 abbrev pub data_type : Data → Result DataType NotationError
-data_type d = text d >>= (λ t. or_fault BadValue (type_named t))
+data_type d = text d >>= (λ t. ok_or (type_named t) BadValue)
 
 -- a category, by its URI or its shorthand
 abbrev pub category : Data → Result (List ℕ) NotationError
@@ -107,7 +108,7 @@ plain_value (object ms) = None
 
 -- a literal's value, of the type
 abbrev pub literal : DataType → Data → Result Value NotationError
-literal type d = or_fault BadValue (plain_value d) >>= (λ p. or_bad (from_plain type p))
+literal type d = ok_or (plain_value d) BadValue >>= (λ p. or_bad (from_plain type p))
 
 -- a literal (5.31)
 unfoldable pub attribute_value : Data → Result Value NotationError

@@ -1,5 +1,6 @@
--- The notation's tables: the names of members, and which of them each object has. Members are named as in the XML schema of XACML 3.0 (core,
--- section 5); `Children` is this project's name for the ordered content of a policy set.
+-- The notation's tables: the names of members, and which of them each object has. Members of documents are named as in the XML schema of
+-- XACML 3.0 (core, section 5); `Children` is this project's name for the ordered content of a policy set. So are the names of the members of
+-- the bodies that administer a domain, where that schema has none: `Role`, `Token`, `Row` and `Entity`.
 use Rattle.std.specs.Prelude.{ℕ, List, [], ◌∷◌, codes}
 use Rattle.xa_notation.specs.declared.member.Member.{Member}
 use Rattle.xa_notation.specs.declared.member.Member.TheVariants as member
@@ -57,6 +58,10 @@ name_of member.FulfillOn = codes "FulfillOn"
 name_of member.AdviceId = codes "AdviceId"
 name_of member.AppliesTo = codes "AppliesTo"
 name_of member.AttributeAssignmentExpression = codes "AttributeAssignmentExpression"
+name_of member.Role = codes "Role"
+name_of member.Token = codes "Token"
+name_of member.Row = codes "Row"
+name_of member.Entity = codes "Entity"
 
 -- the member that an entry of a table is about
 abbrev pub member_of : Entry → Member
@@ -82,15 +87,21 @@ members_of object.VariableReference = Required member.VariableId ∷ []
 members_of object.ObligationExpression = Required member.ObligationId ∷ Required member.FulfillOn ∷ Optional member.AttributeAssignmentExpression ∷ []
 members_of object.AdviceExpression = Required member.AdviceId ∷ Required member.AppliesTo ∷ Optional member.AttributeAssignmentExpression ∷ []
 members_of object.AttributeAssignmentExpression = Required member.AttributeId ∷ Optional member.Category ∷ Optional member.Issuer ∷ Required member.Expression ∷ []
+members_of object.NewToken = Required member.Role ∷ Required member.Token ∷ []
+members_of object.OldToken = Required member.Token ∷ []
+members_of object.Source = Required member.Row ∷ []
+members_of object.SourceRow = Required member.Category ∷ Required member.Entity ∷ Required member.AttributeId ∷ Required member.DataType ∷ Required member.Value ∷ []
 
 -- the alternatives of which an object has exactly one
 unfoldable pub alternatives_of : Choice → List Member
 alternatives_of choice.Document = member.Policy ∷ member.PolicySet ∷ []
 alternatives_of choice.Child = member.Policy ∷ member.PolicySet ∷ member.PolicyIdReference ∷ member.PolicySetIdReference ∷ []
 alternatives_of choice.Expression = member.AttributeValue ∷ member.AttributeDesignator ∷ member.Apply ∷ member.Function ∷ member.VariableReference ∷ []
+alternatives_of choice.Root = member.PolicyIdReference ∷ member.PolicySetIdReference ∷ []
 
 -- the first of them
 unfoldable pub first_of : Choice → Member
 first_of choice.Document = member.Policy
 first_of choice.Child = member.Policy
 first_of choice.Expression = member.AttributeValue
+first_of choice.Root = member.PolicyIdReference

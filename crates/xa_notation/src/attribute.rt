@@ -57,8 +57,8 @@ fn typed_value(
     }
 }
 
-/// A literal of the type.
-fn literal(
+/// The value of the type that a text, a boolean or a whole number stands for; the fault is BadValue.
+pub fn literal(
     alloc: Global,
     data_type: DataType,
     value: &Json,

@@ -1,12 +1,13 @@
 //! How objects, their members and plain values are read from JSON.
 ghost use Rattle.std.specs.Prelude.{◌≡◌, Result, option_map, MatchResult};
+ghost use Rattle.std.specs.Option.{ok_or};
 ghost use Rattle.std.specs.Result.{result_map_both};
 ghost use Rattle.serde_json.specs.Data.{Data};
 ghost use Rattle.serde_json.specs.Find.{as_object};
 ghost use Rattle.serde_json.specs.View.{view, items_view, members_view};
 ghost use Rattle.xa_value.specs.Gives.{Gives};
 ghost use Rattle.xa_notation.specs.declared.notation_error.NotationError.{NotationError as ReadFault};
-ghost use Rattle.xa_notation.specs.Json.{json, at, needed_member, is_named, has_only, knows, has_entry, has_needed, fits, size_of, or_fault, present_member, sole_member, chosen_member, text, flag, items, items_if_any, not_empty, optional, each};
+ghost use Rattle.xa_notation.specs.Json.{json, at, needed_member, is_named, has_only, knows, has_entry, has_needed, fits, size_of, present_member, sole_member, chosen_member, text, flag, items, items_if_any, not_empty, optional, each};
 ghost use Rattle.xa_notation.specs.parsing.Json.{behind};
 
 use crate::member::Member;
@@ -16,9 +17,9 @@ use serde_json::{Map, Value as Json};
 use std::alloc::Global;
 use xa_value::{Items, OrMemory, Text};
 
-/// The JSON of a text.
+/// The JSON that a text is (RFC 8259); the fault is NotJson. Of several members of one name the last one counts.
 #[tactic(auto, unfolding(crate::specs::Json::json))]
-pub(crate) fn json(alloc: Global, text: &[u8]) -> Result<Json, OrMemory<NotationError>>
+pub fn json(alloc: Global, text: &[u8]) -> Result<Json, OrMemory<NotationError>>
     ensures { MatchResult result (λ v. json text.now ≡ Ok (view v)) (λ e. Gives (Err e) (json text.now)) }
 {
     match Json::from_slice(alloc, text) {
@@ -35,8 +36,8 @@ pub(crate) fn member_at(value: &Json, name: Member) -> Option<&Json>
     value.get(name.name())
 }
 
-/// The member, which has to be there.
-pub(crate) fn needed_member(value: &Json, name: Member) -> Result<&Json, NotationError>
+/// The member, which has to be there; the fault is MissingMember.
+pub fn needed_member(value: &Json, name: Member) -> Result<&Json, NotationError>
     ensures { result_map_both (λ v. view v.now) (λ e. e) result ≡ needed_member name (view value.now) }
 {
     match member_at(value, name) {
@@ -47,7 +48,7 @@ pub(crate) fn needed_member(value: &Json, name: Member) -> Result<&Json, Notatio
 
 /// The members of an object.
 fn members(value: &Json) -> Result<&Map<String, Json>, NotationError>
-    ensures { result_map_both (λ m. members_view m.now.entries) (λ e. e) result ≡ or_fault NotationError.BadValue (as_object (view value.now)) }
+    ensures { result_map_both (λ m. members_view m.now.entries) (λ e. e) result ≡ ok_or (as_object (view value.now)) NotationError.BadValue }
 {
     match value.as_object() {
         Some(members) => Ok(members),
@@ -113,9 +114,10 @@ fn check_needed(value: &Json, entries: &[Entry]) -> Result<(), NotationError>
     Ok(())
 }
 
-/// Nothing, of an object whose members are those of its table.
+/// Nothing, of an object whose members are those of its table. The faults are, in this order, BadValue of what is no object, UnknownMember, and
+/// MissingMember in table order.
 #[tactic(auto, unfolding(crate::specs::Json::fits))]
-pub(crate) fn check_members(value: &Json, object: Object) -> Result<(), NotationError>
+pub fn check_members(value: &Json, object: Object) -> Result<(), NotationError>
     ensures { result ≡ fits object (view value.now) }
 {
     check_known(value, object.members())?;
@@ -147,7 +149,7 @@ fn sole_member(first: Member, count: usize, found: Option<Member>) -> Result<Mem
 
 /// How many members an object has.
 #[tactic(auto, using(crate::proofs::JsonLemmas::count_of_members_view))]
-fn member_count(value: &Json) -> Result<usize, NotationError>
+pub(crate) fn member_count(value: &Json) -> Result<usize, NotationError>
     ensures { result ≡ size_of (view value.now) }
 {
     Ok(members(value)?.len())
@@ -175,8 +177,8 @@ pub(crate) fn text(value: &Json) -> Result<&str, NotationError>
     }
 }
 
-/// A copy of a text.
-pub(crate) fn text_copy(alloc: Global, value: &Json) -> Result<Text, OrMemory<NotationError>>
+/// A copy of a text; the fault is BadValue.
+pub fn text_copy(alloc: Global, value: &Json) -> Result<Text, OrMemory<NotationError>>
     ensures { Gives result (text (view value.now)) }
 {
     Ok(Text::new(alloc, text(value)?)?)
@@ -202,8 +204,8 @@ pub(crate) fn flag(value: &Json) -> Result<bool, NotationError>
     value.as_bool().ok_or(NotationError::BadValue)
 }
 
-/// An array's items.
-pub(crate) fn items(value: &Json) -> Result<&[Json], NotationError>
+/// An array's items; the fault is BadValue.
+pub fn items(value: &Json) -> Result<&[Json], NotationError>
     ensures { result_map_both (λ vs. items_view vs.now) (λ e. e) result ≡ items (view value.now) }
 {
     match value.as_array() {
@@ -234,13 +236,14 @@ pub(crate) fn not_empty(items: &[Json]) -> Result<&[Json], NotationError>
 }
 
 /// What is read from one value.
-pub(crate) trait Reader {
+pub trait Reader {
     /// What it is.
     type Output;
 
     /// What the value stands for.
     ghost reads: { Self → Data → Result Self.Output ReadFault };
 
+    /// What the value stands for, or its first fault.
     fn read(&self, alloc: Global, value: &Json) -> Result<Self::Output, OrMemory<NotationError>>
         ensures { Gives result (reads self.now (view value.now)) };
 }
@@ -262,9 +265,9 @@ where
     Ok(items)
 }
 
-/// Each of the values, read in order.
+/// Each of the values, read in order; the fault is the first of them.
 #[tactic(auto, using(crate::proofs::JsonLemmas::behind_none))]
-pub(crate) fn each<R: Reader>(
+pub fn each<R: Reader>(
     alloc: Global,
     reader: &R,
     values: &[Json],

@@ -1,4 +1,4 @@
-//! Policy documents, read from their JSON notation (XACML 3.0, core, section 5).
+//! Policy documents, read from their JSON notation (XACML 3.0, core, section 5), and the bodies of messages that administer a domain.
 #![tactic(auto)]
 
 mod algorithm;
@@ -12,9 +12,13 @@ mod notation_error;
 mod plain_members;
 mod policy;
 mod policy_set;
+pub mod reading;
+mod root_body;
 mod rule;
 mod tables;
 mod target;
+mod token;
+mod token_body;
 mod typing;
 mod variables;
 mod written;
@@ -22,3 +26,6 @@ mod written;
 pub use document::{Document, Parsed};
 pub use member::Member;
 pub use notation_error::NotationError;
+pub use root_body::read_root;
+pub use token::{Role, is_token};
+pub use token_body::{NewToken, read_new_token, read_old_token};

@@ -1,10 +1,11 @@
-//! The names of the members of documents.
+//! The names of the members of documents and bodies.
 ghost use Rattle.std.specs.Prelude.{◌≡◌, Some};
 ghost use Rattle.xa_notation.specs.Tables.{name_of};
 
 use std::fmt;
 
-/// A member of an object in a document, named as in the XML schema of XACML 3.0 (core, section 5).
+/// A member of an object in a document, or in the body of a message that administers a domain. Those of documents are named as in the XML
+/// schema of XACML 3.0 (core, section 5).
 #[derive(Clone, Copy, Debug, PartialEq, Eq)]
 pub enum Member {
     /// `Policy`.
@@ -97,6 +98,14 @@ pub enum Member {
     AppliesTo,
     /// `AttributeAssignmentExpression`.
     AttributeAssignmentExpression,
+    /// What a token may do: this project's own name.
+    Role,
+    /// A token: this project's own name.
+    Token,
+    /// The rows of the source of attributes, in order: this project's own name.
+    Row,
+    /// Whose attribute a row of the source holds: this project's own name.
+    Entity,
 }
 
 impl Member {
@@ -151,6 +160,10 @@ impl Member {
             Member::AdviceId => "AdviceId",
             Member::AppliesTo => "AppliesTo",
             Member::AttributeAssignmentExpression => "AttributeAssignmentExpression",
+            Member::Role => "Role",
+            Member::Token => "Token",
+            Member::Row => "Row",
+            Member::Entity => "Entity",
         }
     }
 }

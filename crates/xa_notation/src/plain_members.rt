@@ -106,7 +106,8 @@ pub(crate) fn policy_algorithm(value: &Json) -> Result<Alg, NotationError>
     }
 }
 
-pub(crate) fn data_type(value: &Json) -> Result<DataType, NotationError>
+/// A data type, by its URI or its name alone; the fault is BadValue.
+pub fn data_type(value: &Json) -> Result<DataType, NotationError>
     ensures { result ≡ data_type (view value.now) }
 {
     match DataType::from_uri(text(value)?) {
@@ -115,8 +116,8 @@ pub(crate) fn data_type(value: &Json) -> Result<DataType, NotationError>
     }
 }
 
-/// A copy of the URI of a category.
-pub(crate) fn category(alloc: Global, value: &Json) -> Result<Text, OrMemory<NotationError>>
+/// A copy of the URI of a category, of which the value is the shorthand or any text; the fault is BadValue.
+pub fn category(alloc: Global, value: &Json) -> Result<Text, OrMemory<NotationError>>
     ensures { Gives result (category (view value.now)) }
 {
     Ok(Text::new(alloc, category_uri(text(value)?))?)

@@ -28,7 +28,7 @@ const MAX_SETS: usize = 8;
 
 /// A reference (XACML 3.0, core, sections 5.10 and 5.11).
 #[tactic(auto, unfolding(crate::specs::Shape::reference))]
-fn reference(
+pub(crate) fn reference(
     alloc: Global,
     kind: DocumentKind,
     value: &Json,

@@ -26,7 +26,7 @@ impl Entry {
 
 /// An object with a table of members.
 #[derive(Clone, Copy, Debug, PartialEq, Eq)]
-pub(crate) enum Object {
+pub enum Object {
     /// A policy (core, section 5.14).
     Policy,
     /// A policy set (core, section 5.1).
@@ -61,6 +61,14 @@ pub(crate) enum Object {
     AdviceExpression,
     /// An attribute that an obligation or a piece of advice carries (core, section 5.41).
     AttributeAssignmentExpression,
+    /// A token that a domain gets, with its role.
+    NewToken,
+    /// A token that a domain loses.
+    OldToken,
+    /// A source of attributes.
+    Source,
+    /// A row of a source of attributes.
+    SourceRow,
 }
 
 impl Object {
@@ -152,6 +160,19 @@ impl Object {
                 Entry::Optional(Member::Issuer),
                 Entry::Required(Member::Expression),
             ],
+            Object::NewToken => &[
+                Entry::Required(Member::Role),
+                Entry::Required(Member::Token),
+            ],
+            Object::OldToken => &[Entry::Required(Member::Token)],
+            Object::Source => &[Entry::Required(Member::Row)],
+            Object::SourceRow => &[
+                Entry::Required(Member::Category),
+                Entry::Required(Member::Entity),
+                Entry::Required(Member::AttributeId),
+                Entry::Required(Member::DataType),
+                Entry::Required(Member::Value),
+            ],
         }
     }
 }
@@ -165,6 +186,8 @@ pub(crate) enum Choice {
     Child,
     /// An expression (core, section 5.25).
     Expression,
+    /// The root of a domain's policies, where there is one.
+    Root,
 }
 
 impl Choice {
@@ -188,6 +211,7 @@ impl Choice {
                 Member::Function,
                 Member::VariableReference,
             ],
+            Choice::Root => &[Member::PolicyIdReference, Member::PolicySetIdReference],
         }
     }
 
@@ -200,6 +224,7 @@ impl Choice {
             Choice::Document => Member::Policy,
             Choice::Child => Member::Policy,
             Choice::Expression => Member::AttributeValue,
+            Choice::Root => Member::PolicyIdReference,
         }
     }
 }
