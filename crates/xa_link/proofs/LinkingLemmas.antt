@@ -1,30 +1,29 @@
 -- How far a reference can lead, which ends the recursion.
-use Rattle.std.proofs.Common.{◌≡◌, ℕ, zero, suc, ◌+◌, ◌-◌, ◌*◌, ◌≤◌, List, [], ◌∷◌, map, Option, Some, None, refl, sym, ap, ◌∙◌, arith}
-use Rattle.std.specs.Prelude.{slice_get}
-use Rattle.std.specs.Slice.{IsItemAt}
-use Rattle.std.proofs.lemmas.Option.{slice_get_past, slice_get-get_or}
+use Rattle.std.proofs.Common.{◌≡◌, ℕ, zero, suc, ◌+◌, ◌-◌, ◌*◌, ◌≤◌, List, [], ◌∷◌, map, Option, Some, None, Ok, refl, sym, ap, subst, ◌∙◌, arith}
+use Rattle.std.specs.Prelude.{option_map, slice_get}
 use denote.Param.Weighed.{most}
-use denote.Ref.{Bor}
 use Rattle.xa_policy.specs.declared.linked.Linked.{Linked}
-use Rattle.xa_policy.specs.declared.linked.Linked.TheVariants.{Policy, PolicySet}
+use Rattle.xa_policy.specs.declared.linked.Linked.TheVariants.{Unresolved, PolicySet}
 use Rattle.xa_policy.specs.declared.reference.Reference.{Reference}
 use Rattle.xa_policy.specs.Policy.{PolicyParts, SetParts}
-use Rattle.xa_notation.specs.declared.document.Document.{Document}
-use Rattle.xa_notation.specs.declared.document.Document.TheFolds.{fold-roll-Document}
-use Rattle.xa_notation.specs.declared.document.Document.TheOpen.{Document-F}
-use Rattle.xa_notation.specs.declared.document.Document.TheVariants as document
-use Rattle.xa_notation.proofs.document.Document.TheLaws.{the_size}
+use Rattle.xa_value.specs.Gives.{◌>>=◌}
 use Rattle.xa_link.specs.declared.active.Active.{Active}
-use Rattle.xa_link.specs.Linking.{replaced, replaced_in, replaced_step, tree_within}
+use Rattle.xa_link.specs.declared.placed.Placed.{Placed}
+use Rattle.xa_link.specs.declared.placed.Placed.TheVariants as part
+use Rattle.xa_link.proofs.placed.Placed.TheLaws.{the_size}
+use Rattle.xa_link.specs.Linking.{link, replaced_in, tree_within}
+use Rattle.xa_link.specs.Placed.{led_within, linked, placed, placed_at}
+use Rattle.xa_link.specs.Resolution.{resolve}
 use Rattle.xa_link.specs.Room.{fitted, policy_fitted, set_fitted}
-use Rattle.xa_link.proofs.RoomLemmas.{policy_fits, set_fits}
+use Rattle.xa_link.proofs.PlacedLemmas.{document_is, led_is, linked_policy, linked_set, linked_reference}
+use Rattle.xa_link.proofs.RoomLemmas.{link_is, policy_fits, set_fits}
 
 -- how deep a document is, and how deep the deepest one
-abbrev pub depth_of : Active → ℕ
-depth_of a = the_size a.document.document
+abbrev pub depth_of : List Active → Active → ℕ
+depth_of all a = the_size (placed (resolve all) a.document.document)
 
 abbrev pub greatest_depth : List Active → ℕ
-greatest_depth active = most depth_of active
+greatest_depth all = most (depth_of all) all
 
 -- how far a reference can lead, where this many more documents may stand on the path
 abbrev pub further : List Active → ℕ → ℕ
@@ -37,51 +36,65 @@ one_further active zero some = absurd (some refl)
 one_further active (suc more) some = ap (λ n. further active n + (4 * greatest_depth active + 4)) (let same : more ≡ suc more - 1 = omega arith in same)
 
 -- no document is deeper than the deepest
-pub at_greatest : (active : List Active) (place : ℕ) (found : Active) → slice_get active place ≡ Some found → depth_of found ≤ greatest_depth active
-at_greatest [] place found is = absurd (let f : None ≡ Some found = is in cc)
-at_greatest (a ∷ rest) zero found is =
+at_most : (all active : List Active) (place : ℕ) (found : Active) → slice_get active place ≡ Some found → depth_of all found ≤ most (depth_of all) active
+at_most all [] place found is = absurd (let f : None ≡ Some found = is in cc)
+at_most all (a ∷ rest) zero found is =
     let same : a ≡ found = (let f : Some a ≡ Some found = is in cc) in
-    let depth : depth_of a ≡ depth_of found = ap depth_of same in
+    let depth : depth_of all a ≡ depth_of all found = ap (depth_of all) same in
     omega (arith, depth)
-at_greatest (a ∷ rest) (suc place) found is =
-    let below : depth_of found ≤ greatest_depth rest = at_greatest rest place found is in
+at_most all (a ∷ rest) (suc place) found is =
+    let below : depth_of all found ≤ most (depth_of all) rest = at_most all rest place found is in
     omega (arith, below)
 
--- what stands at a place, as it is looked up
-pub none_at : (active : List Active) (place : ℕ) (looked_up : Option (Bor Active)) → IsItemAt active place looked_up → looked_up ≡ None → slice_get active place ≡ None
-none_at active place None at is = slice_get_past active place at.3
-none_at active place (Some found) at is = absurd (let f : Some found ≡ None = is in cc)
+pub at_greatest : (active : List Active) (place : ℕ) (document : Placed) → placed_at active place ≡ Some document → the_size document ≤ greatest_depth active
+at_greatest active place document is = by_found (slice_get active place) refl
+  where
+    by_found : (o : Option Active) → slice_get active place ≡ o → the_size document ≤ greatest_depth active
+    by_found None at = absurd (let f : None ≡ Some document = sym (ap (λ o. option_map (λ (a : Active). placed (resolve active) a.document.document) o) at) ∙ is in cc)
+    by_found (Some a) at =
+        let there : Some (placed (resolve active) a.document.document) ≡ Some document = sym (ap (λ o. option_map (λ (a : Active). placed (resolve active) a.document.document) o) at) ∙ is in
+        let same : placed (resolve active) a.document.document ≡ document = cc in
+        let below : depth_of active a ≤ greatest_depth active = at_most active active place a at in
+        let depth : depth_of active a ≡ the_size document = ap the_size same in
+        omega (arith, below, depth)
 
-pub found_at : (active : List Active) (place : ℕ) (looked_up : Option (Bor Active)) (found : Bor Active) → IsItemAt active place looked_up → looked_up ≡ Some found → slice_get active place ≡ Some found.now
-found_at active place None found at is = absurd (let f : None ≡ Some found = is in cc)
-found_at active place (Some other) found at is =
-    let same : other ≡ found = (let f : Some other ≡ Some found = is in cc) in
-    slice_get-get_or active place other.now at.3.0 ∙ ap Some (sym at.1 ∙ ap (λ (b : Bor Active). b.now) same)
+-- nothing stands at the place
+pub none_at : (active : List Active) (place : ℕ) (more : ℕ) (path : List ℕ) → placed_at active place ≡ None
+    → replaced_in (tree_within more active path) (slice_get active place) ≡ Unresolved
+none_at active place more path is = by_found (slice_get active place) refl
+  where
+    by_found : (o : Option Active) → slice_get active place ≡ o → replaced_in (tree_within more active path) (slice_get active place) ≡ Unresolved
+    by_found None at = ap (replaced_in (tree_within more active path)) at
+    by_found (Some a) at = absurd (let f : Some (placed (resolve active) a.document.document) ≡ None = sym (ap (λ o. option_map (λ (a : Active). placed (resolve active) a.document.document) o) at) ∙ is in cc)
 
 -- the tree of the document that was found, where the path is longer by its place
-pub replaced_where_found : (more : ℕ) (active : List Active) (place : ℕ) (path longer : List ℕ) (found : Active) (document : Document)
-    → slice_get active place ≡ Some found → longer ≡ place ∷ path → document ≡ found.document.document
-    → replaced (tree_within more active longer) document ≡ replaced_in (tree_within more active (place ∷ path)) (slice_get active place)
-replaced_where_found more active place path longer found document at is_longer is =
-    ap (λ p. replaced (tree_within more active p) document) is_longer
-    ∙ ap (replaced (tree_within more active (place ∷ path))) is
-    ∙ ap (replaced_in (tree_within more active (place ∷ path))) (sym at)
+pub linked_where_found : (more : ℕ) (active : List Active) (place : ℕ) (path longer : List ℕ) (document : Placed) → placed_at active place ≡ Some document → longer ≡ path
+    → linked (led_within more active longer) document ≡ replaced_in (tree_within more active path) (slice_get active place)
+linked_where_found more active place path longer document is is_longer =
+    ap (λ p. linked (led_within more active p) document) is_longer ∙ by_found (slice_get active place) refl
+  where
+    by_found : (o : Option Active) → slice_get active place ≡ o → linked (led_within more active path) document ≡ replaced_in (tree_within more active path) (slice_get active place)
+    by_found None at = absurd (let f : None ≡ Some document = sym (ap (λ o. option_map (λ (a : Active). placed (resolve active) a.document.document) o) at) ∙ is in cc)
+    by_found (Some a) at =
+        let there : Some (placed (resolve active) a.document.document) ≡ Some document = sym (ap (λ o. option_map (λ (a : Active). placed (resolve active) a.document.document) o) at) ∙ is in
+        let same : placed (resolve active) a.document.document ≡ document = cc in
+        ap (linked (led_within more active path)) (sym same) ∙ document_is more active path a.document.document
+        ∙ sym (ap (replaced_in (tree_within more active path)) at)
 
--- the parts of a document in which each reference is replaced
-pub replaced_policy : (below : Reference → Linked) (policy : PolicyParts) → replaced below (document.Policy policy) ≡ Policy policy
-replaced_policy below policy = ap (replaced below) (sym (document.rolls-Policy policy)) ∙ fold-roll-Document Linked (replaced_step below) (Document-F.Policy policy)
+-- a policy, a policy set and a reference, for which there is room
+pub policy_fits_linked : (below : Option ℕ → Linked) (room : ℕ) (policy : PolicyParts) (d : Placed) → d ≡ part.Policy policy
+    → policy_fitted room policy ≡ fitted room (linked below d)
+policy_fits_linked below room policy d is = policy_fits room policy ∙ ap (fitted room) (sym (ap (linked below) is ∙ linked_policy below policy))
 
-pub replaced_set : (below : Reference → Linked) (set : SetParts) (children : List Document)
-    → replaced below (document.PolicySet set children) ≡ PolicySet set (map (replaced below) children)
-replaced_set below set children =
-    ap (replaced below) (sym (document.rolls-PolicySet set children)) ∙ fold-roll-Document Linked (replaced_step below) (Document-F.PolicySet set children)
+pub set_fits_linked : (below : Option ℕ → Linked) (room : ℕ) (set : SetParts) (children : List Placed) (d : Placed) → d ≡ part.PolicySet set children
+    → set_fitted room set (map (linked below) children) ≡ fitted room (linked below d)
+set_fits_linked below room set children d is =
+    set_fits room set (map (linked below) children) ∙ ap (fitted room) (sym (ap (linked below) is ∙ linked_set below set children))
 
--- a policy, and a policy set, for which there is room
-pub policy_fits_replaced : (below : Reference → Linked) (room : ℕ) (policy : PolicyParts) (d : Document) → d ≡ document.Policy policy
-    → policy_fitted room policy ≡ fitted room (replaced below d)
-policy_fits_replaced below room policy d is = policy_fits room policy ∙ ap (fitted room) (sym (ap (replaced below) is ∙ replaced_policy below policy))
+pub reference_fits_linked : (below : Option ℕ → Linked) (room : ℕ) (place : Option ℕ) (d : Placed) → d ≡ part.Reference place
+    → fitted room (below place) ≡ fitted room (linked below d)
+reference_fits_linked below room place d is = ap (fitted room) (sym (ap (linked below) is ∙ linked_reference below place))
 
-pub set_fits_replaced : (below : Reference → Linked) (room : ℕ) (set : SetParts) (children : List Document) (d : Document) → d ≡ document.PolicySet set children
-    → set_fitted room set (map (replaced below) children) ≡ fitted room (replaced below d)
-set_fits_replaced below room set children d is =
-    set_fits room set (map (replaced below) children) ∙ ap (fitted room) (sym (ap (replaced below) is ∙ replaced_set below set children))
+-- the whole tree has room for 1,000
+pub link_is_led : (active : List Active) (reference : Reference) → link active reference ≡ (fitted 1_000 (led_within 17 active [] (resolve active reference)) >>= (λ f. Ok f.part))
+link_is_led active reference = link_is active reference ∙ ap (λ t. fitted 1_000 t >>= (λ f. Ok f.part)) (led_is 17 active [] reference)

@@ -1,10 +1,12 @@
 -- The room that trees need, and the room that they leave.
-use Rattle.std.proofs.Common.{◌≡◌, ℕ, zero, suc, ◌+◌, ◌-◌, ◌<◌, ◌≤◌, Bool, true, false, ◌⊎◌, inl, inr, List, [], ◌∷◌, ◌++◌, map, refl, sym, ap, ◌∙◌, append_assoc, arith}
+use Rattle.std.proofs.Common.{◌≡◌, ℕ, zero, suc, ◌+◌, ◌-◌, ◌<◌, ◌≤◌, Bool, true, false, ◌⊎◌, inl, inr, List, [], ◌∷◌, ◌++◌, map, drop, refl, sym, ap, ◌∙◌, append_assoc, arith}
 use Rattle.std.specs.Prelude.{nat_lt, if◌then◌else◌, sum, Result, Ok, Err}
 use Rattle.std.proofs.lemmas.Bool.{cases_lt, le-ltb}
 use Rattle.std.proofs.lemmas.List.Sums.{sum_by-cons}
 use borrow.Author.Tests.{lt-ltb}
-use Rattle.xa_value.specs.Gives.{◌>>=◌}
+use Rattle.xa_value.specs.declared.or_memory.OrMemory.{OrMemory}
+use Rattle.xa_value.specs.declared.or_memory.OrMemory.TheVariants.{Memory, Error}
+use Rattle.xa_value.specs.Gives.{Gives, ◌>>=◌}
 use Rattle.xa_policy.specs.declared.linked.Linked.{Linked}
 use Rattle.xa_policy.specs.declared.linked.Linked.TheFolds.{fold-roll-Linked}
 use Rattle.xa_policy.specs.declared.linked.Linked.TheOpen.{Linked-F}
@@ -113,3 +115,20 @@ part_of false linked left = refl
 pub link_is : (active : List Active) (reference : Reference) → link active reference ≡ (fitted 1_000 (tree active reference) >>= (λ f. Ok f.part))
 unfolding fitted link
 link_is active reference = part_of (nat_lt 1_000 (size (tree active reference))) (tree active reference) (1_000 - size (tree active reference))
+
+-- at one more part: where it has no room, and where it has
+module _ {X : Type 0} (before : List Linked) (room whole i : ℕ) (child : X → Linked) (xs : List X) (x : X) (next : drop i xs ≡ x ∷ drop (i + 1) xs)
+    (so_far : fitted_behind before (all_fitted room (map child (drop i xs))) ≡ all_fitted whole (map child xs)) where
+  abbrev after_one : Result (Fitted Linked) LinkError → Result (Fitted (List Linked)) LinkError
+  after_one first =
+      fitted_behind before (first >>= (λ one. all_fitted one.room (map child (drop (i + 1) xs)) >>= (λ others. Ok (record { part = one.part ∷ others.part; room = others.room }))))
+
+  from_one : after_one (fitted room (child x)) ≡ all_fitted whole (map child xs)
+  from_one = sym (ap (λ ys. fitted_behind before (all_fitted room (map child ys))) next) ∙ so_far
+
+  pub no_room_behind : (error : OrMemory LinkError) → Gives (Err error) (fitted room (child x)) → Gives (Err error) (all_fitted whole (map child xs))
+  no_room_behind Memory given = tt
+  no_room_behind (Error e) given = sym from_one ∙ ap after_one given
+
+  pub room_behind : (one : Fitted Linked) → fitted room (child x) ≡ Ok one → fitted_behind (before ++ one.part ∷ []) (all_fitted one.room (map child (drop (i + 1) xs))) ≡ all_fitted whole (map child xs)
+  room_behind one given = sym (part_behind before one (all_fitted one.room (map child (drop (i + 1) xs)))) ∙ sym (ap after_one given) ∙ from_one

@@ -1,3 +1,5 @@
 pub mod Linking
+pub mod Order
+pub mod Placed
 pub mod Resolution
 pub mod Room

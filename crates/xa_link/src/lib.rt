@@ -2,9 +2,13 @@
 #![tactic(auto)]
 
 mod active;
+mod index;
 mod link_error;
 mod linking;
+mod order;
+mod placed;
 mod resolution;
+mod resolved;
 mod room;
 
 pub use active::Active;

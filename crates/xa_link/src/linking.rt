@@ -1,17 +1,19 @@
 //! The tree that a reference leads to.
-ghost use Rattle.std.specs.Prelude.{◌≡◌, ◌∷◌, map, slice_get, Some, None, IfOk};
+ghost use Rattle.std.specs.Prelude.{◌≡◌, ◌∷◌, map, slice_get, None, IfOk};
 ghost use Rattle.xa_value.specs.Gives.{Gives, answered};
 ghost use Rattle.xa_policy.specs.declared.linked.Linked.TheVariants.{Unresolved};
-ghost use Rattle.xa_link.specs.Linking.{link, next_place, replaced, replaced_in, tree_within};
+ghost use Rattle.xa_link.specs.Linking.{link, replaced_in, tree_within, unless_circular};
+ghost use Rattle.xa_link.specs.Placed.{led_within, linked};
 ghost use Rattle.xa_link.specs.Resolution.{resolve};
 ghost use Rattle.xa_link.specs.Room.{all_fitted, fitted, policy_fitted, set_fitted};
 
 use crate::active::Active;
 use crate::link_error::LinkError;
+use crate::placed::Placed;
 use crate::resolution::resolve;
+use crate::resolved::Resolved;
 use crate::room::{Fitted, less_one};
 use std::alloc::{AllocError, Global};
-use xa_notation::Document;
 use xa_policy::{Linked, Policy, PolicySet, Reference};
 use xa_value::{Items, OrMemory, Shared};
 
@@ -22,8 +24,9 @@ const MAX_DOCUMENTS: usize = 17;
 const MAX_SIZE: usize = 1_000;
 
 /// The tree that the reference leads to among the active documents (XACML 3.0, core, sections 5.10, 5.11 and 7.15). A reference that
-/// leads to no document, back to one on its path, or past 17 documents is left unresolved. Rules are shared with the documents.
-#[tactic(auto, using(crate::proofs::RoomLemmas::link_is))]
+/// leads to no document, back to one on its path, or past 17 documents is left unresolved. Rules are shared with the documents. The
+/// references of a document are resolved once, however often the tree holds it; then a reference in the tree costs its leaf alone.
+#[tactic(auto, using(crate::proofs::LinkingLemmas::link_is_led))]
 pub fn link(
     alloc: Global,
     active: &[Active],
@@ -32,15 +35,17 @@ pub fn link(
     ensures value { Gives result (link active.now root.now) }
     ensures exact { resolve active.now root.now ≡ None → result ≡ answered (link active.now root.now) }
 {
-    let fitted = linked_reference(alloc, active, &[], MAX_DOCUMENTS, root, MAX_SIZE)?;
+    let mut resolved = Resolved::new(alloc, active);
+    let place = resolve(active, root);
+    let fitted = linked_reference(alloc, &mut resolved, &[], MAX_DOCUMENTS, place, MAX_SIZE)?;
     Ok(fitted.part)
 }
 
-/// The place of the document for which the reference stands, where it isn't on the path already.
-fn next_place(active: &[Active], path: &[usize], reference: &Reference) -> Option<usize>
-    ensures { result ≡ next_place active.now path.now reference.now }
+/// The place, where it isn't on the path already.
+fn unless_circular(path: &[usize], place: Option<usize>) -> Option<usize>
+    ensures { result ≡ unless_circular path.now place }
 {
-    let place = resolve(active, reference)?;
+    let place = place?;
     if path.contains(&place) {
         return None;
     }
@@ -84,88 +89,90 @@ fn linked_policy(
     })
 }
 
-/// What the reference leads to at the end of the path, where at most `more` documents may be added to it.
+/// What a reference leads to that stands for the document at the place, at the end of the path, where at most `more` documents may be
+/// added to it.
 #[cycle(linking)]
-#[tactic(auto, unfolding(crate::specs::Linking::tree_within), using(crate::proofs::RoomLemmas::unresolved_fits))]
-fn linked_reference(
+#[tactic(auto, using(crate::proofs::RoomLemmas::unresolved_fits))]
+fn linked_reference<'a>(
     alloc: Global,
-    active: &[Active],
+    resolved: &mut Resolved<'a>,
     path: &[usize],
     more: usize,
-    reference: &Reference,
+    place: Option<usize>,
     room: usize,
 ) -> Result<Fitted<Linked>, OrMemory<LinkError>>
-    ensures value { Gives result (fitted room (tree_within more active.now path.now reference.now)) }
-    ensures exact { next_place active.now path.now reference.now ≡ None → result ≡ answered (fitted room (tree_within more active.now path.now reference.now)) }
+    ensures value { Gives result (fitted room (led_within more resolved.old path.now place)) }
+    ensures exact { unless_circular path.now place ≡ None → result ≡ answered (fitted room (led_within more resolved.old path.now place)) }
+    ensures kept { resolved.new ≡ resolved.old }
 {
     if more == 0 {
         return Ok(leaf(room));
     }
-    match next_place(active, path, reference) {
-        Some(place) => linked_active(alloc, active, path, more - 1, place, room),
+    match unless_circular(path, place) {
+        Some(place) => linked_active(alloc, resolved, path, more - 1, place, room),
         None => Ok(leaf(room)),
     }
 }
 
 /// The tree of the active document at the place, which is one more on the path.
 #[cycle(linking)]
-fn linked_active(
+fn linked_active<'a>(
     alloc: Global,
-    active: &[Active],
+    resolved: &mut Resolved<'a>,
     path: &[usize],
     more: usize,
     place: usize,
     room: usize,
 ) -> Result<Fitted<Linked>, OrMemory<LinkError>>
-    ensures { Gives result (fitted room (replaced_in (tree_within more active.now (place ∷ path.now)) (slice_get active.now place))) }
+    ensures value { Gives result (fitted room (replaced_in (tree_within more resolved.old (place ∷ path.now)) (slice_get resolved.old place))) }
+    ensures kept { resolved.new ≡ resolved.old }
 {
-    let Some(found) = active.get(place) else {
+    let Some(document) = resolved.document_at(alloc, place)? else {
         return Ok(leaf(room));
     };
     let path = longer_path(alloc, place, path)?;
-    let document = found.document.get().document();
-    linked_document(alloc, active, path.as_slice(), more, document, room)
+    linked_document(alloc, resolved, path.as_slice(), more, document.get(), room)
 }
 
 /// The document, or a part of one, in which each reference is replaced.
 #[cycle(linking)]
-fn linked_document(
+fn linked_document<'a>(
     alloc: Global,
-    active: &[Active],
+    resolved: &mut Resolved<'a>,
     path: &[usize],
     more: usize,
-    document: &Document,
+    document: &Placed,
     room: usize,
 ) -> Result<Fitted<Linked>, OrMemory<LinkError>>
-    ensures { Gives result (fitted room (replaced (tree_within more active.now path.now) document.now)) }
+    ensures value { Gives result (fitted room (linked (led_within more resolved.old path.now) document.now)) }
+    ensures kept { resolved.new ≡ resolved.old }
 {
     match document {
-        Document::Policy(policy) => linked_policy(policy, room),
-        Document::PolicySet(set, children) => {
-            linked_set(alloc, active, path, more, set, children.as_slice(), room)
+        Placed::Policy(policy) => linked_policy(policy, room),
+        Placed::PolicySet(set, children) => {
+            linked_set(alloc, resolved, path, more, set, children.as_slice(), room)
         }
-        Document::Reference(reference) => {
-            linked_reference(alloc, active, path, more, reference, room)
-        }
+        Placed::Reference(place) => linked_reference(alloc, resolved, path, more, *place, room),
     }
 }
 
 /// The policy set, shared with its document, and its children.
 #[cycle(linking)]
 #[tactic(auto, unfolding(crate::specs::Room::set_fitted))]
-fn linked_set(
+fn linked_set<'a>(
     alloc: Global,
-    active: &[Active],
+    resolved: &mut Resolved<'a>,
     path: &[usize],
     more: usize,
     set: &Shared<PolicySet>,
-    children: &[Document],
+    children: &[Placed],
     room: usize,
 ) -> Result<Fitted<Linked>, OrMemory<LinkError>>
-    ensures { Gives result (set_fitted room set.now (map (replaced (tree_within more active.now path.now)) children.now)) }
+    ensures value { Gives result (set_fitted room set.now (map (linked (led_within more resolved.old path.now)) children.now)) }
+    ensures kept { resolved.new ≡ resolved.old }
 {
     let room = less_one(room)?;
-    let children = linked_children(alloc, active, path, more, children, room)?;
+    let children = linked_children(alloc, resolved, path, more, children, room)?;
     Ok(Fitted {
         part: Linked::PolicySet(set.clone()?, children.part),
         room: children.room,
@@ -175,22 +182,23 @@ fn linked_set(
 /// The children in which each reference is replaced, one after another.
 #[cycle(linking)]
 #[tactic(auto, using(crate::proofs::RoomLemmas::part_behind))]
-fn linked_children(
+fn linked_children<'a>(
     alloc: Global,
-    active: &[Active],
+    resolved: &mut Resolved<'a>,
     path: &[usize],
     more: usize,
-    children: &[Document],
+    children: &[Placed],
     room: usize,
 ) -> Result<Fitted<Items<Linked>>, OrMemory<LinkError>>
-    ensures { Gives result (all_fitted room (map (replaced (tree_within more active.now path.now)) children.now)) }
+    ensures value { Gives result (all_fitted room (map (linked (led_within more resolved.old path.now)) children.now)) }
+    ensures kept { resolved.new ≡ resolved.old }
 {
-    let mut linked = Items::new(alloc);
+    let mut parts = Items::from_vec(Vec::with_capacity(alloc, children.len())?);
     let mut room = room;
     for child in children {
-        let fitted = linked_document(alloc, active, path, more, child, room)?;
-        linked.push(fitted.part)?;
+        let fitted = linked_document(alloc, resolved, path, more, child, room)?;
+        parts.push(fitted.part)?;
         room = fitted.room;
     }
-    Ok(Fitted { part: linked, room })
+    Ok(Fitted { part: parts, room })
 }

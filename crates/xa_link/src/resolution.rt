@@ -37,7 +37,7 @@ fn fits_pattern(pattern: &Option<Pattern>, version: &Version) -> bool
     }
 }
 
-fn not_before(earliest: &Option<Version>, version: &Version) -> bool
+pub(crate) fn not_before(earliest: &Option<Version>, version: &Version) -> bool
     ensures { result ≡ not_before earliest.now version.now }
 {
     match earliest {
@@ -46,7 +46,7 @@ fn not_before(earliest: &Option<Version>, version: &Version) -> bool
     }
 }
 
-fn not_after(latest: &Option<Version>, version: &Version) -> bool
+pub(crate) fn not_after(latest: &Option<Version>, version: &Version) -> bool
     ensures { result ≡ not_after latest.now version.now }
 {
     match latest {
@@ -56,7 +56,7 @@ fn not_after(latest: &Option<Version>, version: &Version) -> bool
 }
 
 /// Whether the document is of that kind and id, and of a version that will do.
-fn fits(reference: &Reference, document: &Active) -> bool
+pub(crate) fn fits(reference: &Reference, document: &Active) -> bool
     ensures { result ≡ fits reference.now document.now }
 {
     reference.kind == document.kind

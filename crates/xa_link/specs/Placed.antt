@@ -1,0 +1,62 @@
+-- Documents whose references have given way to places, and the trees that they are linked to (cited by contracts of private functions alone).
+use Rattle.std.specs.Prelude.{◌≡◌, ℕ, zero, suc, ◌==◌, if◌then◌else◌, List, [], ◌∷◌, Option, Some, None, option_map, slice_get}
+use Rattle.xa_policy.specs.declared.linked.Linked.{Linked}
+use Rattle.xa_policy.specs.declared.linked.Linked.TheVariants.{Unresolved, Policy, PolicySet}
+use Rattle.xa_policy.specs.declared.reference.Reference.{Reference}
+use Rattle.xa_notation.specs.declared.document.Document.{Document, fold-Document}
+use Rattle.xa_notation.specs.declared.document.Document.TheOpen.{Document-F}
+use Rattle.xa_link.specs.declared.active.Active.{Active}
+use Rattle.xa_link.specs.declared.placed.Placed.{Placed, fold-Placed}
+use Rattle.xa_link.specs.declared.placed.Placed.TheOpen.{Placed-F}
+use Rattle.xa_link.specs.declared.placed.Placed.TheVariants as part
+use Rattle.xa_link.specs.Linking.{tree_at, tree_within, unless_circular}
+use Rattle.xa_link.specs.Resolution.{resolve}
+
+-- a document, or a part of one, with the places that its references stand for
+abbrev pub placed_step : (Reference → Option ℕ) → Document-F Placed → Placed
+placed_step place_of (Document-F.Policy policy) = part.Policy policy
+placed_step place_of (Document-F.PolicySet set children) = part.PolicySet set children
+placed_step place_of (Document-F.Reference reference) = part.Reference (place_of reference)
+
+abbrev pub placed : (Reference → Option ℕ) → Document → Placed
+placed place_of = fold-Document Placed (placed_step place_of)
+
+-- the active document at a place
+abbrev pub placed_at : List Active → ℕ → Option Placed
+placed_at active place = option_map (λ (document : Active). placed (resolve active) document.document.document) (slice_get active place)
+
+-- its tree, by what the places lead to
+abbrev pub linked_step : (Option ℕ → Linked) → Placed-F Linked → Linked
+linked_step below (Placed-F.Policy policy) = Policy policy
+linked_step below (Placed-F.PolicySet set children) = PolicySet set children
+linked_step below (Placed-F.Reference place) = below place
+
+abbrev pub linked : (Option ℕ → Linked) → Placed → Linked
+linked below = fold-Placed Linked (linked_step below)
+
+-- what a reference leads to that stands for the document at a place
+abbrev pub led_within : ℕ → List Active → List ℕ → Option ℕ → Linked
+led_within zero active path place = Unresolved
+led_within (suc more) active path place =
+    tree_at (λ next. tree_within more active (next ∷ path)) active (unless_circular path place)
+
+-- a place that is there and has something
+abbrev pub flattened : {X : Type 0} → Option (Option X) → Option X
+flattened (Some o) = o
+flattened None = None
+
+-- what is held for a place
+abbrev pub held : List (Option Placed) → ℕ → Option Placed
+held documents place = flattened (slice_get documents place)
+
+-- what is held is what stands there
+abbrev pub AreRight : List Active → List (Option Placed) → Type 0
+AreRight active documents = (place : ℕ) (document : Placed) → held documents place ≡ Some document → placed_at active place ≡ Some document
+
+-- the same is held
+abbrev pub SamePlaced : List (Option Placed) → List (Option Placed) → Type 0
+SamePlaced documents after = (place : ℕ) → held after place ≡ held documents place
+
+-- and this one beside
+abbrev pub HasPlaced : List (Option Placed) → ℕ → Placed → List (Option Placed) → Type 0
+HasPlaced documents place document after = (other : ℕ) → held after other ≡ (if other == place then Some document else held documents other)

@@ -1,0 +1,165 @@
+//! The order in which documents are looked for: those of one kind and id together, the newest of them first.
+ghost use Rattle.std.specs.Prelude.{◌≡◌, slice_get, IfOk};
+ghost use Rattle.std.specs.Option.{option_cmp};
+ghost use Rattle.xa_link.specs.Order.{IsOrder, by_pattern, by_version, compare_documents, compare_names, compare_places, is_after_pattern, is_before_pattern, is_too_early, is_too_late, name, name_of, rank, standing, standing_of};
+
+use crate::active::Active;
+use crate::resolution::{not_after, not_before};
+use std::alloc::{AllocError, Global};
+use std::cmp::Ordering;
+use xa_policy::{DocumentKind, Pattern, PatternPart, Reference, Version};
+use xa_value::Text;
+
+/// The number by which kinds are put in order.
+fn rank(kind: DocumentKind) -> usize
+    ensures { result ≡ rank kind }
+{
+    match kind {
+        DocumentKind::Policy => 0,
+        DocumentKind::PolicySet => 1,
+    }
+}
+
+/// How a kind and an id compare with others.
+fn compare_names(
+    kind: DocumentKind,
+    id: &Text,
+    other_kind: DocumentKind,
+    other_id: &Text,
+) -> Ordering
+    ensures { result ≡ compare_names (name kind id.now) (name other_kind other_id.now) }
+{
+    rank(kind)
+        .cmp(&rank(other_kind))
+        .then_with(|| id.cmp(other_id))
+}
+
+/// How a document compares with another: by kind, id and version.
+fn compare_documents(first: &Active, second: &Active) -> Ordering
+    ensures { result ≡ compare_documents first.now second.now }
+{
+    compare_names(first.kind, &first.id, second.kind, &second.id).then_with(|| first
+        .version
+        .cmp(&second.version))
+}
+
+/// How the documents at two places compare, where there are any.
+fn compare_found(active: &[Active], first: usize, second: usize) -> Ordering
+    ensures { result ≡ option_cmp compare_documents (slice_get active.now first) (slice_get active.now second) }
+{
+    let Some(document) = active.get(first) else {
+        return if second < active.len() {
+            Ordering::Less
+        } else {
+            Ordering::Equal
+        };
+    };
+    match active.get(second) {
+        Some(other) => compare_documents(document, other),
+        None => Ordering::Greater,
+    }
+}
+
+/// How the place of a document compares with that of another: the greater document comes first, and of like ones the first.
+fn compare_places(active: &[Active], first: usize, second: usize) -> Ordering
+    ensures { result ≡ compare_places active.now first second }
+{
+    compare_found(active, second, first).then_with(|| first.cmp(&second))
+}
+
+/// The places of the documents in that order. Documents that are in it already, or the other way round, take one comparison each, and
+/// else n documents some n log n.
+pub(crate) fn places_in_order(alloc: Global, active: &[Active]) -> Result<Vec<usize>, AllocError>
+    ensures { IfOk result (λ order. IsOrder active.now order.items) }
+{
+    let mut order: Vec<usize> = (0..active.len()).collect(alloc)?;
+    order.sort_by(|first, second| compare_places(active, *first, *second))?;
+    Ok(order)
+}
+
+/// How the version compares with the numbers that the pattern begins with.
+fn by_pattern(parts: &[PatternPart], numbers: &[u32]) -> Ordering
+    ensures { result ≡ by_pattern parts.now numbers.now }
+{
+    let [part, more_parts @ ..] = parts else {
+        return if numbers.is_empty() {
+            Ordering::Equal
+        } else {
+            Ordering::Greater
+        };
+    };
+    let PatternPart::Number(wanted) = part else {
+        return Ordering::Equal;
+    };
+    let [number, more_numbers @ ..] = numbers else {
+        return Ordering::Less;
+    };
+    match number.cmp(wanted) {
+        Ordering::Less => Ordering::Less,
+        Ordering::Equal => by_pattern(more_parts, more_numbers),
+        Ordering::Greater => Ordering::Greater,
+    }
+}
+
+fn is_after_pattern(pattern: &Option<Pattern>, version: &Version) -> bool
+    ensures { result ≡ is_after_pattern pattern.now version.now }
+{
+    match pattern {
+        Some(pattern) => by_pattern(pattern.parts(), version.numbers()).is_gt(),
+        None => false,
+    }
+}
+
+fn is_before_pattern(pattern: &Option<Pattern>, version: &Version) -> bool
+    ensures { result ≡ is_before_pattern pattern.now version.now }
+{
+    match pattern {
+        Some(pattern) => by_pattern(pattern.parts(), version.numbers()).is_lt(),
+        None => false,
+    }
+}
+
+/// Whether neither the version nor a later one will do.
+fn is_too_late(reference: &Reference, version: &Version) -> bool
+    ensures { result ≡ is_too_late reference.now version.now }
+{
+    is_after_pattern(&reference.version, version) || !not_after(&reference.latest, version)
+}
+
+/// Whether neither the version nor an earlier one will do.
+fn is_too_early(reference: &Reference, version: &Version) -> bool
+    ensures { result ≡ is_too_early reference.now version.now }
+{
+    is_before_pattern(&reference.version, version) || !not_before(&reference.earliest, version)
+}
+
+/// Whether the version stands before those that may do, among them or behind them, where the newest is the first.
+fn by_version(reference: &Reference, version: &Version) -> Ordering
+    ensures { result ≡ by_version reference.now version.now }
+{
+    if is_too_late(reference, version) {
+        Ordering::Less
+    } else if is_too_early(reference, version) {
+        Ordering::Greater
+    } else {
+        Ordering::Equal
+    }
+}
+
+fn standing_of(reference: &Reference, document: &Active) -> Ordering
+    ensures { result ≡ standing_of reference.now document.now }
+{
+    compare_names(reference.kind, &reference.id, document.kind, &document.id).then_with(
+        || by_version(reference, &document.version),
+    )
+}
+
+/// Whether the document at the place stands before those that may fit the reference, among them or behind them.
+pub(crate) fn standing(active: &[Active], place: usize, reference: &Reference) -> Ordering
+    ensures { result ≡ standing reference.now (slice_get active.now place) }
+{
+    match active.get(place) {
+        Some(document) => standing_of(reference, document),
+        None => Ordering::Greater,
+    }
+}

@@ -1,0 +1,105 @@
+//! Active documents whose references are resolved, each document's when it is first wanted, and once at most.
+ghost use Rattle.std.specs.Prelude.{◌≡◌, ◌<◌, length, slice_get, option_map, Some, None, IfOk, OnErr};
+ghost use Rattle.xa_link.specs.Placed.{AreRight, HasPlaced, SamePlaced, held, placed_at};
+ghost use Rattle.xa_link.specs.Resolution.{resolve};
+
+use crate::active::Active;
+use crate::index::Index;
+use crate::placed::{Placed, with_places};
+use std::alloc::{AllocError, Global};
+use std::marker::Model;
+use xa_value::Shared;
+
+/// Active documents, and those of them whose references have been resolved, by their places. Clauses see the documents.
+#[derive(Debug, Drop)]
+pub(crate) struct Resolved<'a> {
+    index: Index<'a>,
+    documents: Vec<Option<Shared<Placed>>>,
+}
+
+impl<'a> Model for Resolved<'a> {
+    ghost use Rattle.std.specs.Prelude.{List};
+    ghost use Rattle.std.specs.Coded.{codes};
+    ghost use Rattle.xa_notation.specs.contracts.document.Document as document;
+    ghost use Rattle.xa_link.specs.declared.active.Active.{Active as Document};
+    ghost use Rattle.xa_link.specs.Placed.{AreRight};
+
+    ghost Value = { List Document };
+
+    ghost coded = { Prim.hlevel (codes, document.the_row.coded) };
+
+    ghost view = { λ r. r.index };
+
+    ghost invariant = { λ r. AreRight r.index r.documents.items };
+}
+
+/// Makes the place one of those that documents may be at.
+fn make_room(documents: &mut Vec<Option<Shared<Placed>>>, place: usize) -> Result<(), AllocError>
+    ensures same { SamePlaced documents.old.items documents.new.items }
+    ensures room { IfOk result (λ _. place < length documents.new.items) }
+{
+    while documents.len() <= place {
+        documents.push(None)?;
+    }
+    Ok(())
+}
+
+/// Keeps the document at the place.
+fn keep(
+    documents: &mut Vec<Option<Shared<Placed>>>,
+    place: usize,
+    document: Shared<Placed>,
+) -> Result<(), AllocError>
+    ensures ok { IfOk result (λ _. HasPlaced documents.old.items place document documents.new.items) }
+    ensures err { OnErr result (SamePlaced documents.old.items documents.new.items) }
+{
+    make_room(documents, place)?;
+    documents[place] = Some(document);
+    Ok(())
+}
+
+/// The document at the place, where its references have been resolved.
+fn kept(
+    documents: &[Option<Shared<Placed>>],
+    place: usize,
+) -> Result<Option<Shared<Placed>>, AllocError>
+    ensures { IfOk result (λ document. document ≡ held documents.now place) }
+{
+    match documents.get(place) {
+        Some(Some(document)) => Ok(Some(document.clone()?)),
+        _ => Ok(None),
+    }
+}
+
+impl<'a> Resolved<'a> {
+    /// No reference is resolved yet, and nothing allocated.
+    pub(crate) fn new(alloc: Global, active: &'a [Active]) -> Resolved<'a>
+        ensures { result ≡ active.now }
+    {
+        Resolved {
+            index: Index::new(alloc, active),
+            documents: Vec::new(alloc),
+        }
+    }
+
+    /// The document at the place, with places for its references.
+    pub(crate) fn document_at(
+        &mut self,
+        alloc: Global,
+        place: usize,
+    ) -> Result<Option<Shared<Placed>>, AllocError>
+        ensures value { IfOk result (λ document. document ≡ placed_at self.old place) }
+        ensures kept { self.new ≡ self.old }
+    {
+        if let Some(document) = kept(self.documents.as_slice(), place)? {
+            return Ok(Some(document));
+        }
+        let Some(found) = self.index.active().get(place) else {
+            return Ok(None);
+        };
+        let document = with_places(alloc, &mut self.index, found.document.get().document())?;
+        let document = Shared::new(alloc, document)?;
+        keep(&mut self.documents, place, document.clone()?)?;
+        Ok(Some(document))
+    }
+}
