@@ -13,10 +13,12 @@ mod key;
 mod keys;
 mod naming;
 mod order;
+mod rows;
 mod source;
 mod source_row;
 mod view;
 
 pub use decision::{Decided, answer, decide};
+pub use rows::{read_rows, write_rows};
 pub use source_row::SourceRow;
 pub use view::View;

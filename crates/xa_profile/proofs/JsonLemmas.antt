@@ -1,6 +1,7 @@
 -- The JSON of a text, and lists of what was read, one behind the other.
 use Rattle.std.proofs.Common.{◌≡◌, ℕ, List, [], ◌++◌, refl, ap, sym, ◌∙◌, append_assoc}
 use Rattle.std.specs.Prelude.{Bool, true, false, Some, None, Result, Ok, Err, if◌then◌else◌}
+use Rattle.std.specs.Option.{ok_or}
 use Rattle.std.specs.Str.{IsUtf8, is_utf8}
 use Rattle.std.proofs.lemmas.Str.{IsUtf8-from_is_utf8, is_utf8-from_IsUtf8}
 use Rattle.serde_json.specs.Data.{Data}
@@ -8,7 +9,7 @@ use Rattle.serde_json.specs.Read.{read}
 use Rattle.xa_value.specs.Gives.{◌>>=◌}
 use Rattle.xa_profile.specs.declared.request_error.RequestError.{RequestError}
 use Rattle.xa_profile.specs.declared.request_error.RequestError.TheVariants.{NotJson}
-use Rattle.xa_profile.specs.Json.{json, or_not_json}
+use Rattle.xa_profile.specs.Json.{json}
 use Rattle.xa_profile.specs.parsing.Json.{behind}
 
 -- a text in UTF-8 that reads as a value is that JSON
@@ -20,7 +21,7 @@ json_of_read text d utf8 reads = rw (is_utf8-from_IsUtf8 text utf8, reads) refl
 pub no_json : (text : List ℕ) → (IsUtf8 text → read text ≡ None) → json text ≡ Err NotJson
 unfolding json
 no_json text none = by_test (is_utf8 text) refl where
-  by_test : (b : Bool) → is_utf8 text ≡ b → (if b then or_not_json (read text) else Err NotJson) ≡ Err NotJson
+  by_test : (b : Bool) → is_utf8 text ≡ b → (if b then ok_or (read text) NotJson else Err NotJson) ≡ Err NotJson
   by_test true e = rw (none (IsUtf8-from_is_utf8 text e)) refl
   by_test false e = refl
 

@@ -1,6 +1,7 @@
 -- Attributes of a request and their values (JSON Profile of XACML 3.0, sections 3.3 and 4.2).
 use Rattle.std.specs.Prelude.{ℕ, Bool, true, List, [], ◌∷◌, Option, Some, None, option_and_then, option_map, Result, Ok, Err}
 use Rattle.std.specs.List.{list_all}
+use Rattle.std.specs.Option.{ok_or}
 use Rattle.serde_json.specs.Data.{Data, null, boolean, number, string, array, object, Items}
 use Rattle.serde_json.specs.Find.{as_str, as_integer}
 use Rattle.xa_value.specs.Gives.{◌>>=◌}
@@ -17,7 +18,7 @@ use Rattle.xa_profile.specs.declared.attribute.Attribute.{Attribute}
 use Rattle.xa_profile.specs.declared.member.Member.TheVariants as member
 use Rattle.xa_profile.specs.declared.request_error.RequestError.{RequestError}
 use Rattle.xa_profile.specs.declared.request_error.RequestError.TheVariants.{NotProfile}
-use Rattle.xa_profile.specs.Json.{at, or_not_profile, holds_or_not_profile, needed_text, optional_text, flag, items_if_any, each}
+use Rattle.xa_profile.specs.Json.{at, holds_or_not_profile, needed_text, optional_text, flag, items_if_any, each}
 
 -- a text, a boolean or a whole number
 abbrev pub plain_of : Data → Option (Plain (List ℕ))
@@ -30,7 +31,7 @@ plain_of (object ms) = None
 
 -- the data type of its JSON type, which it has where none is named
 unfoldable pub kind : Data → Result DataType RequestError
-kind d = or_not_profile (option_map type_of_plain (plain_of d))
+kind d = ok_or (option_map type_of_plain (plain_of d)) NotProfile
 
 -- all values of an attribute are of one JSON type
 abbrev pub is_one_kind : List DataType → Bool
@@ -49,7 +50,7 @@ or_not_of_type (Ok v) = Ok v
 or_not_of_type (Err e) = Err NotProfile
 
 unfoldable pub value : DataType → Data → Result Value RequestError
-value t d = or_not_profile (plain_of d) >>= λ p. or_not_of_type (from_plain t p)
+value t d = ok_or (plain_of d) NotProfile >>= λ p. or_not_of_type (from_plain t p)
 
 -- the bag of the values
 abbrev pub bag : DataType → Items → Result Contents RequestError
@@ -65,7 +66,7 @@ values named ds = do
 -- the type that an attribute names
 abbrev pub named_type : Option Data → Result (Option DataType) RequestError
 named_type None = Ok None
-named_type (Some d) = or_not_profile (option_and_then type_named (as_str d)) >>= λ t. Ok (Some t)
+named_type (Some d) = ok_or (option_and_then type_named (as_str d)) NotProfile >>= λ t. Ok (Some t)
 
 -- an attribute. It may be left out of the result, where nothing else is said
 unfoldable pub attribute : Data → Result Attribute RequestError

@@ -1,6 +1,7 @@
 -- How the members of a request are read from JSON (JSON Profile of XACML 3.0, section 3). A member that the profile doesn't know
 -- is not looked at, and of several members of one name the last one counts.
 use Rattle.std.specs.Prelude.{ℕ, Bool, false, List, [], ◌∷◌, Option, Some, None, is_some, Result, Ok, Err, if◌then◌else◌}
+use Rattle.std.specs.Option.{ok_or}
 use Rattle.std.specs.Str.{is_utf8}
 use Rattle.serde_json.specs.Data.{Data, null, boolean, number, string, array, object, Items, no_items, item}
 use Rattle.serde_json.specs.Read.{read}
@@ -11,22 +12,13 @@ use Rattle.xa_profile.specs.declared.request_error.RequestError.{RequestError}
 use Rattle.xa_profile.specs.declared.request_error.RequestError.TheVariants.{NotJson, NotProfile}
 use Rattle.xa_profile.specs.Member.{name_of}
 
--- what is there, where it has to be
-abbrev pub or_not_json : {X : Type 0} → Option X → Result X RequestError
-or_not_json None = Err NotJson
-or_not_json (Some x) = Ok x
-
-abbrev pub or_not_profile : {X : Type 0} → Option X → Result X RequestError
-or_not_profile None = Err NotProfile
-or_not_profile (Some x) = Ok x
-
 -- nothing more, where it holds
 abbrev pub holds_or_not_profile : Bool → Result (Unit {0}) RequestError
 holds_or_not_profile b = if b then Ok tt else Err NotProfile
 
 -- the JSON of a text, which has to be UTF-8 (RFC 8259, section 8.1)
 unfoldable pub json : List ℕ → Result Data RequestError
-json text = if is_utf8 text then or_not_json (read text) else Err NotJson
+json text = if is_utf8 text then ok_or (read text) NotJson else Err NotJson
 
 -- the member of that name, if it is an object and has it
 abbrev pub at : Member → Data → Option Data
@@ -34,7 +26,7 @@ at name d = get (name_of name) d
 
 -- a text
 abbrev pub text : Data → Result (List ℕ) RequestError
-text d = or_not_profile (as_str d)
+text d = ok_or (as_str d) NotProfile
 
 -- an object
 abbrev pub check_object : Data → Result (Unit {0}) RequestError
@@ -53,7 +45,7 @@ optional_text (Some d) = text d >>= λ t. Ok (Some t)
 -- true or false, and false where it is left out
 abbrev pub flag : Option Data → Result Bool RequestError
 flag None = Ok false
-flag (Some d) = or_not_profile (as_bool d)
+flag (Some d) = ok_or (as_bool d) NotProfile
 
 -- an array's items; anything else stands for an array of itself (section 3.2)
 abbrev pub items_or_itself : Data → Items

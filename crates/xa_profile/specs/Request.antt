@@ -1,6 +1,7 @@
 -- Requests (JSON Profile of XACML 3.0, section 4; Multiple Decision Profile of XACML 3.0, section 2), by cases on their JSON.
 use Rattle.std.specs.Prelude.{ℕ, Bool, false, not, ◌||◌, List, [], ◌∷◌, ◌++◌, Option, Some, None, bytes_eq, Result, Ok}
 use Rattle.std.specs.List.{list_any, filter_map}
+use Rattle.std.specs.Option.{ok_or}
 use Rattle.serde_json.specs.Data.{Data}
 use Rattle.serde_json.specs.Find.{get}
 use Rattle.xa_value.specs.Category.{shorthand_of, uri_of, all_categories, category_uri}
@@ -11,7 +12,8 @@ use Rattle.xa_profile.specs.declared.category_object.CategoryObject.{CategoryObj
 use Rattle.xa_profile.specs.declared.member.Member.TheVariants as member
 use Rattle.xa_profile.specs.declared.request.Request.{Request}
 use Rattle.xa_profile.specs.declared.request_error.RequestError.{RequestError}
-use Rattle.xa_profile.specs.Json.{json, at, or_not_profile, holds_or_not_profile, check_object, text, needed_text, optional_text, flag, items_or_itself, items_if_any, each}
+use Rattle.xa_profile.specs.declared.request_error.RequestError.TheVariants.{NotProfile}
+use Rattle.xa_profile.specs.Json.{json, at, holds_or_not_profile, check_object, text, needed_text, optional_text, flag, items_or_itself, items_if_any, each}
 
 -- the category that an object names
 abbrev pub named_category : Option Data → Result (List ℕ) RequestError
@@ -58,13 +60,13 @@ ids_of objects = filter_map (λ object. object.id) objects
 -- one of the several requests of MultiRequests: the ids of its objects
 unfoldable pub reference : Data → Result (List (List ℕ)) RequestError
 reference d = do
-  ids ← or_not_profile (at member.ReferenceId d)
+  ids ← ok_or (at member.ReferenceId d) NotProfile
   each text (items_or_itself ids)
 
 -- all of them
 unfoldable pub references_in : Data → Result (List (List (List ℕ))) RequestError
 references_in d = do
-  references ← or_not_profile (at member.RequestReference d)
+  references ← ok_or (at member.RequestReference d) NotProfile
   each reference (items_or_itself references)
 
 -- none, where MultiRequests is left out
@@ -87,5 +89,5 @@ request d = do
 unfoldable pub request_of : List ℕ → Result Request RequestError
 request_of body = do
   d ← json body
-  member ← or_not_profile (at member.Request d)
+  member ← ok_or (at member.Request d) NotProfile
   request member

@@ -1,13 +1,14 @@
 //! Attributes of a request.
 ghost use Rattle.std.specs.Prelude.{◌≡◌, option_map, option_and_then, IfOk};
 ghost use Rattle.std.specs.List.{list_all};
+ghost use Rattle.std.specs.Option.{ok_or};
 ghost use Rattle.serde_json.specs.Find.{as_str};
 ghost use Rattle.serde_json.specs.View.{view, items_view};
 ghost use Rattle.xa_value.specs.Gives.{Gives};
 ghost use Rattle.xa_value.specs.Order.{type_of};
 ghost use Rattle.xa_value.specs.Types.{type_named, same_type};
 ghost use Rattle.xa_profile.specs.Attribute.{plain_of, kind, is_one_kind, type_of_values, named_type, bag, value, values, attribute};
-ghost use Rattle.xa_profile.specs.Json.{or_not_profile, items_if_any, each};
+ghost use Rattle.xa_profile.specs.Json.{items_if_any, each};
 
 use crate::member::Member;
 use crate::reading::{
@@ -107,7 +108,7 @@ fn named_type(value: Option<&Json>) -> Result<Option<DataType>, RequestError>
 
 /// The type that a text names.
 fn data_type(value: &Json) -> Result<DataType, RequestError>
-    ensures { result ≡ or_not_profile (option_and_then type_named (as_str (view value.now))) }
+    ensures { result ≡ ok_or (option_and_then type_named (as_str (view value.now))) RequestError.NotProfile }
 {
     match value.as_str() {
         Some(name) => DataType::from_uri(name).ok_or(RequestError::NotProfile),

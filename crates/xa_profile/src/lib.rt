@@ -22,3 +22,4 @@ pub use individuals::{Individual, TooMany};
 pub use request::Request;
 pub use request_error::RequestError;
 pub use response::{Response, ResultObject};
+pub use writing::{ToJson, write_items};

@@ -11,17 +11,18 @@ use json::Writer;
 use std::alloc::{AllocError, Global};
 use xa_value::{DataType, Text, Value};
 
-/// What is written as JSON.
-pub(crate) trait ToJson {
+/// What is written as JSON (RFC 8259), token by token, with no tree of JSON before.
+pub trait ToJson {
     /// The JSON that it is.
     ghost written: { Self → Data };
 
+    /// Writes it as the next value. Without memory the writer may hold a part of it.
     fn write(&self, alloc: Global, out: &mut Writer) -> Result<(), AllocError>
         ensures { Appends result out.old out.new (tokens (written self.now)) };
 }
 
-/// Writes an array.
-pub(crate) fn write_items<T: ToJson>(
+/// Writes an array of the items, as the next value. Without memory the writer may hold a part of it.
+pub fn write_items<T: ToJson>(
     alloc: Global,
     out: &mut Writer,
     items: &[T],
