@@ -1,0 +1,5 @@
+pub mod FinMapLemmas
+pub mod KeptLemmas
+pub mod OrderLemmas
+pub mod PlainLemmas
+pub mod TreeLemmas

@@ -1,0 +1,32 @@
+-- What a call of a keeper did.
+use Rattle.std.specs.Prelude.{◌≡◌, ◌<◌, ◌+◌, ◌^◌, ◌⊎◌, ℕ, List, Result, Ok, Err}
+use Rattle.xa_records.specs.declared.refusal.ChangeError.{ChangeError}
+use Rattle.xa_records.specs.declared.refusal.ChangeError.TheVariants.{Failed, Refused}
+use Rattle.xa_records.specs.declared.refusal.Failure.{Failure}
+use Rattle.xa_records.specs.Changes.{Change}
+use Rattle.xa_records.specs.Kept.{Kept, IsMade, state_of}
+
+-- it has read what is there, or failed; and nothing has changed
+abbrev pub Reads : {X : Type 0} → Kept → Kept → Result X Failure → X → Type 0
+Reads old new (Ok x) there = (x ≡ there) × (new ≡ old)
+Reads old new (Err failure) there = new ≡ old
+
+-- it has made the change, or it refuses as the change does, or it failed; and then nothing has changed
+abbrev pub Changes : {X : Type 0} → Kept → Kept → Result X ChangeError → List ℕ → Change → Type 0
+Changes old new (Ok x) name change = IsMade change name old new
+Changes old new (Err (Refused e)) name change = (change (state_of name old) ≡ Err e) × (new ≡ old)
+Changes old new (Err (Failed failure)) name change = new ≡ old
+
+-- what a crash may leave after a call that was to make a change: what it might have left before, or all with that change made
+abbrev pub Leaves : (Kept → Type 0) → (Kept → Type 0) → Kept → List ℕ → Change → Type 0
+Leaves before after old name change = (left : Kept) → after left → before left ⊎ IsMade change name old left
+
+-- where the call has given an answer, also that the change is refused
+abbrev pub IfAnswered : {X : Type 0} → Result X ChangeError → Type 0 → Type 0
+IfAnswered (Ok x) claim = claim
+IfAnswered (Err (Refused e)) claim = claim
+IfAnswered (Err (Failed failure)) claim = Unit {0}
+
+-- one more, or as many as can be counted
+abbrev pub Rises : ℕ → ℕ → Type 0
+Rises old new = (old < new) ⊎ ((old + 1 ≡ 2 ^ 64) × (new ≡ old))

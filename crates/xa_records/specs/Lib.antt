@@ -1,0 +1,7 @@
+pub mod DomainName
+pub mod DomainState
+pub mod Changes
+pub mod Kept
+pub mod Readings
+pub mod Keeper
+pub mod Plain

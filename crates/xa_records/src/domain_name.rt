@@ -1,0 +1,43 @@
+//! Which texts are names of domains.
+ghost use Rattle.std.specs.Prelude.{◌≡◌};
+ghost use Rattle.std.specs.List.{list_all};
+ghost use Rattle.xa_records.specs.DomainName.{begins_name, continues_name, is_domain_name};
+
+/// The most bytes that may follow the first of a domain's name, which each path of the domain repeats.
+const MAX_LATER_BYTES: usize = 31;
+
+/// A small letter or a digit.
+fn begins_name(byte: u8) -> bool
+    ensures { result ≡ begins_name byte }
+{
+    byte.is_ascii_lowercase() || byte.is_ascii_digit()
+}
+
+/// A small letter, a digit or a dash.
+fn continues_name(byte: u8) -> bool
+    ensures { result ≡ continues_name byte }
+{
+    begins_name(byte) || byte == b'-'
+}
+
+fn all_continue(bytes: &[u8]) -> bool
+    ensures { result ≡ list_all continues_name bytes.now }
+{
+    bytes.iter().all(|byte| continues_name(*byte))
+}
+
+/// Whether it is a domain name: one to 32 small letters, digits and dashes, of which the first is no dash.
+#[tactic(auto, unfolding(crate::specs::DomainName::is_domain_name))]
+pub fn is_domain_name(name: &[u8]) -> bool
+    ensures { result ≡ is_domain_name name.now }
+{
+    match name {
+        [] => false,
+        [first, later @ ..] => {
+            if later.len() > MAX_LATER_BYTES || !begins_name(*first) {
+                return false;
+            }
+            all_continue(later)
+        }
+    }
+}

@@ -1,0 +1,15 @@
+//! What decides in a domain, as it is kept.
+use xa_decide::SourceRow;
+use xa_policy::Reference;
+use xa_value::Items;
+
+/// What decides in a domain: the texts of its active documents, its root and the rows of its source of attributes.
+#[derive(Debug, Drop)]
+pub struct KeptView {
+    /// The texts of the active documents, as they were uploaded, in the order of their keys.
+    pub texts: Items<Items<u8>>,
+    /// The reference at which decisions start, if one is set.
+    pub root: Option<Reference>,
+    /// The rows of the source of attributes, in order.
+    pub source: Items<SourceRow>,
+}

@@ -1,0 +1,10 @@
+//! A keeper in memory.
+mod documents;
+mod domain;
+mod domains;
+mod raising;
+mod records;
+mod sameness;
+mod tokens;
+
+pub use records::PlainRecords;

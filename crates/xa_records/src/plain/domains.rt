@@ -1,0 +1,247 @@
+//! The domains and the next number, in memory, and each change of them.
+ghost use Rattle.std.specs.Prelude.{◌≡◌, ◌≤◌, ◌+◌, ◌^◌, IfOk, IsErrOf};
+ghost use Rattle.std.specs.FinMap.{empty};
+ghost use Rattle.xa_records.specs.declared.refusal.ChangeError.TheVariants.{Failed};
+ghost use Rattle.xa_records.specs.declared.refusal.Failure.TheVariants.{Store};
+ghost use Rattle.xa_records.specs.Changes.{activity_set, created, deleted, removed, root_set, source_set, token_dropped, token_put, upload_of, uploaded, within};
+ghost use Rattle.xa_records.specs.Keeper.{Changes};
+ghost use Rattle.xa_records.specs.Kept.{names_of, state_of};
+ghost use Rattle.xa_records.specs.Plain.{HasNoEpochLeft};
+ghost use Rattle.xa_records.specs.Readings.{gate_of, listing_of, text_of, view_of};
+
+use crate::digest::Digest;
+use crate::gate::Gate;
+use crate::kept_view::KeptView;
+use crate::listed::Listed;
+use crate::plain::domain::PlainDomain;
+use crate::plain::raising::raised;
+use crate::refusal::{ChangeError, Refusal};
+use crate::upload::Upload;
+use std::alloc::{AllocError, Global};
+use std::collections::BTreeMap;
+use std::marker::Model;
+use xa_decide::SourceRow;
+use xa_notation::Role;
+use xa_policy::{DocumentKey, Reference};
+use xa_value::{Items, Text};
+
+/// Domains by their names, and the number of the next that is made.
+#[derive(Drop)]
+pub(crate) struct Domains {
+    by_name: BTreeMap<Text, PlainDomain>,
+    next: u64,
+}
+
+impl Model for Domains {
+    ghost use Rattle.std.specs.Coded.{codes, coded_list, coded_ℕ};
+    ghost use Rattle.std.specs.FinMap as finite;
+    ghost use Rattle.xa_records.specs.contracts.plain.domain.PlainDomain as domain;
+    ghost use Rattle.xa_records.specs.DomainState.{compare_bytes};
+    ghost use Rattle.xa_records.specs.Kept.{Kept};
+
+    ghost Value = { Kept };
+
+    ghost coded = { Prim.hlevel (codes, finite.code {R = compare_bytes} (coded_list coded_ℕ) domain.the_row.coded) };
+
+    ghost view = { λ d. record { domains = finite.from_entries d.by_name.entries; next = d.next } };
+}
+
+impl Domains {
+    /// No domains; the first that is made gets the number 1. Nothing is allocated.
+    pub(crate) fn new(alloc: Global) -> Domains
+        ensures { result ≡ record { domains = empty; next = 1 } }
+    {
+        Domains {
+            by_name: BTreeMap::new(alloc),
+            next: 1,
+        }
+    }
+
+    /// The domain's number, its epoch and its tokens, if it is there.
+    pub(crate) fn gate(&self, alloc: Global, name: &Text) -> Result<Option<Gate>, AllocError>
+        ensures { IfOk result (λ x. x ≡ gate_of name.now self.now) }
+    {
+        let Some(domain) = self.by_name.get(name) else {
+            return Ok(None);
+        };
+        Ok(Some(domain.gate(alloc)?))
+    }
+
+    /// What decides in the domain, if it is there.
+    pub(crate) fn view(&self, alloc: Global, name: &Text) -> Result<Option<KeptView>, AllocError>
+        ensures { IfOk result (λ x. x ≡ view_of name.now self.now) }
+    {
+        let Some(domain) = self.by_name.get(name) else {
+            return Ok(None);
+        };
+        Ok(Some(domain.view(alloc)?))
+    }
+
+    /// The text of the document of that key, if it and its domain are there.
+    pub(crate) fn document(
+        &self,
+        alloc: Global,
+        name: &Text,
+        key: &DocumentKey,
+    ) -> Result<Option<Items<u8>>, AllocError>
+        ensures { IfOk result (λ x. x ≡ text_of name.now key.now self.now) }
+    {
+        let Some(domain) = self.by_name.get(name) else {
+            return Ok(None);
+        };
+        Ok(domain.document(alloc, key)?)
+    }
+
+    /// The domain's documents, if it is there.
+    pub(crate) fn list(
+        &self,
+        alloc: Global,
+        name: &Text,
+    ) -> Result<Option<Items<Listed>>, AllocError>
+        ensures { IfOk result (λ x. x ≡ listing_of name.now self.now) }
+    {
+        let Some(domain) = self.by_name.get(name) else {
+            return Ok(None);
+        };
+        Ok(Some(domain.list(alloc)?))
+    }
+
+    /// The names of all domains, in the order of their bytes.
+    pub(crate) fn names(&self, alloc: Global) -> Result<Items<Text>, AllocError>
+        ensures { IfOk result (λ names. names ≡ names_of self.now) }
+    {
+        let mut names = Vec::with_capacity(alloc, self.by_name.len())?;
+        for name in self.by_name.keys() {
+            names.push(name.clone()?)?;
+        }
+        Ok(Items::from_vec(names))
+    }
+
+    /// Makes a domain in which nothing has been put yet, of the next number.
+    pub(crate) fn create(&mut self, alloc: Global, name: &Text) -> Result<(), ChangeError>
+        ensures does { Changes self.old self.new result name.now created }
+        ensures store { IsErrOf result (Failed Store) → 2 ^ 63 ≤ self.old.next + 1 }
+    {
+        if self.by_name.contains_key(name) {
+            return Err(ChangeError::Refused(Refusal::Exists));
+        }
+        let next = raised(self.next)?;
+        let domain = PlainDomain::new(alloc, self.next);
+        self.by_name.insert(name.clone()?, domain)?;
+        self.next = next;
+        Ok(())
+    }
+
+    /// Removes the domain with all that is in it.
+    pub(crate) fn remove(&mut self, name: &Text) -> Result<(), ChangeError>
+        ensures does { Changes self.old self.new result name.now removed }
+        ensures store { ¬ IsErrOf result (Failed Store) }
+    {
+        let Some(_) = self.by_name.remove(name) else {
+            return Err(ChangeError::Refused(Refusal::Absent));
+        };
+        Ok(())
+    }
+
+    /// Puts a token in, or replaces its role.
+    pub(crate) fn put_token(
+        &mut self,
+        name: &Text,
+        digest: Digest,
+        role: Role,
+    ) -> Result<(), ChangeError>
+        ensures does { Changes self.old self.new result name.now (within (token_put digest role)) }
+        ensures store { IsErrOf result (Failed Store) → HasNoEpochLeft name.now self.old }
+    {
+        let Some(domain) = self.by_name.get_mut(name) else {
+            return Err(ChangeError::Refused(Refusal::Absent));
+        };
+        domain.put_token(digest, role)
+    }
+
+    /// Takes a token away.
+    pub(crate) fn drop_token(&mut self, name: &Text, digest: Digest) -> Result<(), ChangeError>
+        ensures does { Changes self.old self.new result name.now (within (token_dropped digest)) }
+        ensures store { IsErrOf result (Failed Store) → HasNoEpochLeft name.now self.old }
+    {
+        let Some(domain) = self.by_name.get_mut(name) else {
+            return Err(ChangeError::Refused(Refusal::Absent));
+        };
+        domain.drop_token(digest)
+    }
+
+    /// Puts a document in that isn't active yet. The very text again changes nothing.
+    pub(crate) fn upload(
+        &mut self,
+        name: &Text,
+        alloc: Global,
+        key: DocumentKey,
+        text: &[u8],
+    ) -> Result<Upload, ChangeError>
+        ensures does { Changes self.old self.new result name.now (within (uploaded key text.now)) }
+        ensures which { IfOk result (λ u. u ≡ upload_of key (state_of name.now self.old)) }
+        ensures store { IsErrOf result (Failed Store) → HasNoEpochLeft name.now self.old }
+    {
+        let Some(domain) = self.by_name.get_mut(name) else {
+            return Err(ChangeError::Refused(Refusal::Absent));
+        };
+        domain.upload(alloc, key, text)
+    }
+
+    /// Says whether references may resolve to the document of that key.
+    pub(crate) fn set_active(
+        &mut self,
+        name: &Text,
+        key: &DocumentKey,
+        active: bool,
+    ) -> Result<(), ChangeError>
+        ensures does { Changes self.old self.new result name.now (within (activity_set key.now active)) }
+        ensures store { IsErrOf result (Failed Store) → HasNoEpochLeft name.now self.old }
+    {
+        let Some(domain) = self.by_name.get_mut(name) else {
+            return Err(ChangeError::Refused(Refusal::Absent));
+        };
+        domain.set_active(key, active)
+    }
+
+    /// Deletes the document of that key, which must not be active.
+    pub(crate) fn delete(&mut self, name: &Text, key: &DocumentKey) -> Result<(), ChangeError>
+        ensures does { Changes self.old self.new result name.now (within (deleted key.now)) }
+        ensures store { IsErrOf result (Failed Store) → HasNoEpochLeft name.now self.old }
+    {
+        let Some(domain) = self.by_name.get_mut(name) else {
+            return Err(ChangeError::Refused(Refusal::Absent));
+        };
+        domain.delete(key)
+    }
+
+    /// Sets the root, or takes it away.
+    pub(crate) fn set_root(
+        &mut self,
+        name: &Text,
+        root: Option<Reference>,
+    ) -> Result<(), ChangeError>
+        ensures does { Changes self.old self.new result name.now (within (root_set root)) }
+        ensures store { IsErrOf result (Failed Store) → HasNoEpochLeft name.now self.old }
+    {
+        let Some(domain) = self.by_name.get_mut(name) else {
+            return Err(ChangeError::Refused(Refusal::Absent));
+        };
+        domain.set_root(root)
+    }
+
+    /// Puts these rows in place of all that were there.
+    pub(crate) fn set_source(
+        &mut self,
+        name: &Text,
+        rows: Items<SourceRow>,
+    ) -> Result<(), ChangeError>
+        ensures does { Changes self.old self.new result name.now (within (source_set rows)) }
+        ensures store { IsErrOf result (Failed Store) → HasNoEpochLeft name.now self.old }
+    {
+        let Some(domain) = self.by_name.get_mut(name) else {
+            return Err(ChangeError::Refused(Refusal::Absent));
+        };
+        domain.set_source(rows)
+    }
+}

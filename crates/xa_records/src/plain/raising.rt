@@ -1,0 +1,17 @@
+//! Numbers that rise by one.
+ghost use Rattle.xa_records.specs.Plain.{RaisesTo};
+
+use crate::refusal::Failure;
+
+/// The greatest number or epoch: a signed number of 64 bits holds it, as in the columns of a table.
+const GREATEST: u64 = 9_223_372_036_854_775_807;
+
+/// One more; past the greatest there is none.
+pub(crate) fn raised(number: u64) -> Result<u64, Failure>
+    ensures { RaisesTo number result }
+{
+    if number >= GREATEST {
+        return Err(Failure::Store);
+    }
+    Ok(number + 1)
+}

@@ -1,0 +1,188 @@
+//! The keeper in memory.
+ghost use Rattle.std.specs.Prelude.{◌≡◌, ◌≤◌, IsErrOf};
+ghost use Rattle.xa_records.specs.declared.refusal.ChangeError.TheVariants.{Failed};
+ghost use Rattle.xa_records.specs.declared.refusal.Failure.TheVariants.{Store};
+ghost use Rattle.xa_records.specs.Keeper.{Rises};
+ghost use Rattle.xa_records.specs.Kept.{IsNumbered};
+ghost use Rattle.std.specs.FinMap.{empty};
+ghost use Rattle.std.proofs.Props.{props};
+
+use crate::digest::Digest;
+use crate::gate::Gate;
+use crate::kept_view::KeptView;
+use crate::listed::Listed;
+use crate::plain::domains::Domains;
+use crate::records::Records;
+use crate::refusal::{ChangeError, Failure};
+use crate::upload::Upload;
+use std::alloc::Global;
+use xa_decide::SourceRow;
+use xa_notation::Role;
+use xa_policy::{DocumentKey, Reference};
+use xa_value::{Items, Text};
+
+/// A keeper in memory. What a call for one domain costs grows with what that domain keeps, and with the logarithm of the number of domains.
+#[derive(Drop)]
+pub struct PlainRecords {
+    domains: Domains,
+    faults: u64,
+    pub ghost numbered: { IsNumbered domains } by { Prim.hlevel props },
+}
+
+impl PlainRecords {
+    /// A keeper of no domains; the first that is made gets the number 1. Nothing is allocated.
+    pub fn new(alloc: Global) -> PlainRecords
+        ensures kept { result.domains ≡ record { domains = empty; next = 1 } }
+        ensures faults { result.faults ≡ 0 }
+    {
+        PlainRecords {
+            domains: Domains::new(alloc),
+            faults: 0,
+        }
+    }
+}
+
+/// Counts the call where the storage failed: here, where a number or an epoch can't be raised any more.
+fn count<X>(faults: &mut u64, done: &Result<X, ChangeError>)
+    ensures cause { IsErrOf done.now (Failed Store) → Rises faults.old faults.new }
+    ensures faults { faults.old ≤ faults.new }
+{
+    if let Err(ChangeError::Failed(Failure::Store)) = done {
+        *faults = faults.saturating_add(1);
+    }
+}
+
+impl Records for PlainRecords {
+    ghost kept = { λ r. r.domains };
+
+    ghost sound = { λ _. Unit {0} };
+
+    ghost clean = { λ _. Unit {0} };
+
+    ghost may_leave = { λ _ _. ⊥ };
+
+    ghost faults = { λ r. r.faults };
+
+    fn faults(&self) -> u64 {
+        self.faults
+    }
+
+    fn gate(&mut self, alloc: Global, name: &Text) -> Result<Option<Gate>, Failure> {
+        Ok(self.domains.gate(alloc, name)?)
+    }
+
+    fn view(&mut self, alloc: Global, name: &Text) -> Result<Option<KeptView>, Failure> {
+        Ok(self.domains.view(alloc, name)?)
+    }
+
+    fn document(
+        &mut self,
+        alloc: Global,
+        name: &Text,
+        key: &DocumentKey,
+    ) -> Result<Option<Items<u8>>, Failure> {
+        Ok(self.domains.document(alloc, name, key)?)
+    }
+
+    fn list(&mut self, alloc: Global, name: &Text) -> Result<Option<Items<Listed>>, Failure> {
+        Ok(self.domains.list(alloc, name)?)
+    }
+
+    fn domains(&mut self, alloc: Global) -> Result<Items<Text>, Failure> {
+        Ok(self.domains.names(alloc)?)
+    }
+
+    fn create(&mut self, alloc: Global, name: &Text) -> Result<(), ChangeError> {
+        let done = self.domains.create(alloc, name);
+        count(&mut self.faults, &done);
+        done
+    }
+
+    fn remove(&mut self, _alloc: Global, name: &Text) -> Result<(), ChangeError> {
+        self.domains.remove(name)
+    }
+
+    fn put_token(
+        &mut self,
+        _alloc: Global,
+        name: &Text,
+        digest: Digest,
+        role: Role,
+    ) -> Result<(), ChangeError> {
+        let done = self.domains.put_token(name, digest, role);
+        count(&mut self.faults, &done);
+        done
+    }
+
+    fn drop_token(
+        &mut self,
+        _alloc: Global,
+        name: &Text,
+        digest: Digest,
+    ) -> Result<(), ChangeError> {
+        let done = self.domains.drop_token(name, digest);
+        count(&mut self.faults, &done);
+        done
+    }
+
+    fn upload(
+        &mut self,
+        alloc: Global,
+        name: &Text,
+        key: DocumentKey,
+        text: &[u8],
+    ) -> Result<Upload, ChangeError> {
+        let done = self.domains.upload(name, alloc, key, text);
+        count(&mut self.faults, &done);
+        done
+    }
+
+    fn set_active(
+        &mut self,
+        _alloc: Global,
+        name: &Text,
+        key: &DocumentKey,
+        active: bool,
+    ) -> Result<(), ChangeError> {
+        let done = self.domains.set_active(name, key, active);
+        count(&mut self.faults, &done);
+        done
+    }
+
+    fn delete(
+        &mut self,
+        _alloc: Global,
+        name: &Text,
+        key: &DocumentKey,
+    ) -> Result<(), ChangeError> {
+        let done = self.domains.delete(name, key);
+        count(&mut self.faults, &done);
+        done
+    }
+
+    fn set_root(
+        &mut self,
+        _alloc: Global,
+        name: &Text,
+        root: Option<Reference>,
+    ) -> Result<(), ChangeError> {
+        let done = self.domains.set_root(name, root);
+        count(&mut self.faults, &done);
+        done
+    }
+
+    fn set_source(
+        &mut self,
+        _alloc: Global,
+        name: &Text,
+        rows: Items<SourceRow>,
+    ) -> Result<(), ChangeError> {
+        let done = self.domains.set_source(name, rows);
+        count(&mut self.faults, &done);
+        done
+    }
+
+    ghost numbered = { λ r _. r.numbered };
+
+    ghost settled = { λ _ _ _ left. absurd left };
+}
