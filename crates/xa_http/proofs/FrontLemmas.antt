@@ -19,6 +19,9 @@ use Rattle.xa_http.specs.declared.front.Head.{Head}
 use Rattle.xa_http.specs.Length.{body_length}
 use Rattle.xa_http.specs.Closing.{closes}
 use Rattle.xa_http.specs.Messages.{window, fields_of, BeginsWithHead, BeginsWithMessage, IsUnfinished, IsFaulty}
+use Rattle.xa_http.specs.declared.open_head.OpenHead.{OpenHead}
+use Rattle.xa_http.specs.parsing.OpenHead.{IsOpenHead}
+use Rattle.xa_http.proofs.OpenHeadLemmas.{follows_on}
 use Rattle.xa_http.specs.parsing.Front.{field_at, HasHead, IsHeadOf, KeepsHead}
 
 -- a line end has a byte at least
@@ -160,12 +163,14 @@ kept_on held more (Some head) has =
     let reads : ReadsRequest (held ++ more) has.0 (drop head.len held ++ more) = ReadsRequest-append held has.0 (drop head.len held) more has.1.0 in
     (has.0, (subst (λ (rest : List ℕ). ReadsRequest (held ++ more) has.0 rest) (sym on) reads, has.1.1), has.2, has.3, has.4)
 
--- the same, of the bytes from a place on
-pub fed_on : (bytes piece new old : List ℕ) (start : ℕ) (head : Option Head) → start ≤ length bytes → new ≡ bytes ++ piece
-    → drop start bytes ≡ old → KeepsHead old head → (start ≤ length new) × KeepsHead (drop start new) head
-fed_on bytes piece new old start head within more same kept =
+-- the same, of the bytes from a place on, and of a head that was followed
+pub fed_on : (bytes piece new old : List ℕ) (start : ℕ) (head : Option Head) (opened : OpenHead) → start ≤ length bytes → new ≡ bytes ++ piece
+    → drop start bytes ≡ old → KeepsHead old head → IsOpenHead old opened
+    → (start ≤ length new) × KeepsHead (drop start new) head × IsOpenHead (drop start new) opened
+fed_on bytes piece new old start head opened within more same kept followed =
     let held : drop start new ≡ old ++ piece
     = ap (drop start) more ∙ drop-append-le start bytes piece within ∙ ap (λ (x : List ℕ). x ++ piece) same in (
       omega (arith, within, simp length-append at (ap length more)),
       subst (λ (x : List ℕ). KeepsHead x head) (sym held) (kept_on old piece head kept),
+      subst (λ (x : List ℕ). IsOpenHead x opened) (sym held) (follows_on old piece opened followed),
     )

@@ -3,5 +3,6 @@ pub mod FrontLemmas
 pub mod RouteLemmas
 pub mod LawLemmas
 pub mod TrimLemmas
+pub mod OpenHeadLemmas
 pub mod PartLemmas
 pub mod TableLemmas

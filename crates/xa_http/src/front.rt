@@ -1,21 +1,22 @@
 //! What stands at the front of a stream: a whole head, the beginning of one, or none that is taken.
 ghost use Rattle.std.specs.Prelude.{◌≡◌, ◌+◌, ◌≤◌, length, drop, IfOk, IsSome, MatchOption};
 ghost use Rattle.httparse.specs.Grammar.{HasNoRequest, MayBecomeRequest};
+ghost use Rattle.httparse.specs.Spans.{RequestExceeds};
 ghost use Rattle.xa_http.specs.Messages.{window, BeginsWithMessage, IsUnfinished};
 ghost use Rattle.xa_http.specs.parsing.Front.{HasHead, IsFront, IsHeadOf};
 
 use crate::fault::SessionFault;
 use crate::head::read_head;
 use crate::length::body_length;
-use crate::limits::MAX_HEAD_BYTES;
+use crate::limits::{MAX_FIELDS, MAX_HEAD_BYTES};
 use crate::message::Message;
-use httparse::Status;
-use httparse::spans::{HeaderSpan, parse_request};
+use httparse::spans::{EMPTY_HEADER_SPAN, HeaderSpan, parse_request};
+use httparse::{Error, Status};
 use std::alloc::{AllocError, Global};
 use xa_value::Items;
 
 /// The offsets of at most this many field lines are read. More don't fit into a head: each has a colon and a line end.
-pub(crate) const HEADER_ROOM: usize = 8_192;
+const HEADER_ROOM: usize = 8_192;
 
 /// A whole head.
 #[derive(Debug, Drop)]
@@ -38,25 +39,51 @@ pub(crate) enum Front {
     Fault(SessionFault),
 }
 
-/// What stands at the front of the bytes.
+/// What stands at the front of the bytes. Only bytes with more field lines than a head may have want the large room: they
+/// may still begin no head at all.
+#[tactic(auto, using(crate::proofs::FrontLemmas::too_many))]
+pub(crate) fn read_front(alloc: Global, held: &[u8]) -> Result<Front, AllocError>
+    ensures { IfOk result (IsFront held.now) }
+{
+    let mut room = [EMPTY_HEADER_SPAN; MAX_FIELDS];
+    if let Some(front) = front_in(alloc, held, &mut room)? {
+        return Ok(front);
+    }
+    let mut room = large_room(alloc)?;
+    match front_in(alloc, held, &mut room)? {
+        Some(front) => Ok(front),
+        None => unreachable!(),
+    }
+}
+
+/// What stands at the front of the bytes, unless they have more field lines than the room.
 #[tactic(auto, unfolding(crate::specs::Messages::IsFaulty))]
-pub(crate) fn read_front(
+fn front_in(
     alloc: Global,
     held: &[u8],
     room: &mut [HeaderSpan],
-) -> Result<Front, AllocError>
-    requires { 8192 ≤ length room.old }
-    ensures { IfOk result (IsFront held.now) }
+) -> Result<Option<Front>, AllocError>
+    ensures { IfOk result (λ front. MatchOption front (RequestExceeds (length room.old) (window held.now)) (IsFront held.now)) }
 {
     let window = window(held);
     match parse_request(window, room) {
         Ok(Status::Complete(spans)) => {
             let message = read_head(alloc, window, &spans, room)?;
-            Ok(whole_head(held, message, spans.len))
+            Ok(Some(whole_head(held, message, spans.len)))
         }
-        Ok(Status::Partial) => Ok(open_head(held)),
-        Err(_) => Ok(Front::Fault(SessionFault::BadHead)),
+        Ok(Status::Partial) => Ok(Some(open_head(held))),
+        Err(Error::TooManyHeaders) => Ok(None),
+        Err(_) => Ok(Some(Front::Fault(SessionFault::BadHead))),
     }
+}
+
+/// Room for the offsets of as many field lines as a head's bytes can have.
+fn large_room(alloc: Global) -> Result<Vec<HeaderSpan>, AllocError>
+    ensures { IfOk result (λ room. 8192 ≤ length room.items) }
+{
+    let mut room = Vec::new(alloc);
+    room.resize(HEADER_ROOM, EMPTY_HEADER_SPAN)?;
+    Ok(room)
 }
 
 /// The bytes in which a head is looked for.

@@ -10,6 +10,7 @@ mod laws;
 mod length;
 mod limits;
 mod message;
+mod open_head;
 mod parts;
 mod replies;
 mod route;

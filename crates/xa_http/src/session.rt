@@ -1,13 +1,13 @@
 //! The session of one stream: its whole messages, in whatever pieces the bytes come.
-ghost use Rattle.std.specs.Prelude.{◌≡◌, ◌≤◌, ◌++◌, [], true, false, length, drop, MatchResult, Ok, OnOk, OnErr};
+ghost use Rattle.std.specs.Prelude.{◌≡◌, ◌≤◌, ◌++◌, [], true, false, length, drop, IsTrue, MatchResult, Ok, OnOk, OnErr};
 ghost use Rattle.xa_http.specs.parsing.Front.{HasHead};
-ghost use Rattle.xa_http.specs.Messages.{IsNext};
+ghost use Rattle.xa_http.specs.Messages.{IsNext, IsUnfinished};
 ghost use Rattle.xa_http.specs.declared.session.Next.TheVariants.{Ended};
 
 use crate::fault::SessionFault;
-use crate::front::{Front, HEADER_ROOM, Head, read_front, whole_body};
+use crate::front::{Front, Head, read_front, whole_body};
 use crate::message::Message;
-use httparse::spans::{EMPTY_HEADER_SPAN, HeaderSpan};
+use crate::open_head::OpenHead;
 use std::alloc::{AllocError, Global};
 use std::marker::Model;
 
@@ -32,20 +32,22 @@ pub struct Session {
     start: usize,
     /// The head at the start, where it was read and its body wasn't whole then.
     head: Option<Head>,
+    /// How far the head at the start was followed, where it wasn't whole.
+    followed: OpenHead,
     ended: bool,
-    room: Vec<HeaderSpan>,
 }
 
 impl Model for Session {
     ghost use Rattle.std.specs.Prelude.{◌≤◌, length, drop};
     ghost use Rattle.xa_http.specs.parsing.Front.{KeepsHead};
+    ghost use Rattle.xa_http.specs.parsing.OpenHead.{IsOpenHead};
     ghost use Rattle.xa_http.specs.Stream.{Stream};
 
     ghost Value = { Stream };
 
     ghost view = { λ s. record { held = drop s.start s.buffer.items; ended = s.ended } };
 
-    ghost invariant = { λ s. (s.start ≤ length s.buffer.items) × KeepsHead (drop s.start s.buffer.items) s.head };
+    ghost invariant = { λ s. (s.start ≤ length s.buffer.items) × KeepsHead (drop s.start s.buffer.items) s.head × IsOpenHead (drop s.start s.buffer.items) s.followed };
 }
 
 impl Session {
@@ -58,8 +60,8 @@ impl Session {
             buffer: Vec::new(alloc),
             start: 0,
             head: None,
+            followed: OpenHead::new(),
             ended: false,
-            room: Vec::new(alloc),
         }
     }
 
@@ -92,15 +94,39 @@ impl Session {
         if let Some(head) = self.head.take() {
             return self.message_of(head);
         }
-        make_room(&mut self.room)?;
-        match read_front(self.alloc, &self.buffer[self.start..], &mut self.room)? {
+        if self.is_surely_open() {
+            return Ok(Next::More);
+        }
+        match read_front(self.alloc, &self.buffer[self.start..])? {
             Front::Head(head) => self.message_of(head),
-            Front::More => Ok(Next::More),
+            Front::More => {
+                self.follow();
+                Ok(Next::More)
+            }
             Front::Fault(fault) => {
                 self.ended = true;
                 Ok(Next::Fault(fault))
             }
         }
+    }
+
+    /// Whether the head at the start goes on to be open, as the new bytes alone tell. A head that comes in one piece is
+    /// read at once, and no byte of it is followed before.
+    fn is_surely_open(&mut self) -> bool
+        ensures unfinished { IsTrue result → IsUnfinished self.old.held }
+        ensures same { self.new ≡ self.old }
+    {
+        if self.followed.len > 0 {
+            self.follow();
+        }
+        self.followed.is_unfinished(&self.buffer[self.start..])
+    }
+
+    /// Follows the head at the start to the end of what is held.
+    fn follow(&mut self)
+        ensures { self.new ≡ self.old }
+    {
+        self.followed = self.followed.advanced(&self.buffer[self.start..]);
     }
 
     /// The message of that head, once its body is whole; until then the head is kept, and not read again.
@@ -114,6 +140,7 @@ impl Session {
             return Ok(Next::More);
         };
         self.head = None;
+        self.followed = OpenHead::new();
         self.start += head.len + head.body_len;
         self.ended = head.message.close;
         let mut message = head.message;
@@ -134,14 +161,4 @@ fn compact(buffer: &mut Vec<u8>, start: &mut usize)
         buffer.truncate(held);
         *start = 0;
     }
-}
-
-/// Makes the room for the offsets of a head's field lines, once.
-fn make_room(room: &mut Vec<HeaderSpan>) -> Result<(), AllocError>
-    ensures { OnOk result (8192 ≤ length room.new.items) }
-{
-    if room.len() < HEADER_ROOM {
-        room.resize(HEADER_ROOM, EMPTY_HEADER_SPAN)?;
-    }
-    Ok(())
 }

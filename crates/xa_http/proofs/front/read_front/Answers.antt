@@ -1,12 +1,8 @@
-use Rattle.std.proofs.Common.{inl, ap, Err}
-use Rattle.httparse.specs.declared.Error.{Error}
-use Rattle.xa_http.specs.Messages.{IsFaulty}
-use Rattle.xa_http.proofs.FrontLemmas.{never_a_head}
+use Rattle.std.proofs.Common.{◌≤◌, length, ap, arith}
+use Rattle.xa_http.proofs.FrontLemmas.{too_many}
 use Rattle.xa_http.proofs.front.read_front.Goals as goal
 
-pub returns-in-Err : goal.returns-in-Err
-unfolding IsFaulty
-returns-in-Err c =
-    let too_many = rw c.window-window.ensures.front at c.in-Err.ensures.too_many in
-    inl (never_a_head _ _ c.in-Err.field-0 c.requires (rw c.window-window.ensures.front at c.in-Err.ensures.invalid)
-    (λ e. too_many (ap (λ (x : Error). Err x) e)))
+pub unreachable-requires : goal.unreachable-requires
+unreachable-requires c =
+    let fits : 8192 ≤ length c.deref_mut.result.now = omega (arith, ap length c.deref_mut.ensures.value, c.in_ok-room.ensures) in
+    too_many c.args.held.now (length c.deref_mut.result.now) fits (rw c.in-None.is at c.in_ok-front-2.ensures)
