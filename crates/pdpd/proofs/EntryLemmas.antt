@@ -15,11 +15,13 @@ use Rattle.xa_http.proofs.LawLemmas.{takes_on}
 use Rattle.xa_server.specs.Alone.{Event}
 use Rattle.xa_server.specs.ErrorCode.{code_of_session_fault, error_reply}
 use Rattle.xa_server.specs.declared.replies.Reply.{Reply}
-use Rattle.xa_server.specs.declared.replies.Reply.TheVariants.{Sent}
 use Rattle.xa_server.specs.Replies.{bytes_of}
 use Rattle.xa_server.specs.Served.{IsRun}
 use Rattle.xa_server.specs.World.{World}
-use Rattle.pdpd.specs.Entry.{HasMessages, IsAnswered, events_at, fault_replies, reply_entry}
+use Rattle.pdpd.specs.declared.answers.Stop.{Stop}
+use Rattle.pdpd.specs.declared.answers.Stop.TheVariants as stop
+use Rattle.pdpd.specs.Batch.{AreAnswered, HasTaken, IsBatch}
+use Rattle.pdpd.specs.Entry.{HasMessages, IsEntryAnswered, events_at, reply_entries, reply_entry}
 
 -- the messages of events
 abbrev pub messages_of : List Event → List Message
@@ -74,39 +76,9 @@ taken_fault moment first now after events fault answer taken answers same =
     let is : IsNext now (next.Fault fault) after = subst (λ (a : Next). IsNext now a after) same answers in
     (now, taken.1, is)
 
--- without a fault the replies are those of a run on the messages
-pub answered_without_fault : (moment : ℤ) (bytes : List ℕ) (old new : World) (stream fed after : Stream) (events : List Event)
-    (fault : Option SessionFault) (run : List Reply)
-    → fed ≡ record { held = stream.held ++ bytes; ended = stream.ended } → HasMessages fed (messages_of events) fault after
-    → events ≡ events_at moment (messages_of events) → IsRun old events run new → fault ≡ None
-    → IsAnswered moment bytes old new stream after (map bytes_of run)
-answered_without_fault moment bytes old new stream fed after events fault run feeds has at ran none = record {
-  messages = messages_of events;
-  fault = fault;
-  run = run;
-  has_messages = subst (λ (s : Stream). HasMessages s (messages_of events) fault after) feeds has;
-  is_run = subst (λ (es : List Event). IsRun old es run new) at ran;
-  all_replies = sym (ap (λ (f : Option SessionFault). map bytes_of run ++ fault_replies f) none ∙ append-nil (map bytes_of run));
-}
-
--- with a fault the reply to it follows
-pub answered_with_fault : (moment : ℤ) (bytes : List ℕ) (old new : World) (stream fed after : Stream) (events : List Event)
-    (fault : Option SessionFault) (f : SessionFault) (run : List Reply) (reply : List ℕ)
-    → fed ≡ record { held = stream.held ++ bytes; ended = stream.ended } → HasMessages fed (messages_of events) fault after
-    → events ≡ events_at moment (messages_of events) → IsRun old events run new → fault ≡ Some f
-    → reply ≡ error_reply (code_of_session_fault f)
-    → IsAnswered moment bytes old new stream after (map bytes_of (run ++ Sent reply ∷ []))
-answered_with_fault moment bytes old new stream fed after events fault f run reply feeds has at ran some is = record {
-  messages = messages_of events;
-  fault = fault;
-  run = run;
-  has_messages = subst (λ (s : Stream). HasMessages s (messages_of events) fault after) feeds has;
-  is_run = subst (λ (es : List Event). IsRun old es run new) at ran;
-  all_replies =
-      map-append bytes_of run (Sent reply ∷ [])
-      ∙ ap (λ (r : List ℕ). map bytes_of run ++ r ∷ []) is
-      ∙ sym (ap (λ (o : Option SessionFault). map bytes_of run ++ fault_replies o) some);
-}
+pub taken_full : (moment : ℤ) (first now : Stream) (events : List Event) → TakenSoFar moment first now events → Cuts first (messages_of events) now
+unfolding TakenSoFar
+taken_full moment first now events taken = taken.1
 
 appends_trans : (a b c : Option (List ℕ)) (bs cs : List ℕ) → Appends a b bs → Appends b c cs → Appends a c (bs ++ cs)
 appends_trans None b c bs cs p q = tt
@@ -127,3 +99,108 @@ wrote_more connection replies i d a b c within before here =
     ∙ flat_map-append entry (map bytes_of (take i replies)) (bytes_of (get_or replies i d) ∷ [])
     ∙ ap (λ (bs : List ℕ). flat_map entry (map bytes_of (take i replies)) ++ bs) one in
     subst (λ (bs : List ℕ). Appends a c bs) (sym all) (appends_trans a b c _ _ before here)
+
+appends_none : (a : Option (List ℕ)) → Appends a a []
+appends_none None = tt
+appends_none (Some x) = sym (append-nil x)
+
+-- messages that are taken after others
+cuts_trans : (a b c : Stream) (ms ns : List Message) → Cuts a ms b → Cuts b ns c → Cuts a (ms ++ ns) c
+cuts_trans a b c [] ns same later = subst (λ (s : Stream). Cuts s ns c) (sym same) later
+cuts_trans a b c (m ∷ ms) ns first later = (first.0, first.1, cuts_trans first.0 b c ms ns first.2 later)
+
+has_after : (a b c : Stream) (ms ns : List Message) (fault : Option SessionFault) → Cuts a ms b → HasMessages b ns fault c → HasMessages a (ms ++ ns) fault c
+has_after a b c ms ns fault cut has = (has.0, cuts_trans a b has.0 ms ns cut has.1, has.2)
+
+-- a run after another
+run_trans : (a b c : World) (es fs : List Event) (rs qs : List Reply) → IsRun a es rs b → IsRun b fs qs c → IsRun a (es ++ fs) (rs ++ qs) c
+run_trans a b c [] fs [] qs same later = subst (λ (w : World). IsRun w fs qs c) same later
+run_trans a b c (e ∷ es) fs (r ∷ rs) qs first later = (first.0, first.1, run_trans first.0 b c es fs rs qs first.2 later)
+run_trans a b c [] fs (r ∷ rs) qs none later = absurd none
+run_trans a b c (e ∷ es) fs [] qs none later = absurd none
+
+-- what was answered after other messages
+answers_after : (connection : ℕ) (moment : ℤ) (a b c : World) (ms ns : List Message) (x y z : Option (List ℕ))
+    → AreAnswered connection moment a b ms x y → AreAnswered connection moment b c ns y z → AreAnswered connection moment a c (ms ++ ns) x z
+answers_after connection moment a b c ms ns x y z first later =
+    let at : Message → Event = λ m. (moment, m) in
+    let entry = reply_entry connection in
+    let all : reply_entries connection (map bytes_of (first.run ++ later.run)) ≡ reply_entries connection (map bytes_of first.run) ++ reply_entries connection (map bytes_of later.run)
+    = ap (λ (bs : List (List ℕ)). flat_map entry bs) (map-append bytes_of first.run later.run)
+    ∙ flat_map-append entry (map bytes_of first.run) (map bytes_of later.run) in
+    record {
+      run = first.run ++ later.run;
+      is_run =
+          subst (λ (es : List Event). IsRun a es (first.run ++ later.run) c) (sym (map-append at ms ns))
+          (run_trans a b c (events_at moment ms) (events_at moment ns) first.run later.run first.is_run later.is_run);
+      written = subst (λ (bs : List ℕ). Appends x z bs) (sym all) (appends_trans x y z _ _ first.written later.written);
+    }
+
+-- a batch: the messages that were taken, run and written
+pub batch : (connection : ℕ) (moment : ℤ) (old new : World) (stream after : Stream) (events : List Event) (run : List Reply) (reason : Stop) (before now : Option (List ℕ))
+    → HasTaken stream (messages_of events) reason after → events ≡ events_at moment (messages_of events) → IsRun old events run new
+    → Appends before now (reply_entries connection (map bytes_of run))
+    → IsBatch connection moment old new stream after before now reason
+unfolding IsBatch
+batch connection moment old new stream after events run reason before now taken at ran wrote =
+    (messages_of events, taken, record { run = run; is_run = subst (λ (es : List Event). IsRun old es run new) at ran; written = wrote })
+
+-- nothing was taken yet
+pub so_far_none : (connection : ℕ) (moment : ℤ) (world : World) (stream : Stream) (before : Option (List ℕ))
+    → IsBatch connection moment world world stream stream before before stop.Full
+unfolding IsBatch
+so_far_none connection moment world stream before =
+    ([], refl, record { run = []; is_run = refl; written = appends_none before })
+
+pub so_far_more : (connection : ℕ) (moment : ℤ) (a b c : World) (s t u : Stream) (x y z : Option (List ℕ)) (reason : Stop)
+    → IsBatch connection moment a b s t x y stop.Full → IsBatch connection moment b c t u y z reason
+    → IsBatch connection moment a c s u x z reason
+unfolding IsBatch
+so_far_more connection moment a b c s t u x y z stop.Full first later =
+    (first.0 ++ later.0, cuts_trans s t u first.0 later.0 first.1 later.1, answers_after connection moment a b c first.0 later.0 x y z first.2 later.2)
+so_far_more connection moment a b c s t u x y z stop.Unfinished first later =
+    (first.0 ++ later.0, has_after s t u first.0 later.0 None first.1 later.1, answers_after connection moment a b c first.0 later.0 x y z first.2 later.2)
+so_far_more connection moment a b c s t u x y z (stop.Fault fault) first later =
+    (first.0 ++ later.0, has_after s t u first.0 later.0 (Some fault) first.1 later.1, answers_after connection moment a b c first.0 later.0 x y z first.2 later.2)
+
+-- all is answered where the stream wants more bytes
+pub answered_without_fault : (connection : ℕ) (moment : ℤ) (bytes : List ℕ) (old new : World) (stream first after : Stream) (before now : Option (List ℕ))
+    → first ≡ record { held = stream.held ++ bytes; ended = stream.ended } → IsBatch connection moment old new first after before now stop.Unfinished
+    → IsEntryAnswered connection moment bytes old new stream after before now
+unfolding IsBatch
+answered_without_fault connection moment bytes old new stream first after before now feeds is = (
+  map bytes_of is.2.run,
+  record {
+    messages = is.0;
+    fault = None;
+    run = is.2.run;
+    has_messages = subst (λ (s : Stream). HasMessages s is.0 None after) feeds is.1;
+    is_run = is.2.is_run;
+    all_replies = sym (append-nil (map bytes_of is.2.run));
+  },
+  is.2.written,
+)
+
+-- and where it has ended by a fault, once the reply to that is written
+pub answered_with_fault : (connection : ℕ) (moment : ℤ) (bytes : List ℕ) (old new : World) (stream first after : Stream) (before now last : Option (List ℕ))
+    (fault : SessionFault) (reply : List ℕ)
+    → first ≡ record { held = stream.held ++ bytes; ended = stream.ended } → IsBatch connection moment old new first after before now (stop.Fault fault)
+    → reply ≡ error_reply (code_of_session_fault fault) → Appends now last (reply_entry connection reply)
+    → IsEntryAnswered connection moment bytes old new stream after before last
+unfolding IsBatch
+answered_with_fault connection moment bytes old new stream first after before now last fault reply feeds is same wrote =
+    let entry = reply_entry connection in
+    let run = map bytes_of is.2.run in
+    let all : reply_entries connection (run ++ reply ∷ []) ≡ reply_entries connection run ++ entry reply
+    = flat_map-append entry run (reply ∷ []) ∙ ap (λ (bs : List ℕ). reply_entries connection run ++ bs) (append-nil (entry reply)) in (
+      run ++ reply ∷ [],
+      record {
+        messages = is.0;
+        fault = Some fault;
+        run = is.2.run;
+        has_messages = subst (λ (s : Stream). HasMessages s is.0 (Some fault) after) feeds is.1;
+        is_run = is.2.is_run;
+        all_replies = ap (λ (r : List ℕ). run ++ r ∷ []) same;
+      },
+      subst (λ (bs : List ℕ). Appends before last bs) (sym all) (appends_trans before now last _ _ is.2.written wrote),
+    )

@@ -14,7 +14,7 @@ use Rattle.xa_notation.specs.Tables.{name_of, members_of, alternatives_of, first
 use Rattle.xa_notation.specs.Typing.{typed_policy}
 use Rattle.xa_notation.proofs.TreeLemmas.{typed_alone}
 use Rattle.xa_server.specs.Given.{server_domains}
-use Rattle.xa_server.specs.Owner.{is_domain_name}
+use Rattle.xa_records.specs.DomainName.{is_domain_name}
 use Rattle.xa_server.specs.declared.given.Given.{Given}
 use Rattle.xa_server.specs.declared.given.GivenError.{GivenError}
 use Rattle.pdpd.specs.FirstDomain.{acme, permit_all}

@@ -1,5 +1,7 @@
 -- What the bytes of an entry are answered, and what is written of the replies.
 use Rattle.std.specs.Prelude.{◌≡◌, ℕ, ℤ, List, [], ◌∷◌, ◌++◌, ◌⊎◌, length, map, Option, Some, None, codes, decimal}
+use Rattle.std.specs.Io.KnownBytes.{Appends}
+use Rattle.std.specs.List.{flat_map}
 use Rattle.xa_http.specs.declared.message.Message.{Message}
 use Rattle.xa_http.specs.declared.session.Next.TheVariants as next
 use Rattle.xa_http.specs.declared.fault.SessionFault.{SessionFault}
@@ -30,16 +32,26 @@ abbrev pub fault_replies : Option SessionFault → List (List ℕ)
 fault_replies None = []
 fault_replies (Some fault) = error_reply (code_of_session_fault fault) ∷ []
 
--- the replies to the bytes that a stream takes: those of a run of the server on the whole messages that it holds then,
--- each at that moment, and after them the reply to the fault by which it ends, if it does
-pub record IsAnswered (moment : ℤ) (bytes : List ℕ) (old new : World) (stream after : Stream) (replies : List (List ℕ)) : Type 0 where
-  pub messages : List Message
-  pub fault : Option SessionFault
-  pub run : List Reply
-  pub has_messages : HasMessages (fed stream bytes) messages fault after
-  pub is_run : IsRun old (events_at moment messages) run new
-  pub all_replies : replies ≡ map bytes_of run ++ fault_replies fault
-
 -- what is written of a reply: a line of its connection and the count of its bytes, the bytes, and a line feed
 abbrev pub reply_entry : ℕ → List ℕ → List ℕ
 reply_entry connection bytes = decimal connection ++ codes " " ++ decimal (length bytes) ++ codes "\n" ++ bytes ++ codes "\n"
+
+-- the replies to a connection, one after another
+abbrev pub reply_entries : ℕ → List (List ℕ) → List ℕ
+reply_entries connection replies = flat_map (reply_entry connection) replies
+
+-- the replies to what a stream holds: those of a run of the server on the whole messages, each at that moment, and after them
+-- the reply to the fault by which it ends, if it does
+pub record IsAnswered (moment : ℤ) (old new : World) (stream after : Stream) (replies : List (List ℕ)) : Type 0 where
+  pub messages : List Message
+  pub fault : Option SessionFault
+  pub run : List Reply
+  pub has_messages : HasMessages stream messages fault after
+  pub is_run : IsRun old (events_at moment messages) run new
+  pub all_replies : replies ≡ map bytes_of run ++ fault_replies fault
+
+-- a stream took the bytes, and then what it holds was answered, and the replies were written to the connection
+abbrev pub IsEntryAnswered : ℕ → ℤ → List ℕ → World → World → Stream → Stream → Option (List ℕ) → Option (List ℕ) → Type 0
+IsEntryAnswered connection moment bytes old new stream after before now =
+    (replies : List (List ℕ)) × IsAnswered moment old new (fed stream bytes) after replies
+    × Appends before now (reply_entries connection replies)

@@ -4,7 +4,7 @@ use Rattle.sha2.specs.Sha256.{sha256}
 use Rattle.xa_policy.specs.declared.reference.DocumentKind.TheVariants.{Policy}
 use Rattle.xa_policy.specs.declared.reference.Reference.{Reference}
 use Rattle.xa_server.specs.declared.given.Given.{Given}
-use Rattle.xa_server.specs.declared.token.Role.TheVariants.{Ask}
+use Rattle.xa_notation.specs.declared.token.Role.TheVariants.{Ask}
 
 -- a policy of one rule, which permits everything
 unfoldable pub permit_all : List ℕ

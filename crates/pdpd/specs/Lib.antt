@@ -1,3 +1,4 @@
+pub mod Batch
 pub mod CommandLine
 pub mod Entry
 pub mod Exit

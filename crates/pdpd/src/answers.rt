@@ -1,55 +1,99 @@
 //! The replies to the bytes that a stream takes.
-ghost use Rattle.std.specs.Prelude.{◌≡◌, map, IfOk};
-ghost use Rattle.xa_server.specs.Replies.{bytes_of};
-ghost use Rattle.pdpd.specs.Entry.{HasMessages, IsAnswered, events_at};
+ghost use Rattle.std.specs.Prelude.{◌≡◌, map, IfOk, IfErr, IsTrue};
+ghost use Rattle.pdpd.specs.Batch.{HasTaken, IsBatch};
+ghost use Rattle.pdpd.specs.Entry.{IsEntryAnswered, events_at};
+ghost use Rattle.pdpd.specs.Exit.{breaks_off};
 
+use crate::exit::Exit;
+use crate::writing::{write_replies, write_reply};
 use std::alloc::{AllocError, Global};
+use std::io::Write;
 use xa_http::{Message, Next, Session, SessionFault};
-use xa_server::{Reply, Server, fault_reply};
-use xa_value::{Items, Moment};
+use xa_server::{Server, fault_reply};
+use xa_value::Moment;
 
-/// The whole messages that a stream holds, each with the moment, and the fault by which it ends, if it does.
+/// At most this many messages are held before they are answered, and their replies before they are written.
+const BATCH_MESSAGES: usize = 64;
+
+/// Why no more messages of a stream are answered at once.
+#[derive(Clone, Copy, Debug)]
+pub(crate) enum Stop {
+    /// There are as many as are answered at once.
+    Full,
+    /// The stream holds no further whole message, or has ended with the last.
+    Unfinished,
+    /// The stream has ended by a fault.
+    Fault(SessionFault),
+}
+
+/// The next whole messages that a stream holds, each with the moment, and why there are no more of them.
 #[tactic(auto, using(crate::proofs::EntryLemmas::taken_none, crate::proofs::EntryLemmas::taken_more, crate::proofs::EntryLemmas::taken_moment))]
-fn whole_messages(
+fn next_messages(
     alloc: Global,
     moment: Moment,
     session: &mut Session,
-) -> Result<(Vec<(Moment, Message)>, Option<SessionFault>), AllocError>
+) -> Result<(Vec<(Moment, Message)>, Stop), AllocError>
     ensures moment { IfOk result (λ taken. taken.0.items ≡ events_at moment (map (λ event. event.1) taken.0.items)) }
-    ensures messages { IfOk result (λ taken. HasMessages session.old (map (λ event. event.1) taken.0.items) taken.1 session.new) }
+    ensures messages { IfOk result (λ taken. HasTaken session.old (map (λ event. event.1) taken.0.items) taken.1 session.new) }
 {
     let mut events = Vec::new(alloc);
-    for _ in 0..u64::MAX {
+    for _ in 0..BATCH_MESSAGES {
         match session.next()? {
             Next::Message(message) => events.push((moment, message))?,
-            Next::More => return Ok((events, None)),
-            Next::Ended => return Ok((events, None)),
-            Next::Fault(fault) => return Ok((events, Some(fault))),
+            Next::More => return Ok((events, Stop::Unfinished)),
+            Next::Ended => return Ok((events, Stop::Unfinished)),
+            Next::Fault(fault) => return Ok((events, Stop::Fault(fault))),
         }
     }
-    // A vector has no room for this many.
-    Err(AllocError)
+    Ok((events, Stop::Full))
 }
 
-/// The replies to the bytes that a stream takes. What follows the end of the stream gets no reply.
-#[tactic(auto, using(crate::proofs::EntryLemmas::answered_without_fault, crate::proofs::EntryLemmas::answered_with_fault))]
-pub fn replies_to(
+/// Answers the next whole messages that a stream holds, and writes the replies.
+#[tactic(auto, using(crate::proofs::EntryLemmas::batch))]
+fn answer_batch<W: Write>(
+    alloc: Global,
+    server: &mut Server,
+    moment: Moment,
+    session: &mut Session,
+    connection: usize,
+    writer: &mut W,
+) -> Result<Stop, Exit>
+    ensures batch { IfOk result (IsBatch connection moment server.old server.new session.old session.new (W.contents writer.old) (W.contents writer.new)) }
+    ensures err { IfErr result (λ exit. IsTrue (breaks_off exit)) }
+{
+    let (events, stop) = next_messages(alloc, moment, session)?;
+    let replies = server.run(&events)?;
+    write_replies(writer, connection, &replies)?;
+    Ok(stop)
+}
+
+/// Answers the bytes that a stream takes, and writes the replies, some messages at once: what is held doesn't grow with
+/// their number. What follows the end of the stream gets no reply.
+#[tactic(auto, using(crate::proofs::EntryLemmas::so_far_none, crate::proofs::EntryLemmas::so_far_more, crate::proofs::EntryLemmas::answered_without_fault, crate::proofs::EntryLemmas::answered_with_fault))]
+pub fn answer<W: Write>(
     alloc: Global,
     server: &mut Server,
     moment: Moment,
     session: &mut Session,
     bytes: &[u8],
-) -> Result<Vec<Reply>, AllocError>
-    ensures { IfOk result (λ replies.
-        IsAnswered moment bytes.now server.old server.new session.old session.new (map bytes_of replies.items)) }
+    connection: usize,
+    writer: &mut W,
+) -> Result<(), Exit>
+    ensures replies { IfOk result (λ _. IsEntryAnswered connection moment bytes.now server.old server.new session.old session.new (W.contents writer.old) (W.contents writer.new)) }
+    ensures err { IfErr result (λ exit. IsTrue (breaks_off exit)) }
 {
     session.feed(bytes)?;
-    let (events, fault) = whole_messages(alloc, moment, session)?;
-    let mut replies = server.run(&events)?;
-    let Some(fault) = fault else {
-        return Ok(replies);
-    };
-    let reply = fault_reply(alloc, fault)?;
-    replies.push(Reply::Sent(Items::from_vec(reply)))?;
-    Ok(replies)
+    for _ in 0..u64::MAX {
+        match answer_batch(alloc, server, moment, session, connection, writer)? {
+            Stop::Full => {}
+            Stop::Unfinished => return Ok(()),
+            Stop::Fault(fault) => {
+                let reply = fault_reply(alloc, fault)?;
+                write_reply(writer, connection, &reply)?;
+                return Ok(());
+            }
+        }
+    }
+    // No stream holds this many.
+    Err(Exit::Memory)
 }

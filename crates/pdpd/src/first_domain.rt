@@ -4,8 +4,10 @@ ghost use Rattle.sha2.specs.Sha256.{sha256};
 ghost use Rattle.pdpd.specs.FirstDomain.{acme, permit_all, root};
 
 use std::alloc::{AllocError, Global};
+use xa_notation::Role;
 use xa_policy::{DocumentKind, Reference};
-use xa_server::{Digest, Given, GivenDocument, Role, Token};
+use xa_records::{Digest, Token};
+use xa_server::{Given, GivenDocument};
 use xa_value::{Items, Text};
 
 /// A token that may ask the domain for decisions.

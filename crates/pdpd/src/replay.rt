@@ -1,26 +1,27 @@
 //! The replay of a transcript.
 ghost use Rattle.std.specs.Prelude.{◌≡◌, ◌≢◌, ◌↔◌, Ok, false, IsTrue, IsFalse, IfOk, IfErr, [], ◌∷◌, slice_index_or, slice_set, replicate};
 ghost use Rattle.sha2.specs.Sha256.{sha256};
-ghost use Rattle.xa_server.specs.Authorization.{is_token};
+ghost use Rattle.xa_notation.specs.Tokens.{is_token};
 ghost use Rattle.xa_server.specs.Given.{server_domains};
 ghost use Rattle.pdpd.specs.Exit.{breaks_off};
 ghost use Rattle.pdpd.specs.FirstDomain.{acme};
 ghost use Rattle.pdpd.specs.declared.exit.Exit.TheVariants.{Memory, Usage};
 ghost use Rattle.pdpd.specs.declared.connection.Connection.TheVariants.{Closed, Ended};
 
-use crate::answers::replies_to;
+use crate::answers::answer;
 use crate::connection::{Connection, closed_connections};
 use crate::exit::Exit;
 use crate::first_domain::acme;
 use crate::heading::Heading;
 use crate::open_stream::OpenStream;
 use crate::transcript::Transcript;
-use crate::writing::write_replies;
 use std::alloc::{AllocError, Global};
 use std::io::{BufWriter, Read, Write};
 use std::mem;
 use xa_http::Session;
-use xa_server::{Digest, Server, is_token};
+use xa_notation::is_token;
+use xa_records::Digest;
+use xa_server::Server;
 use xa_value::OrMemory;
 
 /// How many bytes of replies are held before they are written.
@@ -124,14 +125,15 @@ impl<W: Write + Drop> Replayer<W> {
         ensures err { IfErr result (λ exit. IsTrue (breaks_off exit)) }
     {
         let mut session = session;
-        let replies = replies_to(
+        answer(
             self.alloc,
             &mut self.server,
             heading.moment,
             &mut session,
             bytes,
+            heading.connection,
+            &mut self.writer,
         )?;
-        write_replies(&mut self.writer, heading.connection, &replies)?;
         if session.has_ended() {
             return Ok(Connection::Ended);
         }

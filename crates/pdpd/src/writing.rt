@@ -9,7 +9,7 @@ use std::io::{self, Write};
 use xa_server::Reply;
 
 /// Writes a reply: a line of its connection and the count of its bytes, the bytes, and a line feed.
-fn write_reply<W: Write>(writer: &mut W, connection: usize, bytes: &[u8]) -> io::Result<()>
+pub fn write_reply<W: Write>(writer: &mut W, connection: usize, bytes: &[u8]) -> io::Result<()>
     ensures { OnOk result (Appends (W.contents writer.old) (W.contents writer.new) (reply_entry connection bytes.now)) }
 {
     let count = bytes.len();

@@ -14,12 +14,13 @@ use Rattle.xa_http.specs.Table.{command_at}
 use Rattle.xa_http.specs.Routes.{Address, address_of, commanded, decoded_domain, route_of, route_to, routed, takes_body}
 use Rattle.xa_server.specs.declared.error_code.ErrorCode.{ErrorCode}
 use Rattle.xa_server.specs.declared.error_code.ErrorCode.TheVariants.{Unauthorized}
-use Rattle.xa_server.specs.declared.token.Role.{Role}
+use Rattle.xa_notation.specs.declared.token.Role.{Role}
 use Rattle.xa_server.specs.declared.domain.Domain.{Domain}
 use Rattle.xa_server.specs.DomainState.{DomainState, domain_of, state_of, state_of_domain}
 use Rattle.xa_server.specs.Lookup.{domain_of_route, state_for}
 use Rattle.xa_server.specs.Machine.{answer, effect_of, may, role_shown, route_or_error, step}
-use Rattle.xa_server.specs.Owner.{domain_of_address, is_domain_name, owner}
+use Rattle.xa_records.specs.DomainName.{is_domain_name}
+use Rattle.xa_server.specs.Owner.{domain_of_address, owner}
 
 -- the state for the domain of an address is that of the route's domain
 at_route : (address : Address) (asked : Command) (domains : List Domain)

@@ -1,22 +1,14 @@
--- The token that a message shows (RFC 9110, section 11.6.2; RFC 6750, section 2.1). The token's own shape is this project's.
-use Rattle.std.specs.Prelude.{ℕ, ◌==◌, ◌&&◌, Bool, List, [], ◌∷◌, length, take, drop, nat_le, Option, Some, None, option_and_then, if◌then◌else◌, codes}
-use Rattle.std.specs.List.{list_all}
+-- The token that a message shows (RFC 9110, section 11.6.2; RFC 6750, section 2.1).
+use Rattle.std.specs.Prelude.{ℕ, ◌==◌, List, [], ◌∷◌, take, drop, Option, Some, None, option_and_then, if◌then◌else◌, codes}
 use Rattle.std.specs.Str.{str_eq_ignore_ascii_case}
 use Rattle.xa_http.specs.declared.message.Field.{Field}
 use Rattle.xa_http.specs.Length.{values_of}
+use Rattle.xa_notation.specs.Tokens.{is_token}
 
 -- the text from its first byte that is no space
 abbrev pub after_spaces : List ℕ → List ℕ
 after_spaces [] = []
 after_spaces (c ∷ cs) = if c == 32 then after_spaces cs else c ∷ cs
-
--- a visible ASCII character
-abbrev pub is_visible : ℕ → Bool
-is_visible c = nat_le 33 c && nat_le c 126
-
--- a token: 8 to 64 visible ASCII characters
-unfoldable pub is_token : List ℕ → Bool
-is_token text = nat_le 8 (length text) && nat_le (length text) 64 && list_all is_visible text
 
 -- what follows the scheme `Bearer`, written in any case, and at least one space
 unfoldable pub credentials_of : List ℕ → Option (List ℕ)

@@ -3,7 +3,7 @@
 use Rattle.std.specs.Prelude.{ℕ, List, [], ◌∷◌, Option, Some, None, option_map, if◌then◌else◌, bytes_eq}
 use Rattle.xa_decide.specs.Decision.{Viewed}
 use Rattle.xa_server.specs.declared.domain.Domain.{Domain}
-use Rattle.xa_server.specs.declared.token.Token.{Token}
+use Rattle.xa_records.specs.declared.gate.Token.{Token}
 
 pub record DomainState : Type 0 where
   pub tokens : List Token

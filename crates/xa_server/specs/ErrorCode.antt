@@ -1,5 +1,5 @@
 -- The error answers: each code with its status (RFC 9110, section 15), and the bytes of its reply.
-use Rattle.std.specs.Prelude.{ℕ, List, ◌++◌, Result, Ok, Err, Option, Some, None, codes}
+use Rattle.std.specs.Prelude.{ℕ, List, ◌++◌, codes}
 use Rattle.xa_http.specs.declared.replies.Media.TheVariants.{Json}
 use Rattle.xa_http.specs.declared.table.Place.{Place}
 use Rattle.xa_http.specs.declared.replies.Extra.{Extra}
@@ -65,8 +65,3 @@ error_body code = codes "{\"Error\":\"" ++ name_of code ++ codes "\"}"
 -- the reply of an error answer
 unfoldable pub error_reply : ErrorCode → List ℕ
 error_reply code = http_bytes (status_of code) Json (extra_of code) (error_body code)
-
--- what is there, or else the error answer of that code
-abbrev pub or_error : {X : Type 0} → ErrorCode → Option X → Result X ErrorCode
-or_error code None = Err code
-or_error code (Some x) = Ok x

@@ -11,7 +11,7 @@ use Rattle.xa_server.specs.declared.given.Given.{Given}
 use Rattle.xa_server.specs.declared.given.GivenError.{GivenError}
 use Rattle.xa_server.specs.declared.given.GivenError.TheVariants.{BadDomain, Twice}
 use Rattle.xa_server.specs.Documents.{active_documents, documents_of}
-use Rattle.xa_server.specs.Owner.{is_domain_name}
+use Rattle.xa_records.specs.DomainName.{is_domain_name}
 
 -- some domain has the name
 abbrev pub has_name : List ℕ → List Given → Bool

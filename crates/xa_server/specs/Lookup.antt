@@ -4,7 +4,7 @@ use Rattle.xa_http.specs.declared.route.Route.{Route}
 use Rattle.xa_http.specs.declared.route.Route.TheVariants.{Decide}
 use Rattle.xa_server.specs.declared.domain.Domain.{Domain}
 use Rattle.xa_server.specs.DomainState.{DomainState, domain_of, state_of}
-use Rattle.xa_server.specs.Owner.{is_domain_name}
+use Rattle.xa_records.specs.DomainName.{is_domain_name}
 
 -- the state of the domain of that name, where there may be no name
 abbrev pub state_for : Option (List ℕ) → List Domain → Option DomainState

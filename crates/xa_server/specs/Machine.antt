@@ -2,6 +2,7 @@
 -- message and the moment at which it is answered, it gives the bytes of the reply and the state after it. The operator's digest is handed
 -- on for routes to come: no answer depends on it yet.
 use Rattle.std.specs.Prelude.{ℕ, ℤ, Bool, true, List, Option, Some, None, option_and_then, option_map, Result, Ok, Err, if◌then◌else◌}
+use Rattle.std.specs.Option.{ok_or}
 use Rattle.sha2.specs.Sha256.{sha256}
 use Rattle.xa_value.specs.Gives.{◌>>=◌}
 use Rattle.xa_decide.specs.Decision as decision
@@ -15,13 +16,13 @@ use Rattle.xa_http.specs.Reply.{http_bytes}
 use Rattle.xa_http.specs.Routes.{route_of}
 use Rattle.xa_server.specs.declared.error_code.ErrorCode.{ErrorCode}
 use Rattle.xa_server.specs.declared.error_code.ErrorCode.TheVariants.{Unauthorized, Forbidden, NotJson}
-use Rattle.xa_server.specs.declared.token.Role.{Role}
-use Rattle.xa_server.specs.declared.token.Role.TheVariants.{Ask, Admin}
-use Rattle.xa_server.specs.declared.token.Token.{Token}
+use Rattle.xa_notation.specs.declared.token.Role.{Role}
+use Rattle.xa_notation.specs.declared.token.Role.TheVariants.{Ask, Admin}
+use Rattle.xa_records.specs.declared.gate.Token.{Token}
 use Rattle.xa_server.specs.Authorization.{token_in}
 use Rattle.xa_server.specs.DomainState.{DomainState}
 use Rattle.xa_server.specs.Tokens.{role_of}
-use Rattle.xa_server.specs.ErrorCode.{code_of_route_fault, error_reply, or_error}
+use Rattle.xa_server.specs.ErrorCode.{code_of_route_fault, error_reply}
 
 -- the route, or 404, 405 or 415
 abbrev pub route_or_error : Result Route RouteFault → Result Route ErrorCode
@@ -44,7 +45,7 @@ permitted role route = if may role route then Ok tt else Err Forbidden
 -- the body of the response to a request; 400 where that is no JSON
 abbrev pub response_to : decision.Viewed → List ℕ → ℤ → Result (List ℕ) ErrorCode
 response_to view body moment =
-    or_error NotJson (option_map decision.body_of (decision.answer view body moment))
+    ok_or (option_map decision.body_of (decision.answer view body moment)) NotJson
 
 -- the reply with a response
 unfoldable pub decision_reply : List ℕ → List ℕ
@@ -61,8 +62,8 @@ effect_of (Decide _) domain message moment = do
 unfoldable pub answer : Option DomainState → Message → ℤ → Result (List ℕ × DomainState) ErrorCode
 answer state message moment = do
   route ← route_or_error (route_of message)
-  domain ← or_error Unauthorized state
-  role ← or_error Unauthorized (role_shown domain.tokens message)
+  domain ← ok_or state Unauthorized
+  role ← ok_or (role_shown domain.tokens message) Unauthorized
   _ ← permitted role route
   effect_of route domain message moment
 

@@ -1,19 +1,13 @@
 //! The token that a message shows.
 ghost use Rattle.std.specs.Prelude.{◌≡◌, codes, option_map};
-ghost use Rattle.std.specs.List.{list_all};
 ghost use Rattle.xa_http.specs.Length.{is_named, values_of};
-ghost use Rattle.xa_server.specs.Authorization.{after_spaces, is_visible, is_token, credentials_of, token_if, the_only, token_in};
+ghost use Rattle.xa_server.specs.Authorization.{after_spaces, credentials_of, token_if, the_only, token_in};
 
 use xa_http::Field;
+use xa_notation::is_token;
 
 /// The scheme, and the first of the spaces after it.
 const SCHEME: &[u8] = b"Bearer ";
-
-/// A token has at least this many bytes: a shorter one is too easily guessed.
-const MIN_TOKEN_BYTES: usize = 8;
-
-/// A token has at most this many bytes, enough for 256 bits in hexadecimal.
-const MAX_TOKEN_BYTES: usize = 64;
 
 /// The text from its first byte that is no space.
 fn after_spaces(text: &[u8]) -> &[u8]
@@ -24,23 +18,6 @@ fn after_spaces(text: &[u8]) -> &[u8]
         rest = others;
     }
     rest
-}
-
-fn all_visible(text: &[u8]) -> bool
-    ensures { result ≡ list_all is_visible text.now }
-{
-    text.iter().all(|byte| byte.is_ascii_graphic())
-}
-
-/// Whether it is a token: 8 to 64 visible ASCII characters.
-#[tactic(auto, unfolding(crate::specs::Authorization::is_token))]
-pub fn is_token(text: &[u8]) -> bool
-    ensures { result ≡ is_token text.now }
-{
-    if text.len() < MIN_TOKEN_BYTES || MAX_TOKEN_BYTES < text.len() {
-        return false;
-    }
-    all_visible(text)
 }
 
 /// What follows the scheme `Bearer` (RFC 6750, section 2.1), written in any case, and at least one space.

@@ -7,9 +7,9 @@ ghost use Rattle.xa_server.specs.DomainState.{domain_of};
 
 use crate::documents::{active_documents, documents_of};
 use crate::given::{Given, GivenError, all_apart, all_named};
-use crate::token::Token;
 use std::alloc::Global;
 use xa_decide::View;
+use xa_records::Token;
 use xa_value::{Items, OrMemory, Text};
 
 /// A domain: its name, its tokens, and what decides in it.

@@ -2,12 +2,11 @@
 ghost use Rattle.std.specs.Prelude.{◌≡◌};
 ghost use Rattle.xa_server.specs.Given.{all_apart, all_named, has_name};
 
-use crate::owner::is_domain_name;
-use crate::token::Token;
 use thiserror::Error;
 use xa_decide::SourceRow;
 use xa_notation::NotationError;
 use xa_policy::Reference;
+use xa_records::{Token, is_domain_name};
 use xa_value::{Items, Text};
 
 /// A domain: its name, the digests of its tokens with their roles, and what decides in it.

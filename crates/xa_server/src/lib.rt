@@ -7,15 +7,11 @@ mod domain;
 mod error_code;
 mod given;
 mod machine;
-mod owner;
 mod replies;
 mod server;
 mod token;
 
-pub use authorization::is_token;
 pub use error_code::{ErrorCode, fault_reply};
 pub use given::{Given, GivenDocument, GivenError};
-pub use owner::is_domain_name;
 pub use replies::{Refusal, Reply};
 pub use server::{Server, two_worlds_agree};
-pub use token::{Digest, Role, Token};

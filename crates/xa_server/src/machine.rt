@@ -12,12 +12,13 @@ ghost use Rattle.xa_server.specs.Owner.{owner};
 use crate::authorization::token_in;
 use crate::domain::{Domain, domain_of};
 use crate::error_code::ErrorCode;
-use crate::owner::is_domain_name;
-use crate::token::{Digest, Role, Token, role_of};
+use crate::token::role_of;
 use http::StatusCode;
 use std::alloc::{AllocError, Global};
 use xa_decide::View;
 use xa_http::{Extra, Media, Message, Route, Routes, reply};
+use xa_notation::Role;
+use xa_records::{Digest, Token, is_domain_name};
 use xa_value::{Moment, OrMemory};
 
 /// The body of the response to a request.

@@ -8,10 +8,10 @@ use crate::domain::{Domain, server_domains};
 use crate::given::{Given, GivenError};
 use crate::machine::reply_to;
 use crate::replies::{Refusal, Reply};
-use crate::token::Digest;
 use std::alloc::{AllocError, Global};
 use std::marker::Model;
 use xa_http::{Message, Routes};
+use xa_records::Digest;
 use xa_value::{Items, Moment, OrMemory};
 
 /// A server over the domains that it was given.
