@@ -15,7 +15,9 @@ from breaking import Breaking
 from combining import ALGORITHMS, DECISIONS
 from exchanges import Exchanges
 from functions import BAG_FUNCTIONS, DURATIONS, FUNCTIONS, HIGHER_ORDER, V1, V3
+from keeping import Keeping
 from rows import encoded, line
+from small_bodies import SmallBodies
 from texts import Texts
 from trees import Trees
 from values import Fault, read
@@ -23,7 +25,8 @@ from views import Decisions, Links
 
 
 # The kinds of rows, and of each how many there are to how many others.
-SHARES = {"values": 16, "expressions": 30, "requests": 15, "documents": 10, "links": 4, "decisions": 10, "servers": 1}
+SHARES = {"values": 16, "expressions": 30, "requests": 15, "documents": 10, "links": 4, "decisions": 10, "servers": 1, "bodies": 8,
+          "records": 6}
 # One run of `rt try` answers at most 1 MiB, and gives up after ten minutes: this many rows a file, of this many bytes.
 ROWS_A_FILE, BYTES_A_FILE = 500, 1_500_000
 
@@ -38,7 +41,8 @@ class Rows:
         self.kinds = list(kinds or SHARES)
         documents, decisions = Breaking(self), Decisions(self)
         self.makers = {"values": self.of_values, "expressions": self.of_expressions, "requests": Bodies(self).next, "documents": documents.next,
-                       "links": Links(self).next, "decisions": decisions.next, "servers": Exchanges(decisions, documents).next}
+                       "links": Links(self).next, "decisions": decisions.next, "servers": Exchanges(decisions, documents).next,
+                       "bodies": SmallBodies(self).next, "records": Keeping(self).next}
 
     def sound(self, data_type, name=""):
         """A text that reads, and that the named function is likely to take."""
@@ -141,10 +145,11 @@ class Rows:
         uri, name = self.random.choice(list(HIGHER_ORDER.items()))
         inner, types = self.inner(name)
         the_bag, given = self.random.randrange(len(types)), []
+        counts = self.random.choice([range(5), range(41)]) if len(types) < 3 or name != "any-of-any" else range(5)
         for place, data_type in enumerate(types):
-            pool = [self.sound(data_type, inner) for _ in range(3)]
+            pool = [self.sound(data_type, inner) for _ in range(self.random.choice([1, 3, 3, 20]))]
             is_bag = place == the_bag if name in ("any-of", "all-of", "map") else name != "any-of-any" or self.texts.seldom(0.6)
-            given.append((data_type, self.some(pool, range(5)) if is_bag else pool[0]))
+            given.append((data_type, self.some(pool, counts) if is_bag else pool[0]))
         return ["higher", uri, inner, *self.arguments(given)]
 
     def combine(self):

@@ -6,7 +6,9 @@ import documents
 import linking
 import messages
 import questions
+import records
 import requests
+import route_bodies
 import servers
 import versions
 from contexts import moment_as
@@ -140,8 +142,7 @@ def function(name=""):
 
 
 def token(text=""):
-    held = decoded(text)
-    return ["true" if 8 <= len(held) <= 64 and all(0x21 <= byte <= 0x7E for byte in held) else "false"]
+    return ["true" if route_bodies.is_token(decoded(text)) else "false"]
 
 
 def domain(text=""):
@@ -191,6 +192,8 @@ KINDS = {
     "version": versions.version, "pattern": versions.pattern, "matches": versions.matches, "versions": versions.versions,
     "resolve": versions.resolve, "document": documents.document,
     "link": linking.link, "decide": servers.decide, "request": requests.request, "individuals": requests.individuals,
+    "new_token": route_bodies.new_token, "old_token": route_bodies.old_token, "root": route_bodies.root, "rows": route_bodies.rows,
+    "keeper": records.keeper,
 }
 
 

@@ -33,6 +33,11 @@ TABLES = {
     "ObligationExpression": "ObligationId FulfillOn AttributeAssignmentExpression?",
     "AdviceExpression": "AdviceId AppliesTo AttributeAssignmentExpression?",
     "AttributeAssignmentExpression": "AttributeId Category? Issuer? Expression",
+    # the bodies of routes, and a row of a source of attributes
+    "NewToken": "Role Token",
+    "OldToken": "Token",
+    "Source": "Row",
+    "SourceRow": "Category Entity AttributeId DataType Value",
 }
 ONE_OF = {
     "document": "Policy PolicySet",
@@ -143,8 +148,8 @@ def flag(value):
     return kept(isinstance(value, bool), value)
 
 
-def attribute_value(value):
-    found = members("AttributeValue", value)
+def typed_value(found):
+    """The value of the members DataType and Value."""
     name, literal = data_type(found["DataType"]), found["Value"]
     if isinstance(literal, bool):
         return name, kept(name == "boolean", literal)
@@ -154,6 +159,10 @@ def attribute_value(value):
         return read(name, text(literal))
     except Fault:
         raise DocumentFault("BadValue") from None
+
+
+def attribute_value(value):
+    return typed_value(members("AttributeValue", value))
 
 
 def attribute_designator(value):

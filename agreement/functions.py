@@ -133,7 +133,11 @@ def is_among(value, others):
 
 def distinct(values):
     """Each value at its first appearance alone."""
-    return [value for place, value in enumerate(values) if not is_among(value, values[:place])]
+    found = []
+    for value in values:
+        if not is_among(value, found):
+            found.append(value)
+    return found
 
 
 def subset(first, second):
@@ -170,9 +174,12 @@ def by_places(stop, booleans):
 
 def higher_order(name, meaning, arguments):
     """What the function gives for the inner function and the lists of values that the arguments stand for."""
-    choices = itertools.product(*arguments)
     if name == "map":
-        return [meaning(*choice) for choice in choices]
+        return [meaning(*choice) for choice in itertools.product(*arguments)]
+    if max(map(len, arguments), default=0) > 100:
+        # a value that stands again gives what it gave before, and didn't decide there
+        arguments = [list(dict.fromkeys(argument)) for argument in arguments]
+    choices = itertools.product(*arguments)
     if name in ("any-of", "any-of-any"):
         return boolean(by_places(True, (meaning(*choice)[1] for choice in choices)))
     if name == "all-of":

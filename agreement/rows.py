@@ -2,8 +2,8 @@
 
 In a field a backslash begins an escape: \\n, \\r, \\t, \\\\, \\xHH for a byte, and \\{COUNT,TEXT\\} for COUNT times the text.
 Sources may also write \\u{HEX} for a character, letters beyond ASCII as they are, \\(NAME) for a text that a line `define NAME TEXT` gave
-before, where `file:PATH` is the text of a file of the repository and `rows:PATH` a field `row:..` for each source row in one, and \\[COUNT,TEXT\\]
-for COUNT times the text; two spaces or more part fields too, fields between `[COUNT` and `]` stand COUNT times, and a field that begins with `(` or `<` is parted at spaces and before `)` and `>`.
+before, where `file:PATH` is the text of a file of the repository and `rows:PATH` a field `row:..` for each source row in one, \\[COUNT,TEXT\\]
+for COUNT times the text, and \\[FIRST-LAST,TEXT\\] for the text once with each of these numbers where it has \\#; two spaces or more part fields too, fields between `[COUNT` and `]` stand COUNT times, and a field that begins with `(` or `<` is parted at spaces and before `)` and `>`.
 """
 import json
 import pathlib
@@ -91,6 +91,12 @@ def repeated(fields):
     return fields[:start] + fields[start + 1:end] * int(fields[start][1:]) + fields[end + 1:]
 
 
+def numbered(found):
+    """The text of a match of its first number, its last one and itself, once with each number."""
+    first, last, text = found.groups()
+    return "".join(text.replace("\\#", str(number)) for number in range(int(first), int(last) + 1))
+
+
 def parted(field):
     """The fields of an expression, or the field alone."""
     return re.findall(r"[)>]|[^ )>]+", field) if field.startswith(("(", "<")) else [field]
@@ -120,12 +126,13 @@ class Source:
         if not text or text.startswith("#"):
             return
         text = re.sub(r"\\\((\w+)\)", lambda found: self.defined[found.group(1)], text)
+        text = re.sub(r"\\\[(\d+)-(\d+),(.*?)\\\]", numbered, text)
         text = re.sub(r"\\\[(\d+),(.*?)\\\]", lambda found: found.group(2) * int(found.group(1)), text)
         if text.startswith("define "):
             _, name, held = text.split(None, 2)
             self.defined[name] = given(held)
             return
-        fields = re.split(r"\t+| {2,}", text)
+        fields = re.split(r"\t+| {2,}", text.rstrip())
         if "=>" not in fields:
             raise SystemExit(f"{self.path}:{number}: a row has no answer")
         fields = [part for field in repeated(fields) for part in parted(field)]

@@ -51,6 +51,11 @@ impl Answer {
     /// Adds a field: a word of the program, and bytes.
     pub fn field(&mut self, word: &str, bytes: &[u8]) {
         self.word(word);
+        self.append_bytes(bytes);
+    }
+
+    /// Adds bytes to the last field.
+    pub fn append_bytes(&mut self, bytes: &[u8]) {
         if push_bytes(&mut self.line, bytes).is_err() {
             self.cut();
         }

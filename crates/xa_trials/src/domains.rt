@@ -7,7 +7,9 @@ use crate::no_answer::NoAnswer;
 use crate::references::reference_of;
 use std::alloc::Global;
 use xa_decide::SourceRow;
-use xa_server::{Digest, Given, GivenDocument, Role, Token};
+use xa_notation::Role;
+use xa_records::{Digest, Token};
+use xa_server::{Given, GivenDocument};
 use xa_value::{Items, Text};
 
 /// A domain of that name, with nothing in it.

@@ -4,6 +4,7 @@
 mod answer;
 mod arguments;
 mod attributes;
+mod bodies;
 mod combining;
 mod decisions;
 mod documents;
@@ -12,6 +13,9 @@ mod expressions;
 mod field;
 mod functions;
 mod holders;
+mod keeper;
+mod keeper_changes;
+mod keeper_readings;
 mod linking;
 mod messages;
 mod no_answer;
@@ -52,7 +56,18 @@ fn answer_text(answer: &mut Answer, kind: &str, text: &str) -> Result<(), NoAnsw
         "document" => documents::document(answer, text),
         "request" => requests::request(answer, text),
         "individuals" => requests::individuals(answer, text),
-        _ => answer_many(answer, kind, &[text]),
+        _ => answer_body(answer, kind, text),
+    }
+}
+
+/// Answers a row of the body of a route behind the kind.
+fn answer_body(answer: &mut Answer, kind: &str, body: &str) -> Result<(), NoAnswer> {
+    match kind {
+        "new_token" => bodies::new_token(answer, body),
+        "old_token" => bodies::old_token(answer, body),
+        "root" => bodies::root(answer, body),
+        "rows" => bodies::rows(answer, body),
+        _ => answer_many(answer, kind, &[body]),
     }
 }
 
@@ -81,6 +96,7 @@ fn answer_many(answer: &mut Answer, kind: &str, fields: &[&str]) -> Result<(), N
         "stream" => messages::stream(answer, fields),
         "server" => server::server(answer, fields),
         "decide" => decisions::decision(answer, fields),
+        "keeper" => keeper::keeper(answer, fields),
         _ => answer_first(answer, kind, fields),
     }
 }

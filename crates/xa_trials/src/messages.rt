@@ -4,7 +4,8 @@ use crate::field::bytes_of;
 use crate::no_answer::NoAnswer;
 use std::alloc::Global;
 use xa_http::{Message, Next, Route, RouteFault, Routes, Session};
-use xa_server::{Digest, is_domain_name, is_token};
+use xa_notation::is_token;
+use xa_records::{Digest, is_domain_name};
 use xa_value::{Items, OrMemory};
 
 /// The messages of a stream that comes in these pieces, with what it answers after each of them.

@@ -1,4 +1,4 @@
-//! Rows of references: for which document one stands.
+//! Rows of references: for which document one stands. References and keys of documents as fields.
 use crate::answer::Answer;
 use crate::documents::document_of;
 use crate::field::kept_text;
@@ -6,8 +6,8 @@ use crate::no_answer::NoAnswer;
 use crate::versions::{pattern_named, version_named};
 use std::alloc::Global;
 use xa_link::{Active, resolve};
-use xa_policy::{DocumentKind, Pattern, Reference, Version};
-use xa_value::Shared;
+use xa_policy::{DocumentKey, DocumentKind, Pattern, Reference, Version};
+use xa_value::{Shared, Text};
 
 /// A document whose content doesn't matter.
 const ANY_DOCUMENT: &str =
@@ -66,6 +66,67 @@ pub fn reference_of(alloc: Global, field: &str) -> Result<Reference, NoAnswer> {
         earliest: version_or_none(earliest)?,
         latest: version_or_none(latest)?,
     })
+}
+
+/// The key of a field KIND|ID|VERSION.
+pub fn key_of(alloc: Global, field: &str) -> Result<DocumentKey, NoAnswer> {
+    let parts: Vec<&str> = field.split('|').collect(alloc)?;
+    let [kind, id, version] = parts.as_slice() else {
+        return Err(NoAnswer::Malformed);
+    };
+    Ok(DocumentKey {
+        kind: kind_named(kind)?,
+        id: kept_text(alloc, id)?,
+        version: version_named(version)?,
+    })
+}
+
+/// Adds a field of the word and KIND|ID|.
+fn push_kind(answer: &mut Answer, word: &str, kind: DocumentKind, id: &Text) {
+    answer.word(word);
+    match kind {
+        DocumentKind::Policy => answer.append_bytes("policy|".as_bytes()),
+        DocumentKind::PolicySet => answer.append_bytes("set|".as_bytes()),
+    }
+    answer.append_bytes(id.as_bytes());
+    answer.append_bytes("|".as_bytes());
+}
+
+fn push_pattern(answer: &mut Answer, pattern: &Option<Pattern>) -> Result<(), NoAnswer> {
+    if let Some(pattern) = pattern {
+        let text = pattern.to_text(answer.alloc())?;
+        answer.append_bytes(text.as_bytes());
+    }
+    Ok(())
+}
+
+fn push_version(answer: &mut Answer, version: &Option<Version>) -> Result<(), NoAnswer> {
+    answer.append_bytes("|".as_bytes());
+    if let Some(version) = version {
+        let text = version.to_text(answer.alloc())?;
+        answer.append_bytes(text.as_bytes());
+    }
+    Ok(())
+}
+
+/// Adds a field of the word and KIND|ID|PATTERN|EARLIEST|LATEST, where what the reference doesn't say is empty.
+pub fn push_reference(
+    answer: &mut Answer,
+    word: &str,
+    reference: &Reference,
+) -> Result<(), NoAnswer> {
+    push_kind(answer, word, reference.kind, &reference.id);
+    push_pattern(answer, &reference.version)?;
+    push_version(answer, &reference.earliest)?;
+    push_version(answer, &reference.latest)
+}
+
+/// Adds a field of the word and KIND|ID|VERSION.
+pub fn push_key(answer: &mut Answer, word: &str, key: &DocumentKey) -> Result<(), NoAnswer> {
+    push_kind(answer, word, key.kind, &key.id);
+    let text = key.version.to_text(answer.alloc())?;
+    answer.append_bytes(text.as_bytes());
+    Ok(())
 }
 
 /// An active document of a field KIND|ID|VERSION.

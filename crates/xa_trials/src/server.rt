@@ -7,7 +7,8 @@ use crate::field::bytes_of;
 use crate::no_answer::NoAnswer;
 use std::alloc::Global;
 use xa_http::{Message, Next, Session};
-use xa_server::{Digest, Reply, Server, fault_reply};
+use xa_records::Digest;
+use xa_server::{Reply, Server, fault_reply};
 use xa_value::Moment;
 
 /// A server at a moment, with the stream whose messages it answers.

@@ -1,0 +1,187 @@
+"""What a keeper of records answers to changes and readings, one after another, of which the first finds no domain.
+
+A change alters one domain, or is refused and alters nothing. Each domain has a number, which no other ever has, and an epoch, which rises by one
+with each change of what decides: of its documents, of which of them are active, of its root, of its source of attributes.
+"""
+from documents import DocumentFault
+from linking import active_of
+from route_bodies import reference_shown, root_of, rows_of, rows_shown
+from rows import decoded, encoded, text_of
+from servers import is_domain_name
+from versions import NoVersion, numbers, reference_of
+
+MOST_TOKENS, MOST_DOCUMENTS, MOST_ROWS = 32, 256, 1024
+
+
+class Refused(Exception):
+    """Why a change isn't made."""
+
+
+class Malformed(Exception):
+    """The field asks for nothing that a keeper does."""
+
+
+class Domain:
+    """A domain, with nothing in it at first."""
+
+    def __init__(self, number):
+        self.number, self.epoch = number, 0
+        self.tokens, self.documents, self.root, self.source = {}, {}, None, []
+
+    def decides(self):
+        """All that decides in the domain, as it is shown."""
+        return dict(self.documents), self.root and reference_shown(self.root), rows_shown(self.source)
+
+
+def unless(is_refused, why):
+    if is_refused:
+        raise Refused(why)
+
+
+# Changes of a domain that is there. What is refused is refused before anything is altered.
+
+
+def put(domain, text):
+    role, token = text.split(" ", 1)
+    token = decoded(token)
+    unless(token not in domain.tokens and len(domain.tokens) == MOST_TOKENS, "Quota")
+    domain.tokens[token] = {"ask": "Ask", "admin": "Admin"}[role]
+
+
+def drop(domain, text):
+    token = decoded(text)
+    unless(token not in domain.tokens, "Absent")
+    del domain.tokens[token]
+
+
+def upload(domain, text):
+    kind, name, version, _ = active_of(text)
+    key = kind, name.encode(), tuple(version)
+    if key in domain.documents:
+        unless(domain.documents[key][0] != text_of(text), "SameVersionOtherText")
+        return "Same"
+    unless(len(domain.documents) == MOST_DOCUMENTS, "Quota")
+    domain.documents[key] = text_of(text), False
+    return "New"
+
+
+def key_of(text):
+    kind, name, version = text.split("|")
+    return kind, text_of(name).encode(), tuple(numbers(version))
+
+
+def set_active(is_active):
+    def change(domain, text):
+        key = key_of(text)
+        unless(key not in domain.documents, "Absent")
+        domain.documents[key] = domain.documents[key][0], is_active
+    return change
+
+
+def delete(domain, text):
+    key = key_of(text)
+    unless(key not in domain.documents, "Absent")
+    unless(domain.documents[key][1], "StillActive")
+    del domain.documents[key]
+
+
+def set_root(domain, text):
+    domain.root = reference_of(text) if text else None
+
+
+def set_source(domain, text):
+    rows = rows_of(text)
+    unless(len(rows) > MOST_ROWS, "Quota")
+    domain.source = rows
+
+
+CHANGES = {"put": put, "drop": drop, "upload": upload, "activate": set_active(True), "deactivate": set_active(False), "delete": delete, "root": set_root,
+           "source": set_source}
+
+
+# Readings of a domain that is there.
+
+
+def gate(domain, _):
+    return [f"number {domain.number} epoch {domain.epoch} tokens {len(domain.tokens)}"]
+
+
+def role(domain, text):
+    return [domain.tokens.get(decoded(text), "!None")]
+
+
+def document(domain, text):
+    found = domain.documents.get(key_of(text))
+    return [encoded(found[0]) if found else "!None"]
+
+
+def key_shown(key):
+    kind, name, version = key
+    return "|".join([kind, encoded(name), ".".join(map(str, version))])
+
+
+def listed(domain, _):
+    return [("active:" if domain.documents[key][1] else "inactive:") + key_shown(key) for key in sorted(domain.documents)] + ["."]
+
+
+def view(domain, _):
+    active = [domain.documents[key][0] for key in sorted(domain.documents) if domain.documents[key][1]]
+    root = reference_shown(domain.root) if domain.root else "!None"
+    return ["active:" + encoded(text) for text in active] + ["root:" + root, "source:" + encoded(rows_shown(domain.source))]
+
+
+READINGS = {"gate": gate, "role": role, "document": document, "list": listed, "view": view}
+
+
+class Keeper:
+    """A keeper, with no domain at first."""
+
+    def __init__(self):
+        self.domains, self.next = {}, 1
+
+    def create(self, name):
+        if not is_domain_name(name):
+            raise Malformed
+        unless(name in self.domains, "Exists")
+        self.domains[name] = Domain(self.next)
+        self.next += 1
+
+    def remove(self, name):
+        unless(name not in self.domains, "Absent")
+        del self.domains[name]
+
+    def change(self, change, name, text):
+        unless(name not in self.domains, "Absent")
+        domain = self.domains[name]
+        before = domain.decides()
+        found = change(domain, text)
+        domain.epoch += domain.decides() != before
+        return found
+
+    def call(self, word, name, text):
+        """The fields of the answer to a call."""
+        if word == "domains":
+            return sorted(self.domains) + ["."]
+        if word == "faults":
+            return ["0"]
+        if word in READINGS:
+            return READINGS[word](self.domains[name], text) if name in self.domains else ["!None"]
+        if word in ("create", "remove"):
+            return [(self.create if word == "create" else self.remove)(name) or "ok"]
+        if word in CHANGES:
+            return [self.change(CHANGES[word], name, text) or "ok"]
+        raise Malformed
+
+
+def keeper(*fields):
+    """The answer to a row."""
+    held, shown = Keeper(), []
+    for field in fields:
+        word, name, text = (field.split(" ", 2) + ["", ""])[:3]
+        try:
+            shown += held.call(word, text_of(name), text)
+        except Refused as why:
+            shown.append(f"!{why}")
+        except (Malformed, DocumentFault, NoVersion, ValueError, KeyError):
+            return shown + ["!Malformed"]
+    return shown

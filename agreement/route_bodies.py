@@ -1,0 +1,93 @@
+"""The bodies of routes in JSON: a token with its role, a token alone, a root, and the rows of a source of attributes.
+
+Their shape is checked by tables of members, as that of documents is (agreement/documents.py).
+"""
+import json
+
+from contexts import SourceRow
+from documents import DocumentFault, among, array, category, kept, members, reference, text, typed_value
+from identifiers import NAMESPACE
+from json_texts import NotJson, json_of
+from responses import plain
+from rows import decoded, encoded
+
+ROLES = {"ask": "Ask", "admin": "Admin"}
+ROOTS = {"PolicyIdReference": "policy", "PolicySetIdReference": "set"}
+
+
+def json_in(field):
+    """The JSON that the body of a field is."""
+    try:
+        return json_of(decoded(field))
+    except NotJson:
+        raise DocumentFault("NotJson") from None
+
+
+def is_token(held):
+    """Whether the bytes have the shape of a token: 8 to 64 visible characters of ASCII."""
+    return 8 <= len(held) <= 64 and all(0x21 <= byte <= 0x7E for byte in held)
+
+
+def token(value):
+    return kept(is_token(text(value).encode()), value)
+
+
+def new_token_of(field):
+    """The role and the token of a body."""
+    found = members("NewToken", json_in(field))
+    return among(ROLES)(found["Role"]), token(found["Token"])
+
+
+def old_token_of(field):
+    return token(members("OldToken", json_in(field))["Token"])
+
+
+def root_of(field):
+    """The reference of a body, or None."""
+    found = json_in(field)
+    kept(isinstance(found, dict), found)
+    kept(set(found) <= set(ROOTS) and len(found) <= 1, found, "UnknownMember")
+    for name, inner in found.items():
+        return reference(ROOTS[name], inner)
+    return None
+
+
+def source_row(value):
+    found = members("SourceRow", value)
+    return SourceRow(category(found["Category"]), text(found["Entity"]), text(found["AttributeId"]), typed_value(found))
+
+
+def rows_of(field):
+    """The rows of a body, in order."""
+    return [source_row(item) for item in array(members("Source", json_in(field))["Row"])]
+
+
+def row_shown(row):
+    return {"AttributeId": row.attribute_id, "Category": row.category, "DataType": NAMESPACE + row.value[0], "Entity": row.entity, "Value": plain(row.value)}
+
+
+def rows_shown(found):
+    """The body that lists the rows: compact, with the members in the order of their names."""
+    return json.dumps({"Row": [row_shown(row) for row in found]}, ensure_ascii=False, sort_keys=True, separators=(",", ":"))
+
+
+def reference_shown(reference):
+    """The reference as a field `KIND|ID|PATTERN|EARLIEST|LATEST` has it."""
+    kind, name, pattern, earliest, latest = reference
+    return "|".join([kind, encoded(name), ".".join(pattern or []), *(".".join(map(str, version or [])) for version in (earliest, latest))])
+
+
+def read_as(reads, shows):
+    """Answers a row by the fields that show what is read of its body, or by its first fault."""
+    def answer(field=""):
+        try:
+            return shows(reads(field))
+        except DocumentFault as fault:
+            return ["!" + str(fault)]
+    return answer
+
+
+new_token = read_as(new_token_of, lambda found: [found[0], encoded(found[1])])
+old_token = read_as(old_token_of, lambda found: [encoded(found)])
+root = read_as(root_of, lambda found: ["!None" if found is None else reference_shown(found)])
+rows = read_as(rows_of, lambda found: [encoded(rows_shown(found))])
