@@ -92,8 +92,37 @@ class Links:
         self.random.shuffle(children)
         return [policy_set("urn:s", children), policy_set("urn:t", [policy("urn:p")] * inner)], "set|urn:s|||"
 
+    def version(self):
+        """One of some hundred versions, many of which begin alike, and some of which are written in two ways."""
+        numbers = [self.one_of([1, 1, 2, 10]), *(self.one_of([0, 1, 2, 9, 10, 100]) for _ in range(self.one_of([0, 1, 1, 2, 6])))]
+        return ".".join(self.one_of(["", "", "", "0"]) + str(number) for number in numbers)
+
+    def pattern(self):
+        return ".".join(self.one_of([part] * 3 + ["*"]) for part in self.version().split(".")) + self.one_of(["", "", ".+"])
+
+    def many(self):
+        """More references than are looked up one after another, to documents of few ids and many versions."""
+        ids = ["urn:p", "urn:q", "urn:pp"]
+        keys = {("set" if self.seldom(0.2) else "policy", self.one_of(ids), self.version()) for _ in range(self.one_of([2, 9, 30, 60]))}
+
+        def reference(kind):
+            bounds = {name: make() for name, make, chance in (("Version", self.pattern, 0.7), ("EarliestVersion", self.version, 0.2), ("LatestVersion", self.version, 0.3))
+                      if self.seldom(chance)}
+            return {"PolicySetIdReference" if kind == "set" else "PolicyIdReference": {"Id": self.one_of(ids), **bounds}}
+
+        algorithms = ["deny-overrides", "permit-overrides", "deny-unless-permit", "permit-unless-deny"]
+        found = []
+        for kind, name, version in sorted(keys):
+            draft = policy_set(name, [reference(self.one_of(["set", "policy"])) for _ in range(self.one_of([0, 1, 3]))], version) if kind == "set" else policy(name, version)
+            if kind == "policy":
+                draft["Policy"]["RuleCombiningAlgId"] = BEGINNING + "rule-combining-algorithm:" + self.one_of(algorithms)
+            found.append(draft)
+        self.random.shuffle(found)
+        children = [reference(self.one_of(["policy"] * 4 + ["set"])) for _ in range(self.one_of([23, 24, 25, 40, 90]))]
+        return [policy_set("urn:root", children), *found], "set|urn:root|||"
+
     def next(self):
-        found, root = self.one_of([self.graph] * 60 + [self.chain] * 30 + [self.doubling] * 5 + [self.wide])()
+        found, root = self.one_of([self.graph] * 60 + [self.chain] * 30 + [self.doubling] * 5 + [self.wide] + [self.many] * 10)()
         return ["link", root, *(encoded(self.drafts.text(draft)) for draft in found)]
 
 
