@@ -1,4 +1,4 @@
--- The state of one domain: what is kept of it, apart from what tells it from other domains and from its own past.
+-- The state of one domain: what is kept of it, but for its number and its epoch.
 use Rattle.std.specs.Prelude.{◌≡◌, ℕ, Bool, List, [], Option, None, Ok}
 use Rattle.std.specs.Cmp.Lexicographic.{slice_cmp}
 use Rattle.std.specs.FinMap.{FinMap, empty}

@@ -1,8 +1,9 @@
 -- What a call of a keeper did.
-use Rattle.std.specs.Prelude.{◌≡◌, ◌<◌, ◌+◌, ◌^◌, ◌⊎◌, ℕ, List, Result, Ok, Err}
+use Rattle.std.specs.Prelude.{◌≡◌, ◌+◌, ◌^◌, ◌⊎◌, ℕ, List, Result, Ok, Err}
 use Rattle.xa_records.specs.declared.refusal.ChangeError.{ChangeError}
 use Rattle.xa_records.specs.declared.refusal.ChangeError.TheVariants.{Failed, Refused}
 use Rattle.xa_records.specs.declared.refusal.Failure.{Failure}
+use Rattle.xa_records.specs.declared.refusal.Failure.TheVariants.{Memory, Store}
 use Rattle.xa_records.specs.Changes.{Change}
 use Rattle.xa_records.specs.Kept.{Kept, IsMade, state_of}
 
@@ -21,12 +22,25 @@ Changes old new (Err (Failed failure)) name change = new ≡ old
 abbrev pub Leaves : (Kept → Type 0) → (Kept → Type 0) → Kept → List ℕ → Change → Type 0
 Leaves before after old name change = (left : Kept) → after left → before left ⊎ IsMade change name old left
 
--- where the call has given an answer, also that the change is refused
+-- unless the call failed: the change was made, or is refused
 abbrev pub IfAnswered : {X : Type 0} → Result X ChangeError → Type 0 → Type 0
 IfAnswered (Ok x) claim = claim
 IfAnswered (Err (Refused e)) claim = claim
 IfAnswered (Err (Failed failure)) claim = Unit {0}
 
 -- one more, or as many as can be counted
-abbrev pub Rises : ℕ → ℕ → Type 0
-Rises old new = (old < new) ⊎ ((old + 1 ≡ 2 ^ 64) × (new ≡ old))
+abbrev pub IsOneMore : ℕ → ℕ → Type 0
+IsOneMore old new = (new ≡ old + 1) ⊎ ((old + 1 ≡ 2 ^ 64) × (new ≡ old))
+
+-- of the calls that failed for want of storage each is counted, and no other: of the readings
+abbrev pub CountsReading : {X : Type 0} → ℕ → ℕ → Result X Failure → Type 0
+CountsReading old new (Ok x) = new ≡ old
+CountsReading old new (Err Memory) = new ≡ old
+CountsReading old new (Err Store) = IsOneMore old new
+
+-- and of the changes
+abbrev pub CountsChange : {X : Type 0} → ℕ → ℕ → Result X ChangeError → Type 0
+CountsChange old new (Ok x) = new ≡ old
+CountsChange old new (Err (Refused e)) = new ≡ old
+CountsChange old new (Err (Failed Memory)) = new ≡ old
+CountsChange old new (Err (Failed Store)) = IsOneMore old new

@@ -1,6 +1,6 @@
 -- What is kept of all domains, and how one of them changes in it.
 use Rattle.std.specs.Prelude.{◌≡◌, ◌≢◌, ◌<◌, ◌+◌, ◌^◌, ◌⊎◌, ℕ, List, Option, Some, None, option_map, Ok}
-use Rattle.std.specs.FinMap.{FinMap, get, keys}
+use Rattle.std.specs.FinMap.{FinMap, empty, get, keys}
 use Rattle.xa_records.specs.Changes.{Change}
 use Rattle.xa_records.specs.DomainState.{DomainState, compare_bytes}
 
@@ -14,6 +14,10 @@ pub record Domain : Type 0 where
 pub record Kept : Type 0 where
   pub domains : FinMap compare_bytes Domain
   pub next : ℕ
+
+-- no domains; the first that is made gets the number 1
+abbrev pub nothing_kept : Kept
+nothing_kept = record { domains = empty; next = 1 }
 
 -- the state of the domain of that name, if there is one
 abbrev pub state_of : List ℕ → Kept → Option DomainState

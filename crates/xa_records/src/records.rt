@@ -1,11 +1,9 @@
 //! The keeper of what is kept of all domains.
-ghost use Rattle.std.specs.Prelude.{◌≡◌, ◌≤◌, ℕ, IsTrue, IfOk, OnOk, IsErrOf};
-ghost use Rattle.xa_records.specs.declared.refusal.ChangeError.TheVariants.{Failed};
-ghost use Rattle.xa_records.specs.declared.refusal.Failure.TheVariants.{Store};
+ghost use Rattle.std.specs.Prelude.{◌≡◌, ℕ, IsTrue, IfOk, OnOk};
 ghost use Rattle.xa_records.specs.Changes.{activity_set, created, deleted, removed, root_set, source_set, token_dropped, token_put, upload_of, uploaded, within};
 ghost use Rattle.xa_records.specs.DomainName.{is_domain_name};
 ghost use Rattle.xa_records.specs.DomainState.{IsDocumentOf};
-ghost use Rattle.xa_records.specs.Keeper.{Changes, IfAnswered, Leaves, Reads, Rises};
+ghost use Rattle.xa_records.specs.Keeper.{Changes, CountsChange, CountsReading, IfAnswered, Leaves, Reads};
 ghost use Rattle.xa_records.specs.Kept.{IsNumbered, Kept, names_of, state_of};
 ghost use Rattle.xa_records.specs.Readings.{gate_of, listing_of, text_of, view_of};
 
@@ -23,13 +21,14 @@ use xa_value::{Items, Text};
 
 /// A keeper of domains. Its meaning is a finite map from the names of domains to their states, each with a number and an epoch, and the next number.
 ///
-/// Each method reads that map or makes one change of it, for the domain named and no other; nothing has changed after a refusal or a failure.
-/// What the clauses say of the map they say where the keeper is `sound` after the call, and then it was sound before.
+/// Each method reads that map or makes one change of it, for the domain named and no other; nothing has changed after a refusal or a failure, but that after
+/// `Store` a stop may leave the change made: it is there, or it isn't, when the storage is opened again. What the clauses say of the map they say where the
+/// keeper is `sound` after the call, and then it was sound before.
 pub trait Records {
     /// What is kept.
     ghost kept: { Self → Kept };
 
-    /// Whether the keeper means what it says: of one in memory always, of one in tables while its store is open and nobody else writes there.
+    /// Whether `kept` is what the keeper holds: in memory always, in tables while its store is open and nobody else writes there.
     ghost sound: { Self → Type 0 };
 
     /// Whether the disk has given back what was written.
@@ -38,7 +37,7 @@ pub trait Records {
     /// What a crash now may leave.
     ghost may_leave: { Self → Kept → Type 0 };
 
-    /// How many calls have failed for want of storage.
+    /// How many calls have failed with `Store`.
     ghost faults: { Self → ℕ };
 
     /// How many calls have failed with `Store`; at the greatest number it stays.
@@ -52,8 +51,7 @@ pub trait Records {
         ensures clean { clean self.new → clean self.old }
         ensures stays { clean self.new → sound self.old → OnOk result (sound self.new) }
         ensures leaves { clean self.new → sound self.old → (left : Kept) → may_leave self.new left → may_leave self.old left }
-        ensures cause { IsErrOf result Store → Rises (faults self.old) (faults self.new) }
-        ensures faults { faults self.old ≤ faults self.new };
+        ensures faults { CountsReading (faults self.old) (faults self.new) result };
 
     /// What decides in the domain; nothing, if there is no such domain.
     fn view(&mut self, alloc: Global, name: &Text) -> Result<Option<KeptView>, Failure>
@@ -62,8 +60,7 @@ pub trait Records {
         ensures clean { clean self.new → clean self.old }
         ensures stays { clean self.new → sound self.old → OnOk result (sound self.new) }
         ensures leaves { clean self.new → sound self.old → (left : Kept) → may_leave self.new left → may_leave self.old left }
-        ensures cause { IsErrOf result Store → Rises (faults self.old) (faults self.new) }
-        ensures faults { faults self.old ≤ faults self.new };
+        ensures faults { CountsReading (faults self.old) (faults self.new) result };
 
     /// The text of the document as it was uploaded; nothing, if there is no such domain or document.
     fn document(
@@ -77,8 +74,7 @@ pub trait Records {
         ensures clean { clean self.new → clean self.old }
         ensures stays { clean self.new → sound self.old → OnOk result (sound self.new) }
         ensures leaves { clean self.new → sound self.old → (left : Kept) → may_leave self.new left → may_leave self.old left }
-        ensures cause { IsErrOf result Store → Rises (faults self.old) (faults self.new) }
-        ensures faults { faults self.old ≤ faults self.new };
+        ensures faults { CountsReading (faults self.old) (faults self.new) result };
 
     /// The domain's documents, in the order of their keys; nothing, if there is no such domain.
     fn list(&mut self, alloc: Global, name: &Text) -> Result<Option<Items<Listed>>, Failure>
@@ -87,8 +83,7 @@ pub trait Records {
         ensures clean { clean self.new → clean self.old }
         ensures stays { clean self.new → sound self.old → OnOk result (sound self.new) }
         ensures leaves { clean self.new → sound self.old → (left : Kept) → may_leave self.new left → may_leave self.old left }
-        ensures cause { IsErrOf result Store → Rises (faults self.old) (faults self.new) }
-        ensures faults { faults self.old ≤ faults self.new };
+        ensures faults { CountsReading (faults self.old) (faults self.new) result };
 
     /// The names of all domains, in the order of their bytes.
     fn domains(&mut self, alloc: Global) -> Result<Items<Text>, Failure>
@@ -97,8 +92,7 @@ pub trait Records {
         ensures clean { clean self.new → clean self.old }
         ensures stays { clean self.new → sound self.old → OnOk result (sound self.new) }
         ensures leaves { clean self.new → sound self.old → (left : Kept) → may_leave self.new left → may_leave self.old left }
-        ensures cause { IsErrOf result Store → Rises (faults self.old) (faults self.new) }
-        ensures faults { faults self.old ≤ faults self.new };
+        ensures faults { CountsReading (faults self.old) (faults self.new) result };
 
     /// Makes a domain in which nothing has been put yet. It gets the next number, the first being 1. Refused with `Exists`.
     fn create(&mut self, alloc: Global, name: &Text) -> Result<(), ChangeError>
@@ -108,8 +102,7 @@ pub trait Records {
         ensures clean { clean self.new → clean self.old }
         ensures stays { clean self.new → sound self.old → IfAnswered result (sound self.new) }
         ensures leaves { clean self.new → sound self.old → Leaves (may_leave self.old) (may_leave self.new) (kept self.old) name.now created }
-        ensures cause { IsErrOf result (Failed Store) → Rises (faults self.old) (faults self.new) }
-        ensures faults { faults self.old ≤ faults self.new };
+        ensures faults { CountsChange (faults self.old) (faults self.new) result };
 
     /// Removes the domain with all that is in it. Refused with `Absent`.
     fn remove(&mut self, alloc: Global, name: &Text) -> Result<(), ChangeError>
@@ -118,10 +111,9 @@ pub trait Records {
         ensures clean { clean self.new → clean self.old }
         ensures stays { clean self.new → sound self.old → IfAnswered result (sound self.new) }
         ensures leaves { clean self.new → sound self.old → Leaves (may_leave self.old) (may_leave self.new) (kept self.old) name.now removed }
-        ensures cause { IsErrOf result (Failed Store) → Rises (faults self.old) (faults self.new) }
-        ensures faults { faults self.old ≤ faults self.new };
+        ensures faults { CountsChange (faults self.old) (faults self.new) result };
 
-    /// Lets a token in, or gives it another role. Refused with `Absent`, and with `Quota` where the domain has 32 others.
+    /// Adds a token with its role, or replaces the role of one that is there. Refused with `Absent`, and with `Quota` where the domain has 32 others.
     fn put_token(
         &mut self,
         alloc: Global,
@@ -134,8 +126,7 @@ pub trait Records {
         ensures clean { clean self.new → clean self.old }
         ensures stays { clean self.new → sound self.old → IfAnswered result (sound self.new) }
         ensures leaves { clean self.new → sound self.old → Leaves (may_leave self.old) (may_leave self.new) (kept self.old) name.now (within (token_put digest role)) }
-        ensures cause { IsErrOf result (Failed Store) → Rises (faults self.old) (faults self.new) }
-        ensures faults { faults self.old ≤ faults self.new };
+        ensures faults { CountsChange (faults self.old) (faults self.new) result };
 
     /// Takes a token away. Refused with `Absent`, also where the domain has no such token.
     fn drop_token(&mut self, alloc: Global, name: &Text, digest: Digest) -> Result<(), ChangeError>
@@ -144,10 +135,9 @@ pub trait Records {
         ensures clean { clean self.new → clean self.old }
         ensures stays { clean self.new → sound self.old → IfAnswered result (sound self.new) }
         ensures leaves { clean self.new → sound self.old → Leaves (may_leave self.old) (may_leave self.new) (kept self.old) name.now (within (token_dropped digest)) }
-        ensures cause { IsErrOf result (Failed Store) → Rises (faults self.old) (faults self.new) }
-        ensures faults { faults self.old ≤ faults self.new };
+        ensures faults { CountsChange (faults self.old) (faults self.new) result };
 
-    /// Puts a document into the domain, which isn't active yet. The very text again changes nothing. Refused with `Absent`, with `SameVersionOtherText`, and
+    /// Adds a document, which isn't active at first. The very text again changes nothing. Refused with `Absent`, with `SameVersionOtherText`, and
     /// with `Quota` where the domain has 256 others.
     fn upload(
         &mut self,
@@ -163,10 +153,9 @@ pub trait Records {
         ensures clean { clean self.new → clean self.old }
         ensures stays { clean self.new → sound self.old → IfAnswered result (sound self.new) }
         ensures leaves { clean self.new → sound self.old → Leaves (may_leave self.old) (may_leave self.new) (kept self.old) name.now (within (uploaded key text.now)) }
-        ensures cause { IsErrOf result (Failed Store) → Rises (faults self.old) (faults self.new) }
-        ensures faults { faults self.old ≤ faults self.new };
+        ensures faults { CountsChange (faults self.old) (faults self.new) result };
 
-    /// Says whether references may resolve to the document. Refused with `Absent`, also where there is no such document.
+    /// Makes the document active, so that references may resolve to it, or inactive. Refused with `Absent`, also where there is no such document.
     fn set_active(
         &mut self,
         alloc: Global,
@@ -179,8 +168,7 @@ pub trait Records {
         ensures clean { clean self.new → clean self.old }
         ensures stays { clean self.new → sound self.old → IfAnswered result (sound self.new) }
         ensures leaves { clean self.new → sound self.old → Leaves (may_leave self.old) (may_leave self.new) (kept self.old) name.now (within (activity_set key.now active)) }
-        ensures cause { IsErrOf result (Failed Store) → Rises (faults self.old) (faults self.new) }
-        ensures faults { faults self.old ≤ faults self.new };
+        ensures faults { CountsChange (faults self.old) (faults self.new) result };
 
     /// Deletes a document. Refused with `Absent`, also where there is no such document, and with `StillActive`.
     fn delete(&mut self, alloc: Global, name: &Text, key: &DocumentKey) -> Result<(), ChangeError>
@@ -189,8 +177,7 @@ pub trait Records {
         ensures clean { clean self.new → clean self.old }
         ensures stays { clean self.new → sound self.old → IfAnswered result (sound self.new) }
         ensures leaves { clean self.new → sound self.old → Leaves (may_leave self.old) (may_leave self.new) (kept self.old) name.now (within (deleted key.now)) }
-        ensures cause { IsErrOf result (Failed Store) → Rises (faults self.old) (faults self.new) }
-        ensures faults { faults self.old ≤ faults self.new };
+        ensures faults { CountsChange (faults self.old) (faults self.new) result };
 
     /// Sets the root, or takes it away. Refused with `Absent`.
     fn set_root(
@@ -204,8 +191,7 @@ pub trait Records {
         ensures clean { clean self.new → clean self.old }
         ensures stays { clean self.new → sound self.old → IfAnswered result (sound self.new) }
         ensures leaves { clean self.new → sound self.old → Leaves (may_leave self.old) (may_leave self.new) (kept self.old) name.now (within (root_set root)) }
-        ensures cause { IsErrOf result (Failed Store) → Rises (faults self.old) (faults self.new) }
-        ensures faults { faults self.old ≤ faults self.new };
+        ensures faults { CountsChange (faults self.old) (faults self.new) result };
 
     /// Puts these rows into the source of attributes, in place of all that were there. Refused with `Absent`, and with `Quota` where there are more than 1,024.
     fn set_source(
@@ -219,8 +205,7 @@ pub trait Records {
         ensures clean { clean self.new → clean self.old }
         ensures stays { clean self.new → sound self.old → IfAnswered result (sound self.new) }
         ensures leaves { clean self.new → sound self.old → Leaves (may_leave self.old) (may_leave self.new) (kept self.old) name.now (within (source_set rows)) }
-        ensures cause { IsErrOf result (Failed Store) → Rises (faults self.old) (faults self.new) }
-        ensures faults { faults self.old ≤ faults self.new };
+        ensures faults { CountsChange (faults self.old) (faults self.new) result };
 
     /// Law: no two domains have one number, and every number is below the next.
     ghost numbered: { (s : Self) → sound s → IsNumbered (kept s) };

@@ -16,7 +16,7 @@ pub enum Refusal {
     #[error("there is no such domain, token or document")]
     Absent,
     /// The domain may keep no more of them: 32 tokens, 256 documents, 1,024 source rows.
-    #[error("the domain may keep no more of them")]
+    #[error("the domain may keep no more tokens, documents or source rows")]
     Quota,
     /// There is a document of that kind, id and version already, with another text.
     #[error("there is a document of that kind, id and version already, with another text")]
@@ -26,18 +26,19 @@ pub enum Refusal {
     StillActive,
 }
 
-/// Why a keeper gave no answer. Nothing has changed.
+/// Why a keeper gave no answer. Nothing has changed, but that after `Store` a stop may leave the change made: it is there, or it isn't, when the storage is
+/// opened again.
 #[derive(Clone, Copy, Debug, PartialEq, Eq, Error)]
 pub enum Failure {
     /// There was no memory for it.
     #[error("out of memory")]
     Memory,
-    /// The storage failed, or a number that is kept can't be raised any more; the keeper counts these.
+    /// The storage failed, or the next number or an epoch is the greatest already. The keeper counts these calls.
     #[error("the storage failed")]
     Store,
 }
 
-/// Why a change wasn't made. Nothing has changed.
+/// Why a change wasn't made.
 #[derive(Clone, Copy, Debug, PartialEq, Eq, Error)]
 pub enum ChangeError {
     /// It failed.

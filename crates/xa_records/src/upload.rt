@@ -1,4 +1,4 @@
-//! What an upload has come to.
+//! The result of an upload.
 
 /// Whether an upload has put a document into the domain.
 #[derive(Clone, Copy, Debug, PartialEq, Eq)]

@@ -85,7 +85,7 @@ impl PlainDomain {
     /// Puts a token in, or replaces its role.
     pub(crate) fn put_token(&mut self, digest: Digest, role: Role) -> Result<(), ChangeError>
         ensures does { Alters (token_put digest role) self.old self.new result }
-        ensures store { IsErrOf result (Failed Store) → 2 ^ 63 ≤ self.old.epoch + 1 }
+        ensures store { ¬ IsErrOf result (Failed Store) }
     {
         if !self.tokens.has_room_for(&digest) {
             return Err(Refusal::Quota.into());
@@ -97,7 +97,7 @@ impl PlainDomain {
     /// Takes a token away.
     pub(crate) fn drop_token(&mut self, digest: Digest) -> Result<(), ChangeError>
         ensures does { Alters (token_dropped digest) self.old self.new result }
-        ensures store { IsErrOf result (Failed Store) → 2 ^ 63 ≤ self.old.epoch + 1 }
+        ensures store { ¬ IsErrOf result (Failed Store) }
     {
         if !self.tokens.contains(&digest) {
             return Err(Refusal::Absent.into());

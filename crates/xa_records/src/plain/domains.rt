@@ -1,11 +1,10 @@
 //! The domains and the next number, in memory, and each change of them.
 ghost use Rattle.std.specs.Prelude.{◌≡◌, ◌≤◌, ◌+◌, ◌^◌, IfOk, IsErrOf};
-ghost use Rattle.std.specs.FinMap.{empty};
 ghost use Rattle.xa_records.specs.declared.refusal.ChangeError.TheVariants.{Failed};
 ghost use Rattle.xa_records.specs.declared.refusal.Failure.TheVariants.{Store};
 ghost use Rattle.xa_records.specs.Changes.{activity_set, created, deleted, removed, root_set, source_set, token_dropped, token_put, upload_of, uploaded, within};
 ghost use Rattle.xa_records.specs.Keeper.{Changes};
-ghost use Rattle.xa_records.specs.Kept.{names_of, state_of};
+ghost use Rattle.xa_records.specs.Kept.{names_of, nothing_kept, state_of};
 ghost use Rattle.xa_records.specs.Plain.{HasNoEpochLeft};
 ghost use Rattle.xa_records.specs.Readings.{gate_of, listing_of, text_of, view_of};
 
@@ -49,7 +48,7 @@ impl Model for Domains {
 impl Domains {
     /// No domains; the first that is made gets the number 1. Nothing is allocated.
     pub(crate) fn new(alloc: Global) -> Domains
-        ensures { result ≡ record { domains = empty; next = 1 } }
+        ensures { result ≡ nothing_kept }
     {
         Domains {
             by_name: BTreeMap::new(alloc),
@@ -151,7 +150,7 @@ impl Domains {
         role: Role,
     ) -> Result<(), ChangeError>
         ensures does { Changes self.old self.new result name.now (within (token_put digest role)) }
-        ensures store { IsErrOf result (Failed Store) → HasNoEpochLeft name.now self.old }
+        ensures store { ¬ IsErrOf result (Failed Store) }
     {
         let Some(domain) = self.by_name.get_mut(name) else {
             return Err(ChangeError::Refused(Refusal::Absent));
@@ -162,7 +161,7 @@ impl Domains {
     /// Takes a token away.
     pub(crate) fn drop_token(&mut self, name: &Text, digest: Digest) -> Result<(), ChangeError>
         ensures does { Changes self.old self.new result name.now (within (token_dropped digest)) }
-        ensures store { IsErrOf result (Failed Store) → HasNoEpochLeft name.now self.old }
+        ensures store { ¬ IsErrOf result (Failed Store) }
     {
         let Some(domain) = self.by_name.get_mut(name) else {
             return Err(ChangeError::Refused(Refusal::Absent));

@@ -1,10 +1,7 @@
 //! The keeper in memory.
-ghost use Rattle.std.specs.Prelude.{◌≡◌, ◌≤◌, IsErrOf};
-ghost use Rattle.xa_records.specs.declared.refusal.ChangeError.TheVariants.{Failed};
-ghost use Rattle.xa_records.specs.declared.refusal.Failure.TheVariants.{Store};
-ghost use Rattle.xa_records.specs.Keeper.{Rises};
-ghost use Rattle.xa_records.specs.Kept.{IsNumbered};
-ghost use Rattle.std.specs.FinMap.{empty};
+ghost use Rattle.std.specs.Prelude.{◌≡◌};
+ghost use Rattle.xa_records.specs.Keeper.{CountsChange};
+ghost use Rattle.xa_records.specs.Kept.{IsNumbered, nothing_kept};
 ghost use Rattle.std.proofs.Props.{props};
 
 use crate::digest::Digest;
@@ -32,7 +29,7 @@ pub struct PlainRecords {
 impl PlainRecords {
     /// A keeper of no domains; the first that is made gets the number 1. Nothing is allocated.
     pub fn new(alloc: Global) -> PlainRecords
-        ensures kept { result.domains ≡ record { domains = empty; next = 1 } }
+        ensures kept { result.domains ≡ nothing_kept }
         ensures faults { result.faults ≡ 0 }
     {
         PlainRecords {
@@ -44,11 +41,13 @@ impl PlainRecords {
 
 /// Counts the call where the storage failed: here, where a number or an epoch can't be raised any more.
 fn count<X>(faults: &mut u64, done: &Result<X, ChangeError>)
-    ensures cause { IsErrOf done.now (Failed Store) → Rises faults.old faults.new }
-    ensures faults { faults.old ≤ faults.new }
+    ensures { CountsChange faults.old faults.new done.now }
 {
-    if let Err(ChangeError::Failed(Failure::Store)) = done {
-        *faults = faults.saturating_add(1);
+    match done {
+        Ok(_) => {},
+        Err(ChangeError::Refused(_)) => {},
+        Err(ChangeError::Failed(Failure::Memory)) => {},
+        Err(ChangeError::Failed(Failure::Store)) => *faults = faults.saturating_add(1),
     }
 }
 
@@ -99,7 +98,9 @@ impl Records for PlainRecords {
     }
 
     fn remove(&mut self, _alloc: Global, name: &Text) -> Result<(), ChangeError> {
-        self.domains.remove(name)
+        let done = self.domains.remove(name);
+        count(&mut self.faults, &done);
+        done
     }
 
     fn put_token(
