@@ -1,5 +1,3 @@
-use Rattle.std.proofs.Common.{Some, sym, ap, ◌∙◌}
-use Rattle.std.specs.FinMap.{get}
 use Rattle.xa_records.specs.Changes.{token_dropped}
 use Rattle.xa_records.proofs.PlainLemmas as plain
 use Rattle.xa_records.proofs.plain.domains.Domains.drop_token.Goals as goal
@@ -9,6 +7,3 @@ returns-in_default-clause-does c = rw (← c.self.view_is) (plain.absent_refused
 
 pub returns-clause-does : goal.returns-clause-does
 returns-clause-does c = rw (← c.self.view_is) (plain.altered (token_dropped c.args.digest) c.args.name.now c.self.inside.by_name (c.get_mut.follows.lender c.drop_token.new.self) c.self.inside.next c.in-Some.domain.now c.drop_token.new.self c.in-Some.ensures.value (c.get_mut.follows.holds c.drop_token.new.self) c.drop_token.result c.drop_token.ensures.does)
-
-pub returns-clause-store : goal.returns-clause-store
-returns-clause-store c = λ h. (c.in-Some.domain.now, ap (λ k. get k.domains c.args.name.now) (sym c.self.view_is) ∙ plain.there_is c.self.inside.by_name c.args.name.now (Some c.in-Some.domain.now) c.in-Some.ensures.value, c.drop_token.ensures.store h)

@@ -1,5 +1,3 @@
-use Rattle.std.proofs.Common.{Some, sym, ap, ◌∙◌}
-use Rattle.std.specs.FinMap.{get}
 use Rattle.xa_records.specs.Changes.{token_put}
 use Rattle.xa_records.proofs.PlainLemmas as plain
 use Rattle.xa_records.proofs.plain.domains.Domains.put_token.Goals as goal
@@ -9,6 +7,3 @@ returns-in_default-clause-does c = rw (← c.self.view_is) (plain.absent_refused
 
 pub returns-clause-does : goal.returns-clause-does
 returns-clause-does c = rw (← c.self.view_is) (plain.altered (token_put c.args.digest c.args.role) c.args.name.now c.self.inside.by_name (c.get_mut.follows.lender c.put_token.new.self) c.self.inside.next c.in-Some.domain.now c.put_token.new.self c.in-Some.ensures.value (c.get_mut.follows.holds c.put_token.new.self) c.put_token.result c.put_token.ensures.does)
-
-pub returns-clause-store : goal.returns-clause-store
-returns-clause-store c = λ h. (c.in-Some.domain.now, ap (λ k. get k.domains c.args.name.now) (sym c.self.view_is) ∙ plain.there_is c.self.inside.by_name c.args.name.now (Some c.in-Some.domain.now) c.in-Some.ensures.value, c.put_token.ensures.store h)
