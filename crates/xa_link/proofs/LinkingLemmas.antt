@@ -1,9 +1,9 @@
 -- How far a reference can lead, which ends the recursion.
-use Rattle.std.proofs.Common.{◌≡◌, ℕ, zero, suc, ◌+◌, ◌-◌, ◌*◌, ◌≤◌, List, [], ◌∷◌, map, Option, Some, None, Ok, refl, sym, ap, subst, ◌∙◌, arith}
+use Rattle.std.proofs.Common.{◌≡◌, ℕ, zero, suc, ◌+◌, ◌-◌, ◌*◌, ◌≤◌, List, [], ◌∷◌, map, Option, Some, None, Ok, refl, sym, ap, ◌∙◌, arith}
 use Rattle.std.specs.Prelude.{option_map, slice_get}
 use denote.Param.Weighed.{most}
 use Rattle.xa_policy.specs.declared.linked.Linked.{Linked}
-use Rattle.xa_policy.specs.declared.linked.Linked.TheVariants.{Unresolved, PolicySet}
+use Rattle.xa_policy.specs.declared.linked.Linked.TheVariants.{Unresolved}
 use Rattle.xa_policy.specs.declared.reference.Reference.{Reference}
 use Rattle.xa_policy.specs.Policy.{PolicyParts, SetParts}
 use Rattle.xa_value.specs.Gives.{◌>>=◌}

@@ -1,8 +1,8 @@
 -- The first document in order that fits is the one for which a reference stands.
-use Rattle.std.proofs.Common.{◌≡◌, ℕ, zero, suc, ◌+◌, ◌<◌, ◌≤◌, Bool, true, false, cond, ◌⊎◌, inl, inr, List, [], ◌∷◌, length, drop, get_or, refl, sym, ap, subst, ◌∙◌, arith, rules, nat_eq, Option, Some, None}
+use Rattle.std.proofs.Common.{◌≡◌, ℕ, zero, suc, ◌+◌, ◌<◌, ◌≤◌, Bool, true, false, cond, ◌⊎◌, inl, inr, List, [], ◌∷◌, length, drop, get_or, refl, sym, ap, subst, ◌∙◌, arith, rules, Option, Some, None}
 use Rattle.std.specs.Prelude.{find, slice_get}
-use Rattle.std.specs.List.{AllWithin, Contains, list_any, range_with_len}
-use Rattle.std.specs.List.Sorted.{IsPartitionedBy, IsPermutation, IsSorted}
+use Rattle.std.specs.List.{AllWithin, Contains}
+use Rattle.std.specs.List.Sorted.{IsPartitionedBy, IsSorted}
 use Rattle.std.specs.Ordering.{is_gt, is_lt, nat_cmp, ordering_index, ordering_reverse, ordering_then}
 use Rattle.std.specs.declared.cmp.Ordering.{Ordering}
 use Rattle.std.specs.declared.cmp.Ordering.TheVariants.{Less, Equal, Greater}
@@ -16,8 +16,8 @@ use Rattle.std.proofs.lemmas.Map.Views.{Contains-from_any}
 use Rattle.std.proofs.lemmas.Option.{slice_get-get_or, slice_get_within}
 use Rattle.xa_policy.specs.declared.reference.Reference.{Reference}
 use Rattle.xa_link.specs.declared.active.Active.{Active}
-use Rattle.xa_link.specs.Order.{IsFalling, IsOrder, compare_documents, compare_names, compare_places, fits_at, fits_found, name_of, standing, standing_of}
-use Rattle.xa_link.specs.Resolution.{fits, is_before, resolve}
+use Rattle.xa_link.specs.Order.{IsFalling, IsOrder, compare_documents, compare_names, compare_places, fits_at, fits_found, name_of, standing}
+use Rattle.xa_link.specs.Resolution.{fits, resolve}
 use Rattle.xa_link.proofs.ResolutionLemmas.{IsResolved, resolved}
 use Rattle.xa_link.proofs.StandingLemmas.{fits_among, first_at_most, fitting, found_up, greater_up, less_down, names_total, places_total}
 

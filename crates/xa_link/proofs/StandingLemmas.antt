@@ -1,10 +1,10 @@
 -- Along the order of documents, those before what may fit a reference come first, and those behind it last.
 use Rattle.std.proofs.Common.{◌≡◌, ℕ, ◌≤◌, Bool, true, false, List, [], ◌∷◌, refl, sym, ap, subst, ◌∙◌, arith, bytes_eq, slice_get, Option, Some, None}
-use Rattle.std.specs.Prelude.{not, ◌&&◌, ◌||◌, ◌==◌, if◌then◌else◌}
+use Rattle.std.specs.Prelude.{not, ◌||◌, ◌==◌, if◌then◌else◌}
 use Rattle.std.specs.Cmp.{IsTotalOrder, nat_cmp_total, on_total, then_total, back_total}
 use Rattle.std.specs.Cmp.Lexicographic.{on_texts, options_total, slice_cmp}
 use Rattle.std.specs.Option.{option_cmp}
-use Rattle.std.specs.Ordering.{flip_args, is_gt, is_lt, nat_cmp, ordering_index, ordering_reverse, ordering_then}
+use Rattle.std.specs.Ordering.{is_gt, is_lt, nat_cmp, ordering_index, ordering_reverse, ordering_then}
 use Rattle.std.specs.declared.cmp.Ordering.{Ordering}
 use Rattle.std.specs.declared.cmp.Ordering.TheVariants.{Less, Equal, Greater}
 use Rattle.std.proofs.lemmas.Bool.{and_parts, eqb-true, true≢false}
@@ -16,7 +16,8 @@ use Rattle.xa_policy.specs.declared.reference.DocumentKind.{DocumentKind}
 use Rattle.xa_policy.specs.declared.reference.DocumentKind.TheVariants.{Policy, PolicySet}
 use Rattle.xa_policy.specs.declared.reference.Reference.{Reference}
 use Rattle.xa_link.specs.declared.active.Active.{Active}
-use Rattle.xa_link.specs.Order.{Name, by_pattern, by_version, compare_documents, compare_names, compare_places, is_after_pattern, is_before_pattern, is_too_early, is_too_late, name, name_of, rank, standing, standing_of}
+use Rattle.xa_policy.specs.DocumentKey.{place_of_kind}
+use Rattle.xa_link.specs.Order.{Name, by_pattern, by_version, compare_documents, compare_names, compare_places, is_after_pattern, is_before_pattern, is_too_early, is_too_late, name, name_of, standing, standing_of}
 use Rattle.xa_link.specs.Resolution.{fits, fits_pattern, is_before, matches, not_after, not_before, same_kind}
 
 -- ---- total orders
@@ -226,7 +227,7 @@ matches_equal (Number m ∷ parts) (n ∷ v) e =
 matches_equal (AnyNumber ∷ parts) v e = refl
 matches_equal (AnyNumbers ∷ parts) v e = refl
 
-kinds_alike : (a b : DocumentKind) → same_kind a b ≡ true → rank a ≡ rank b
+kinds_alike : (a b : DocumentKind) → same_kind a b ≡ true → place_of_kind a ≡ place_of_kind b
 kinds_alike Policy Policy e = refl
 kinds_alike Policy PolicySet e = absurd (true≢false (sym e))
 kinds_alike PolicySet Policy e = absurd (true≢false (sym e))
@@ -256,7 +257,7 @@ fitting reference d e =
     record {
       name =
           ap (λ k. record { rank = k; id = reference.id }) (kinds_alike reference.kind d.kind id.0)
-          ∙ ap (λ i. record { rank = rank d.kind; id = i }) ((bytes_eq-Decides reference.id d.id).0 id.1);
+          ∙ ap (λ i. record { rank = place_of_kind d.kind; id = i }) ((bytes_eq-Decides reference.id d.id).0 id.1);
       pattern = pattern.1;
       earliest = earliest.1;
       latest = latest.1;

@@ -1,5 +1,5 @@
 -- The order in which documents are looked for (cited by contracts of private functions alone).
-use Rattle.std.specs.Prelude.{◌≡◌, ℕ, ◌<◌, Bool, true, false, not, ◌||◌, ◌==◌, if◌then◌else◌, List, [], ◌∷◌, length, nat_eq, slice_get, Option, Some, None}
+use Rattle.std.specs.Prelude.{◌≡◌, ℕ, ◌<◌, Bool, true, false, not, ◌||◌, if◌then◌else◌, List, [], ◌∷◌, length, nat_eq, slice_get, Option, Some, None}
 use Rattle.std.specs.Cmp.Lexicographic.{slice_cmp}
 use Rattle.std.specs.List.{list_any}
 use Rattle.std.specs.List.Sorted.{IsNonDecreasingBy, IsSorted}
@@ -10,14 +10,10 @@ use Rattle.std.specs.declared.cmp.Ordering.TheVariants.{Less, Equal, Greater}
 use Rattle.xa_policy.specs.declared.pattern.PatternPart.{PatternPart}
 use Rattle.xa_policy.specs.declared.pattern.PatternPart.TheVariants.{Number, AnyNumber, AnyNumbers}
 use Rattle.xa_policy.specs.declared.reference.DocumentKind.{DocumentKind}
-use Rattle.xa_policy.specs.declared.reference.DocumentKind.TheVariants.{Policy, PolicySet}
+use Rattle.xa_policy.specs.DocumentKey.{place_of_kind}
 use Rattle.xa_policy.specs.declared.reference.Reference.{Reference}
 use Rattle.xa_link.specs.declared.active.Active.{Active}
 use Rattle.xa_link.specs.Resolution.{fits, not_after, not_before}
-
-abbrev pub rank : DocumentKind → ℕ
-rank Policy = 0
-rank PolicySet = 1
 
 -- a kind and an id
 pub record Name : Type 0 where
@@ -25,7 +21,7 @@ pub record Name : Type 0 where
   pub id : List ℕ
 
 abbrev pub name : DocumentKind → List ℕ → Name
-name kind id = record { rank = rank kind; id = id }
+name kind id = record { rank = place_of_kind kind; id = id }
 
 abbrev pub name_of : Active → Name
 name_of document = name document.kind document.id

@@ -1,5 +1,5 @@
 -- Documents whose references have given way to places, and the trees that they are linked to (cited by contracts of private functions alone).
-use Rattle.std.specs.Prelude.{◌≡◌, ℕ, zero, suc, ◌==◌, if◌then◌else◌, List, [], ◌∷◌, Option, Some, None, option_map, slice_get}
+use Rattle.std.specs.Prelude.{◌≡◌, ℕ, zero, suc, ◌==◌, if◌then◌else◌, List, ◌∷◌, Option, Some, None, option_map, slice_get}
 use Rattle.xa_policy.specs.declared.linked.Linked.{Linked}
 use Rattle.xa_policy.specs.declared.linked.Linked.TheVariants.{Unresolved, Policy, PolicySet}
 use Rattle.xa_policy.specs.declared.reference.Reference.{Reference}

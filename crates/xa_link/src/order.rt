@@ -1,7 +1,7 @@
 //! The order in which documents are looked for: those of one kind and id together, the newest of them first.
 ghost use Rattle.std.specs.Prelude.{◌≡◌, slice_get, IfOk};
 ghost use Rattle.std.specs.Option.{option_cmp};
-ghost use Rattle.xa_link.specs.Order.{IsOrder, by_pattern, by_version, compare_documents, compare_names, compare_places, is_after_pattern, is_before_pattern, is_too_early, is_too_late, name, name_of, rank, standing, standing_of};
+ghost use Rattle.xa_link.specs.Order.{IsOrder, by_pattern, by_version, compare_documents, compare_names, compare_places, is_after_pattern, is_before_pattern, is_too_early, is_too_late, name, name_of, standing, standing_of};
 
 use crate::active::Active;
 use crate::resolution::{not_after, not_before};
@@ -9,16 +9,6 @@ use std::alloc::{AllocError, Global};
 use std::cmp::Ordering;
 use xa_policy::{DocumentKind, Pattern, PatternPart, Reference, Version};
 use xa_value::Text;
-
-/// The number by which kinds are put in order.
-fn rank(kind: DocumentKind) -> usize
-    ensures { result ≡ rank kind }
-{
-    match kind {
-        DocumentKind::Policy => 0,
-        DocumentKind::PolicySet => 1,
-    }
-}
 
 /// How a kind and an id compare with others.
 fn compare_names(
@@ -29,8 +19,8 @@ fn compare_names(
 ) -> Ordering
     ensures { result ≡ compare_names (name kind id.now) (name other_kind other_id.now) }
 {
-    rank(kind)
-        .cmp(&rank(other_kind))
+    kind.place()
+        .cmp(&other_kind.place())
         .then_with(|| id.cmp(other_id))
 }
 

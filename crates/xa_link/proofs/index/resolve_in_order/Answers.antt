@@ -1,4 +1,4 @@
-use Rattle.std.proofs.Common.{◌≡◌, ℕ, ap, sym, subst, ◌∙◌, rules, find, slice_get}
+use Rattle.std.proofs.Common.{ap, sym, subst, ◌∙◌, rules, find, slice_get}
 use Rattle.std.specs.Ordering.{is_lt, ordering_index}
 use Rattle.std.proofs.lemmas.List.Sorted.{IsPartitionPoint-from_clause, IsNonDecreasingBy-drop}
 use Rattle.xa_link.specs.Order.{IsFalling, fits_at, standing}

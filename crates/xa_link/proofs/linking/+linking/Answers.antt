@@ -1,6 +1,5 @@
-use Rattle.std.proofs.Common.{rules, map, drop, drop-cons, add-one, suc, Err, ◌≡◌, ◌∷◌, ◌+◌, ◌*◌, ◌<◌, ◌≤◌, Some, None, Ok, sym, ap, subst, ◌∙◌, arith}
+use Rattle.std.proofs.Common.{rules, map, drop, drop-cons, add-one, suc, Err, ◌≡◌, ◌∷◌, ◌+◌, ◌≤◌, Some, None, Ok, sym, ap, subst, ◌∙◌, arith}
 use Rattle.xa_value.specs.Gives.{Gives}
-use Rattle.xa_link.specs.Linking.{replaced_in, tree_within}
 use Rattle.xa_link.specs.Placed.{led_within, linked, placed_at}
 use Rattle.xa_link.specs.Room.{all_fitted, fitted, fitted_behind}
 use Rattle.xa_link.proofs.placed.Placed.TheLaws.{the_size}
