@@ -29,8 +29,9 @@ pub struct PlainRecords {
 impl PlainRecords {
     /// A keeper of no domains; the first that is made gets the number 1. Nothing is allocated.
     pub fn new(alloc: Global) -> PlainRecords
-        ensures kept { result.domains ≡ nothing_kept }
-        ensures faults { result.faults ≡ 0 }
+        ensures kept { ⟦<PlainRecords as Records>⟧.kept result ≡ nothing_kept }
+        ensures sound { ⟦<PlainRecords as Records>⟧.sound result }
+        ensures faults { ⟦<PlainRecords as Records>⟧.faults result ≡ 0 }
     {
         PlainRecords {
             domains: Domains::new(alloc),
