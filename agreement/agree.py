@@ -7,6 +7,7 @@ A kind is one of SHARES below, which says how many of the rows each has where no
 """
 import collections
 import pathlib
+import re
 import sys
 
 from answers import answer
@@ -193,7 +194,7 @@ def compare(answers, rows):
     differ = [it for it in zip(rows, wanted, answers) if it[1] != it[2]]
     for fields, by_model, found in differ[:20]:
         print(f"{line(fields)[:2000].rstrip()}\n    model    {by_model[:2000]}\n    program  {found[:2000]}")
-    faults = collections.Counter(field[:40] for by_model in wanted for field in by_model.split("\t") if field.startswith("!"))
+    faults = collections.Counter(field[:40] for by_model in wanted for field in by_model.split("\t") if re.fullmatch(r"![A-Z]\w+(\(.*\))?", field))
     kinds = collections.Counter(fields[0] for fields in rows)
     print(f"{len(answers)} of {len(rows)} rows answered, {len(differ)} otherwise than the model")
     print("rows: " + ", ".join(f"{kind} {count}" for kind, count in sorted(kinds.items())))
