@@ -1,16 +1,18 @@
 -- What a message asks for: the path that its target names, the place at that path, and the method.
 use Rattle.std.specs.Prelude.{ℕ, Bool, ◌||◌, not, List, [], length, take, drop, get_or, nat_eq, if◌then◌else◌, Option, Some, None, Result, Ok, Err, codes, bytes_eq}
 use Rattle.std.specs.List.{list_any}
-use Rattle.std.specs.Option.{option_and_then, option_map}
+use Rattle.std.specs.Option.{ok_or, option_and_then, option_map}
 use Rattle.std.specs.Str.{is_utf8}
 use Rattle.matchit.specs.Seek.{first}
 use Rattle.percent_encoding.specs.Percent.{percent_decode}
 use Rattle.xa_http.specs.declared.message.Message.{Message}
 use Rattle.xa_http.specs.declared.table.Place.{Place}
-use Rattle.xa_http.specs.declared.table.Command.{Command}
-use Rattle.xa_http.specs.declared.table.Command.TheVariants as command
+use Rattle.xa_value.specs.Gives.{◌>>=◌}
+use Rattle.xa_http.specs.declared.command.Command.{Command}
+use Rattle.xa_http.specs.declared.command.Command.TheVariants as asks
+use Rattle.xa_http.specs.declared.route.DocumentParts.{DocumentParts}
 use Rattle.xa_http.specs.declared.route.Route.{Route}
-use Rattle.xa_http.specs.declared.route.Route.TheVariants.{Decide}
+use Rattle.xa_http.specs.declared.route.Route.TheVariants as to
 use Rattle.xa_http.specs.declared.route.RouteFault.{RouteFault}
 use Rattle.xa_http.specs.declared.route.RouteFault.TheVariants.{NoRoute, BadMethod, BadMediaType}
 use Rattle.xa_http.specs.ContentType.{allows_json}
@@ -57,28 +59,35 @@ address_at path = option_map (λ place. record { place = place; path = path }) (
 unfoldable pub address_of : List ℕ → Option Address
 address_of target = option_and_then address_at (path_of target)
 
--- the part of its path that names a domain, decoded
-abbrev pub decoded_domain : Address → List ℕ
-decoded_domain address = decoded_part address.path (domain_part address.place)
+-- the part of its path that names a domain, if there is one, decoded
+abbrev pub named_part : Address → Option (List ℕ)
+named_part address = option_map (decoded_part address.path) (domain_part address.place)
+
+-- the parts of the path that name a document
+abbrev pub document_parts : List ℕ → DocumentParts
+document_parts path = record { kind = decoded_part path 4; id = decoded_part path 5; version = decoded_part path 6 }
 
 -- what is asked for, with the parts of the path
-abbrev pub route_to : Address → Command → Route
-route_to address command.Decide = Decide (decoded_domain address)
+abbrev pub route_to : List ℕ → Command → Route
+route_to path asks.Domains = to.Domains
+route_to path (asks.Operator command) = to.Operator (decoded_part path 3) command
+route_to path (asks.Domain command) = to.Domain (decoded_part path 2) command
+route_to path (asks.Document command) = to.Document (decoded_part path 2) (document_parts path) command
+
+-- the part that names a domain
+abbrev pub named_by : Route → Option (List ℕ)
+named_by to.Domains = None
+named_by (to.Operator domain command) = Some domain
+named_by (to.Domain domain command) = Some domain
+named_by (to.Document domain parts command) = Some domain
 
 -- the body, if it is read, has a media type that is
 abbrev pub takes_body : Message → Command → Bool
 takes_body message command = not (reads_body command) || allows_json message.fields
 
--- what is asked for by a method that is served at the address
-abbrev pub commanded : Message → Address → Option Command → Result Route RouteFault
-commanded message address None = Err (BadMethod address.place)
-commanded message address (Some command) = if takes_body message command then Ok (route_to address command) else Err BadMediaType
-
--- what is asked for at an address
-abbrev pub routed : Message → Option Address → Result Route RouteFault
-routed message None = Err NoRoute
-routed message (Some address) = commanded message address (command_at message.method address.place)
-
--- what a message asks for, or why that is nothing that is served
+-- what a message asks for, or why that is nothing that is served: where it leads, what its method asks for there, and then the media type of its body
 unfoldable pub route_of : Message → Result Route RouteFault
-route_of message = routed message (address_of message.target)
+route_of message = do
+  address ← ok_or (address_of message.target) NoRoute
+  command ← ok_or (command_at message.method address.place) (BadMethod address.place)
+  if takes_body message command then Ok (route_to address.path command) else Err BadMediaType

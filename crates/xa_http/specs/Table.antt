@@ -5,41 +5,85 @@ use Rattle.matchit.specs.Order.{placed}
 use Rattle.matchit.specs.Route.{Scan, parse_route}
 use Rattle.matchit.specs.Router.{RouteOf, nearest, route_from}
 use Rattle.matchit.specs.declared.error.InsertError.{InsertError}
+use Rattle.xa_http.specs.declared.command.Command.{Command}
+use Rattle.xa_http.specs.declared.command.Command.TheVariants as asks
+use Rattle.xa_http.specs.declared.command.OperatorCommand.TheVariants as operator
+use Rattle.xa_http.specs.declared.command.DomainCommand.TheVariants as domain
+use Rattle.xa_http.specs.declared.command.DocumentCommand.TheVariants as document
+use Rattle.xa_http.specs.declared.method.Method.{Method}
+use Rattle.xa_http.specs.declared.method.Method.TheVariants.{Delete, Get, Post, Put}
 use Rattle.xa_http.specs.declared.table.Place.{Place}
-use Rattle.xa_http.specs.declared.table.Place.TheVariants.{Decisions}
-use Rattle.xa_http.specs.declared.table.Command.{Command}
-use Rattle.xa_http.specs.declared.table.Command.TheVariants.{Decide}
+use Rattle.xa_http.specs.declared.table.Place.TheVariants as place
 
 -- the patterns of the paths, and the place at each
 abbrev pub patterns : List (List ℕ × Place)
-patterns = (codes "/domains/{domain}/pdp", Decisions) ∷ []
+patterns =
+    (codes "/operator/domains", place.Domains)
+    ∷ (codes "/operator/domains/{domain}", place.OneDomain)
+    ∷ (codes "/operator/domains/{domain}/tokens", place.Tokens)
+    ∷ (codes "/domains/{domain}/pdp", place.Decisions)
+    ∷ (codes "/domains/{domain}/pap/policies", place.Documents)
+    ∷ (codes "/domains/{domain}/pap/root", place.Root)
+    ∷ (codes "/domains/{domain}/pip", place.Source)
+    ∷ (codes "/domains/{domain}/pap/{kind}/{id}/{version}", place.OneDocument)
+    ∷ (codes "/domains/{domain}/pap/{kind}/{id}/{version}/active", place.Activity)
+    ∷ []
 
 -- what each method asks for at a place, in the order of the methods' names
-abbrev pub commands : Place → List (List ℕ × Command)
-commands Decisions = (codes "POST", Decide) ∷ []
+abbrev pub commands : Place → List (Method × Command)
+commands place.Domains = (Get, asks.Domains) ∷ []
+commands place.OneDomain = (Delete, asks.Operator operator.Remove) ∷ (Put, asks.Operator operator.Create) ∷ []
+commands place.Tokens = (Delete, asks.Operator operator.DropToken) ∷ (Post, asks.Operator operator.PutToken) ∷ []
+commands place.Decisions = (Post, asks.Domain domain.Decide) ∷ []
+commands place.Documents = (Get, asks.Domain domain.List) ∷ (Post, asks.Domain domain.Upload) ∷ []
+commands place.Root = (Put, asks.Domain domain.SetRoot) ∷ []
+commands place.Source = (Get, asks.Domain domain.Source) ∷ (Put, asks.Domain domain.SetSource) ∷ []
+commands place.OneDocument = (Delete, asks.Document document.Delete) ∷ (Get, asks.Document document.Show) ∷ []
+commands place.Activity = (Delete, asks.Document document.Deactivate) ∷ (Put, asks.Document document.Activate) ∷ []
 
 -- the body is read where that is asked for
 abbrev pub reads_body : Command → Bool
-reads_body Decide = true
+reads_body (asks.Operator operator.PutToken) = true
+reads_body (asks.Operator operator.DropToken) = true
+reads_body (asks.Domain domain.Decide) = true
+reads_body (asks.Domain domain.Upload) = true
+reads_body (asks.Domain domain.SetRoot) = true
+reads_body (asks.Domain domain.SetSource) = true
+reads_body _ = false
 
--- which part of a place's path names the domain; part 0 is what stands before the first slash
-abbrev pub domain_part : Place → ℕ
-domain_part Decisions = 2
+-- which part of a place's path names a domain; part 0 is what stands before the first slash
+abbrev pub domain_part : Place → Option ℕ
+domain_part place.Domains = None
+domain_part place.OneDomain = Some 3
+domain_part place.Tokens = Some 3
+domain_part place.Decisions = Some 2
+domain_part place.Documents = Some 2
+domain_part place.Root = Some 2
+domain_part place.Source = Some 2
+domain_part place.OneDocument = Some 2
+domain_part place.Activity = Some 2
 
--- what the method asks for, by these rows
-abbrev pub command_in : List ℕ → List (List ℕ × Command) → Option Command
-command_in method [] = None
-command_in method ((name, command) ∷ rows) = if bytes_eq method name then Some command else command_in method rows
+-- the name of a method (RFC 9110, section 9.3)
+abbrev pub name_of : Method → List ℕ
+name_of Delete = codes "DELETE"
+name_of Get = codes "GET"
+name_of Post = codes "POST"
+name_of Put = codes "PUT"
 
--- what the method asks for at a place; methods compare with their letter case (RFC 9110, section 9.1)
+-- what the method of that name asks for, by these rows
+abbrev pub command_in : List ℕ → List (Method × Command) → Option Command
+command_in name [] = None
+command_in name ((method, command) ∷ rows) = if bytes_eq name (name_of method) then Some command else command_in name rows
+
+-- what the method of that name asks for at a place; names of methods compare with their letter case (RFC 9110, section 9.1)
 abbrev pub command_at : List ℕ → Place → Option Command
-command_at method place = command_in method (commands place)
+command_at name place = command_in name (commands place)
 
 -- the names of the methods, with a comma and a space between two
-abbrev pub names_in : List (List ℕ × Command) → List ℕ
+abbrev pub names_in : List (Method × Command) → List ℕ
 names_in [] = []
-names_in ((name, _) ∷ []) = name
-names_in ((name, _) ∷ row ∷ rows) = name ++ codes ", " ++ names_in (row ∷ rows)
+names_in ((method, _) ∷ []) = name_of method
+names_in ((method, _) ∷ row ∷ rows) = name_of method ++ codes ", " ++ names_in (row ∷ rows)
 
 -- the methods that are served at a place
 abbrev pub methods_text : Place → List ℕ

@@ -2,6 +2,7 @@
 #![tactic(auto)]
 
 mod closing;
+mod command;
 mod content_type;
 mod fault;
 mod front;
@@ -10,6 +11,7 @@ mod laws;
 mod length;
 mod limits;
 mod message;
+mod method;
 mod open_head;
 mod parts;
 mod replies;
@@ -18,12 +20,13 @@ mod routes;
 mod session;
 mod table;
 
+pub use command::{DocumentCommand, DomainCommand, OperatorCommand};
 pub use fault::SessionFault;
 pub use laws::pieces_make_no_difference;
 pub use limits::{MAX_BODY_BYTES, MAX_FIELDS, MAX_HEAD_BYTES};
 pub use message::{Field, Message};
 pub use replies::{Extra, Media, reply};
-pub use route::{Route, RouteFault};
+pub use route::{DocumentParts, Route, RouteFault};
 pub use routes::Routes;
 pub use session::{Next, Session};
 pub use table::Place;

@@ -1,5 +1,6 @@
 //! The bytes of a reply.
-ghost use Rattle.std.specs.Prelude.{◌≡◌, ◌++◌, IfOk, OnOk};
+ghost use Rattle.std.specs.Prelude.{◌≡◌, ◌++◌, codes, IfOk, OnOk};
+ghost use Rattle.xa_http.specs.Table.{methods_text};
 ghost use Rattle.xa_http.specs.Reply.{phrase, status_line, field_line, media_text, extra_lines, http_bytes};
 
 use crate::table::Place;
@@ -98,6 +99,16 @@ fn push_extra_lines(bytes: &mut Vec<u8>, extra: Extra) -> Result<(), AllocError>
     match extra {
         Extra::Nothing => Ok(()),
         Extra::Challenge => push_field_line(bytes, "WWW-Authenticate", "Bearer"),
-        Extra::Allow(place) => push_field_line(bytes, "Allow", place.methods()),
+        Extra::Allow(place) => push_allow(bytes, place),
     }
+}
+
+/// The field `Allow`, with the methods that are served at the place.
+#[tactic(auto, unfolding(crate::specs::Reply::field_line))]
+fn push_allow(bytes: &mut Vec<u8>, place: Place) -> Result<(), AllocError>
+    ensures { OnOk result (bytes.new.items ≡ bytes.old.items ++ field_line (codes "Allow") (methods_text place)) }
+{
+    bytes.extend_from_slice(b"Allow: ")?;
+    place.push_methods(bytes)?;
+    bytes.extend_from_slice(b"\r\n")
 }

@@ -2,15 +2,43 @@
 ghost use Rattle.std.specs.Prelude.{◌≡◌};
 ghost use Rattle.xa_value.specs.declared.or_memory.OrMemory.TheVariants.{Error};
 
+use crate::command::{DocumentCommand, DomainCommand, OperatorCommand};
 use crate::table::Place;
 use thiserror::Error;
 use xa_value::{Items, OrMemory};
 
-/// What a message asks for.
+/// The parts of a path that name a document, percent-decoded. They needn't be texts.
+#[derive(Debug, Drop)]
+pub struct DocumentParts {
+    /// Whether it is a policy or a policy set.
+    pub kind: Items<u8>,
+    /// Its id.
+    pub id: Items<u8>,
+    /// Its version.
+    pub version: Items<u8>,
+}
+
+/// What a message asks for. The part of the path that names the domain, percent-decoded, needn't be a domain name, nor a text.
 #[derive(Debug, Drop)]
 pub enum Route {
-    /// A decision of the domain that the path names. The part of the path needn't be a domain name, nor a text.
-    Decide { domain: Items<u8> },
+    /// The names of all domains, for the operator.
+    Domains,
+    /// What the operator asks for of one domain.
+    Operator {
+        domain: Items<u8>,
+        command: OperatorCommand,
+    },
+    /// What is asked for in a domain.
+    Domain {
+        domain: Items<u8>,
+        command: DomainCommand,
+    },
+    /// What is asked for of one document of a domain.
+    Document {
+        domain: Items<u8>,
+        parts: DocumentParts,
+        command: DocumentCommand,
+    },
 }
 
 /// Why a message asks for nothing that is served.

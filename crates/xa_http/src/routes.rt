@@ -1,14 +1,15 @@
 //! The route of a message, by its target, its method and the media type of its body.
-ghost use Rattle.std.specs.Prelude.{◌≡◌, Some, codes, IfOk, IsErr, option_map};
+ghost use Rattle.std.specs.Prelude.{◌≡◌, Some, codes, IfOk, IsErr, option_and_then, option_map};
 ghost use Rattle.xa_value.specs.Gives.{Gives, answered};
-ghost use Rattle.xa_http.specs.Routes.{address_of, decoded_part, path_of_plain, path_of, place_at, route_of, takes_body};
+ghost use Rattle.xa_http.specs.Routes.{address_of, decoded_part, document_parts, named_by, named_part, path_of_plain, path_of, place_at, route_of, route_to, takes_body};
 ghost use Rattle.xa_http.specs.Table.{table};
 
+use crate::command::Command;
 use crate::content_type::allows_json;
 use crate::message::Message;
 use crate::parts::{before, from_first, has_empty_part, part_at};
-use crate::route::{Route, RouteFault};
-use crate::table::{Command, Place, router};
+use crate::route::{DocumentParts, Route, RouteFault};
+use crate::table::{Place, router};
 use matchit::Router;
 use percent_encoding::percent_decode;
 use std::alloc::{AllocError, Global};
@@ -38,11 +39,13 @@ impl Routes {
         })
     }
 
-    /// What the message asks for.
+    /// What the message asks for: where its target leads, what its method asks for there, and then the media type of its body. The parts of the
+    /// path are percent-decoded once (RFC 3986, section 2.4).
     #[tactic(auto, unfolding(crate::specs::Routes::route_of))]
     pub fn route(&self, alloc: Global, message: &Message) -> Result<Route, OrMemory<RouteFault>>
         ensures route { Gives result (route_of message.now) }
         ensures exact { IsErr (route_of message.now) → result ≡ answered (route_of message.now) }
+        ensures named { IfOk result (λ route. named_by route ≡ option_and_then named_part (address_of message.now.target)) }
     {
         let Some((place, path)) = self.address_of(message.target.as_slice()) else {
             return Err(OrMemory::Error(RouteFault::NoRoute));
@@ -53,11 +56,7 @@ impl Routes {
         if !takes_body(message, command) {
             return Err(OrMemory::Error(RouteFault::BadMediaType));
         }
-        match command {
-            Command::Decide => Ok(Route::Decide {
-                domain: decoded_part(alloc, path, place.domain_part())?,
-            }),
-        }
+        Ok(route_to(alloc, path, command)?)
     }
 
     /// The place where the target leads, and the path that leads there.
@@ -86,6 +85,39 @@ impl Routes {
             Err(_) => None,
         }
     }
+}
+
+/// What is asked for, with the parts of the path.
+fn route_to(alloc: Global, path: &[u8], command: Command) -> Result<Route, AllocError>
+    ensures { IfOk result (λ route. route ≡ route_to path.now command) }
+{
+    Ok(match command {
+        Command::Domains => Route::Domains,
+        Command::Operator(command) => Route::Operator {
+            domain: decoded_part(alloc, path, 3)?,
+            command,
+        },
+        Command::Domain(command) => Route::Domain {
+            domain: decoded_part(alloc, path, 2)?,
+            command,
+        },
+        Command::Document(command) => Route::Document {
+            domain: decoded_part(alloc, path, 2)?,
+            parts: document_parts(alloc, path)?,
+            command,
+        },
+    })
+}
+
+/// The parts of the path that name a document.
+fn document_parts(alloc: Global, path: &[u8]) -> Result<DocumentParts, AllocError>
+    ensures { IfOk result (λ parts. parts ≡ document_parts path.now) }
+{
+    Ok(DocumentParts {
+        kind: decoded_part(alloc, path, 4)?,
+        id: decoded_part(alloc, path, 5)?,
+        version: decoded_part(alloc, path, 6)?,
+    })
 }
 
 /// Whether the body, if it is read, has a media type that is.
