@@ -4,4 +4,5 @@ pub mod Changes
 pub mod Kept
 pub mod Readings
 pub mod Keeper
+pub mod Listing
 pub mod Plain
