@@ -1,5 +1,7 @@
+pub mod AdmissionLemmas
+pub mod AnswerLemmas
 pub mod AuthorizationLemmas
 pub mod IsolationLemmas
-pub mod MachineLemmas
+pub mod NameLemmas
 pub mod ReplyLemmas
 pub mod ServedLemmas

@@ -1,35 +1,81 @@
 -- What one message does, by its owner.
-use Rattle.std.proofs.Common.{◌≡◌, ℕ, ℤ, List, [], ◌∷◌, ◌++◌, Option, Some, None, refl, ap, subst}
+use Rattle.std.proofs.Common.{◌≡◌, ℕ, ℤ, List, [], ◌∷◌, ◌++◌, Option, Some, None, Result, Ok, Err, inl, inr, refl, ap, sym, ◌∙◌, subst}
 use Rattle.xa_http.specs.declared.message.Message.{Message}
+use Rattle.xa_records.specs.declared.refusal.Failure.TheVariants.{Memory, Store}
+use Rattle.xa_records.specs.Kept.{state_of}
 use Rattle.xa_server.specs.Alone.{Event}
+use Rattle.xa_server.specs.declared.error_code.ErrorCode.{ErrorCode}
 use Rattle.xa_server.specs.declared.replies.Reply.{Reply}
-use Rattle.xa_server.specs.declared.domain.Domain.{Domain}
-use Rattle.xa_server.specs.Lookup.{state_for}
-use Rattle.xa_server.specs.Machine.{step, general_reply}
+use Rattle.xa_server.specs.declared.stop.Stop.{Stop}
+use Rattle.xa_server.specs.declared.stop.Stop.TheVariants.{Code, Failed}
+use Rattle.xa_server.specs.ErrorCode.{error_reply}
+use Rattle.xa_server.specs.Handling.{AnswersMessage, Counts, CountsReply, IsReplyOf}
+use Rattle.xa_server.specs.Machine.{general_reply, reply_and_state, reply_or_error, step}
 use Rattle.xa_server.specs.Owner.{owner}
-use Rattle.xa_server.specs.Served.{IsRun, IsSent, IsServed}
+use Rattle.xa_server.specs.Served.{IsRun, IsSent, IsServed, IsUnmoved, state}
 use Rattle.xa_server.specs.World.{World}
 
--- a reply of the machine that leaves the state is the one that serving gives
-by_owner : (named : Option (List ℕ)) (world : World) (moment : ℤ) (message : Message) (bytes : List ℕ)
-    → (bytes, state_for named world.domains) ≡ step world.operator (state_for named world.domains) message moment
-    → IsSent world world moment message bytes named
-unfolding general_reply
-by_owner None world moment message bytes e = record { reply = ap (λ p. p.0) e; same = record { states = λ domain. refl; operator = refl } }
-by_owner (Some domain) world moment message bytes e = record {
-  reply = ap (λ p. p.0) e;
-  next = ap (λ p. p.1) e;
-  others = λ other apart. refl;
-  operator = refl;
+-- nothing that is kept has changed
+unmoved : (old new : World) → new.kept ≡ old.kept → new.operator ≡ old.operator → IsUnmoved old new
+unmoved old new kept operator = record { states = λ domain. ap (state_of domain) kept; operator = operator }
+
+-- a message that was answered with success, by its owner
+sent : (old new : World) (named : Option (List ℕ)) (message : Message) (moment : ℤ) (bytes : List ℕ)
+    → AnswersMessage old.operator old.kept new.kept named message moment (Ok bytes) → new.operator ≡ old.operator → IsSent old new moment message bytes named
+unfolding general_reply step
+sent old new None message moment bytes answered operator =
+    record { reply = sym (ap reply_or_error answered.0); same = unmoved old new answered.1 operator }
+sent old new (Some name) message moment bytes (after, meant, moved) operator = record {
+  reply = sym (ap (λ a. (reply_and_state (state name old) a).0) meant);
+  next = moved.here ∙ sym (ap (λ a. (reply_and_state (state name old) a).1) meant);
+  others = moved.others;
+  operator = operator;
 }
 
--- the same, of a reply worked out from a copy of the domains
-pub sent_by : (world : World) (domains : List Domain) (moment : ℤ) (message : Message) (bytes : List ℕ) → domains ≡ world.domains
-    → ((operator : List ℕ) → (bytes, state_for (owner message) domains) ≡ step operator (state_for (owner message) domains) message moment)
-    → IsSent world world moment message bytes (owner message)
-sent_by world domains moment message bytes same e =
-    by_owner (owner message) world moment message bytes
-    (subst (λ (ds : List Domain). (bytes, state_for (owner message) ds) ≡ step world.operator (state_for (owner message) ds) message moment) same (e world.operator))
+-- by an error answer
+turned_away : (old new : World) (named : Option (List ℕ)) (message : Message) (moment : ℤ) (code : ErrorCode)
+    → AnswersMessage old.operator old.kept new.kept named message moment (Err (Code code)) → new.operator ≡ old.operator
+    → IsSent old new moment message (error_reply code) named
+unfolding general_reply step
+turned_away old new None message moment code answered operator =
+    record { reply = sym (ap reply_or_error answered.0); same = unmoved old new answered.1 operator }
+turned_away old new (Some name) message moment code answered operator = record {
+  reply = sym (ap (λ a. (reply_and_state (state name old) a).0) answered.0);
+  next = ap (state_of name) answered.1 ∙ sym (ap (λ a. (reply_and_state (state name old) a).1) answered.0);
+  others = λ other apart. ap (state_of other) answered.1;
+  operator = operator;
+}
+
+-- without success nothing has changed
+kept_so : (old new : World) (named : Option (List ℕ)) (message : Message) (moment : ℤ) (stop : Stop)
+    → AnswersMessage old.operator old.kept new.kept named message moment (Err stop) → new.kept ≡ old.kept
+kept_so old new None message moment (Code code) answered = answered.1
+kept_so old new None message moment (Failed failure) answered = answered
+kept_so old new (Some name) message moment (Code code) answered = answered.1
+kept_so old new (Some name) message moment (Failed failure) answered = answered
+
+-- what goes back for a message is what serving it gives
+pub served : (old new : World) (message : Message) (moment : ℤ) (result : Result (List ℕ) Stop) (reply : Reply)
+    → AnswersMessage old.operator old.kept new.kept (owner message) message moment result → IsReplyOf result reply
+    → new.operator ≡ old.operator → IsServed old new moment message reply
+served old new message moment (Ok bytes) reply answered is operator =
+    subst (λ r. IsServed old new moment message r) (sym is) (sent old new (owner message) message moment bytes answered operator)
+served old new message moment (Err (Failed failure)) reply answered is operator =
+    subst (λ r. IsServed old new moment message r) (sym is)
+    (unmoved old new (kept_so old new (owner message) message moment (Failed failure) answered) operator)
+served old new message moment (Err (Code code)) reply answered (inl is) operator =
+    subst (λ r. IsServed old new moment message r) (sym is) (turned_away old new (owner message) message moment code answered operator)
+served old new message moment (Err (Code code)) reply answered (inr is) operator =
+    subst (λ r. IsServed old new moment message r) (sym is)
+    (unmoved old new (kept_so old new (owner message) message moment (Code code) answered) operator)
+
+-- the keeper's count, by what goes back
+pub counted : (old new : ℕ) (result : Result (List ℕ) Stop) (reply : Reply) → Counts old new result → IsReplyOf result reply → CountsReply old new reply
+counted old new (Ok bytes) reply counts is = subst (CountsReply old new) (sym is) counts
+counted old new (Err (Failed Memory)) reply counts is = subst (CountsReply old new) (sym is) counts
+counted old new (Err (Failed Store)) reply counts is = subst (CountsReply old new) (sym is) counts
+counted old new (Err (Code code)) reply counts (inl is) = subst (CountsReply old new) (sym is) counts
+counted old new (Err (Code code)) reply counts (inr is) = subst (CountsReply old new) (sym is) counts
 
 -- a run goes on by one message
 pub run_more : (old mid new : World) (events : List Event) (replies : List Reply) (event : Event) (reply : Reply)

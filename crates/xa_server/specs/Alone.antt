@@ -1,7 +1,7 @@
 -- The machine of one domain, used by that domain alone.
 use Rattle.std.specs.Prelude.{ℕ, ℤ, Bool, false, List, [], ◌∷◌, filter, Option, Some, None, bytes_eq}
 use Rattle.xa_http.specs.declared.message.Message.{Message}
-use Rattle.xa_server.specs.DomainState.{DomainState}
+use Rattle.xa_records.specs.DomainState.{DomainState}
 use Rattle.xa_server.specs.Machine.{step}
 use Rattle.xa_server.specs.Owner.{owner}
 

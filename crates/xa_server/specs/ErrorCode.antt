@@ -1,7 +1,6 @@
 -- The error answers: each code with its status (RFC 9110, section 15), and the bytes of its reply.
 use Rattle.std.specs.Prelude.{ℕ, List, ◌++◌, codes}
 use Rattle.xa_http.specs.declared.replies.Media.TheVariants.{Json}
-use Rattle.xa_http.specs.declared.table.Place.{Place}
 use Rattle.xa_http.specs.declared.replies.Extra.{Extra}
 use Rattle.xa_http.specs.declared.replies.Extra.TheVariants.{Nothing, Challenge, Allow}
 use Rattle.xa_http.specs.declared.route.RouteFault.{RouteFault}
@@ -10,43 +9,62 @@ use Rattle.xa_http.specs.declared.fault.SessionFault.{SessionFault}
 use Rattle.xa_http.specs.declared.fault.SessionFault.TheVariants as session
 use Rattle.xa_http.specs.Fault as http
 use Rattle.xa_http.specs.Reply.{http_bytes}
+use Rattle.xa_notation.specs.declared.notation_error.NotationError.{NotationError}
+use Rattle.xa_notation.specs.declared.notation_error.NotationError.TheVariants as body
+use Rattle.xa_records.specs.declared.refusal.Refusal.{Refusal}
+use Rattle.xa_records.specs.declared.refusal.Refusal.TheVariants as refusal
 use Rattle.xa_server.specs.declared.error_code.ErrorCode.{ErrorCode}
-use Rattle.xa_server.specs.declared.error_code.ErrorCode.TheVariants.{NoRoute, BadMethod, BadMediaType, Unauthorized, Forbidden, NotJson, Session}
+use Rattle.xa_server.specs.declared.error_code.ErrorCode.TheVariants.{NoRoute, BadMethod, BadMediaType, Unauthorized, Forbidden, BadDomain, Body, Refused, Session}
 
--- the name of a fault by which a stream ends
-abbrev pub name_of_fault : SessionFault → List ℕ
-name_of_fault session.BadHead = codes "BadHead"
-name_of_fault session.BodyTooLarge = codes "BodyTooLarge"
-name_of_fault session.HeadTooLarge = codes "HeadTooLarge"
-name_of_fault session.TransferCoding = codes "TransferCoding"
+-- the name of a code, and its status
+pub record Row : Type 0 where
+  pub name : List ℕ
+  pub status : ℕ
 
-abbrev pub name_of : ErrorCode → List ℕ
-name_of NoRoute = codes "NoRoute"
-name_of (BadMethod _) = codes "BadMethod"
-name_of BadMediaType = codes "BadMediaType"
-name_of Unauthorized = codes "Unauthorized"
-name_of Forbidden = codes "Forbidden"
-name_of NotJson = codes "NotJson"
-name_of (Session fault) = name_of_fault fault
+abbrev pub row : List ℕ → ℕ → Row
+row name status = record { name = name; status = status }
 
-abbrev pub status_of : ErrorCode → ℕ
-status_of NoRoute = 404
-status_of (BadMethod _) = 405
-status_of BadMediaType = 415
-status_of Unauthorized = 401
-status_of Forbidden = 403
-status_of NotJson = 400
-status_of (Session fault) = http.status_of fault
+-- of a body
+abbrev pub row_of_body : NotationError → Row
+row_of_body body.NotJson = row (codes "NotJson") 400
+row_of_body (body.MissingMember _) = row (codes "MissingMember") 400
+row_of_body body.UnknownMember = row (codes "UnknownMember") 400
+row_of_body body.BadValue = row (codes "BadValue") 400
+row_of_body (body.IllTyped _) = row (codes "IllTyped") 400
+row_of_body body.UnknownAlgorithm = row (codes "UnknownAlgorithm") 400
+row_of_body body.TooLarge = row (codes "TooLarge") 400
+
+-- of a change or a reading
+abbrev pub row_of_refusal : Refusal → Row
+row_of_refusal refusal.Exists = row (codes "Exists") 409
+row_of_refusal refusal.Absent = row (codes "Absent") 404
+row_of_refusal refusal.Quota = row (codes "Quota") 409
+row_of_refusal refusal.SameVersionOtherText = row (codes "SameVersionOtherText") 409
+row_of_refusal refusal.StillActive = row (codes "StillActive") 409
+
+-- of a fault by which a stream ends
+abbrev pub row_of_session : SessionFault → Row
+row_of_session session.BadHead = row (codes "BadHead") (http.status_of session.BadHead)
+row_of_session session.BodyTooLarge = row (codes "BodyTooLarge") (http.status_of session.BodyTooLarge)
+row_of_session session.HeadTooLarge = row (codes "HeadTooLarge") (http.status_of session.HeadTooLarge)
+row_of_session session.TransferCoding = row (codes "TransferCoding") (http.status_of session.TransferCoding)
+
+abbrev pub row_of : ErrorCode → Row
+row_of NoRoute = row (codes "NoRoute") 404
+row_of (BadMethod _) = row (codes "BadMethod") 405
+row_of BadMediaType = row (codes "BadMediaType") 415
+row_of Unauthorized = row (codes "Unauthorized") 401
+row_of Forbidden = row (codes "Forbidden") 403
+row_of BadDomain = row (codes "BadDomain") 400
+row_of (Body fault) = row_of_body fault
+row_of (Refused refusal) = row_of_refusal refusal
+row_of (Session fault) = row_of_session fault
 
 -- a 401 names the scheme, and a 405 the methods that the path has
 abbrev pub extra_of : ErrorCode → Extra
-extra_of NoRoute = Nothing
-extra_of (BadMethod place) = Allow place
-extra_of BadMediaType = Nothing
 extra_of Unauthorized = Challenge
-extra_of Forbidden = Nothing
-extra_of NotJson = Nothing
-extra_of (Session _) = Nothing
+extra_of (BadMethod place) = Allow place
+extra_of _ = Nothing
 
 -- the code of a message that asks for nothing that is served
 abbrev pub code_of_route_fault : RouteFault → ErrorCode
@@ -60,8 +78,8 @@ code_of_session_fault fault = Session fault
 
 -- the body of an error answer
 unfoldable pub error_body : ErrorCode → List ℕ
-error_body code = codes "{\"Error\":\"" ++ name_of code ++ codes "\"}"
+error_body code = codes "{\"Error\":\"" ++ (row_of code).name ++ codes "\"}"
 
 -- the reply of an error answer
 unfoldable pub error_reply : ErrorCode → List ℕ
-error_reply code = http_bytes (status_of code) Json (extra_of code) (error_body code)
+error_reply code = http_bytes (row_of code).status Json (extra_of code) (error_body code)

@@ -1,17 +1,18 @@
 -- What serving does to a world: one message, and one after another.
 use Rattle.std.specs.Prelude.{◌≡◌, ◌≢◌, ℕ, ℤ, List, [], ◌∷◌, Option, Some, None}
 use Rattle.xa_http.specs.declared.message.Message.{Message}
+use Rattle.xa_records.specs.DomainState.{DomainState}
+use Rattle.xa_records.specs.Kept.{names_of, state_of}
 use Rattle.xa_server.specs.declared.replies.Reply.{Reply}
 use Rattle.xa_server.specs.declared.replies.Reply.TheVariants.{Sent, Refused}
 use Rattle.xa_server.specs.Alone.{Event}
-use Rattle.xa_server.specs.DomainState.{DomainState, state_of}
 use Rattle.xa_server.specs.Machine.{step, general_reply}
 use Rattle.xa_server.specs.Owner.{owner}
 use Rattle.xa_server.specs.World.{World}
 
 -- the state of a domain in a world
 abbrev pub state : List ℕ → World → Option DomainState
-state domain world = state_of domain world.domains
+state domain world = state_of domain world.kept
 
 -- a domain's message was answered by its machine, and no other domain's state has moved
 pub record IsStep (old new : World) (domain : List ℕ) (moment : ℤ) (message : Message) (bytes : List ℕ) : Type 0 where
@@ -26,12 +27,12 @@ pub record IsUnmoved (old new : World) : Type 0 where
   pub operator : new.operator ≡ old.operator
 
 -- a message without an owner was answered, and no state has moved
-pub record IsGeneral (old new : World) (moment : ℤ) (message : Message) (bytes : List ℕ) : Type 0 where
-  pub reply : bytes ≡ general_reply old.operator message moment
+pub record IsGeneral (old new : World) (message : Message) (bytes : List ℕ) : Type 0 where
+  pub reply : bytes ≡ general_reply old.operator (names_of old.kept) message
   pub same : IsUnmoved old new
 
 abbrev pub IsSent : World → World → ℤ → Message → List ℕ → Option (List ℕ) → Type 0
-IsSent old new moment message bytes None = IsGeneral old new moment message bytes
+IsSent old new moment message bytes None = IsGeneral old new message bytes
 IsSent old new moment message bytes (Some domain) = IsStep old new domain moment message bytes
 
 -- what the server did with a message: a refused one has changed nothing

@@ -1,8 +1,17 @@
 -- What the replies of a server may depend on.
 use Rattle.std.specs.Prelude.{ℕ, List}
-use Rattle.xa_server.specs.declared.domain.Domain.{Domain}
+use Rattle.xa_records.specs.Kept.{Kept}
 
--- the digest of the operator's token, and the domains
+-- the digest of the operator's token, and what is kept of all domains
 pub record World : Type 0 where
   pub operator : List ℕ
-  pub domains : List Domain
+  pub kept : Kept
+
+-- a server as contracts see it: the digest of the operator's token, and its keeper
+pub record Serving (R : Type 0) : Type 0 where
+  pub operator : List ℕ
+  pub records : R
+
+-- the world of a server, by what its keeper keeps
+abbrev pub world : {R : Type 0} → (R → Kept) → Serving R → World
+world kept server = record { operator = server.operator; kept = kept server.records }

@@ -1,13 +1,15 @@
 //! The error answers: why a message is turned away, and the bytes of that reply.
 ghost use Rattle.std.specs.Prelude.{◌≡◌, IfOk};
-ghost use Rattle.xa_value.specs.declared.or_memory.OrMemory.TheVariants.{Error};
-ghost use Rattle.xa_server.specs.ErrorCode.{code_of_route_fault, code_of_session_fault, error_body, error_reply, extra_of, status_of};
+ghost use Rattle.xa_server.specs.ErrorCode.{code_of_route_fault, code_of_session_fault, error_body, error_reply, extra_of, row_of};
+ghost use Rattle.xa_server.specs.declared.error_code.ErrorCode.TheVariants as code;
 
 use http::StatusCode;
 use std::alloc::{AllocError, Global};
 use thiserror::Error;
 use xa_http::{Extra, Media, Place, RouteFault, SessionFault, reply};
-use xa_value::OrMemory;
+use xa_notation::NotationError;
+use xa_records::Refusal;
+use xa_value::Items;
 
 /// Why a message is turned away: the code that the body of the reply names (RFC 9110, section 15, has the statuses).
 #[derive(Clone, Copy, Debug, PartialEq, Eq, Error)]
@@ -21,23 +23,72 @@ pub enum ErrorCode {
     /// 415: the body has another media type than JSON.
     #[error("the body has another media type than JSON")]
     BadMediaType,
-    /// 401: the message shows no token of the domain.
+    /// 401: the message shows no token of the domain, or on the operator's paths not the operator's.
     #[error("the message shows no token of the domain")]
     Unauthorized,
     /// 403: the role of the message's token may not ask for that.
     #[error("the role of the message's token may not ask for that")]
     Forbidden,
-    /// 400: the body is not JSON.
-    #[error("the body is not JSON")]
-    NotJson,
+    /// 400: what the operator's path names is no domain name.
+    #[error("what the path names is no domain name")]
+    BadDomain,
+    /// 400: the body isn't what it has to be.
+    #[error(transparent)]
+    Body(NotationError),
+    /// 404 or 409: what is asked for isn't there, or can't be done as things are.
+    #[error(transparent)]
+    Refused(Refusal),
     /// 400, 413, 431 or 501: the stream doesn't go on with a message that is taken.
     #[error("the stream doesn't go on with a message that is taken")]
     Session(SessionFault),
 }
 
+/// The body of the reply to a fault of a body.
+#[tactic(auto, unfolding(crate::specs::ErrorCode::error_body))]
+fn body_of_notation(fault: NotationError) -> &'static [u8]
+    ensures { result.now ≡ error_body (code.Body fault) }
+{
+    match fault {
+        NotationError::NotJson => b"{\"Error\":\"NotJson\"}",
+        NotationError::MissingMember(_) => b"{\"Error\":\"MissingMember\"}",
+        NotationError::UnknownMember => b"{\"Error\":\"UnknownMember\"}",
+        NotationError::BadValue => b"{\"Error\":\"BadValue\"}",
+        NotationError::IllTyped(_) => b"{\"Error\":\"IllTyped\"}",
+        NotationError::UnknownAlgorithm => b"{\"Error\":\"UnknownAlgorithm\"}",
+        NotationError::TooLarge => b"{\"Error\":\"TooLarge\"}",
+    }
+}
+
+/// The body of the reply to a refused change or reading.
+#[tactic(auto, unfolding(crate::specs::ErrorCode::error_body))]
+fn body_of_refusal(refusal: Refusal) -> &'static [u8]
+    ensures { result.now ≡ error_body (code.Refused refusal) }
+{
+    match refusal {
+        Refusal::Exists => b"{\"Error\":\"Exists\"}",
+        Refusal::Absent => b"{\"Error\":\"Absent\"}",
+        Refusal::Quota => b"{\"Error\":\"Quota\"}",
+        Refusal::SameVersionOtherText => b"{\"Error\":\"SameVersionOtherText\"}",
+        Refusal::StillActive => b"{\"Error\":\"StillActive\"}",
+    }
+}
+
+/// The body of the reply to a stream that ends by that fault.
+#[tactic(auto, unfolding(crate::specs::ErrorCode::error_body))]
+fn body_of_session(fault: SessionFault) -> &'static [u8]
+    ensures { result.now ≡ error_body (code.Session fault) }
+{
+    match fault {
+        SessionFault::BadHead => b"{\"Error\":\"BadHead\"}",
+        SessionFault::BodyTooLarge => b"{\"Error\":\"BodyTooLarge\"}",
+        SessionFault::HeadTooLarge => b"{\"Error\":\"HeadTooLarge\"}",
+        SessionFault::TransferCoding => b"{\"Error\":\"TransferCoding\"}",
+    }
+}
+
 impl ErrorCode {
     fn status(self) -> StatusCode
-        ensures { result ≡ status_of self }
+        ensures { result ≡ (row_of self).status }
     {
         match self {
             ErrorCode::NoRoute => StatusCode::NOT_FOUND,
@@ -45,7 +96,10 @@ impl ErrorCode {
             ErrorCode::BadMediaType => StatusCode::UNSUPPORTED_MEDIA_TYPE,
             ErrorCode::Unauthorized => StatusCode::UNAUTHORIZED,
             ErrorCode::Forbidden => StatusCode::FORBIDDEN,
-            ErrorCode::NotJson => StatusCode::BAD_REQUEST,
+            ErrorCode::BadDomain => StatusCode::BAD_REQUEST,
+            ErrorCode::Body(_) => StatusCode::BAD_REQUEST,
+            ErrorCode::Refused(Refusal::Absent) => StatusCode::NOT_FOUND,
+            ErrorCode::Refused(_) => StatusCode::CONFLICT,
             ErrorCode::Session(fault) => fault.status(),
         }
     }
@@ -56,11 +110,7 @@ impl ErrorCode {
         match self {
             ErrorCode::BadMethod(place) => Extra::Allow(place),
             ErrorCode::Unauthorized => Extra::Challenge,
-            ErrorCode::NoRoute
-            | ErrorCode::BadMediaType
-            | ErrorCode::Forbidden
-            | ErrorCode::NotJson
-            | ErrorCode::Session(_) => Extra::Nothing,
+            _ => Extra::Nothing,
         }
     }
 
@@ -74,36 +124,26 @@ impl ErrorCode {
             ErrorCode::BadMediaType => b"{\"Error\":\"BadMediaType\"}",
             ErrorCode::Unauthorized => b"{\"Error\":\"Unauthorized\"}",
             ErrorCode::Forbidden => b"{\"Error\":\"Forbidden\"}",
-            ErrorCode::NotJson => b"{\"Error\":\"NotJson\"}",
-            ErrorCode::Session(fault) => fault_body(fault),
+            ErrorCode::BadDomain => b"{\"Error\":\"BadDomain\"}",
+            ErrorCode::Body(fault) => body_of_notation(fault),
+            ErrorCode::Refused(refusal) => body_of_refusal(refusal),
+            ErrorCode::Session(fault) => body_of_session(fault),
         }
     }
 
     /// The bytes of the error answer.
     #[tactic(auto, unfolding(crate::specs::ErrorCode::error_reply))]
-    pub fn reply(self, alloc: Global) -> Result<Vec<u8>, AllocError>
-        ensures { IfOk result (λ bytes. bytes.items ≡ error_reply self) }
+    pub fn reply(self, alloc: Global) -> Result<Items<u8>, AllocError>
+        ensures { IfOk result (λ bytes. bytes ≡ error_reply self) }
     {
-        reply(alloc, self.status(), Media::Json, self.extra(), self.body())
-    }
-}
-
-/// The body of the reply to a stream that ends by that fault.
-#[tactic(auto, unfolding(crate::specs::ErrorCode::error_body))]
-fn fault_body(fault: SessionFault) -> &'static [u8]
-    ensures { result.now ≡ error_body (code_of_session_fault fault) }
-{
-    match fault {
-        SessionFault::BadHead => b"{\"Error\":\"BadHead\"}",
-        SessionFault::BodyTooLarge => b"{\"Error\":\"BodyTooLarge\"}",
-        SessionFault::HeadTooLarge => b"{\"Error\":\"HeadTooLarge\"}",
-        SessionFault::TransferCoding => b"{\"Error\":\"TransferCoding\"}",
+        let bytes = reply(alloc, self.status(), Media::Json, self.extra(), self.body())?;
+        Ok(Items::from_vec(bytes))
     }
 }
 
 /// The bytes of the reply to a stream that ends by that fault.
-pub fn fault_reply(alloc: Global, fault: SessionFault) -> Result<Vec<u8>, AllocError>
-    ensures { IfOk result (λ bytes. bytes.items ≡ error_reply (code_of_session_fault fault)) }
+pub fn fault_reply(alloc: Global, fault: SessionFault) -> Result<Items<u8>, AllocError>
+    ensures { IfOk result (λ bytes. bytes ≡ error_reply (code_of_session_fault fault)) }
 {
     ErrorCode::from(fault).reply(alloc)
 }
@@ -125,13 +165,5 @@ impl From<SessionFault> for ErrorCode {
 
     fn from(fault: SessionFault) -> ErrorCode {
         ErrorCode::Session(fault)
-    }
-}
-
-impl From<ErrorCode> for OrMemory<ErrorCode> {
-    ghost from_gives = { λ code e. e ≡ Error code };
-
-    fn from(code: ErrorCode) -> OrMemory<ErrorCode> {
-        OrMemory::Error(code)
     }
 }

@@ -1,17 +1,19 @@
 //! The decision server: one message after another, each answered by the machine of its own domain.
 #![tactic(auto)]
 
+mod admission;
+mod answer;
 mod authorization;
-mod documents;
-mod domain;
+mod changes;
+mod document_key;
 mod error_code;
-mod given;
-mod machine;
+mod name;
+mod readings;
 mod replies;
 mod server;
-mod token;
+mod stop;
+mod view;
 
 pub use error_code::{ErrorCode, fault_reply};
-pub use given::{Given, GivenDocument, GivenError};
-pub use replies::{Refusal, Reply};
+pub use replies::Reply;
 pub use server::{Server, two_worlds_agree};

@@ -1,26 +1,23 @@
 //! The replies of a server: bytes that it sent, or a refusal and its fixed 503.
-ghost use Rattle.std.specs.Prelude.{◌≡◌};
-ghost use Rattle.xa_server.specs.Replies.{bytes_of, unavailable_reply};
+ghost use Rattle.std.specs.Prelude.{◌≡◌, IfOk};
+ghost use Rattle.xa_server.specs.Replies.{bytes_of, created_reply, decision_reply, done_reply, json_reply, unavailable_reply};
 
+use http::StatusCode;
+use std::alloc::{AllocError, Global};
+use xa_http::{Extra, Media, reply};
+use xa_records::Failure;
 use xa_value::Items;
-
-/// Why a message was refused: it got no answer of its own, and nothing has changed.
-#[derive(Clone, Copy, Debug, PartialEq, Eq)]
-pub enum Refusal {
-    /// There was no memory for it.
-    Memory,
-}
 
 /// What a message gets: the bytes of its reply, or a refusal.
 #[derive(Debug, Drop)]
 pub enum Reply {
     /// The bytes of the reply.
     Sent(Items<u8>),
-    /// No answer, for want of what the server needs.
-    Refused(Refusal),
+    /// No answer of its own, for want of memory or because the storage failed; nothing has changed.
+    Refused(Failure),
 }
 
-/// The reply of a message that is refused for want of memory (RFC 9110, section 15.6.4).
+/// The reply of a message that is refused (RFC 9110, section 15.6.4).
 const UNAVAILABLE: &[u8] =
     b"HTTP/1.1 503 Service Unavailable\r\nContent-Type: application/json\r\nContent-Length: 23\r\n\r\n{\"Error\":\"Unavailable\"}";
 
@@ -41,4 +38,52 @@ fn unavailable_reply() -> &'static [u8]
     ensures { result.now ≡ unavailable_reply }
 {
     UNAVAILABLE
+}
+
+/// The reply with what was read.
+#[tactic(auto, unfolding(crate::specs::Replies::json_reply))]
+pub(crate) fn json_reply(alloc: Global, body: &[u8]) -> Result<Items<u8>, AllocError>
+    ensures { IfOk result (λ bytes. bytes ≡ json_reply body.now) }
+{
+    let bytes = reply(alloc, StatusCode::OK, Media::Json, Extra::Nothing, body)?;
+    Ok(Items::from_vec(bytes))
+}
+
+/// The reply with a response.
+#[tactic(auto, unfolding(crate::specs::Replies::decision_reply))]
+pub(crate) fn decision_reply(alloc: Global, body: &[u8]) -> Result<Items<u8>, AllocError>
+    ensures { IfOk result (λ bytes. bytes ≡ decision_reply body.now) }
+{
+    let bytes = reply(
+        alloc,
+        StatusCode::OK,
+        Media::XacmlJson,
+        Extra::Nothing,
+        body,
+    )?;
+    Ok(Items::from_vec(bytes))
+}
+
+/// The reply to a change that was made.
+#[tactic(auto, unfolding(crate::specs::Replies::done_reply))]
+pub(crate) fn done_reply(alloc: Global) -> Result<Items<u8>, AllocError>
+    ensures { IfOk result (λ bytes. bytes ≡ done_reply) }
+{
+    let bytes = reply(alloc, StatusCode::OK, Media::Json, Extra::Nothing, b"{}")?;
+    Ok(Items::from_vec(bytes))
+}
+
+/// The reply to a change that has put something where nothing was.
+#[tactic(auto, unfolding(crate::specs::Replies::created_reply))]
+pub(crate) fn created_reply(alloc: Global) -> Result<Items<u8>, AllocError>
+    ensures { IfOk result (λ bytes. bytes ≡ created_reply) }
+{
+    let bytes = reply(
+        alloc,
+        StatusCode::CREATED,
+        Media::Json,
+        Extra::Nothing,
+        b"{}",
+    )?;
+    Ok(Items::from_vec(bytes))
 }

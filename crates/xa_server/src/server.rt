@@ -1,87 +1,97 @@
-//! The server: its domains, one message after another.
-ghost use Rattle.std.specs.Prelude.{◌≡◌, Ok, Err, IfOk, OnErr, MatchResult};
-ghost use Rattle.xa_value.specs.Gives.{Gives};
-ghost use Rattle.xa_server.specs.Given.{server_domains};
+//! The server: a keeper of all domains, one message after another.
+ghost use Rattle.std.specs.Prelude.{◌≡◌, IfOk, OnErr, MatchResult};
 ghost use Rattle.xa_server.specs.Isolation.{TwoWorldsAgree};
+ghost use Rattle.xa_server.specs.Handling.{CountsReply, IsReplyOf};
 
-use crate::domain::{Domain, server_domains};
-use crate::given::{Given, GivenError};
-use crate::machine::reply_to;
-use crate::replies::{Refusal, Reply};
-use std::alloc::{AllocError, Global};
+use crate::answer::answer;
+use crate::replies::Reply;
+use crate::stop::Stop;
+use std::alloc::{AllocError, AllocFailed, Global};
 use std::marker::Model;
 use xa_http::{Message, Routes};
-use xa_records::Digest;
-use xa_value::{Items, Moment, OrMemory};
+use xa_records::{Digest, Failure, Records};
+use xa_value::{Items, Moment};
 
-/// A server over the domains that it was given.
-#[derive(Debug, Drop)]
-pub struct Server {
+/// A server over a keeper.
+#[derive(Drop)]
+pub struct Server<R: Records> {
     alloc: Global,
     routes: Routes,
     operator: Digest,
-    domains: Items<Domain>,
+    records: R,
 }
 
-impl Model for Server {
+impl<R: Records> Model for Server<R> {
     ghost use Rattle.std.specs.Coded.{codes};
-    ghost use Rattle.xa_notation.specs.contracts.document.Document as document;
-    ghost use Rattle.xa_server.specs.World.{World};
+    ghost use Rattle.xa_server.specs.World.{Serving};
 
-    ghost Value = { World };
+    ghost Value = { Serving R };
 
-    ghost coded = { Prim.hlevel (codes, document.the_row.coded) };
+    ghost coded = { Prim.hlevel (codes, R.code) };
 
-    ghost view = { λ s. record { operator = s.operator; domains = s.domains } };
+    ghost view = { λ s. record { operator = s.operator; records = s.records } };
 }
 
-impl Server {
+/// What goes back for a message that was answered, or wasn't.
+fn reply_of(alloc: Global, answered: Result<Items<u8>, Stop>) -> Reply
+    ensures { IsReplyOf answered result }
+{
+    match answered {
+        Ok(bytes) => Reply::Sent(bytes),
+        Err(Stop::Failed(failure)) => Reply::Refused(failure),
+        Err(Stop::Code(code)) => match code.reply(alloc) {
+            Ok(bytes) => Reply::Sent(bytes),
+            Err(_) => Reply::Refused(Failure::Memory),
+        },
+    }
+}
+
+impl<R: Records> Server<R> {
     ghost use Rattle.xa_server.specs.Isolation.{IsIsolated, IsIsolatedBesideRefusals};
     ghost use Rattle.xa_server.specs.Served.{IsRun, IsServed};
+    ghost use Rattle.xa_server.specs.World.{world};
 
-    /// A server over these domains, with the digest of the operator's token. Each name has to be a domain name, and no two may be the same;
-    /// then, domain by domain, each document has to be one, and no two may be of the same kind, id and version.
-    pub fn given(
-        alloc: Global,
-        domains: Vec<Given>,
-        operator: Digest,
-    ) -> Result<Server, OrMemory<GivenError>>
-        ensures { MatchResult result (λ server. (server_domains domains.items ≡ Ok server.domains) × (server.operator ≡ operator))
-            (λ e. Gives (Err e) (server_domains domains.items)) }
+    /// A server over the keeper, with the digest of the operator's token. Without memory the keeper is handed back.
+    pub fn new(alloc: Global, records: R, operator: Digest) -> Result<Server<R>, AllocFailed<R>>
+        ensures { MatchResult result (λ server. (server.records ≡ records) × (server.operator ≡ operator)) (λ failed. failed.value ≡ records) }
     {
-        let domains = server_domains(alloc, domains)?;
-        let routes = Routes::new(alloc)?;
-        Ok(Server {
-            alloc,
-            routes,
-            operator,
-            domains,
-        })
+        match Routes::new(alloc) {
+            Ok(routes) => Ok(Server {
+                alloc,
+                routes,
+                operator,
+                records,
+            }),
+            Err(_) => Err(AllocFailed { value: records }),
+        }
     }
 
-    /// Answers one message: by the machine of the domain that its path names, and no other domain's state moves.
+    /// Answers one message: by the machine of the domain that its path names, and no other domain's state moves; after a refusal none has moved.
+    /// It is refused for want of storage only where the keeper has counted a failure.
     pub fn serve(&mut self, moment: Moment, message: &Message) -> Reply
-        ensures { IsServed self.old self.new moment message.now result }
+        ensures served { R.sound self.new.records → IsServed (world R.kept self.old) (world R.kept self.new) moment message.now result }
+        ensures sound { R.sound self.new.records → R.sound self.old.records }
+        ensures counts { CountsReply (R.faults self.old.records) (R.faults self.new.records) result }
     {
-        let Ok(bytes) = reply_to(
+        let answered = answer(
             self.alloc,
             &self.routes,
-            self.domains.as_slice(),
+            self.operator,
+            &mut self.records,
             moment,
             message,
-        ) else {
-            return Reply::Refused(Refusal::Memory);
-        };
-        Reply::Sent(Items::from_vec(bytes))
+        );
+        reply_of(self.alloc, answered)
     }
 
     /// Answers the messages one after another, each at its moment. Whatever the other domains do, each domain's replies
     /// are those of its own machine, used by it alone; with refusals, as if the refused messages had never come. Room for
     /// all replies is taken first, and without it nothing is answered.
     pub fn run(&mut self, events: &[(Moment, Message)]) -> Result<Vec<Reply>, AllocError>
-        ensures headline { IfOk result (λ replies. IsIsolated self.old self.new events.now replies.items) }
-        ensures beside_refusals { IfOk result (λ replies. IsIsolatedBesideRefusals self.old self.new events.now replies.items) }
-        ensures run { IfOk result (λ replies. IsRun self.old events.now replies.items self.new) }
+        ensures headline { IfOk result (λ replies. R.sound self.new.records → IsIsolated (world R.kept self.old) (world R.kept self.new) events.now replies.items) }
+        ensures beside_refusals { IfOk result (λ replies. R.sound self.new.records → IsIsolatedBesideRefusals (world R.kept self.old) (world R.kept self.new) events.now replies.items) }
+        ensures run { IfOk result (λ replies. R.sound self.new.records → IsRun (world R.kept self.old) events.now replies.items (world R.kept self.new)) }
+        ensures sound { R.sound self.new.records → R.sound self.old.records }
         ensures err { OnErr result (self.new ≡ self.old) }
     {
         let mut replies = Vec::with_capacity(self.alloc, events.len())?;

@@ -2,27 +2,29 @@ use Rattle.std.proofs.Common.{rules, ◌≡◌, ◌+◌, [], ◌∷◌, ◌++◌
 use Rattle.std.proofs.lemmas.List.{take_more}
 use Rattle.std.proofs.lemmas.Grind.{common_steps}
 use Rattle.xa_server.specs.Served.{IsRun}
+use Rattle.xa_server.specs.World.{world}
 use Rattle.xa_server.proofs.IsolationLemmas.{headline, isolated}
 use Rattle.xa_server.proofs.ServedLemmas.{run_more}
 use Rattle.xa_server.proofs.server.Server.run.Goals as goal
 
 pub loop-event-preserved : goal.loop-event-preserved
-loop-event-preserved c =
+loop-event-preserved g c =
     let more : take (c.loop-event.event-index + 1) c.args.events.now ≡ take c.loop-event.event-index c.args.events.now ++ c.event-item.result ∷ [] =
     take_more c.args.events.now c.loop-event.event-index c.event-item.result c.loop-event-test.true ∙ ap (λ e. take c.loop-event.event-index c.args.events.now ++ e ∷ []) (sym c.event-item.is) in
     let pushed : c.push.new.self.items ≡ c.loop-event.replies.items ++ c.serve-reply.result ∷ [] = search rules in
     record {
-      run = rw (more, pushed) (run_more _ _ _ _ _ _ _ c.loop-event.invariant.run c.serve-reply.ensures);
+      run = λ sound. rw (more, pushed) (run_more _ _ _ _ _ _ _ (c.loop-event.invariant.run (c.serve-reply.ensures.sound sound)) (c.serve-reply.ensures.served sound));
+      sound = λ sound. c.loop-event.invariant.sound (c.serve-reply.ensures.sound sound);
       told = search rules;
       room = search rules;
     }
 
 pub returns-clause-headline : goal.returns-clause-headline
-returns-clause-headline c =
-    let run : IsRun c.args.self.now c.args.events.now c.loop-event.replies.items c.loop-event.self = search (rules, common_steps) in
-    headline _ _ _ _ run
+returns-clause-headline g c =
+    λ sound. let run : IsRun (world g.R.Records.kept c.args.self.now) c.args.events.now c.loop-event.replies.items (world g.R.Records.kept c.loop-event.self) =
+    search (rules, common_steps, c.loop-event.invariant.run sound) in headline _ _ _ _ run
 
 pub returns-clause-beside_refusals : goal.returns-clause-beside_refusals
-returns-clause-beside_refusals c =
-    let run : IsRun c.args.self.now c.args.events.now c.loop-event.replies.items c.loop-event.self = search (rules, common_steps) in
-    λ domain. isolated domain _ _ _ _ run
+returns-clause-beside_refusals g c =
+    λ sound. let run : IsRun (world g.R.Records.kept c.args.self.now) c.args.events.now c.loop-event.replies.items (world g.R.Records.kept c.loop-event.self) =
+    search (rules, common_steps, c.loop-event.invariant.run sound) in λ domain. isolated domain _ _ _ _ run

@@ -1,8 +1,10 @@
-use Rattle.std.proofs.Common.{◌≡◌, refl}
-use Rattle.xa_server.proofs.ServedLemmas.{sent_by}
+use Rattle.std.proofs.Common.{refl}
+use Rattle.xa_server.proofs.ServedLemmas.{counted, served}
 use Rattle.xa_server.proofs.server.Server.serve.Goals as goal
 
-pub returns : goal.returns
-returns c =
-    let same : c.as_slice.result.now ≡ c.args.self.now.domains = rw (c.as_slice.ensures, ← c.self.view_is) refl in
-    rw c.from_vec.ensures (sent_by c.args.self.now c.as_slice.result.now _ _ c.in-Ok.bytes.items same c.in-Ok.ensures)
+pub returns-clause-served : goal.returns-clause-served
+returns-clause-served g c = λ sound.
+    rw (← c.self.view_is) (served _ _ c.args.message.now _ c.answer-answered.result _ (c.answer-answered.ensures.answers sound) c.reply_of.ensures refl)
+
+pub returns-clause-counts : goal.returns-clause-counts
+returns-clause-counts g c = rw (← c.self.view_is) (counted _ _ c.answer-answered.result _ c.answer-answered.ensures.counts c.reply_of.ensures)

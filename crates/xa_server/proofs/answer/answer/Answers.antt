@@ -1,0 +1,20 @@
+use Rattle.std.proofs.Common.{rules, ◌≡◌, Err, ap, subst}
+use Rattle.std.specs.Option.{option_and_then}
+use Rattle.xa_http.specs.Routes.{named_by}
+use Rattle.xa_server.specs.Handling.{AnswersMessage}
+use Rattle.xa_server.specs.Owner.{name_if, owner}
+use Rattle.xa_server.specs.Stop.{stop_of_route}
+use Rattle.xa_server.proofs.AnswerLemmas.{asked, unasked}
+use Rattle.xa_server.proofs.answer.answer.Goals as goal
+
+pub returns-in_err-route-clause-answers : goal.returns-in_err-route-clause-answers
+returns-in_err-route-clause-answers g c = λ sound.
+    let stopped : c.from_residual.result ≡ Err (stop_of_route c.in_err-route.field-0.0) = search rules in
+    rw stopped (unasked _ _ (owner c.args.message.now) _ _ c.in_err-route.field-0.0 c.in_err-route.ensures.route)
+
+pub returns-clause-answers : goal.returns-clause-answers
+unfolding owner
+returns-clause-answers g c = λ sound.
+    let owns : option_and_then name_if (named_by c.in_ok-route.route) ≡ owner c.args.message.now = ap (option_and_then name_if) c.in_ok-route.ensures.named in
+    subst (λ named. AnswersMessage c.args.operator (g.R.Records.kept c.args.records.now) (g.R.Records.kept c.answer_route.new.records) named c.args.message.now c.args.moment c.answer_route.result) owns
+    (asked _ _ _ _ _ _ c.in_ok-route.route _ c.in_ok-route.ensures.route (c.answer_route.ensures.answers sound))

@@ -1,0 +1,202 @@
+//! The answer to one message: the questions in their order, and then what the message asks for.
+ghost use Rattle.std.specs.Prelude.{◌≡◌, ℕ, ℤ, IsTrue, List};
+ghost use Rattle.xa_http.specs.Routes.{named_by};
+ghost use Rattle.xa_http.specs.declared.route.Route.TheVariants as to;
+ghost use Rattle.xa_records.specs.DomainName.{is_domain_name};
+ghost use Rattle.xa_records.specs.Kept.{state_of};
+ghost use Rattle.xa_server.specs.Handling.{Answers, AnswersMessage, AnswersRoute, Counts};
+ghost use Rattle.xa_server.specs.Machine.{by_document_command, by_domain_command, by_operator_command};
+ghost use Rattle.xa_server.specs.Owner.{name_if, owner};
+ghost use Rattle.std.specs.Option.{option_and_then};
+
+use crate::admission::{admitted, by_operator, is_decision};
+use crate::changes::{
+    create, delete, drop_token, put_token, remove, set_active, set_root, set_source, upload,
+};
+use crate::document_key::key_of_parts;
+use crate::error_code::ErrorCode;
+use crate::name::name_if;
+use crate::readings::{decide, domains, list, show, source};
+use crate::stop::Stop;
+use std::alloc::Global;
+use xa_http::{
+    DocumentCommand, DocumentParts, DomainCommand, Message, OperatorCommand, Route, Routes,
+};
+use xa_policy::DocumentKey;
+use xa_records::{Digest, Records, Refusal};
+use xa_value::{Items, Moment, Text};
+
+/// Does what the operator asks for of a domain.
+fn by_operator_command<R: Records>(
+    alloc: Global,
+    records: &mut R,
+    name: &Text,
+    command: OperatorCommand,
+    body: &[u8],
+) -> Result<Items<u8>, Stop>
+    requires { IsTrue (is_domain_name name.now) }
+    ensures answers { R.sound records.new → Answers (R.kept records.old) (R.kept records.new) name.now result (by_operator_command command body.now (state_of name.now (R.kept records.old))) }
+    ensures sound { R.sound records.new → R.sound records.old }
+    ensures counts { Counts (R.faults records.old) (R.faults records.new) result }
+{
+    match command {
+        OperatorCommand::Create => create(alloc, records, name),
+        OperatorCommand::Remove => remove(alloc, records, name),
+        OperatorCommand::PutToken => put_token(alloc, records, name, body),
+        OperatorCommand::DropToken => drop_token(alloc, records, name, body),
+    }
+}
+
+/// Does what is asked for in a domain.
+fn by_domain_command<R: Records>(
+    alloc: Global,
+    records: &mut R,
+    name: &Text,
+    command: DomainCommand,
+    body: &[u8],
+    moment: Moment,
+) -> Result<Items<u8>, Stop>
+    ensures answers { R.sound records.new → Answers (R.kept records.old) (R.kept records.new) name.now result (by_domain_command command body.now moment (state_of name.now (R.kept records.old))) }
+    ensures sound { R.sound records.new → R.sound records.old }
+    ensures counts { Counts (R.faults records.old) (R.faults records.new) result }
+{
+    match command {
+        DomainCommand::Decide => decide(alloc, records, name, body, moment),
+        DomainCommand::Upload => upload(alloc, records, name, body),
+        DomainCommand::List => list(alloc, records, name),
+        DomainCommand::SetRoot => set_root(alloc, records, name, body),
+        DomainCommand::SetSource => set_source(alloc, records, name, body),
+        DomainCommand::Source => source(alloc, records, name),
+    }
+}
+
+/// Does what is asked for of a document.
+fn by_document_command<R: Records>(
+    alloc: Global,
+    records: &mut R,
+    name: &Text,
+    command: DocumentCommand,
+    key: &DocumentKey,
+) -> Result<Items<u8>, Stop>
+    ensures answers { R.sound records.new → Answers (R.kept records.old) (R.kept records.new) name.now result (by_document_command command key.now (state_of name.now (R.kept records.old))) }
+    ensures sound { R.sound records.new → R.sound records.old }
+    ensures counts { Counts (R.faults records.old) (R.faults records.new) result }
+{
+    match command {
+        DocumentCommand::Show => show(alloc, records, name, key),
+        DocumentCommand::Delete => delete(alloc, records, name, key),
+        DocumentCommand::Activate => set_active(alloc, records, name, key, true),
+        DocumentCommand::Deactivate => set_active(alloc, records, name, key, false),
+    }
+}
+
+/// Answers a message to one of the operator's paths of a domain.
+fn operator_route<R: Records>(
+    alloc: Global,
+    operator: Digest,
+    records: &mut R,
+    message: &Message,
+    domain: Items<u8>,
+    command: OperatorCommand,
+) -> Result<Items<u8>, Stop>
+    ensures answers { (moment : ℤ) → R.sound records.new → AnswersRoute operator (R.kept records.old) (R.kept records.new) (name_if domain) message.now moment (to.Operator domain command) result }
+    ensures sound { R.sound records.new → R.sound records.old }
+    ensures counts { Counts (R.faults records.old) (R.faults records.new) result }
+{
+    by_operator(operator, message)?;
+    let name = name_if(domain).ok_or(ErrorCode::BadDomain)?;
+    by_operator_command(alloc, records, &name, command, message.body.as_slice())
+}
+
+/// Answers a message to one of a domain's paths.
+fn domain_route<R: Records>(
+    alloc: Global,
+    records: &mut R,
+    message: &Message,
+    moment: Moment,
+    domain: Items<u8>,
+    command: DomainCommand,
+) -> Result<Items<u8>, Stop>
+    ensures answers { (operator : List ℕ) → R.sound records.new → AnswersRoute operator (R.kept records.old) (R.kept records.new) (name_if domain) message.now moment (to.Domain domain command) result }
+    ensures sound { R.sound records.new → R.sound records.old }
+    ensures counts { Counts (R.faults records.old) (R.faults records.new) result }
+{
+    let name = name_if(domain).ok_or(ErrorCode::Unauthorized)?;
+    admitted(alloc, records, &name, is_decision(command), message)?;
+    by_domain_command(
+        alloc,
+        records,
+        &name,
+        command,
+        message.body.as_slice(),
+        moment,
+    )
+}
+
+/// Answers a message to the path of a document.
+fn document_route<R: Records>(
+    alloc: Global,
+    records: &mut R,
+    message: &Message,
+    domain: Items<u8>,
+    parts: DocumentParts,
+    command: DocumentCommand,
+) -> Result<Items<u8>, Stop>
+    ensures answers { (operator : List ℕ) (moment : ℤ) → R.sound records.new → AnswersRoute operator (R.kept records.old) (R.kept records.new) (name_if domain) message.now moment (to.Document domain parts command) result }
+    ensures sound { R.sound records.new → R.sound records.old }
+    ensures counts { Counts (R.faults records.old) (R.faults records.new) result }
+{
+    let name = name_if(domain).ok_or(ErrorCode::Unauthorized)?;
+    admitted(alloc, records, &name, false, message)?;
+    let key = key_of_parts(parts).ok_or(ErrorCode::Refused(Refusal::Absent))?;
+    by_document_command(alloc, records, &name, command, &key)
+}
+
+/// Answers a message that asks for this.
+fn answer_route<R: Records>(
+    alloc: Global,
+    operator: Digest,
+    records: &mut R,
+    message: &Message,
+    moment: Moment,
+    route: Route,
+) -> Result<Items<u8>, Stop>
+    ensures answers { R.sound records.new → AnswersRoute operator (R.kept records.old) (R.kept records.new) (option_and_then name_if (named_by route)) message.now moment route result }
+    ensures sound { R.sound records.new → R.sound records.old }
+    ensures counts { Counts (R.faults records.old) (R.faults records.new) result }
+{
+    match route {
+        Route::Domains => {
+            by_operator(operator, message)?;
+            domains(alloc, records)
+        }
+        Route::Operator { domain, command } => {
+            operator_route(alloc, operator, records, message, domain, command)
+        }
+        Route::Domain { domain, command } => {
+            domain_route(alloc, records, message, moment, domain, command)
+        }
+        Route::Document {
+            domain,
+            parts,
+            command,
+        } => document_route(alloc, records, message, domain, parts, command),
+    }
+}
+
+/// Answers a message, by the first question that it doesn't pass.
+pub(crate) fn answer<R: Records>(
+    alloc: Global,
+    routes: &Routes,
+    operator: Digest,
+    records: &mut R,
+    moment: Moment,
+    message: &Message,
+) -> Result<Items<u8>, Stop>
+    ensures answers { R.sound records.new → AnswersMessage operator (R.kept records.old) (R.kept records.new) (owner message.now) message.now moment result }
+    ensures sound { R.sound records.new → R.sound records.old }
+    ensures counts { Counts (R.faults records.old) (R.faults records.new) result }
+{
+    let route = routes.route(alloc, message)?;
+    answer_route(alloc, operator, records, message, moment, route)
+}

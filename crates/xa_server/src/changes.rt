@@ -1,0 +1,188 @@
+//! The changes that messages make. Of each the body is read first and the bytes of the reply are made; the change itself is the last thing that can fail.
+ghost use Rattle.std.specs.Prelude.{◌≡◌, IfOk, IsTrue};
+ghost use Rattle.xa_http.specs.declared.command.DocumentCommand.TheVariants as document;
+ghost use Rattle.xa_http.specs.declared.command.OperatorCommand.TheVariants as operator;
+ghost use Rattle.xa_notation.specs.Bodies.{root_of};
+ghost use Rattle.xa_notation.specs.Document.{document_of};
+ghost use Rattle.xa_decide.specs.Rows.{rows_of};
+ghost use Rattle.xa_records.specs.Changes.{activity_set, created, removed, root_set, source_set, upload_of, uploaded, within};
+ghost use Rattle.xa_records.specs.DomainName.{is_domain_name};
+ghost use Rattle.xa_records.specs.DomainState.{key_of};
+ghost use Rattle.xa_records.specs.Kept.{state_of};
+ghost use Rattle.xa_server.specs.Handling.{Answers, Counts, by_body};
+ghost use Rattle.xa_server.specs.Machine.{by_document_command, by_operator_command, changed, upload_reply};
+ghost use Rattle.xa_server.specs.Replies.{created_reply, done_reply};
+
+use crate::replies::{created_reply, done_reply};
+use crate::stop::Stop;
+use std::alloc::{AllocError, Global};
+use xa_decide::read_rows;
+use xa_notation::{Parsed, read_new_token, read_old_token, read_root};
+use xa_policy::DocumentKey;
+use xa_records::{Digest, Records, Upload};
+use xa_value::{Items, Text};
+
+/// Makes a domain in which nothing has been put yet.
+pub(crate) fn create<R: Records>(
+    alloc: Global,
+    records: &mut R,
+    name: &Text,
+) -> Result<Items<u8>, Stop>
+    requires { IsTrue (is_domain_name name.now) }
+    ensures answers { R.sound records.new → Answers (R.kept records.old) (R.kept records.new) name.now result (changed created_reply created (state_of name.now (R.kept records.old))) }
+    ensures sound { R.sound records.new → R.sound records.old }
+    ensures counts { Counts (R.faults records.old) (R.faults records.new) result }
+{
+    let reply = created_reply(alloc)?;
+    records.create(alloc, name)?;
+    Ok(reply)
+}
+
+/// Removes the domain with all that is in it.
+pub(crate) fn remove<R: Records>(
+    alloc: Global,
+    records: &mut R,
+    name: &Text,
+) -> Result<Items<u8>, Stop>
+    ensures answers { R.sound records.new → Answers (R.kept records.old) (R.kept records.new) name.now result (changed done_reply removed (state_of name.now (R.kept records.old))) }
+    ensures sound { R.sound records.new → R.sound records.old }
+    ensures counts { Counts (R.faults records.old) (R.faults records.new) result }
+{
+    let reply = done_reply(alloc)?;
+    records.remove(alloc, name)?;
+    Ok(reply)
+}
+
+/// Puts the token of the body into the domain, or gives it another role.
+pub(crate) fn put_token<R: Records>(
+    alloc: Global,
+    records: &mut R,
+    name: &Text,
+    body: &[u8],
+) -> Result<Items<u8>, Stop>
+    ensures answers { R.sound records.new → Answers (R.kept records.old) (R.kept records.new) name.now result (by_operator_command operator.PutToken body.now (state_of name.now (R.kept records.old))) }
+    ensures sound { R.sound records.new → R.sound records.old }
+    ensures counts { Counts (R.faults records.old) (R.faults records.new) result }
+{
+    let new = read_new_token(alloc, body)?;
+    let reply = done_reply(alloc)?;
+    let digest = Digest::of(new.token.as_bytes());
+    records.put_token(alloc, name, digest, new.role)?;
+    Ok(reply)
+}
+
+/// Takes the token of the body from the domain.
+pub(crate) fn drop_token<R: Records>(
+    alloc: Global,
+    records: &mut R,
+    name: &Text,
+    body: &[u8],
+) -> Result<Items<u8>, Stop>
+    ensures answers { R.sound records.new → Answers (R.kept records.old) (R.kept records.new) name.now result (by_operator_command operator.DropToken body.now (state_of name.now (R.kept records.old))) }
+    ensures sound { R.sound records.new → R.sound records.old }
+    ensures counts { Counts (R.faults records.old) (R.faults records.new) result }
+{
+    let token = read_old_token(alloc, body)?;
+    let reply = done_reply(alloc)?;
+    records.drop_token(alloc, name, Digest::of(token.as_bytes()))?;
+    Ok(reply)
+}
+
+/// The key of a document.
+fn key_of(parsed: &Parsed) -> Result<DocumentKey, AllocError>
+    ensures { IfOk result (λ key. key ≡ key_of parsed.now) }
+{
+    Ok(DocumentKey {
+        kind: parsed.kind(),
+        id: parsed.id().clone()?,
+        version: *parsed.version(),
+    })
+}
+
+/// Keeps the document that the body is; the very text again changes nothing. Which of both it is isn't known before, so both replies are made.
+pub(crate) fn upload<R: Records>(
+    alloc: Global,
+    records: &mut R,
+    name: &Text,
+    body: &[u8],
+) -> Result<Items<u8>, Stop>
+    ensures answers { R.sound records.new → Answers (R.kept records.old) (R.kept records.new) name.now result (by_body (λ parsed state. changed (upload_reply (upload_of (key_of parsed) state)) (within (uploaded (key_of parsed) body.now)) state) (document_of body.now) (state_of name.now (R.kept records.old))) }
+    ensures sound { R.sound records.new → R.sound records.old }
+    ensures counts { Counts (R.faults records.old) (R.faults records.new) result }
+{
+    let parsed = Parsed::read(alloc, body)?;
+    let key = key_of(&parsed)?;
+    let created = created_reply(alloc)?;
+    let done = done_reply(alloc)?;
+    match records.upload(alloc, name, key, body)? {
+        Upload::New => Ok(created),
+        Upload::Same => Ok(done),
+    }
+}
+
+/// Sets the root to the reference of the body, or takes it away.
+pub(crate) fn set_root<R: Records>(
+    alloc: Global,
+    records: &mut R,
+    name: &Text,
+    body: &[u8],
+) -> Result<Items<u8>, Stop>
+    ensures answers { R.sound records.new → Answers (R.kept records.old) (R.kept records.new) name.now result (by_body (λ root. changed done_reply (within (root_set root))) (root_of body.now) (state_of name.now (R.kept records.old))) }
+    ensures sound { R.sound records.new → R.sound records.old }
+    ensures counts { Counts (R.faults records.old) (R.faults records.new) result }
+{
+    let root = read_root(alloc, body)?;
+    let reply = done_reply(alloc)?;
+    records.set_root(alloc, name, root)?;
+    Ok(reply)
+}
+
+/// Puts the rows of the body into the source of attributes, in place of all that were there.
+pub(crate) fn set_source<R: Records>(
+    alloc: Global,
+    records: &mut R,
+    name: &Text,
+    body: &[u8],
+) -> Result<Items<u8>, Stop>
+    ensures answers { R.sound records.new → Answers (R.kept records.old) (R.kept records.new) name.now result (by_body (λ rows. changed done_reply (within (source_set rows))) (rows_of body.now) (state_of name.now (R.kept records.old))) }
+    ensures sound { R.sound records.new → R.sound records.old }
+    ensures counts { Counts (R.faults records.old) (R.faults records.new) result }
+{
+    let rows = read_rows(alloc, body)?;
+    let reply = done_reply(alloc)?;
+    records.set_source(alloc, name, rows)?;
+    Ok(reply)
+}
+
+/// Deletes a document.
+pub(crate) fn delete<R: Records>(
+    alloc: Global,
+    records: &mut R,
+    name: &Text,
+    key: &DocumentKey,
+) -> Result<Items<u8>, Stop>
+    ensures answers { R.sound records.new → Answers (R.kept records.old) (R.kept records.new) name.now result (by_document_command document.Delete key.now (state_of name.now (R.kept records.old))) }
+    ensures sound { R.sound records.new → R.sound records.old }
+    ensures counts { Counts (R.faults records.old) (R.faults records.new) result }
+{
+    let reply = done_reply(alloc)?;
+    records.delete(alloc, name, key)?;
+    Ok(reply)
+}
+
+/// Lets references resolve to a document, or no longer.
+pub(crate) fn set_active<R: Records>(
+    alloc: Global,
+    records: &mut R,
+    name: &Text,
+    key: &DocumentKey,
+    active: bool,
+) -> Result<Items<u8>, Stop>
+    ensures answers { R.sound records.new → Answers (R.kept records.old) (R.kept records.new) name.now result (changed done_reply (within (activity_set key.now active)) (state_of name.now (R.kept records.old))) }
+    ensures sound { R.sound records.new → R.sound records.old }
+    ensures counts { Counts (R.faults records.old) (R.faults records.new) result }
+{
+    let reply = done_reply(alloc)?;
+    records.set_active(alloc, name, key, active)?;
+    Ok(reply)
+}

@@ -1,0 +1,61 @@
+//! What decides in a domain, by what is kept of it.
+ghost use Rattle.std.specs.Prelude.{◌≡◌, IfOk};
+ghost use Rattle.std.specs.List.{filter_map};
+ghost use Rattle.xa_notation.specs.Document.{document_of};
+ghost use Rattle.xa_server.specs.View.{active_document, active_if, viewed};
+
+use std::alloc::{AllocError, Global};
+use xa_decide::View;
+use xa_link::Active;
+use xa_notation::Parsed;
+use xa_records::KeptView;
+use xa_value::{Items, OrMemory, Shared};
+
+/// The document as references may resolve to it.
+fn active_document(alloc: Global, parsed: Parsed) -> Result<Active, AllocError>
+    ensures { IfOk result (λ active. active ≡ active_document parsed) }
+{
+    Ok(Active {
+        kind: parsed.kind(),
+        id: parsed.id().clone()?,
+        version: *parsed.version(),
+        document: Shared::new(alloc, parsed)?,
+    })
+}
+
+/// The document that the text is, if it is one.
+fn active_if(alloc: Global, text: &[u8]) -> Result<Option<Active>, AllocError>
+    ensures { IfOk result (λ active. active ≡ active_if (document_of text.now)) }
+{
+    match Parsed::read(alloc, text) {
+        Ok(parsed) => Ok(Some(active_document(alloc, parsed)?)),
+        Err(OrMemory::Error(_)) => Ok(None),
+        Err(OrMemory::Memory) => Err(AllocError),
+    }
+}
+
+/// The documents of the texts, in order.
+fn active_documents(alloc: Global, texts: &[Items<u8>]) -> Result<Items<Active>, AllocError>
+    ensures { IfOk result (λ active. active ≡ filter_map (λ text. active_if (document_of text)) texts.now) }
+{
+    let mut documents = Items::new(alloc);
+    for text in texts {
+        if let Some(document) = active_if(alloc, text.as_slice())? {
+            documents.push(document)?;
+        }
+    }
+    Ok(documents)
+}
+
+/// What decides: each text is read, as it was when it was uploaded. What this costs grows with the texts.
+pub(crate) fn viewed(alloc: Global, kept: KeptView) -> Result<View, AllocError>
+    ensures { IfOk result (λ view. view ≡ viewed kept) }
+{
+    let KeptView {
+        texts,
+        root,
+        source,
+    } = kept;
+    let active = active_documents(alloc, texts.as_slice())?;
+    View::new(alloc, active, root, source)
+}
