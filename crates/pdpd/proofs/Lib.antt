@@ -1,3 +1,2 @@
 pub mod EntryLemmas
 pub mod PartLemmas
-pub mod ServerLemmas

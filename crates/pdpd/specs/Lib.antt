@@ -2,5 +2,4 @@ pub mod Batch
 pub mod CommandLine
 pub mod Entry
 pub mod Exit
-pub mod FirstDomain
 pub mod Heading

@@ -1,5 +1,6 @@
 //! The replies to the bytes that a stream takes.
 ghost use Rattle.std.specs.Prelude.{◌≡◌, map, IfOk, IfErr, IsTrue};
+ghost use Rattle.xa_server.specs.World.{world};
 ghost use Rattle.pdpd.specs.Batch.{HasTaken, IsBatch};
 ghost use Rattle.pdpd.specs.Entry.{IsEntryAnswered, events_at};
 ghost use Rattle.pdpd.specs.Exit.{breaks_off};
@@ -9,6 +10,7 @@ use crate::writing::{write_replies, write_reply};
 use std::alloc::{AllocError, Global};
 use std::io::Write;
 use xa_http::{Message, Next, Session, SessionFault};
+use xa_records::Records;
 use xa_server::{Server, fault_reply};
 use xa_value::Moment;
 
@@ -50,15 +52,17 @@ fn next_messages(
 
 /// Answers the next whole messages that a stream holds, and writes the replies.
 #[tactic(auto, using(crate::proofs::EntryLemmas::batch))]
-fn answer_batch<W: Write>(
+fn answer_batch<R: Records, W: Write>(
     alloc: Global,
-    server: &mut Server,
+    server: &mut Server<R>,
     moment: Moment,
     session: &mut Session,
     connection: usize,
     writer: &mut W,
 ) -> Result<Stop, Exit>
-    ensures batch { IfOk result (IsBatch connection moment server.old server.new session.old session.new (W.contents writer.old) (W.contents writer.new)) }
+    ensures batch { IfOk result (λ stop. R.sound server.new.records →
+        IsBatch connection moment (world R.kept server.old) (world R.kept server.new) session.old session.new (W.contents writer.old) (W.contents writer.new) stop) }
+    ensures sound { R.sound server.new.records → R.sound server.old.records }
     ensures err { IfErr result (λ exit. IsTrue (breaks_off exit)) }
 {
     let (events, stop) = next_messages(alloc, moment, session)?;
@@ -70,16 +74,19 @@ fn answer_batch<W: Write>(
 /// Answers the bytes that a stream takes, and writes the replies, some messages at once: what is held doesn't grow with
 /// their number. What follows the end of the stream gets no reply.
 #[tactic(auto, using(crate::proofs::EntryLemmas::so_far_none, crate::proofs::EntryLemmas::so_far_more, crate::proofs::EntryLemmas::answered_without_fault, crate::proofs::EntryLemmas::answered_with_fault))]
-pub fn answer<W: Write>(
+pub fn answer<R: Records, W: Write>(
     alloc: Global,
-    server: &mut Server,
+    server: &mut Server<R>,
     moment: Moment,
     session: &mut Session,
     bytes: &[u8],
     connection: usize,
     writer: &mut W,
 ) -> Result<(), Exit>
-    ensures replies { IfOk result (λ _. IsEntryAnswered connection moment bytes.now server.old server.new session.old session.new (W.contents writer.old) (W.contents writer.new)) }
+    ensures replies { IfOk result (λ _. R.sound server.new.records →
+        IsEntryAnswered connection moment bytes.now (world R.kept server.old) (world R.kept server.new) session.old session.new
+        (W.contents writer.old) (W.contents writer.new)) }
+    ensures sound { R.sound server.new.records → R.sound server.old.records }
     ensures err { IfErr result (λ exit. IsTrue (breaks_off exit)) }
 {
     session.feed(bytes)?;
@@ -89,7 +96,7 @@ pub fn answer<W: Write>(
             Stop::Unfinished => return Ok(()),
             Stop::Fault(fault) => {
                 let reply = fault_reply(alloc, fault)?;
-                write_reply(writer, connection, &reply)?;
+                write_reply(writer, connection, reply.as_slice())?;
                 return Ok(());
             }
         }

@@ -5,7 +5,6 @@ mod answers;
 mod command_line;
 mod connection;
 mod exit;
-mod first_domain;
 mod heading;
 mod open_stream;
 mod replay;

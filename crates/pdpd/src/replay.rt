@@ -2,74 +2,61 @@
 ghost use Rattle.std.specs.Prelude.{◌≡◌, ◌≢◌, ◌↔◌, Ok, false, IsTrue, IsFalse, IfOk, IfErr, [], ◌∷◌, slice_index_or, slice_set, replicate};
 ghost use Rattle.sha2.specs.Sha256.{sha256};
 ghost use Rattle.xa_notation.specs.Tokens.{is_token};
-ghost use Rattle.xa_server.specs.Given.{server_domains};
+ghost use Rattle.xa_records.specs.Kept.{nothing_kept};
 ghost use Rattle.pdpd.specs.Exit.{breaks_off};
-ghost use Rattle.pdpd.specs.FirstDomain.{acme};
 ghost use Rattle.pdpd.specs.declared.exit.Exit.TheVariants.{Memory, Usage};
 ghost use Rattle.pdpd.specs.declared.connection.Connection.TheVariants.{Closed, Ended};
 
 use crate::answers::answer;
 use crate::connection::{Connection, closed_connections};
 use crate::exit::Exit;
-use crate::first_domain::acme;
 use crate::heading::Heading;
 use crate::open_stream::OpenStream;
 use crate::transcript::Transcript;
-use std::alloc::{AllocError, Global};
+use std::alloc::Global;
 use std::io::{BufWriter, Read, Write};
 use std::mem;
 use xa_http::Session;
 use xa_notation::is_token;
-use xa_records::Digest;
+use xa_records::{Digest, PlainRecords, Records};
 use xa_server::Server;
-use xa_value::OrMemory;
 
 /// How many bytes of replies are held before they are written.
 const BUFFER_BYTES: usize = 65_536;
 
-/// The server over the one domain that the program starts with.
-#[tactic(auto, using(crate::proofs::ServerLemmas::never_refused))]
-fn first_server(alloc: Global, token: &str) -> Result<Server, AllocError>
-    ensures operator { IfOk result (λ server. server.operator ≡ sha256 token.now) }
-    ensures domains { IfOk result (λ server. server_domains (acme ∷ []) ≡ Ok server.domains) }
-{
-    let mut domains = Vec::new(alloc);
-    domains.push(acme(alloc)?)?;
-    match Server::given(alloc, domains, Digest::of(token.as_bytes())) {
-        Ok(server) => Ok(server),
-        Err(OrMemory::Memory) => Err(AllocError),
-        Err(OrMemory::Error(_)) => unreachable!(),
-    }
-}
-
 /// What the program holds between entries.
 #[derive(Drop)]
-struct Replayer<W: Write + Drop> {
+struct Replayer<R: Records + Drop, W: Write + Drop> {
     alloc: Global,
-    server: Server,
+    server: Server<R>,
     connections: Vec<Connection>,
     writer: BufWriter<W>,
 }
 
-impl<W: Write + Drop> Replayer<W> {
-    /// Over the one domain that the program starts with, with all connections closed.
-    fn new(alloc: Global, writer: W, token: &str) -> Result<Replayer<W>, Exit>
+impl<W: Write + Drop> Replayer<PlainRecords, W> {
+    /// Over no domains, with all connections closed.
+    fn new(alloc: Global, writer: W, token: &str) -> Result<Replayer<PlainRecords, W>, Exit>
         ensures operator { IfOk result (λ replayer. replayer.server.operator ≡ sha256 token.now) }
-        ensures domains { IfOk result (λ replayer. server_domains (acme ∷ []) ≡ Ok replayer.server.domains) }
+        ensures kept { IfOk result (λ replayer. ⟦<PlainRecords as Records>⟧.kept replayer.server.records ≡ nothing_kept) }
+        ensures sound { IfOk result (λ replayer. ⟦<PlainRecords as Records>⟧.sound replayer.server.records) }
         ensures closed { IfOk result (λ replayer. replayer.connections.items ≡ replicate 64 Closed) }
         ensures err { IfErr result (λ exit. exit ≡ Memory) }
     {
+        let operator = Digest::of(token.as_bytes());
         Ok(Replayer {
             alloc,
-            server: first_server(alloc, token)?,
+            server: Server::new(alloc, PlainRecords::new(alloc), operator)?,
             connections: closed_connections(alloc)?,
             writer: BufWriter::with_capacity(alloc, BUFFER_BYTES, writer)?,
         })
     }
+}
 
+impl<R: Records + Drop, W: Write + Drop> Replayer<R, W> {
     /// Hands the bytes of an entry to its connection, and writes the replies to them.
     fn entry(&mut self, heading: Heading, bytes: &[u8]) -> Result<(), Exit>
-        ensures { IfErr result (λ exit. IsTrue (breaks_off exit)) }
+        ensures sound { R.sound self.new.server.records → R.sound self.old.server.records }
+        ensures err { IfErr result (λ exit. IsTrue (breaks_off exit)) }
     {
         let place = heading.connection;
         let was = self.replace(place, Connection::Closed);
@@ -101,6 +88,7 @@ impl<W: Write + Drop> Replayer<W> {
         ensures closes { bytes.now ≡ [] → result ≡ Ok Closed }
         ensures passes_over { was ≡ Ended → bytes.now ≢ [] → result ≡ Ok Ended }
         ensures others { self.new.connections ≡ self.old.connections }
+        ensures sound { R.sound self.new.server.records → R.sound self.old.server.records }
         ensures err { IfErr result (λ exit. IsTrue (breaks_off exit)) }
     {
         if bytes.is_empty() {
@@ -122,6 +110,7 @@ impl<W: Write + Drop> Replayer<W> {
         bytes: &[u8],
     ) -> Result<Connection, Exit>
         ensures others { self.new.connections ≡ self.old.connections }
+        ensures sound { R.sound self.new.server.records → R.sound self.old.server.records }
         ensures err { IfErr result (λ exit. IsTrue (breaks_off exit)) }
     {
         let mut session = session;
@@ -142,12 +131,13 @@ impl<W: Write + Drop> Replayer<W> {
 }
 
 /// Answers the entries of a transcript, one after another.
-fn answer_all<R: Read, W: Write + Drop>(
+fn answer_all<I: Read, R: Records + Drop, W: Write + Drop>(
     alloc: Global,
-    reader: &mut R,
-    replayer: &mut Replayer<W>,
+    reader: &mut I,
+    replayer: &mut Replayer<R, W>,
 ) -> Result<(), Exit>
-    ensures { IfErr result (λ exit. IsTrue (breaks_off exit)) }
+    ensures sound { R.sound replayer.new.server.records → R.sound replayer.old.server.records }
+    ensures err { IfErr result (λ exit. IsTrue (breaks_off exit)) }
 {
     let mut transcript = Transcript::new(alloc, reader)?;
     let mut bytes = Vec::new(alloc);
@@ -163,9 +153,9 @@ fn answer_all<R: Read, W: Write + Drop>(
 
 /// Answers the messages of a transcript, each at the moment of the entry that makes it whole, and writes the replies.
 /// `token` is the operator's. What was answered is written, however it ends.
-pub fn replay<R: Read, W: Write + Drop>(
+pub fn replay<I: Read, W: Write + Drop>(
     alloc: Global,
-    reader: &mut R,
+    reader: &mut I,
     writer: W,
     token: &str,
 ) -> Exit

@@ -8,13 +8,17 @@ use std::test::Fail;
 
 const TOKEN: &str = "operator-token-1";
 
-/// A request for a decision, and the entry's line before it.
-const ASK: &str =
-    "0 0 105\nPOST /domains/acme/pdp HTTP/1.1\r\nAuthorization: Bearer acme-token-1\r\nContent-Length: 14\r\n\r\n{\"Request\":{}}\n";
+/// A message that makes a domain, and the entry's line before it.
+const CREATE: &str =
+    "0 0 79\nPUT /operator/domains/acme HTTP/1.1\r\nAuthorization: Bearer operator-token-1\r\n\r\n\n";
 
 /// The reply to it, and the line before it.
-const PERMIT: &str =
-    "0 189\nHTTP/1.1 200 OK\r\nContent-Type: application/xacml+json\r\nContent-Length: 111\r\n\r\n{\"Response\":[{\"Decision\":\"Permit\",\"Status\":{\"StatusCode\":{\"Value\":\"urn:oasis:names:tc:xacml:1.0:status:ok\"}}}]}\n";
+const CREATED: &str =
+    "0 77\nHTTP/1.1 201 Created\r\nContent-Type: application/json\r\nContent-Length: 2\r\n\r\n{}\n";
+
+/// The reply to it where the domain is there, and the count before it.
+const EXISTS: &str =
+    "95\nHTTP/1.1 409 Conflict\r\nContent-Type: application/json\r\nContent-Length: 18\r\n\r\n{\"Error\":\"Exists\"}\n";
 
 /// The reply to a stream that doesn't go on with a message.
 const BAD_HEAD: &str =
@@ -47,32 +51,25 @@ fn expect(
 #[test]
 fn whole_transcripts(rt: HostRuntime) -> Result<(), Fail> {
     expect(&rt, &[], Exit::Done, &[])?;
-    expect(&rt, &[ASK, ASK], Exit::Done, &[PERMIT, PERMIT])?;
-    let empty_list =
-        "0 0 92\nPOST /domains/acme/pdp HTTP/1.1\r\nAuthorization: Bearer acme-token-1\r\nContent-Length: 2\r\n\r\n[]\n";
-    let syntax_error =
-        "0 206\nHTTP/1.1 200 OK\r\nContent-Type: application/xacml+json\r\nContent-Length: 128\r\n\r\n{\"Response\":[{\"Decision\":\"Indeterminate\",\"Status\":{\"StatusCode\":{\"Value\":\"urn:oasis:names:tc:xacml:1.0:status:syntax-error\"}}}]}\n";
-    expect(&rt, &[empty_list], Exit::Done, &[syntax_error])?;
-    let empty_body =
-        "7 -0 71\nPOST /domains/acme/pdp HTTP/1.1\r\nAuthorization: Bearer acme-token-1\r\n\r\n\n";
-    let not_json =
-        "7 99\nHTTP/1.1 400 Bad Request\r\nContent-Type: application/json\r\nContent-Length: 19\r\n\r\n{\"Error\":\"NotJson\"}\n";
-    expect(&rt, &[empty_body], Exit::Done, &[not_json])
-}
-
-#[test]
-fn a_wrong_token_and_an_absent_domain_get_the_same(rt: HostRuntime) -> Result<(), Fail> {
-    let wrong =
-        "0 0 71\nPOST /domains/acme/pdp HTTP/1.1\r\nAuthorization: Bearer acme-token-2\r\n\r\n\n";
-    let absent =
-        "0 0 71\nPOST /domains/zeta/pdp HTTP/1.1\r\nAuthorization: Bearer acme-token-1\r\n\r\n\n";
+    // The program begins with no domain, and has one state for all entries and connections.
+    let again =
+        "7 -0 79\nPUT /operator/domains/acme HTTP/1.1\r\nAuthorization: Bearer operator-token-1\r\n\r\n\n";
+    expect(
+        &rt,
+        &[CREATE, CREATE, again],
+        Exit::Done,
+        &[CREATED, "0 ", EXISTS, "7 ", EXISTS],
+    )?;
+    // Nobody but the operator makes a domain.
+    let not_operator =
+        "0 0 79\nPUT /operator/domains/acme HTTP/1.1\r\nAuthorization: Bearer operator-token-2\r\n\r\n\n";
     let unauthorized =
         "0 131\nHTTP/1.1 401 Unauthorized\r\nContent-Type: application/json\r\nContent-Length: 24\r\nWWW-Authenticate: Bearer\r\n\r\n{\"Error\":\"Unauthorized\"}\n";
     expect(
         &rt,
-        &[wrong, absent],
+        &[not_operator, CREATE],
         Exit::Done,
-        &[unauthorized, unauthorized],
+        &[unauthorized, CREATED],
     )
 }
 
@@ -93,11 +90,11 @@ fn malformed_and_cut_transcripts(rt: HostRuntime) -> Result<(), Fail> {
         "\n",
     ];
     for last in malformed {
-        expect(&rt, &[ASK, last], Exit::Malformed, &[PERMIT])?;
+        expect(&rt, &[CREATE, last], Exit::Malformed, &[CREATED])?;
     }
-    let cut = ASK.get(..60).ok_or("a cut")?;
-    expect(&rt, &[ASK, cut], Exit::Malformed, &[PERMIT])?;
-    expect(&rt, &[ASK, "1 0 1\nx"], Exit::Malformed, &[PERMIT])
+    let cut = CREATE.get(..60).ok_or("a cut")?;
+    expect(&rt, &[CREATE, cut], Exit::Malformed, &[CREATED])?;
+    expect(&rt, &[CREATE, "1 0 1\nx"], Exit::Malformed, &[CREATED])
 }
 
 #[test]
@@ -109,20 +106,18 @@ fn entries_of_a_connection(rt: HostRuntime) -> Result<(), Fail> {
     // A fault ends the stream, further entries are passed over, and after a close the connection is new.
     expect(
         &rt,
-        &[bad, more, close, padded, ASK],
+        &[bad, more, close, padded, CREATE],
         Exit::Done,
-        &["1 ", BAD_HEAD, "1 ", BAD_HEAD, PERMIT],
+        &["1 ", BAD_HEAD, "1 ", BAD_HEAD, CREATED],
     )?;
     // A message may come in two entries, others between, and closing what isn't open does nothing.
-    let first = "63 0 40\nPOST /domains/acme/pdp HTTP/1.1\r\nAuthori\n";
-    let rest =
-        "63 0 65\nzation: Bearer acme-token-1\r\nContent-Length: 14\r\n\r\n{\"Request\":{}}\n";
-    let unnumbered = PERMIT.get(1..).ok_or("a rest")?;
+    let first = "63 0 40\nPUT /operator/domains/acme HTTP/1.1\r\nAut\n";
+    let rest = "63 0 39\nhorization: Bearer operator-token-1\r\n\r\n\n";
     expect(
         &rt,
-        &[close, first, ASK, rest],
+        &[close, first, CREATE, rest],
         Exit::Done,
-        &[PERMIT, "63", unnumbered],
+        &[CREATED, "63 ", EXISTS],
     )?;
     // The longest entry.
     let mut longest = String::new(rt.alloc());
@@ -141,12 +136,12 @@ fn entries_of_a_connection(rt: HostRuntime) -> Result<(), Fail> {
 fn a_message_that_closes_its_stream(rt: HostRuntime) -> Result<(), Fail> {
     // What follows it in the entry is dropped, and further entries are passed over until the connection is closed.
     let last =
-        "0 0 106\nPOST /domains/acme/pdp HTTP/1.0\r\nAuthorization: Bearer acme-token-1\r\nContent-Length: 14\r\n\r\n{\"Request\":{}}:\n";
+        "0 0 80\nPUT /operator/domains/acme HTTP/1.0\r\nAuthorization: Bearer operator-token-1\r\n\r\n:\n";
     expect(
         &rt,
-        &[last, ASK, "0 0 0\n\n", ASK],
+        &[last, CREATE, "0 0 0\n\n", CREATE],
         Exit::Done,
-        &[PERMIT, PERMIT],
+        &[CREATED, "0 ", EXISTS],
     )
 }
 
@@ -183,14 +178,14 @@ fn broken_streams_and_bad_tokens(rt: HostRuntime) -> Result<(), Fail> {
     let alloc = rt.alloc();
     let mut output = Vec::new(alloc);
     assert_eq!(rt;
-        replay(alloc, &mut Broken(ASK.as_bytes()), &mut output, TOKEN),
+        replay(alloc, &mut Broken(CREATE.as_bytes()), &mut output, TOKEN),
         Exit::Failed
     );
-    assert_eq!(rt; output.as_slice(), PERMIT.as_bytes());
-    let mut input = ASK.as_bytes();
+    assert_eq!(rt; output.as_slice(), CREATED.as_bytes());
+    let mut input = CREATE.as_bytes();
     assert_eq!(rt; replay(alloc, &mut input, Full, TOKEN), Exit::Failed);
     for token in ["", "seven77", "with a blank"] {
-        let mut input = ASK.as_bytes();
+        let mut input = CREATE.as_bytes();
         assert_eq!(rt;
             replay(alloc, &mut input, &mut Vec::new(alloc), token),
             Exit::Usage
