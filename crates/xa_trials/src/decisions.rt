@@ -1,30 +1,23 @@
 //! Rows of decisions: the response to a request, by active documents, a root and a source of attributes, at a moment.
 use crate::answer::Answer;
 use crate::documents::active;
-use crate::domains::{domain_named, put};
-use crate::field::{bytes_of, kept_text, number_of};
+use crate::field::{bytes_of, number_of};
 use crate::no_answer::NoAnswer;
+use crate::references::reference_of;
+use crate::source_rows::source_row;
 use std::alloc::Global;
-use xa_decide::View;
+use xa_decide::{SourceRow, View};
 use xa_link::Active;
-use xa_server::{Given, GivenDocument};
+use xa_policy::Reference;
 use xa_value::{Items, Moment};
 
-/// The active ones of the documents.
-fn all_active(alloc: Global, documents: &[GivenDocument]) -> Result<Items<Active>, NoAnswer> {
-    let mut all = Items::new(alloc);
-    for document in documents {
-        if document.active {
-            all.push(active(alloc, document.text.as_bytes())?)?;
-        }
-    }
-    Ok(all)
-}
-
-/// The view of what is given.
-fn view(alloc: Global, given: Given) -> Result<View, NoAnswer> {
-    let active = all_active(alloc, given.documents.as_slice())?;
-    Ok(View::new(alloc, active, given.root, given.source)?)
+/// What decides on a row's request, and when.
+#[derive(Drop)]
+struct Case {
+    active: Items<Active>,
+    root: Option<Reference>,
+    source: Items<SourceRow>,
+    moment: Moment,
 }
 
 /// The moment of this many seconds.
@@ -35,20 +28,40 @@ pub fn moment_of(seconds: &str) -> Result<Moment, NoAnswer> {
     }
 }
 
-/// What is given by the fields, and the moment, which is 0 where none says it.
-fn read(alloc: Global, fields: &[&str]) -> Result<(Given, Moment), NoAnswer> {
-    let mut given = domain_named(alloc, kept_text(alloc, "")?);
-    let mut moment = moment_of("0")?;
+impl Case {
+    /// A case in which nothing decides, at moment 0.
+    fn new(alloc: Global) -> Result<Case, NoAnswer> {
+        Ok(Case {
+            active: Items::new(alloc),
+            root: None,
+            source: Items::new(alloc),
+            moment: moment_of("0")?,
+        })
+    }
+
+    /// Takes in what the word and the text behind it describe.
+    fn take(&mut self, alloc: Global, word: &str, text: &str) -> Result<(), NoAnswer> {
+        match word {
+            "active" => self.active.push(active(alloc, &bytes_of(alloc, text)?)?)?,
+            "root" => self.root = Some(reference_of(alloc, text)?),
+            "row" => self.source.push(source_row(alloc, text)?)?,
+            "moment" => self.moment = moment_of(text)?,
+            _ => return Err(NoAnswer::Malformed),
+        }
+        Ok(())
+    }
+}
+
+/// The case of the fields.
+fn case_of(alloc: Global, fields: &[&str]) -> Result<Case, NoAnswer> {
+    let mut case = Case::new(alloc)?;
     for field in fields {
         let Some((word, text)) = field.split_once(':') else {
             return Err(NoAnswer::Malformed);
         };
-        match word {
-            "moment" => moment = moment_of(text)?,
-            _ => put(alloc, &mut given, word, text)?,
-        }
+        case.take(alloc, word, text)?;
     }
-    Ok((given, moment))
+    Ok(case)
 }
 
 /// The body of the response to the last field, the body of a request.
@@ -56,10 +69,11 @@ pub fn decision(answer: &mut Answer, fields: &[&str]) -> Result<(), NoAnswer> {
     let [fields @ .., body] = fields else {
         return Err(NoAnswer::Malformed);
     };
-    let (given, moment) = read(answer.alloc(), fields)?;
-    let view = view(answer.alloc(), given)?;
-    let body = bytes_of(answer.alloc(), body)?;
-    match xa_decide::answer(answer.alloc(), &view, &body, moment)? {
+    let alloc = answer.alloc();
+    let case = case_of(alloc, fields)?;
+    let view = View::new(alloc, case.active, case.root, case.source)?;
+    let body = bytes_of(alloc, body)?;
+    match xa_decide::answer(alloc, &view, &body, case.moment)? {
         Some(body) => answer.field("", &body),
         None => answer.word("!NotJson"),
     }

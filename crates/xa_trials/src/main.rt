@@ -8,7 +8,6 @@ mod bodies;
 mod combining;
 mod decisions;
 mod documents;
-mod domains;
 mod expressions;
 mod field;
 mod functions;
@@ -23,6 +22,9 @@ mod plain;
 mod references;
 mod requests;
 mod server;
+mod setup;
+mod setup_messages;
+mod source_rows;
 mod values;
 mod versions;
 

@@ -3,7 +3,10 @@ use crate::answer::Answer;
 use crate::field::bytes_of;
 use crate::no_answer::NoAnswer;
 use std::alloc::Global;
-use xa_http::{Message, Next, Route, RouteFault, Routes, Session};
+use xa_http::{
+    DocumentCommand, DocumentParts, DomainCommand, Message, Next, OperatorCommand, Route,
+    RouteFault, Routes, Session,
+};
 use xa_notation::is_token;
 use xa_records::{Digest, is_domain_name};
 use xa_value::{Items, OrMemory};
@@ -66,12 +69,67 @@ fn message_of(alloc: Global, method: &str, target: &str) -> Result<Message, NoAn
     })
 }
 
+fn operator_word(command: OperatorCommand) -> &'static str {
+    match command {
+        OperatorCommand::Create => "create:",
+        OperatorCommand::Remove => "remove:",
+        OperatorCommand::PutToken => "put:",
+        OperatorCommand::DropToken => "drop:",
+    }
+}
+
+fn domain_word(command: DomainCommand) -> &'static str {
+    match command {
+        DomainCommand::Decide => "decide:",
+        DomainCommand::Upload => "upload:",
+        DomainCommand::List => "list:",
+        DomainCommand::SetRoot => "root:",
+        DomainCommand::SetSource => "source:",
+        DomainCommand::Source => "rows:",
+    }
+}
+
+fn document_word(command: DocumentCommand) -> &'static str {
+    match command {
+        DocumentCommand::Show => "document:",
+        DocumentCommand::Delete => "delete:",
+        DocumentCommand::Activate => "activate:",
+        DocumentCommand::Deactivate => "deactivate:",
+    }
+}
+
+/// Adds the parts of a path that name a document.
+fn push_parts(answer: &mut Answer, parts: &DocumentParts) {
+    answer.field("", parts.kind.as_slice());
+    answer.field("", parts.id.as_slice());
+    answer.field("", parts.version.as_slice());
+}
+
+/// Adds what is asked for and the domain, and of a document the parts of its key.
+fn push_route(answer: &mut Answer, route: &Route) {
+    match route {
+        Route::Domains => answer.word("domains"),
+        Route::Operator { domain, command } => {
+            answer.field(operator_word(*command), domain.as_slice())
+        }
+        Route::Domain { domain, command } => answer.field(domain_word(*command), domain.as_slice()),
+        Route::Document {
+            domain,
+            parts,
+            command,
+        } => {
+            answer.field(document_word(*command), domain.as_slice());
+            push_parts(answer, parts);
+        }
+    }
+}
+
 /// What a message of that method and target asks for.
 pub fn route(answer: &mut Answer, method: &str, target: &str) -> Result<(), NoAnswer> {
     let message = message_of(answer.alloc(), method, target)?;
     let routes = Routes::new(answer.alloc())?;
     match routes.route(answer.alloc(), &message) {
-        Ok(Route::Decide { domain }) => answer.field("decide:", domain.as_slice()),
+        Ok(route) => push_route(answer, &route),
         Err(OrMemory::Error(RouteFault::BadMethod(_))) => answer.word("!BadMethod"),
         Err(OrMemory::Error(fault)) => answer.name("!", &fault),
         Err(OrMemory::Memory) => answer.cut(),

@@ -1,13 +1,13 @@
-//! Rows of messages: what a given server answers to a stream. After the domains stand `moment:SECONDS`, which dates what follows,
-//! `piece:BYTES`, the next piece of the stream, and `close`, after which the stream is another.
+//! Rows of messages: what a server answers to a stream. After the fields that make its domains stand events: `moment:SECONDS`, which dates what
+//! follows, `piece:BYTES`, the next piece of the stream, and `close:`, after which the stream is another.
 use crate::answer::Answer;
 use crate::decisions::moment_of;
-use crate::domains::domains;
 use crate::field::bytes_of;
 use crate::no_answer::NoAnswer;
+use crate::setup::{NoServer, server_of};
 use std::alloc::Global;
 use xa_http::{Message, Next, Session};
-use xa_records::Digest;
+use xa_records::PlainRecords;
 use xa_server::{Reply, Server, fault_reply};
 use xa_value::Moment;
 
@@ -15,7 +15,7 @@ use xa_value::Moment;
 #[derive(Drop)]
 struct Trial {
     alloc: Global,
-    server: Server,
+    server: Server<PlainRecords>,
     session: Session,
     moment: Moment,
 }
@@ -70,7 +70,7 @@ impl Trial {
         push_end(answer, next, replies.is_empty())
     }
 
-    /// Does what the field says, where it says what happens.
+    /// Lets happen what the field says.
     fn step(&mut self, answer: &mut Answer, field: &str) -> Result<(), NoAnswer> {
         let Some((word, text)) = field.split_once(':') else {
             return Err(NoAnswer::Malformed);
@@ -79,7 +79,7 @@ impl Trial {
             "piece" => self.piece(answer, text)?,
             "moment" => self.moment = moment_of(text)?,
             "close" => self.session = Session::new(self.alloc),
-            _ => {}
+            _ => return Err(NoAnswer::Malformed),
         }
         Ok(())
     }
@@ -90,7 +90,7 @@ fn push_end(answer: &mut Answer, next: Next, is_first: bool) -> Result<(), NoAns
     match next {
         Next::Fault(fault) => {
             let bytes = fault_reply(answer.alloc(), fault)?;
-            answer.field("", &bytes);
+            answer.field("", bytes.as_slice());
             answer.word("!Ended");
         }
         Next::Ended => answer.word("!Ended"),
@@ -100,18 +100,39 @@ fn push_end(answer: &mut Answer, next: Next, is_first: bool) -> Result<(), NoAns
     Ok(())
 }
 
-/// What the server over the fields' domains answers to the stream of their pieces.
+/// Whether the field says what happens.
+fn is_event(field: &str) -> bool {
+    field.starts_with("piece:") || field.starts_with("moment:") || field.starts_with("close:")
+}
+
+/// How many fields stand before the first event.
+fn fields_before_events(fields: &[&str]) -> usize {
+    fields
+        .iter()
+        .position(|field| is_event(field))
+        .unwrap_or(fields.len())
+}
+
+/// What the server with the domains of the first fields answers to the events of the others; where there is none, the reply that says why.
 pub fn server(answer: &mut Answer, fields: &[&str]) -> Result<(), NoAnswer> {
-    let alloc = answer.alloc();
-    let operator = Digest::of("operator-token-1".as_bytes());
-    let given = Server::given(alloc, domains(alloc, fields)?, operator);
-    match answer.success(given) {
-        Some(server) => stream(answer, server, fields),
-        None => Ok(()),
+    let count = fields_before_events(fields);
+    let domains = fields.get(..count).unwrap_or(&[]);
+    let events = fields.get(count..).unwrap_or(&[]);
+    match server_of(answer.alloc(), domains) {
+        Ok(server) => stream(answer, server, events),
+        Err(NoServer::Reply(reply)) => {
+            answer.field("", reply.bytes());
+            Ok(())
+        }
+        Err(NoServer::NoAnswer(error)) => Err(error),
     }
 }
 
-fn stream(answer: &mut Answer, server: Server, fields: &[&str]) -> Result<(), NoAnswer> {
+fn stream(
+    answer: &mut Answer,
+    server: Server<PlainRecords>,
+    events: &[&str],
+) -> Result<(), NoAnswer> {
     let alloc = answer.alloc();
     let mut trial = Trial {
         alloc,
@@ -119,8 +140,8 @@ fn stream(answer: &mut Answer, server: Server, fields: &[&str]) -> Result<(), No
         session: Session::new(alloc),
         moment: moment_of("0")?,
     };
-    for field in fields {
-        trial.step(answer, field)?;
+    for event in events {
+        trial.step(answer, event)?;
     }
     Ok(())
 }
