@@ -14,6 +14,7 @@ from answers import answer
 from bodies import Bodies
 from breaking import Breaking
 from combining import ALGORITHMS, DECISIONS
+from commands import Commands
 from exchanges import Exchanges
 from functions import BAG_FUNCTIONS, DURATIONS, FUNCTIONS, HIGHER_ORDER, V1, V3
 from keeping import Keeping
@@ -42,7 +43,7 @@ class Rows:
         self.kinds = list(kinds or SHARES)
         documents, decisions = Breaking(self), Decisions(self)
         self.makers = {"values": self.of_values, "expressions": self.of_expressions, "requests": Bodies(self).next, "documents": documents.next,
-                       "links": Links(self).next, "decisions": decisions.next, "servers": Exchanges(decisions, documents).next,
+                       "links": Links(self).next, "decisions": decisions.next, "servers": Exchanges(Commands(decisions, documents)).next,
                        "bodies": SmallBodies(self).next, "records": Keeping(self).next}
 
     def sound(self, data_type, name=""):

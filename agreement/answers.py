@@ -2,6 +2,7 @@
 import hashlib
 
 import combining
+import decisions
 import documents
 import linking
 import messages
@@ -9,6 +10,7 @@ import questions
 import records
 import requests
 import route_bodies
+import routes
 import servers
 import versions
 from contexts import moment_as
@@ -146,10 +148,7 @@ def token(text=""):
 
 
 def domain(text=""):
-    held = decoded(text)
-    letters = b"abcdefghijklmnopqrstuvwxyz0123456789"
-    sound = 1 <= len(held) <= 32 and held[0] in letters and all(byte in letters + b"-" for byte in held)
-    return ["true" if sound else "false"]
+    return ["true" if routes.is_domain_name(decoded(text)) else "false"]
 
 
 def number(most, text=""):
@@ -188,10 +187,10 @@ KINDS = {
     "apply": apply, "higher": higher, "token": token, "domain": domain, "number": number,
     "evaluate": questions.evaluate, "target": questions.target,
     "months": months, "nanoseconds": nanoseconds, "held": held, "keys": keys, "bag": bag, "digest": digest,
-    "server": servers.server, "stream": messages.stream, "route": messages.route, "combine": combining.combine,
+    "server": servers.server, "stream": messages.stream, "route": routes.route, "combine": combining.combine,
     "version": versions.version, "pattern": versions.pattern, "matches": versions.matches, "versions": versions.versions,
     "resolve": versions.resolve, "document": documents.document,
-    "link": linking.link, "decide": servers.decide, "request": requests.request, "individuals": requests.individuals,
+    "link": linking.link, "decide": decisions.decide, "request": requests.request, "individuals": requests.individuals,
     "new_token": route_bodies.new_token, "old_token": route_bodies.old_token, "root": route_bodies.root, "rows": route_bodies.rows,
     "keeper": records.keeper,
 }

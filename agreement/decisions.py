@@ -1,12 +1,16 @@
 """Decisions on a request: its individual requests, each by the tree of the root (XACML 3.0, core, section 7.17; Multiple Decision Profile)."""
 import collections
 
-from contexts import Context
+from contexts import Context, SourceRow
+from documents import DocumentFault
 from identifiers import STATUS
-from linking import TooLarge, linked
+from json_texts import NotJson
+from linking import TooLarge, active_of, linked
 from policies import PROCESSING_ERROR, tree_value, without_duties
 from requests import NotProfile, individuals_of, request_of
 from responses import body, result
+from rows import decoded, encoded, text_of, value_of
+from versions import reference_of
 
 SYNTAX_ERROR = STATUS + "syntax-error"
 View = collections.namedtuple("View", "active root source")
@@ -46,3 +50,37 @@ def results(view, held, moment):
 def response(view, held, moment):
     """The text of the response."""
     return body(results(view, held, moment))
+
+
+def row_of(field):
+    """The source row of a field `CATEGORY|ENTITY|ID|TYPE=TEXT`."""
+    place, held = field.split("=", 1)
+    category, entity, attribute_id, data_type = place.split("|")
+    return SourceRow(text_of(category), text_of(entity), text_of(attribute_id), value_of(f"{data_type}:{held}"))
+
+
+def given(fields):
+    """What decides, and the moment, by fields `active:TEXT`, `root:REFERENCE`, `row:..` and `moment:SECONDS`."""
+    view, moment = View([], None, []), 0
+    for field in fields:
+        word, text = field.split(":", 1)
+        if word == "active":
+            view.active.append(active_of(text))
+        elif word == "root":
+            view = view._replace(root=reference_of(text))
+        elif word == "row":
+            view.source.append(row_of(text))
+        elif word == "moment":
+            moment = int(text)
+    return view, moment
+
+
+def decide(*fields):
+    """The answer to a row: the response to the bytes of the last field, by what the others give."""
+    try:
+        view, moment = given(fields[:-1])
+        return [encoded(response(view, decoded(fields[-1]), moment))]
+    except NotJson:
+        return ["!NotJson"]
+    except DocumentFault:
+        return ["!Malformed"]

@@ -15,10 +15,15 @@ class TooLarge(Exception):
     """The tree has too many policies and sets."""
 
 
+def active_in(held):
+    """The active document that the bytes are."""
+    document = document_of(held)
+    return Active("policy" if document.form == "Policy" else "set", document.id, numbered(document.version), document)
+
+
 def active_of(field):
     """The active document of a field."""
-    document = document_of(decoded(field))
-    return Active("policy" if document.form == "Policy" else "set", document.id, numbered(document.version), document)
+    return active_in(decoded(field))
 
 
 class Linking:

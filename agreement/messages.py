@@ -1,17 +1,14 @@
-"""Messages of a stream (RFC 9112): their heads, lengths and ends, the routes of their paths, the tokens that they show, and replies.
+"""Messages of a stream (RFC 9112): their heads, lengths and ends, and the tokens that they show.
 
 A stream's bytes are looked at from their front: a message, more wanted, or a fault, after which nothing is taken.
 """
-from urllib.parse import unquote_to_bytes
+import collections
 
 from rows import decoded, encoded
 
 MAX_HEAD, MAX_FIELDS, MAX_BODY = 16_384, 64, 262_144
 TOKEN_BYTES = set(b"!#$%&'*+-.^_`|~0123456789abcdefghijklmnopqrstuvwxyzABCDEFGHIJKLMNOPQRSTUVWXYZ")
-FAULTS = {
-    "BadHead": "400 Bad Request", "BodyTooLarge": "413 Payload Too Large", "HeadTooLarge": "431 Request Header Fields Too Large",
-    "TransferCoding": "501 Not Implemented",
-}
+Message = collections.namedtuple("Message", "method target fields body")
 
 
 class More(Exception):
@@ -149,36 +146,7 @@ class Stream:
             self.has_ended = False
             return "More"
         body, self.held = self.held[head.at:end], self.held[end:]
-        return method, target, fields, body
-
-
-def reply(status, media, body, extra=""):
-    held = body.encode()
-    return f"HTTP/1.1 {status}\r\nContent-Type: application/{media}\r\nContent-Length: {len(held)}\r\n{extra}\r\n".encode() + held
-
-
-def error_answer(status, code, extra=""):
-    return reply(status, "json", f'{{"Error":"{code}"}}', extra)
-
-
-def domain_asked(target):
-    """The domain part of the path, decoded, or None."""
-    try:
-        target = target.decode().split("?")[0]
-    except UnicodeDecodeError:
-        return None
-    if target.startswith("http://"):
-        at = target.find("/", 7)
-        target = target[at:] if at >= 0 else ""
-    parts = target.split("/")
-    served = len(parts) == 4 and parts[:2] == ["", "domains"] and parts[2] and parts[3] == "pdp"
-    return unquote_to_bytes(parts[2]) if served else None
-
-
-def takes_body(fields):
-    """Whether the fields say nothing of the body's media type, or that it is JSON."""
-    media = [value.split(b";")[0].strip(b" \t").lower() for value in values_of(b"content-type", fields)]
-    return not media or len(media) == 1 and media[0] in (b"application/json", b"application/xacml+json")
+        return Message(method, target, fields, body)
 
 
 def token_shown(fields):
@@ -190,20 +158,14 @@ def token_shown(fields):
 
 
 def stream(*pieces):
-    """The messages of a stream, and what it answers after each piece."""
+    """The answer to a row: the messages of a stream, and what it answers after each piece."""
     held, shown = Stream(), []
     for text in pieces:
         held.held += decoded(text)
-        while isinstance(found := held.next(), tuple):
-            method, target, fields, body = found
-            shown += ["method:" + encoded(method), "target:" + encoded(target)]
-            for name, value in fields:
+        while isinstance(found := held.next(), Message):
+            shown += ["method:" + encoded(found.method), "target:" + encoded(found.target)]
+            for name, value in found.fields:
                 shown += ["name:" + encoded(name), "value:" + encoded(value)]
-            shown += ["body:" + encoded(body)] + ["close"] * held.has_ended
+            shown += ["body:" + encoded(found.body)] + ["close"] * held.has_ended
         shown.append(found if found == "More" else f"!{found}")
     return shown
-
-
-def route(method, target):
-    name = domain_asked(decoded(target))
-    return ["!NoRoute"] if name is None else ["decide:" + encoded(name)] if decoded(method) == b"POST" else ["!BadMethod"]

@@ -5,9 +5,9 @@ with each change of what decides: of its documents, of which of them are active,
 """
 from documents import DocumentFault
 from linking import active_of
-from route_bodies import reference_shown, root_of, rows_of, rows_shown
+from route_bodies import reference_shown, rows_of, rows_shown
+from routes import is_domain_name
 from rows import decoded, encoded, text_of
-from servers import is_domain_name
 from versions import NoVersion, numbers, reference_of
 
 MOST_TOKENS, MOST_DOCUMENTS, MOST_ROWS = 32, 256, 1024
@@ -90,7 +90,7 @@ def set_root(domain, text):
 
 
 def set_source(domain, text):
-    rows = rows_of(text)
+    rows = rows_of(decoded(text))
     unless(len(rows) > MOST_ROWS, "Quota")
     domain.source = rows
 
@@ -140,7 +140,7 @@ class Keeper:
         self.domains, self.next = {}, 1
 
     def create(self, name):
-        if not is_domain_name(name):
+        if not is_domain_name(name.encode()):
             raise Malformed
         unless(name in self.domains, "Exists")
         self.domains[name] = Domain(self.next)

@@ -1,57 +1,74 @@
-"""What the program pdpd writes to a transcript, and the status with which it ends: its one domain, its connections, its entries."""
+"""What the program pdpd writes to a transcript, and the status with which it ends: its entries, their connections, and the domains that messages make."""
+import collections
 import re
 
-from decisions import View
-from linking import active_of
-from messages import FAULTS, Fault, Stream, error_answer
-from servers import answered
-from versions import reference_of
+from machines import Server
+from messages import Fault, Message, Stream
+from replies import error_reply
+from servers import OPERATOR_TOKEN
 
-POLICY = ('{"Policy":{"PolicyId":"urn:p","Version":"1.0","RuleCombiningAlgId":"urn:oasis:names:tc:xacml:3.0:rule-combining-algorithm:deny-overrides",'
-          '"Rule":[{"RuleId":"r","Effect":"Permit"}]}}')
-DOMAINS = {"acme": ({b"acme-token-1"}, View([active_of(POLICY)], reference_of("policy|urn:p|||"), []))}
 LAST_CONNECTION, MOST_BYTES, MOST_IN_A_LINE = 63, 1_048_576, 64
 FIRST_MOMENT, LAST_MOMENT = -62_135_596_800, 253_402_300_799
 DONE, MALFORMED = 0, 3
+# an entry; and what it brings: a message or a fault, with the message's bytes and whether the stream has ended with it
+Entry = collections.namedtuple("Entry", "connection moment held")
+Event = collections.namedtuple("Event", "connection moment found held is_last")
+
+
+class Malformed(Exception):
+    """The transcript doesn't go on with a whole entry."""
 
 
 def entry_at(held, at):
-    """The connection, the moment and the bytes of the entry that begins there, and where it ends; None where there is no whole one."""
+    """The entry that begins there, and where it ends."""
     end = held.find(b"\n", at, at + MOST_IN_A_LINE + 1)
     found = re.fullmatch(rb"([0-9]+) (-?[0-9]+) ([0-9]+)", held[at:end]) if end >= 0 else None
     if found is None:
-        return None
+        raise Malformed
     connection, moment, count = map(int, found.groups())
     behind = end + 1 + count
     if connection > LAST_CONNECTION or count > MOST_BYTES or not FIRST_MOMENT <= moment <= LAST_MOMENT or held[behind:behind + 1] != b"\n":
-        return None
-    return connection, moment, held[end + 1:behind], behind + 1
+        raise Malformed
+    return Entry(connection, moment, held[end + 1:behind]), behind + 1
 
 
-def replies(stream, moment):
-    """The replies to what the stream now holds whole, and to its fault."""
-    made = []
-    while isinstance(found := stream.next(), tuple):
-        made.append(answered(DOMAINS, found, moment))
-    if isinstance(found, Fault):
-        made.append(error_answer(FAULTS[str(found)], str(found)))
-    return made
+class Connections:
+    """The streams of the connections that are open."""
+
+    def __init__(self):
+        self.streams = {}
+
+    def events(self, entry):
+        """What the entry brings, in order."""
+        connection, moment, held = entry
+        if not held:
+            self.streams.pop(connection, None)
+            return
+        stream = self.streams.setdefault(connection, Stream())
+        if stream.has_ended:
+            return
+        stream.held += held
+        before = stream.held
+        while isinstance(found := stream.next(), (Message, Fault)):
+            yield Event(connection, moment, found, before[:len(before) - len(stream.held)], stream.has_ended)
+            before = stream.held
+
+
+def events(held):
+    """What all entries of a transcript bring, in order; it is malformed behind them, or done."""
+    at, connections = 0, Connections()
+    while at < len(held):
+        entry, at = entry_at(held, at)
+        yield from connections.events(entry)
 
 
 def replay(held):
     """The bytes that are written, and the status."""
-    at, streams, written = 0, {}, b""
-    while at < len(held):
-        entry = entry_at(held, at)
-        if entry is None:
-            return written, MALFORMED
-        connection, moment, taken, at = entry
-        if not taken:
-            streams.pop(connection, None)
-            continue
-        stream = streams.setdefault(connection, Stream())
-        if not stream.has_ended:
-            stream.held += taken
-            for reply in replies(stream, moment):
-                written += b"%d %d\n%b\n" % (connection, len(reply), reply)
-    return written, DONE
+    server, written = Server(OPERATOR_TOKEN), []
+    try:
+        for event in events(held):
+            reply = server.answer(event.found, event.moment) if isinstance(event.found, Message) else error_reply(str(event.found))
+            written.append(b"%d %d\n%b\n" % (event.connection, len(reply), reply))
+    except Malformed:
+        return b"".join(written), MALFORMED
+    return b"".join(written), DONE

@@ -2,12 +2,11 @@
 
 Their shape is checked by tables of members, as that of documents is (agreement/documents.py).
 """
-import json
-
 from contexts import SourceRow
 from documents import DocumentFault, among, array, category, kept, members, reference, text, typed_value
 from identifiers import NAMESPACE
 from json_texts import NotJson, json_of
+from replies import compact
 from responses import plain
 from rows import decoded, encoded
 
@@ -15,10 +14,10 @@ ROLES = {"ask": "Ask", "admin": "Admin"}
 ROOTS = {"PolicyIdReference": "policy", "PolicySetIdReference": "set"}
 
 
-def json_in(field):
-    """The JSON that the body of a field is."""
+def json_in(held):
+    """The JSON that the body is."""
     try:
-        return json_of(decoded(field))
+        return json_of(held)
     except NotJson:
         raise DocumentFault("NotJson") from None
 
@@ -32,19 +31,19 @@ def token(value):
     return kept(is_token(text(value).encode()), value)
 
 
-def new_token_of(field):
+def new_token_of(held):
     """The role and the token of a body."""
-    found = members("NewToken", json_in(field))
+    found = members("NewToken", json_in(held))
     return among(ROLES)(found["Role"]), token(found["Token"])
 
 
-def old_token_of(field):
-    return token(members("OldToken", json_in(field))["Token"])
+def old_token_of(held):
+    return token(members("OldToken", json_in(held))["Token"])
 
 
-def root_of(field):
+def root_of(held):
     """The reference of a body, or None."""
-    found = json_in(field)
+    found = json_in(held)
     kept(isinstance(found, dict), found)
     kept(set(found) <= set(ROOTS) and len(found) <= 1, found, "UnknownMember")
     for name, inner in found.items():
@@ -57,9 +56,9 @@ def source_row(value):
     return SourceRow(category(found["Category"]), text(found["Entity"]), text(found["AttributeId"]), typed_value(found))
 
 
-def rows_of(field):
+def rows_of(held):
     """The rows of a body, in order."""
-    return [source_row(item) for item in array(members("Source", json_in(field))["Row"])]
+    return [source_row(item) for item in array(members("Source", json_in(held))["Row"])]
 
 
 def row_shown(row):
@@ -67,8 +66,8 @@ def row_shown(row):
 
 
 def rows_shown(found):
-    """The body that lists the rows: compact, with the members in the order of their names."""
-    return json.dumps({"Row": [row_shown(row) for row in found]}, ensure_ascii=False, sort_keys=True, separators=(",", ":"))
+    """The body that lists the rows."""
+    return compact({"Row": [row_shown(row) for row in found]})
 
 
 def reference_shown(reference):
@@ -81,7 +80,7 @@ def read_as(reads, shows):
     """Answers a row by the fields that show what is read of its body, or by its first fault."""
     def answer(field=""):
         try:
-            return shows(reads(field))
+            return shows(reads(decoded(field)))
         except DocumentFault as fault:
             return ["!" + str(fault)]
     return answer

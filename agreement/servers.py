@@ -1,93 +1,127 @@
-"""What a given server answers to the messages of a stream: domains with tokens, documents, a root and a source of attributes."""
-from contexts import SourceRow
-from decisions import View, response
-from documents import DocumentFault
-from json_texts import NotJson
-from linking import active_of
-from messages import FAULTS, Fault, Stream, domain_asked, error_answer, reply, takes_body, token_shown
-from rows import decoded, encoded, text_of, value_of
-from versions import reference_of
+"""What a server answers to the messages of a stream, after messages that make its domains, with tokens, documents, a root and a source of attributes."""
+import re
+from urllib.parse import quote
+
+from documents import document_of
+from machines import Server
+from messages import Fault, Message, Stream
+from replies import error_reply
+from rows import decoded, encoded
+
+OPERATOR_TOKEN, SETUP_TOKEN = b"operator-token-1", b"setup-token-0"
+SETUP = ("domain", "ask", "admin", "document", "inactive", "root", "row")
+ROOTS = {"policy": "PolicyIdReference", "set": "PolicySetIdReference"}
 
 
-class GivenFault(Exception):
-    """Why there is no such server."""
+class TurnedAway(Exception):
+    """The reply to a message of the setup that isn't a success."""
 
 
-class Given:
-    """What a domain, or a decision, is given, a field after the other."""
-
-    def __init__(self, name=""):
-        self.name, self.tokens, self.documents, self.root, self.source = name, set(), [], None, []
-
-    def put(self, word, text):
-        if word in ("ask", "admin"):
-            self.tokens.add(decoded(text))
-        elif word in ("active", "document", "inactive"):
-            self.documents.append((word != "inactive", text))
-        elif word == "root":
-            self.root = reference_of(text)
-        elif word == "row":
-            place, held = text.split("=", 1)
-            category, entity, attribute_id, data_type = place.split("|")
-            self.source.append(SourceRow(text_of(category), text_of(entity), text_of(attribute_id), value_of(f"{data_type}:{held}")))
-
-    def view(self):
-        """What decides, where each document that is active reads."""
-        return View([active_of(text) for is_active, text in self.documents if is_active], self.root, self.source)
-
-    def check(self):
-        """That all documents read, and that no two are of one kind, id and version."""
-        keys = []
-        for _, text in self.documents:
-            try:
-                keys.append(active_of(text)[:3])
-            except DocumentFault as fault:
-                raise GivenFault(f"Document({fault})") from None
-        if any(key in keys[:place] for place, key in enumerate(keys)):
-            raise GivenFault("Twice")
+def quoted(held):
+    """The JSON of the text that the bytes are, or nearly, where they are none."""
+    return b'"' + re.sub(rb'["\\\x00-\x1f]', lambda found: b"\\u%04x" % found.group()[0], held) + b'"'
 
 
-def is_domain_name(text):
-    letters = "abcdefghijklmnopqrstuvwxyz0123456789"
-    return 1 <= len(text) <= 32 and text[0] in letters and all(letter in letters + "-" for letter in text)
+def json_object(members):
+    return b"{" + b",".join(b'"%b":%b' % (name.encode(), held) for name, held in members) + b"}"
 
 
-def domains_of(fields):
-    """The domains of a row, by their names, each with its tokens and what decides in it."""
-    given = []
+def path(*parts):
+    """The path of the parts, each percent-encoded."""
+    return "".join("/" + quote(part, safe="") for part in parts).encode()
+
+
+def new_token(role, token):
+    return json_object([("Role", quoted(role.encode())), ("Token", quoted(token))])
+
+
+def old_token(token):
+    return json_object([("Token", quoted(token))])
+
+
+def root(field):
+    """The body that sets the root to the reference of a field."""
+    kind, name, pattern, earliest, latest = field.split("|")
+    bounds = [("Version", pattern), ("EarliestVersion", earliest), ("LatestVersion", latest)]
+    members = [("Id", quoted(decoded(name)))] + [(it, quoted(decoded(held))) for it, held in bounds if held]
+    return json_object([(ROOTS[kind], json_object(members))])
+
+
+def row(field):
+    """A source row in JSON of a field `CATEGORY|ENTITY|ID|TYPE=TEXT`."""
+    place, held = field.split("=", 1)
+    names = ("Category", "Entity", "AttributeId", "DataType")
+    return json_object([(name, quoted(decoded(part))) for name, part in zip((*names, "Value"), (*place.split("|"), held))])
+
+
+def rows(fields):
+    return json_object([("Row", b"[" + b",".join(map(row, fields)) + b"]")])
+
+
+class Setup:
+    """The messages that make domains, one after another."""
+
+    def __init__(self, server):
+        self.server, self.name, self.rows = server, None, []
+
+    def send(self, method, target, body, token=OPERATOR_TOKEN):
+        reply = self.server.answer(Message(method, target, [(b"Authorization", b"Bearer " + token)], body), 0)
+        if not re.match(rb"HTTP/1.1 20[01] ", reply):
+            raise TurnedAway(reply)
+
+    def by_operator(self, method, body, *parts):
+        self.send(method, path("operator", "domains", self.name, *parts), body)
+
+    def by_domain(self, method, body, *parts):
+        self.send(method, path("domains", self.name, *parts), body, SETUP_TOKEN)
+
+    def domain(self, text):
+        self.end()
+        self.name = decoded(text)
+        self.by_operator(b"PUT", b"")
+        self.admin(SETUP_TOKEN.decode())
+
+    def ask(self, text):
+        self.by_operator(b"POST", new_token("ask", decoded(text)), "tokens")
+
+    def admin(self, text):
+        self.by_operator(b"POST", new_token("admin", decoded(text)), "tokens")
+
+    def inactive(self, text):
+        self.by_domain(b"POST", decoded(text), "pap", "policies")
+
+    def document(self, text):
+        self.inactive(text)
+        document = document_of(decoded(text))
+        kind = "policy" if document.form == "Policy" else "policyset"
+        self.by_domain(b"PUT", b"", "pap", kind, document.id, ".".join(document.version), "active")
+
+    def root(self, text):
+        self.by_domain(b"PUT", root(text), "pap", "root")
+
+    def row(self, text):
+        self.rows.append(text)
+
+    def end(self):
+        """The end of a domain: its rows are put together, and the setup's token is taken away."""
+        if self.rows:
+            self.by_domain(b"PUT", rows(self.rows), "pip")
+        if self.name is not None:
+            self.by_operator(b"DELETE", old_token(SETUP_TOKEN), "tokens")
+        self.name, self.rows = None, []
+
+
+def set_up(fields):
+    """The server that the fields before the first event make."""
+    server = Server(OPERATOR_TOKEN)
+    setup = Setup(server)
     for field in fields:
         word, _, text = field.partition(":")
-        if word == "domain":
-            given.append(Given(text_of(text)))
-        elif given:
-            given[-1].put(word, text)
-    names = [domain.name for domain in given]
-    if not all(is_domain_name(name) for name in names):
-        raise GivenFault("BadDomain")
-    if len(set(names)) < len(names):
-        raise GivenFault("Twice")
-    for domain in given:
-        domain.check()
-    return {domain.name: (domain.tokens, domain.view()) for domain in given}
-
-
-def answered(domains, message, moment):
-    """The reply to the message."""
-    method, target, fields, body = message
-    name = domain_asked(target)
-    if name is None:
-        return error_answer("404 Not Found", "NoRoute")
-    if method != b"POST":
-        return error_answer("405 Method Not Allowed", "BadMethod", "Allow: POST\r\n")
-    if not takes_body(fields):
-        return error_answer("415 Unsupported Media Type", "BadMediaType")
-    tokens, view = domains.get(name.decode(errors="replace"), ((), None))
-    if token_shown(fields) not in tokens:
-        return error_answer("401 Unauthorized", "Unauthorized", "WWW-Authenticate: Bearer\r\n")
-    try:
-        return reply("200 OK", "xacml+json", response(view, body, moment))
-    except NotJson:
-        return error_answer("400 Bad Request", "NotJson")
+        if word not in SETUP:
+            break
+        getattr(setup, word)(text)
+    setup.end()
+    return server
 
 
 def in_runs(replies):
@@ -101,15 +135,15 @@ def in_runs(replies):
     return fields
 
 
-def piece(stream, domains, moment, held):
+def piece(stream, server, moment, held):
     """What is answered after a piece."""
     stream.held += held
     replies = []
-    while isinstance(found := stream.next(), tuple):
-        replies.append(answered(domains, found, moment))
+    while isinstance(found := stream.next(), Message):
+        replies.append(server.answer(found, moment))
     fields = in_runs(replies)
     if isinstance(found, Fault):
-        fields.append(encoded(error_answer(FAULTS[str(found)], str(found))))
+        fields.append(encoded(error_reply(str(found))))
     if found != "More":
         fields.append("!Ended")
     return fields or ["More"]
@@ -118,31 +152,16 @@ def piece(stream, domains, moment, held):
 def server(*fields):
     """The answer to a row."""
     try:
-        domains = domains_of(fields)
-    except GivenFault as fault:
-        return [f"!{fault}"]
+        made = set_up(fields)
+    except TurnedAway as reply:
+        return [encoded(reply.args[0])]
     stream, moment, shown = Stream(), 0, []
     for field in fields:
         word, _, text = field.partition(":")
         if word == "piece":
-            shown += piece(stream, domains, moment, decoded(text))
+            shown += piece(stream, made, moment, decoded(text))
         elif word == "close":
             stream = Stream()
         elif word == "moment":
             moment = int(text)
     return shown
-
-
-def decide(*fields):
-    """The answer to a row of a decision."""
-    given, moment = Given(), 0
-    for field in fields[:-1]:
-        word, text = field.split(":", 1)
-        given.put(word, text)
-        moment = int(text) if word == "moment" else moment
-    try:
-        return [encoded(response(given.view(), decoded(fields[-1]), moment))]
-    except NotJson:
-        return ["!NotJson"]
-    except DocumentFault:
-        return ["!Malformed"]
