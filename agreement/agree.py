@@ -1,4 +1,4 @@
-"""Makes random rows, and compares the answers of the program xa_trials with those of the model beside this file.
+"""Makes random rows, and compares the answers of the program xa_trials with those of the model in model/.
 
 usage: agree.py rows FOLDER SEED COUNT [KIND..]      writes the rows, in some files
        agree.py compare FILE SEED COUNT [KIND..]     compares the program's answers, read from FILE, with the model's
@@ -10,6 +10,7 @@ import pathlib
 import re
 import sys
 
+import folders  # noqa: F401
 from answers import answer
 from bodies import Bodies
 from breaking import Breaking

@@ -11,6 +11,7 @@ import pathlib
 import re
 import sys
 
+import folders  # noqa: F401
 from agree import Rows
 from alone import alone, owners, replies_of, told
 from breaking import Breaking

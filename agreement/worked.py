@@ -4,6 +4,7 @@ usage: worked.py
 """
 import sys
 
+import folders  # noqa: F401
 from machines import Server
 from messages import Stream
 from replies import error_reply, reply

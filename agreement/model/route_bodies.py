@@ -1,6 +1,6 @@
 """The bodies of routes in JSON: a token with its role, a token alone, a root, and the rows of a source of attributes.
 
-Their shape is checked by tables of members, as that of documents is (agreement/documents.py).
+Their shape is checked by tables of members, as that of documents is (documents.py).
 """
 from contexts import SourceRow
 from documents import DocumentFault, among, array, category, kept, members, reference, text, typed_value

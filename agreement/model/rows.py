@@ -12,7 +12,7 @@ import re
 from identifiers import category
 from values import read, to_text
 
-TOP = pathlib.Path(__file__).resolve().parents[1]
+TOP = pathlib.Path(__file__).resolve().parents[2]
 
 TOKEN = re.compile(rb"\\u\{([0-9a-fA-F]+)\}|\\x([0-9a-fA-F]{2})|\\\{([0-9]+),|\\(.)|([^\\]+)", re.DOTALL)
 LETTERS = {b"n": b"\n", b"r": b"\r", b"t": b"\t"}
