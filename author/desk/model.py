@@ -1,0 +1,23 @@
+"""The model in Python (agreement/model), as far as the desk uses it: its modules, under their own names."""
+import pathlib
+import sys
+
+TOP = pathlib.Path(__file__).resolve().parents[2]
+sys.path.insert(1, str(TOP / "agreement" / "model"))
+
+import combining  # noqa: E402, F401
+import contexts  # noqa: E402, F401
+import decisions  # noqa: E402, F401
+import documents  # noqa: E402, F401
+import expressions  # noqa: E402, F401
+import functions  # noqa: E402, F401
+import identifiers  # noqa: E402, F401
+import json_texts  # noqa: E402, F401
+import linking  # noqa: E402, F401
+import policies  # noqa: E402, F401
+import requests  # noqa: E402, F401
+import responses  # noqa: E402, F401
+import route_bodies  # noqa: E402, F401
+import rows  # noqa: E402, F401
+import values  # noqa: E402, F401
+import versions  # noqa: E402, F401

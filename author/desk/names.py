@@ -1,0 +1,126 @@
+"""Names: which ones there are, the nearest to one that is none, and how a name is said to people."""
+from __future__ import annotations
+
+import difflib
+from collections.abc import Iterable
+
+from .model import documents, functions, identifiers, values
+
+LEAST_LIKENESS = 0.6
+VERSIONS = ("1.0", "2.0", "3.0")
+# functions that the standard has and this server hasn't
+LEFT_OUT = {
+    "regexp-match": "regular expressions are left out", "equal-ignore-case": "letter case is never ignored",
+    "normalize-to-lower-case": "letter case is never ignored", "double": "floating numbers are left out", "x500Name": "names of directories are left out",
+    "rfc822Name": "mail addresses are left out", "ipAddress": "network addresses are left out", "dnsName": "network addresses are left out",
+    "xpath": "XPath is left out", "any-of-all": "any-of-all is left out", "anyURI-substring": "anyURI-substring is left out",
+    "access-permitted": "access-permitted is left out",
+}
+LEFT_OUT_TYPES = ("double", "x500Name", "rfc822Name", "ipAddress", "dnsName", "xpathExpression")
+
+
+def function_names() -> list[str]:
+    """The URIs of all functions."""
+    found = [*functions.FUNCTIONS, *functions.HIGHER_ORDER]
+    for data_type in values.TYPES:
+        for beginning in (functions.V1, functions.V3) if data_type in functions.DURATIONS else (functions.V1,):
+            found += [f"{beginning}{data_type}-{verb}" for verb in functions.BAG_FUNCTIONS]
+    return found
+
+
+def short(name: str) -> str:
+    """What people call it: the part behind the last colon or the last number sign."""
+    return name.rsplit("#", 1)[-1] if name.startswith(identifiers.NAMESPACE) else name.rsplit(":", 1)[-1] or name
+
+
+def likeness(name: str, other: str) -> float:
+    return difflib.SequenceMatcher(None, name.lower(), other.lower()).ratio()
+
+
+def nearest(name: str, known: Iterable[str]) -> str:
+    """The known name that is most like it; the empty text where none is."""
+    found = max(((likeness(name, other), other) for other in known), default=(0, ""), key=lambda pair: pair[0])
+    return found[1] if found[0] >= LEAST_LIKENESS else ""
+
+
+def nearest_by_end(name: str, known: Iterable[str]) -> str:
+    """The known URI whose last part is most like the last part of the name, and of such the one that is most like it as a whole."""
+    end = short(name)
+    best = nearest(end, sorted({short(other) for other in known}))
+    alike = [other for other in known if short(other) == best]
+    return max(alike, key=lambda other: likeness(name, other)) if best and alike else ""
+
+
+def function_left_out(name: str) -> str:
+    """Why the server hasn't the function, where the standard has it."""
+    return next((why for part, why in LEFT_OUT.items() if part in short(name)), "")
+
+
+def unknown_function(name: str, known: Iterable[str] | None = None) -> tuple[str, str]:
+    """A sentence on a function's name that is none, and the nearest name."""
+    known = list(known or function_names())
+    same = [other for other in known if short(other) == short(name)]
+    if same:
+        return f'"{short(name)}" is there, but under another beginning: write {same[0]}.', same[0]
+    left_out = function_left_out(name)
+    if left_out:
+        return f'This server has no function "{short(name)}": {left_out}.', ""
+    found = nearest_by_end(name, known)
+    return (f'There is no function "{short(name)}". Did you mean "{short(found)}"?', found) if found else (f'There is no function "{name}".', "")
+
+
+def unknown_type(name: str) -> tuple[str, str]:
+    """A sentence on a data type that is none, and the nearest name."""
+    if short(name) in LEFT_OUT_TYPES:
+        return f'This server has no data type "{short(name)}".', ""
+    found = nearest(short(name), values.TYPES)
+    ask = f' Did you mean "{found}"?' if found else ""
+    return f'There is no data type "{name}".{ask}', found
+
+
+def unknown_algorithm(name: str, known: dict[str, str], of_others: dict[str, str], what: str) -> tuple[str, str]:
+    """A sentence on a combining algorithm that is none here, and the nearest name."""
+    if name in of_others:
+        found = next((uri for uri, its in known.items() if its == of_others[name]), "")
+        sentence = f"This algorithm doesn't combine {what}: " + (f"write {found}." if found else f"no algorithm of {what} does what it does.")
+        return sentence, found
+    found = nearest_by_end(name, known)
+    same = f' "{short(found)}" is there under this name: {found}.' if found and short(found) == short(name) else ""
+    ask = same or (f' Did you mean "{short(found)}"?' if found else "")
+    return f"This names no algorithm that combines {what}.{ask}", found
+
+
+def member_nearest(name: str, table: list[str]) -> str:
+    return nearest(name, table)
+
+
+def category_nearest(name: str) -> str:
+    """The shorthand of a category that is nearest to the name, or the known URI."""
+    return nearest(name, identifiers.SHORTHANDS) or ("" if ":" not in name else nearest(name, identifiers.SHORTHANDS.values())) or containing(name)
+
+
+def containing(name: str) -> str:
+    """The first shorthand in which the name stands, where it is a word that could be meant."""
+    word = name.lower()
+    return next((known for known in identifiers.SHORTHANDS if len(word) >= 4 and word in known.lower()), "")
+
+
+def is_known_category(name: str) -> bool:
+    return name in identifiers.SHORTHANDS or name in identifiers.SHORTHANDS.values()
+
+
+def category_shown(uri: str) -> str:
+    """The shorthand of a category that has one, else its URI."""
+    return next((name for name, its in identifiers.SHORTHANDS.items() if its == uri), uri)
+
+
+def kind_shown(kind: str) -> str:
+    """`a bag of string`, `a string`, `an integer`."""
+    if kind.startswith("bag "):
+        return "a bag of " + kind.removeprefix("bag ")
+    return ("an " if kind[0] in "aeiou" else "a ") + kind
+
+
+def table_of(name: str) -> list[str]:
+    """The members of an object, `?` behind those that may be left out."""
+    return documents.TABLES[name].split()
