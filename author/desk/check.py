@@ -116,11 +116,15 @@ class Rows:
     code: str | None
 
 
-def checked_rows(path: str, held: bytes) -> Rows:
-    """The source rows in the bytes of a file."""
-    source, remarks = Source(path, held), Remarks()
-    node = json_of(source, remarks)
+def rows_in(node: Node | None, source: Source, remarks: Remarks, held: bytes) -> Rows:
+    """The source rows that the value is, which stands in the source as these bytes."""
     found = RowShapes(remarks).rows(node) if node is not None else []
     code = marked(remarks.faults())
     agreed(source, code, model_code(route_bodies.rows_of, held))
     return Rows(source, [row for row in found if row is not None], remarks, code)
+
+
+def checked_rows(path: str, held: bytes) -> Rows:
+    """The source rows in the bytes of a file."""
+    source, remarks = Source(path, held), Remarks()
+    return rows_in(json_of(source, remarks), source, remarks, held)

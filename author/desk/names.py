@@ -7,7 +7,7 @@ from collections.abc import Iterable
 from .model import documents, functions, identifiers, values
 
 LEAST_LIKENESS = 0.6
-VERSIONS = ("1.0", "2.0", "3.0")
+STANDARD = "urn:oasis:names:tc:xacml:1.0:"
 # functions that the standard has and this server hasn't
 LEFT_OUT = {
     "regexp-match": "regular expressions are left out", "equal-ignore-case": "letter case is never ignored",
@@ -90,10 +90,6 @@ def unknown_algorithm(name: str, known: dict[str, str], of_others: dict[str, str
     return f"This names no algorithm that combines {what}.{ask}", found
 
 
-def member_nearest(name: str, table: list[str]) -> str:
-    return nearest(name, table)
-
-
 def category_nearest(name: str) -> str:
     """The shorthand of a category that is nearest to the name, or the known URI."""
     return nearest(name, identifiers.SHORTHANDS) or ("" if ":" not in name else nearest(name, identifiers.SHORTHANDS.values())) or containing(name)
@@ -112,6 +108,11 @@ def is_known_category(name: str) -> bool:
 def category_shown(uri: str) -> str:
     """The shorthand of a category that has one, else its URI."""
     return next((name for name, its in identifiers.SHORTHANDS.items() if its == uri), uri)
+
+
+def attribute_shown(name: str) -> str:
+    """An attribute's id, without the beginning that all ids of the standard have."""
+    return name.rsplit(":", 1)[1] if name.startswith(STANDARD) and name.count(":") == STANDARD.count(":") + 1 else name
 
 
 def kind_shown(kind: str) -> str:

@@ -93,7 +93,7 @@ class Shapes:
 
     def unknown_member(self, label: str, name: str, member: Member, known: list[str], found: dict[str, Node]) -> None:
         """Remarks a member that the table hasn't; it stands for the one that was meant, where that one isn't there."""
-        meant = names.member_nearest(name, known)
+        meant = names.nearest(name, known)
         ask = f' Did you mean "{meant}"?' if meant else ""
         if meant and meant in found:
             ask = f' "{meant}" is there already.'

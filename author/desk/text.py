@@ -2,6 +2,7 @@
 from __future__ import annotations
 
 import os
+import re
 import sys
 import textwrap
 
@@ -37,6 +38,18 @@ def cut(text: str, room: int) -> str:
     return text if len(text) <= room else text[:max(room - 3, 1)] + "..."
 
 
+def broken(text: str, room: int) -> list[str]:
+    """The text in pieces that fit the room, parted before slashes, or wherever it must be."""
+    pieces = [""]
+    for part in re.findall(r"/?[^/]*", text):
+        while len(part) > room:
+            pieces, part = [*pieces, part[:room]], part[room:]
+        if len(pieces[-1]) + len(part) > room:
+            pieces.append("")
+        pieces[-1] += part
+    return [piece for piece in pieces if piece]
+
+
 def labelled(label: str, text: str) -> str:
     """A line `label  text` of a remark."""
     return wrapped(text, f"    {label:9} ", " " * 14)
@@ -49,7 +62,9 @@ def remark_shown(remark: Remark) -> str:
     lines = [f"{painted(place, 'bold')}: {head}", wrapped(remark.sentence, "    ")]
     for label, text in (("at", remark.pointer or "(the whole document)"), ("text", remark.text), ("expected", remark.expected), ("found", remark.found),
                         ("nearest", remark.nearest)):
-        if text:
+        if text and label == "at":
+            lines.append(("\n" + " " * 14).join([f"    {label:9} " + (parts := broken(text, WIDTH - 14))[0], *parts[1:]]))
+        elif text:
             lines.append(labelled(label, text))
     if remark.is_first:
         lines.append(labelled("server", f"answers this fault: {remark.code}"))

@@ -1,0 +1,271 @@
+"""The command `policy`: its words, and what each of them writes."""
+from __future__ import annotations
+
+import argparse
+import json
+import sys
+
+from . import asking, ask, cases, diff, explained, files, laid_out, lints, program, setting, text, together
+from .check import Checked, Disagreement, Rows
+from .faults import Remark, Remarks
+from .model import rows as model_rows
+
+FINE, FAULTS, USAGE, DISAGREE = 0, 1, 2, 3
+ONLY_MODEL = "There is no proved program: only the model in Python spoke. `author/policy build` proves and builds the program."
+
+
+def chosen_program(named: str) -> program.Program | None:
+    """The program that is asked; what isn't sure about it is said, and loudly where there is none."""
+    found = program.found(named)
+    if found is None:
+        text.loud(ONLY_MODEL)
+    elif found.warning:
+        text.warn(found.warning)
+    return found
+
+
+def all_agree(pairs: list[tuple[str, str, str]]) -> bool:
+    """Whether model and program say the same; else each difference is said loudly. A pair is a name and what each of them says."""
+    for name, by_model, by_program in pairs:
+        if by_model != by_program:
+            text.loud(f"MODEL AND PROGRAM DISAGREE on {name}. The model: {by_model[:400]} The program: {by_program[:400]} One of them is wrong: please report this with the files.")
+    return all(by_model == by_program for _, by_model, by_program in pairs)
+
+
+def print_remarks(found: list[Remark]) -> None:
+    for remark in sorted(found, key=lambda remark: (remark.source.path, remark.start)):
+        print(text.remark_shown(remark) + "\n")
+
+
+# check
+
+
+def check_pairs(documents: list[Checked], rows: Rows | None, found: program.Program | None) -> list[tuple[str, str, str]]:
+    """What the model and the program say of each file."""
+    if found is None:
+        return []
+    asked = [["document", model_rows.encoded(one.source.held)] for one in documents]
+    wanted = [(one.source.path, f"!{one.code}" if one.code else "taken") for one in documents]
+    if rows is not None:
+        asked.append(["rows", model_rows.encoded(rows.source.held)])
+        wanted.append((rows.source.path, f"!{rows.code}" if rows.code else "taken"))
+    return [(name, by_model, fields[0] if fields[0].startswith("!") else "taken") for (name, by_model), fields in zip(wanted, found.answers(asked))]
+
+
+def checked_together(options: argparse.Namespace) -> tuple[list[Checked], Rows | None]:
+    """The documents and the rows, with the remarks of all checks."""
+    documents, rows = files.documents(options.files), files.rows(options.rows)
+    together.Together(documents).check()
+    off = set(options.off)
+    unknown = off - set(lints.NAMES) - {"leads-nowhere", "circle", "way-too-long", "tree-too-large", "same-key"}
+    if unknown:
+        raise setting.Usage(f"no lint is called {text.listed(sorted(unknown))}; `policy lints` lists them")
+    lints.Lints(documents, rows, off).run()
+    if options.root is not None and all(one.is_sound for one in documents):
+        setting.check_root(setting.Setting(documents, setting.root_of(options.root, documents), None), documents[0].remarks)
+    return documents, rows
+
+
+def check(options: argparse.Namespace) -> int:
+    documents, rows = checked_together(options)
+    found = chosen_program(options.program)
+    pairs = check_pairs(documents, rows, found)
+    every = [remark for one in documents for remark in one.remarks.found] + (rows.remarks.found if rows else [])
+    if options.json:
+        print(json.dumps([remark.as_json() for remark in every], indent=2))
+    else:
+        print_remarks(every)
+        print_summary(documents, rows, every, found)
+    if not all_agree(pairs):
+        return DISAGREE
+    return FAULTS if any(remark.level == "fault" or options.strict and remark.level == "warning" for remark in every) else FINE
+
+
+def print_summary(documents: list[Checked], rows: Rows | None, every: list[Remark], found: program.Program | None) -> None:
+    for one in documents:
+        named = f"{setting.KIND_NAMES[one.document.kind]} {one.document.name} {one.document.version or '?'}" if one.document else "no document"
+        verdict = text.painted("taken", "green") if one.is_sound else text.painted(f"refused, {one.code}", "red")
+        print(text.wrapped(f"{one.source.path}: {named}", "", "    ") + f": {verdict}")
+    if rows is not None:
+        print(f"{rows.source.path}: {text.counted(len(rows.rows), 'row')}: " + (f"refused, {rows.code}" if rows.code else "taken"))
+    counts = [text.counted(sum(remark.level == level for remark in every), level) for level in ("fault", "warning", "note")]
+    print(", ".join(counts) + ("; the proved program says the same." if found and not found.warning else "." if found is None else "; the program says the same."))
+
+
+# ask and explain
+
+
+def setting_of(options: argparse.Namespace, paths: list[str]) -> setting.Setting | None:
+    """What decides; None where a file has faults, which are said."""
+    documents, rows = files.documents(paths), files.rows(options.rows)
+    faults = [remark for one in documents for remark in one.remarks.faults()] + (rows.remarks.faults() if rows else [])
+    if not faults:
+        keys = together.Together(documents)
+        keys.doubles()
+        faults = [remark for one in documents for remark in one.remarks.faults()]
+    if faults:
+        print_remarks(faults)
+        print(f"Nothing is decided: {text.counted(len(faults), 'fault')}.")
+        return None
+    return setting.Setting(documents, setting.root_of(options.root, documents), rows)
+
+
+def remarks_on_root(held: setting.Setting) -> Remarks:
+    remarks = Remarks()
+    setting.check_root(held, remarks)
+    if held.rows is not None:
+        lints.Lints([], held.rows, {"shorthand"}).run()
+        remarks.found += held.rows.remarks.found
+    return remarks
+
+
+def decided(options: argparse.Namespace) -> int:
+    """Answers `ask` and `explain`."""
+    moment = setting.moment_of(options.at)
+    held = setting_of(options, options.policy)
+    if held is None:
+        return FAULTS
+    body = sys.stdin.buffer.read() if options.request == "-" else files.held(options.request)
+    asked = asking.checked_request(options.request, body)
+    found = chosen_program(options.program)
+    answer = ask.answered(held, [(body, moment)], found)[0]
+    shown = ask.explanation(held, body, moment)
+    remarks = remarks_on_root(held).found + asked.remarks.found
+    if options.is_explained:
+        print_explained(options, answer, shown, moment, remarks)
+    else:
+        print_asked(options, answer, moment, remarks)
+    pairs = [("the response", answer.by_model, answer.by_program)] if answer.by_program is not None else []
+    if not all_agree(pairs) or not explanation_agrees(answer, shown):
+        return DISAGREE
+    return FAULTS if any(remark.level == "fault" for remark in remarks) else FINE
+
+
+def explanation_agrees(answer: ask.Answer, shown: list[dict]) -> bool:
+    if not ask.is_explained(answer.results(), shown):
+        text.loud(f"THE EXPLANATION AND THE RESPONSE DISAGREE. The response: {answer.body[:400]}")
+        return False
+    return True
+
+
+def print_asked(options: argparse.Namespace, answer: ask.Answer, moment: int, remarks: list[Remark]) -> None:
+    if options.raw:
+        print(answer.body)
+        return
+    print_remarks(remarks)
+    if answer.is_refused:
+        print(f'400 Bad Request: {{"Error":"{answer.body[1:]}"}}')
+        return
+    print(laid_out.shown(answer.results()))
+    print(f"\nat {setting.moment_shown(moment)}, by " + ("the model alone" if answer.by_program is None else "model and program") + "; the server writes:")
+    print(answer.body)
+
+
+def print_explained(options: argparse.Namespace, answer: ask.Answer, shown: list[dict], moment: int, remarks: list[Remark]) -> None:
+    if options.json:
+        held = {"at": setting.moment_shown(moment), "by": "model" if answer.by_program is None else "model and program", "remarks": [remark.as_json() for remark in remarks],
+                "response": None if answer.is_refused else json.loads(answer.body), "results": shown}
+        print(json.dumps(held, indent=2, ensure_ascii=False))
+        return
+    print_remarks(remarks)
+    if answer.is_refused:
+        print(f'400 Bad Request: {{"Error":"{answer.body[1:]}"}}')
+    elif not shown:
+        print(laid_out.shown(answer.results()))
+        print("    because: the request as a whole isn't decided: it is no request of the profile, asks for a combined decision, or for more than 64")
+    else:
+        print(explained.shown(shown))
+        print(f"\nat {setting.moment_shown(moment)}, by " + ("the model alone" if answer.by_program is None else "model and program"))
+
+
+# The command's words.
+
+
+def add_question(parser: argparse.ArgumentParser) -> None:
+    parser.add_argument("--policy", nargs="+", required=True, metavar="FILE", help="policy documents, all active; a folder stands for its documents")
+    parser.add_argument("--root", metavar="ID", help="the id of the document where a decision begins; may be left out where there is one document")
+    parser.add_argument("--rows", metavar="ROWS", help='source rows, {"Row":[..]}')
+    parser.add_argument("--request", required=True, metavar="REQUEST", help='the request, {"Request":{..}}; - for standard input')
+    parser.add_argument("--at", metavar="TIME", help="a dateTime, as 2026-11-23T10:00:00Z, or seconds since 1970; now where it is left out")
+
+
+def parser() -> argparse.ArgumentParser:
+    whole = argparse.ArgumentParser(prog="policy", description="A policy author's desk: what is wrong with a policy, what it decides, and why.",
+                                    epilog="Exit status: 0 fine, 1 faults or failed cases, 2 usage, 3 model and program disagree.")
+    words = whole.add_subparsers(dest="word", required=True, metavar="WORD")
+    both = argparse.ArgumentParser(add_help=False)
+    both.add_argument("--program", default="", metavar="PATH", help="the program that is asked: a path, `try` for the unproved one by `rt try`, `none` for the model alone")
+
+    one = words.add_parser("check", parents=[both], help="names all faults of documents, with their places")
+    one.add_argument("files", nargs="+", metavar="FILE", help="policy documents, which are active together; a folder stands for its documents")
+    one.add_argument("--rows", metavar="ROWS", help='source rows, {"Row":[..]}, checked too')
+    one.add_argument("--root", metavar="ID", help="the id of the document where decisions begin")
+    one.add_argument("--off", action="append", default=[], metavar="LINT", help="switches a lint off (see `policy lints`)")
+    one.add_argument("--strict", action="store_true", help="ends with status 1 for warnings too")
+    one.add_argument("--json", action="store_true", help="writes the remarks as JSON")
+    one.set_defaults(run=check)
+
+    one = words.add_parser("ask", parents=[both], help="decides on a request")
+    add_question(one)
+    one.add_argument("--raw", action="store_true", help="writes the body of the response alone")
+    one.set_defaults(run=decided, is_explained=False)
+
+    one = words.add_parser("explain", parents=[both], help="shows how a decision comes about")
+    add_question(one)
+    one.add_argument("--json", action="store_true", help="writes the explanation as JSON")
+    one.set_defaults(run=decided, is_explained=True)
+
+    one = words.add_parser("test", parents=[both], help="runs cases")
+    one.add_argument("files", nargs="+", metavar="FILE", help="files of cases")
+    one.add_argument("--junit", metavar="OUT", help="writes the results as JUnit XML too")
+    one.add_argument("--coverage", action="store_true", help="lists rules, targets and conditions that no case reached both ways")
+    one.set_defaults(run=cases_run)
+
+    one = words.add_parser("diff", parents=[both], help="shows requests whose answer changes from one set of documents to another")
+    one.add_argument("old", metavar="OLD", help="a document, or a folder of documents")
+    one.add_argument("new", metavar="NEW", help="a document, or a folder of documents")
+    one.add_argument("--requests", metavar="FILE", help="an array of requests, a request, or a file of cases")
+    one.add_argument("--random", type=int, default=0, metavar="N", help="makes N requests from the values that the policies name")
+    one.add_argument("--seed", type=int, default=1, help="another seed makes other requests")
+    one.add_argument("--root", metavar="ID", help="the id of the document where a decision begins")
+    one.add_argument("--rows", metavar="ROWS", help='source rows, {"Row":[..]}')
+    one.add_argument("--at", metavar="TIME", help="the time of requests that have none of their own")
+    one.add_argument("--strict", action="store_true", help="ends with status 1 where an answer changes")
+    one.set_defaults(run=diff_run)
+
+    one = words.add_parser("build", help="proves and builds the program, and keeps it for the other words")
+    one.set_defaults(run=lambda _: program.built())
+    one = words.add_parser("lints", help="lists the lints by their names")
+    one.set_defaults(run=lints_run)
+    return whole
+
+
+def lints_run(_: argparse.Namespace) -> int:
+    print("\n".join(lints.lint_lines()))
+    return FINE
+
+
+def cases_run(options: argparse.Namespace) -> int:
+    return cases.run(options.files, chosen_program(options.program), options.junit, options.coverage)
+
+
+def diff_run(options: argparse.Namespace) -> int:
+    old, new = setting_of(options, [options.old]), setting_of(options, [options.new])
+    if old is None or new is None:
+        return FAULTS
+    return diff.run(old, new, options, chosen_program(options.program))
+
+
+def main(words: list[str] | None = None) -> int:
+    """Runs the command; its exit status."""
+    options = parser().parse_args(words)
+    try:
+        return options.run(options)
+    except setting.Usage as fault:
+        print(f"policy: {fault}", file=sys.stderr)
+        return USAGE
+    except (Disagreement, program.ProgramFailed) as fault:
+        text.loud(str(fault))
+        return DISAGREE
+    except BrokenPipeError:
+        return FINE

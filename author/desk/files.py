@@ -1,0 +1,51 @@
+"""Files that the desk reads: documents, also by the folder, rows, requests."""
+from __future__ import annotations
+
+import pathlib
+
+from .check import Checked, Rows, checked, checked_rows
+from .positions import Source, read
+from .setting import Usage
+
+
+def held(path: str | pathlib.Path) -> bytes:
+    """The bytes of a file."""
+    try:
+        return pathlib.Path(path).read_bytes()
+    except OSError as fault:
+        raise Usage(f"{path} can't be read: {fault.strerror}") from None
+
+
+def shown(path: pathlib.Path) -> str:
+    """The path as people write it from here."""
+    try:
+        return str(path.resolve().relative_to(pathlib.Path.cwd()))
+    except ValueError:
+        return str(path)
+
+
+def is_document(path: pathlib.Path) -> bool:
+    """Whether a file of a folder is meant as a policy document: its one member is Policy or PolicySet, or it has an id of one."""
+    text = held(path)
+    node, slips = read(Source(str(path), text))
+    if node is None or slips:
+        return b'"PolicyId"' in text or b'"PolicySetId"' in text
+    return bool({"Policy", "PolicySet", "PolicyId", "PolicySetId"} & set(node.last())) and node.at("Case") is None
+
+
+def documents(paths: list[str]) -> list[Checked]:
+    """The documents of the files, and of the folders' files that are documents."""
+    files: list[pathlib.Path] = []
+    for path in map(pathlib.Path, paths):
+        if path.is_dir():
+            found = [file for file in sorted(path.glob("*.json")) if is_document(file)]
+            if not found:
+                raise Usage(f"{path} holds no policy documents (*.json)")
+            files += found
+        else:
+            files.append(path)
+    return [checked(shown(file), held(file)) for file in dict.fromkeys(files)]
+
+
+def rows(path: str | None) -> Rows | None:
+    return None if path is None else checked_rows(shown(pathlib.Path(path)), held(path))

@@ -1,0 +1,42 @@
+"""A response laid out for people."""
+from __future__ import annotations
+
+from . import names
+from .text import decided, painted, wrapped
+
+
+def value_shown(value: object) -> str:
+    if isinstance(value, list):
+        return "[" + ", ".join(map(value_shown, value)) + "]"
+    return f'"{value}"' if isinstance(value, str) else str(value).lower()
+
+
+def attribute_line(held: dict) -> str:
+    """`urn:example:who = "alice" (string)`."""
+    issuer = f" by {held['Issuer']}" if "Issuer" in held else ""
+    category = f"{names.category_shown(held['Category'])} " if "Category" in held else ""
+    return wrapped(f"{category}{held['AttributeId']}{issuer} = {value_shown(held['Value'])} ({names.short(held['DataType'])})", "      ", "          ")
+
+
+def duties_lines(word: str, duties: list[dict]) -> list[str]:
+    lines = []
+    for duty in duties:
+        lines.append(f"    {word} {painted(duty['Id'], 'bold')}")
+        lines += [attribute_line(one) for one in duty.get("AttributeAssignment", [])]
+    return lines
+
+
+def result_shown(result: dict) -> str:
+    status = names.short(result["Status"]["StatusCode"]["Value"])
+    lines = [decided(result["Decision"]) + (f"  status {status}" if status != "ok" else "")]
+    lines += duties_lines("obligation", result.get("Obligations", [])) + duties_lines("advice", result.get("AssociatedAdvice", []))
+    for category in result.get("Category", []):
+        lines.append(f"    of {names.category_shown(category['CategoryId'])}")
+        lines += [attribute_line(one) for one in category["Attribute"]]
+    return "\n".join(lines)
+
+
+def shown(results: list[dict]) -> str:
+    if len(results) == 1:
+        return result_shown(results[0])
+    return "\n".join(f"{number}. {result_shown(result)}" for number, result in enumerate(results, 1))
