@@ -67,9 +67,11 @@ class Asking:
         return [item for item in items if self.is_kind(item, "object", "an object, or an array of objects")]
 
     def request(self, node: Node) -> None:
-        if not self.is_kind(node, "object", 'an object with the member "Request"') or not self.needs("The body", node, "Request"):
+        if not self.is_kind(node, "object", 'an object with the member "Request"'):
             return
         self.ignored("The body", node, ["Request"])
+        if not self.needs("The body", node, "Request"):
+            return
         asked = node.at("Request")
         if not self.is_kind(asked, "object", "an object"):
             return

@@ -50,8 +50,8 @@ def empty_range(matches: list[Match]) -> tuple[Match, Match] | None:
     upper = [match for match in matches if verb(match) in BELOW]
     for low, high in itertools.product(lower, upper):
         left, right = values.key(low.literal.value), values.key(high.literal.value)
-        is_strict = "less-than" == verb(low) or "greater-than" == verb(high)
-        if left > right or left == right and is_strict:
+        strict = (verb(low) == "less-than") + (verb(high) == "greater-than")
+        if low.literal.data_type == "integer" and left + strict > right or left > right or left == right and strict:
             return low, high
     return None
 

@@ -126,6 +126,8 @@ class Reader:
         """Notes what stands here, where something else was expected, and ends the reading."""
         end = self.word_end() if end is None else end
         found = f'"{self.text[self.offset:end]}"' if end > self.offset else "the end of the file"
+        if end == self.offset:
+            advice = "The file ends too early: is a bracket or a brace not closed?"
         self.slip(self.offset, end, pointer, expected, found, advice)
         return Stop()
 
@@ -184,7 +186,7 @@ class Reader:
             if self.text.startswith(word, self.offset):
                 self.offset += len(word)
                 return Node(self.source, pointer, kind, self.offset - len(word), self.offset, held)
-        advice = {"'": "Texts stand in double quotes.", "": "The file ends too early: is a bracket or a brace not closed?"}
+        advice = {"'": "Texts stand in double quotes."}
         raise self.stop(pointer, "a JSON value", advice.get(letter, "A text stands in double quotes; true, false and null are written in small letters."))
 
     def nested(self, letter: str, pointer: str) -> Node:

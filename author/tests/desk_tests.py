@@ -117,6 +117,11 @@ class DeskTest(unittest.TestCase):
         shown = text.remark_shown(found[0])
         for word in words:
             self.assertIn(word, " ".join(shown.split()))
-        for line in shown.split("\n"):
-            self.assertTrue(len(line) <= 80 or len(line.split()) <= 2, f"too wide: {line}")
+        self.narrow(shown)
         return found[0]
+
+    def narrow(self, written: str) -> None:
+        """What is written for people fits 80 columns, but for words that are longer and a response as the server writes it."""
+        for line in written.split("\n"):
+            self.assertTrue(len(line) <= 80 or len(line.split()) <= 2 or line.startswith('{"Response"'), f"wider than 80 columns: {line}")
+        self.assertNotIn("\033", written, "no colours but on a terminal")
