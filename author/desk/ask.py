@@ -4,8 +4,7 @@ from __future__ import annotations
 import json
 from dataclasses import dataclass
 
-from .explain import explained
-from .model import decisions, json_texts, requests, rows
+from .model import decisions, json_texts, rows
 from .program import Program
 from .setting import Setting
 
@@ -55,20 +54,14 @@ def answered(setting: Setting, asked: list[tuple[bytes, int]], program: Program 
     return [Answer(model, rows.decoded(fields[0]).decode()) for model, fields in zip(models, written)]
 
 
-def explanation(setting: Setting, held: bytes, moment: int) -> list[dict]:
-    """How each result comes about; none where the request as a whole is refused or answered by one result."""
-    try:
-        return explained(setting, held, moment)
-    except (json_texts.NotJson, requests.NotProfile):
-        return []
-
-
 def plain_decision(result: dict) -> tuple[str, str]:
     """Decision and status of a result of an explanation, as a response has them."""
     return result["decision"].partition("{")[0], result["status"]
 
 
-def is_explained(results: list[dict], shown: list[dict]) -> bool:
-    """Whether an explanation comes to the decisions and statuses of the response."""
+def is_explained(results: list[dict], shown: list[dict] | None) -> bool:
+    """Whether an explanation comes to the decisions and statuses of the response; none belongs to a request that isn't decided at all."""
     given = [(result["Decision"], result["Status"]["StatusCode"]["Value"].rsplit(":", 1)[1]) for result in results]
-    return not shown or given == [plain_decision(result) for result in shown]
+    if shown is None:
+        return len(given) < 2 and all(one in (("Indeterminate", "syntax-error"), ("Indeterminate", "processing-error")) for one in given)
+    return given == [plain_decision(result) for result in shown]

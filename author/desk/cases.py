@@ -21,7 +21,7 @@ import pathlib
 import xml.etree.ElementTree as xml
 from dataclasses import dataclass, field
 
-from . import ask, coverage, files, names, setting, text, together
+from . import ask, coverage, explain, files, names, setting, text, together
 from .check import Rows, json_of, rows_in
 from .faults import Remarks
 from .positions import Node, Source
@@ -199,7 +199,7 @@ def shown(duties: list[dict]) -> str:
     return ", ".join(held) or "none"
 
 
-def outcome(case: Case, answer: ask.Answer, explained: list[dict]) -> Outcome:
+def outcome(case: Case, answer: ask.Answer, explained: list[dict] | None) -> Outcome:
     """Whether the answer is the expected one."""
     if answer.is_refused:
         return Outcome(case, [f"the request is refused: {answer.body[1:]}"])
@@ -220,9 +220,9 @@ def run_suite(suite: Suite, program: Program | None, reached: coverage.Coverage)
     answers = ask.answered(suite.setting, [(case.held, case.moment) for case in suite.cases], program)
     agree = True
     for case, answer in zip(suite.cases, answers):
-        explained = ask.explanation(suite.setting, case.held, case.moment)
+        explained = explain.explained(suite.setting, case.held, case.moment)
         suite.outcomes.append(outcome(case, answer, explained))
-        reached.add(explained)
+        reached.add(explained or [])
         if not answer.agrees or not ask.is_explained(answer.results(), explained):
             agree = False
             text.loud(f"MODEL AND PROGRAM DISAGREE on {suite.path}, {case.name}. The model: {answer.by_model[:400]} The program: {(answer.by_program or '')[:400]}")

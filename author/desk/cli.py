@@ -2,10 +2,11 @@
 from __future__ import annotations
 
 import argparse
+import contextlib
 import json
 import sys
 
-from . import asking, ask, cases, diff, explained, files, laid_out, lints, program, setting, text, together
+from . import ask, asking, cases, diff, explain, explained, files, laid_out, lints, program, setting, text, together
 from .check import Checked, Disagreement, Rows
 from .faults import Remark, Remarks
 from .model import rows as model_rows
@@ -14,9 +15,12 @@ FINE, FAULTS, USAGE, DISAGREE = 0, 1, 2, 3
 ONLY_MODEL = "There is no proved program: only the model in Python spoke. `author/policy build` proves and builds the program."
 
 
-def chosen_program(named: str) -> program.Program | None:
+def chosen_program(options: argparse.Namespace) -> program.Program | None:
     """The program that is asked; what isn't sure about it is said, and loudly where there is none."""
-    found = program.found(named)
+    if options.build and not options.program:
+        with contextlib.redirect_stdout(sys.stderr):
+            program.built()
+    found = program.found(options.program)
     if found is None:
         text.loud(ONLY_MODEL)
     elif found.warning:
@@ -68,7 +72,7 @@ def checked_together(options: argparse.Namespace) -> tuple[list[Checked], Rows |
 
 def check(options: argparse.Namespace) -> int:
     documents, rows = checked_together(options)
-    found = chosen_program(options.program)
+    found = chosen_program(options)
     pairs = check_pairs(documents, rows, found)
     every = [remark for one in documents for remark in one.remarks.found] + (rows.remarks.found if rows else [])
     if options.json:
@@ -127,9 +131,9 @@ def decided(options: argparse.Namespace) -> int:
         return FAULTS
     body = sys.stdin.buffer.read() if options.request == "-" else files.held(options.request)
     asked = asking.checked_request(options.request, body)
-    found = chosen_program(options.program)
+    found = chosen_program(options)
     answer = ask.answered(held, [(body, moment)], found)[0]
-    shown = ask.explanation(held, body, moment)
+    shown = explain.explained(held, body, moment)
     remarks = remarks_on_root(held).found + asked.remarks.found
     if options.is_explained:
         print_explained(options, answer, shown, moment, remarks)
@@ -141,7 +145,7 @@ def decided(options: argparse.Namespace) -> int:
     return FAULTS if any(remark.level == "fault" for remark in remarks) else FINE
 
 
-def explanation_agrees(answer: ask.Answer, shown: list[dict]) -> bool:
+def explanation_agrees(answer: ask.Answer, shown: list[dict] | None) -> bool:
     if not ask.is_explained(answer.results(), shown):
         text.loud(f"THE EXPLANATION AND THE RESPONSE DISAGREE. The response: {answer.body[:400]}")
         return False
@@ -161,7 +165,7 @@ def print_asked(options: argparse.Namespace, answer: ask.Answer, moment: int, re
     print(answer.body)
 
 
-def print_explained(options: argparse.Namespace, answer: ask.Answer, shown: list[dict], moment: int, remarks: list[Remark]) -> None:
+def print_explained(options: argparse.Namespace, answer: ask.Answer, shown: list[dict] | None, moment: int, remarks: list[Remark]) -> None:
     if options.json:
         held = {"at": setting.moment_shown(moment), "by": "model" if answer.by_program is None else "model and program", "remarks": [remark.as_json() for remark in remarks],
                 "response": None if answer.is_refused else json.loads(answer.body), "results": shown}
@@ -170,7 +174,7 @@ def print_explained(options: argparse.Namespace, answer: ask.Answer, shown: list
     print_remarks(remarks)
     if answer.is_refused:
         print(f'400 Bad Request: {{"Error":"{answer.body[1:]}"}}')
-    elif not shown:
+    elif shown is None:
         print(laid_out.shown(answer.results()))
         print("    because: the request as a whole isn't decided: it is no request of the profile, asks for a combined decision, or for more than 64")
     else:
@@ -195,6 +199,8 @@ def parser() -> argparse.ArgumentParser:
     words = whole.add_subparsers(dest="word", required=True, metavar="WORD")
     both = argparse.ArgumentParser(add_help=False)
     both.add_argument("--program", default="", metavar="PATH", help="the program that is asked: a path, `try` for the unproved one by `rt try`, `none` for the model alone")
+
+    both.add_argument("--build", action="store_true", help="proves and builds the program first, where it isn't built of these sources")
 
     one = words.add_parser("check", parents=[both], help="names all faults of documents, with their places")
     one.add_argument("files", nargs="+", metavar="FILE", help="policy documents, which are active together; a folder stands for its documents")
@@ -246,14 +252,14 @@ def lints_run(_: argparse.Namespace) -> int:
 
 
 def cases_run(options: argparse.Namespace) -> int:
-    return cases.run(options.files, chosen_program(options.program), options.junit, options.coverage)
+    return cases.run(options.files, chosen_program(options), options.junit, options.coverage)
 
 
 def diff_run(options: argparse.Namespace) -> int:
     old, new = setting_of(options, [options.old]), setting_of(options, [options.new])
     if old is None or new is None:
         return FAULTS
-    return diff.run(old, new, options, chosen_program(options.program))
+    return diff.run(old, new, options, chosen_program(options))
 
 
 def main(words: list[str] | None = None) -> int:

@@ -6,7 +6,7 @@ import json
 import pathlib
 from dataclasses import dataclass
 
-from . import ask, files, laid_out, made, names, setting, text
+from . import ask, explain, files, laid_out, made, names, setting, text
 from .check import json_of
 from .faults import Remarks
 from .positions import Node, Source
@@ -58,9 +58,9 @@ def told(held: bytes) -> str:
         return ""
 
 
-def because(explained: list[dict]) -> list[str]:
+def because(explained: list[dict] | None) -> list[str]:
     """Why each result is what it is, and by what it was settled down to the rule."""
-    return [" / ".join(chain(result["tree"])) if "tree" in result else result.get("because", "") for result in explained]
+    return [" / ".join(chain(result["tree"])) if "tree" in result else result.get("because", "") for result in explained or []]
 
 
 def chain(part: dict) -> list[str]:
@@ -89,7 +89,7 @@ def print_change(request: Request, old: setting.Setting, new: setting.Setting, b
         print(text.wrapped(words, "    asked   ", " " * 12))
     for label, answer, held in (("before", before, old), ("after", after, new)):
         print(text.wrapped(in_words(answer), f"    {label:7} ", " " * 12))
-        for reason in because(ask.explanation(held, request.held, request.moment))[:3]:
+        for reason in because(explain.explained(held, request.held, request.moment))[:3]:
             print(text.wrapped(reason, " " * 12, " " * 14))
     print()
 

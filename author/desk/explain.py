@@ -6,7 +6,7 @@ from __future__ import annotations
 
 from . import names
 from .elements import Document, Duty, Reference, Rule
-from .model import combining, expressions, linking, policies, requests, values, versions
+from .model import combining, expressions, json_texts, linking, policies, requests, values, versions
 from .setting import KIND_NAMES, Setting, no_document, reference_shown
 from .tracing import Origins, Tracing, fault_shown, target_traced, traced, value_shown
 
@@ -195,12 +195,18 @@ def because(algorithm: str, decision: str, settling: list[dict], children: list[
     return f"{algorithm} ({rule}): {found}"
 
 
-def individuals(held: bytes) -> list[tuple[list | None, str]]:
-    """The Category objects of each individual request, or None for one that refers to what isn't there, with what tells it from the others."""
-    (combined, _), found, named = requests.request_of(held)
+def individuals(held: bytes) -> list[tuple[list | None, str]] | None:
+    """The Category objects of each individual request, or None for one that refers to what isn't there, with what tells it from the others.
+
+    None where the request as a whole gets one result: it is none of the profile, asks for a combined decision, or for too many.
+    """
+    try:
+        (combined, _), found, named = requests.request_of(held)
+    except (json_texts.NotJson, requests.NotProfile):
+        return None
     places = requests.individuals_of(found, named)
     if combined or places is None:
-        return []
+        return None
     return [(None, "") if one is None else ([found[place] for place in one], told(found, one)) for one in places]
 
 
@@ -214,10 +220,12 @@ def told(found: list, places: list[int]) -> str:
     return ", ".join(shown)
 
 
-def explained(setting: Setting, held: bytes, moment: int) -> list[dict[str, object]]:
-    """To each individual request the tree, and how it comes to its decision."""
-    found, tree = [], setting.tree()
-    for objects, name in individuals(held):
+def explained(setting: Setting, held: bytes, moment: int) -> list[dict[str, object]] | None:
+    """To each individual request the tree, and how it comes to its decision; None where the request as a whole gets one result or none."""
+    asked, found, tree = individuals(held), [], setting.tree()
+    if asked is None:
+        return None
+    for objects, name in asked:
         result: dict[str, object] = {"individual": name} if name else {}
         if objects is None:
             result.update(decision="Indeterminate", status="syntax-error", because="a request reference names an Id that isn't there, or two categories alike")

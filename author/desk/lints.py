@@ -96,7 +96,7 @@ class Lints:
             found += [one.designator for one in (rule.condition.all() if rule.condition else []) if one.designator is not None]
             for designator in found:
                 if designator.must_be_present is False:
-                    remarks.warning("may-be-missing", designator.node.at("MustBePresent"), f'Where {attribute(designator)} is missing, the Deny rule "{rule.id}" is passed over in '
+                    remarks.warning("may-be-missing", designator.node.at("MustBePresent") or designator.node, f'Where {attribute(designator)} is missing, the Deny rule "{rule.id}" is passed over in '
                                     "silence. With MustBePresent true it is Indeterminate.", expected="true", found="false")
 
     def unused_variables(self, remarks: Remarks, held: Document) -> None:

@@ -15,6 +15,8 @@ CRATE = TOP / "crates" / "xa_trials"
 PLACES = (CRATE / "out" / "xa_trials", TOP / "build" / "xa_trials")
 ESCAPED = {"|": "\\x7c", "=": "\\x3d"}
 SECONDS = 600
+# `rt try` gives no more than 1 MiB of answers to a file
+ROWS_A_FILE = 250
 
 
 class ProgramFailed(Exception):
@@ -72,12 +74,13 @@ class Program:
         return ran.stdout.decode("latin-1")
 
     def tried(self, held: str) -> str:
-        """What `rt try` writes, which compiles the program without proving it."""
+        """What `rt try` writes, which compiles the program without proving it, and runs it for each file of rows."""
+        lines = held.splitlines(keepends=True)
         with tempfile.TemporaryDirectory() as folder:
-            pathlib.Path(folder, "rows").write_text(held, encoding="ascii")
-            ran = subprocess.run([*self.command, folder], cwd=CRATE, capture_output=True, timeout=SECONDS, check=False)
-        lines = ran.stdout.decode("latin-1").split("\n")
-        return "\n".join(line for line in lines if not line.startswith("== "))
+            for first in range(0, len(lines), ROWS_A_FILE):
+                pathlib.Path(folder, f"{first:09}").write_text("".join(lines[first:first + ROWS_A_FILE]), encoding="ascii")
+            ran = subprocess.run([*self.command, folder], cwd=CRATE, capture_output=True, check=False)
+        return "".join(line + "\n" for line in ran.stdout.decode("latin-1").split("\n")[:-1] if not line.startswith("== "))
 
 
 def found(named: str = "") -> Program | None:
@@ -104,21 +107,32 @@ def warning_of(path: pathlib.Path) -> str:
     return "" if is_of_these else f"{path.relative_to(TOP)} may be of older sources: `author/policy build` proves and builds it anew."
 
 
+def is_built() -> bool:
+    """Whether the program is there, built of the sources as they are now."""
+    return PLACES[0].is_file() and stamp_of(PLACES[0]).is_file() and not warning_of(PLACES[0])
+
+
 def built() -> int:
-    """Proves and builds the program, and runs it on its stored rows; the exit status."""
+    """Proves and builds the program where it isn't, and runs it on its stored rows; the exit status."""
+    name = PLACES[0].relative_to(TOP)
+    if is_built():
+        print(f"{name} is proved, and of these sources.")
+        return 0
     if shutil.which("rt") is None:
         print("The toolchain's command rt isn't on the path: see CONTRIBUTING.md.")
         return 1
-    print("Proving and building xa_trials; from nothing this takes long, after small changes a minute.")
+    print("Proving and building xa_trials; from nothing this takes long, after small changes a minute.", flush=True)
     with open(CRATE / "stdin", "rb") as stored:
         ran = subprocess.run(["rt", "run"], cwd=CRATE, stdin=stored, stdout=subprocess.PIPE, check=False)
     if ran.returncode != 0:
         print("It isn't proved: rt run says why.")
         return 1
-    is_as_stored = ran.stdout == (CRATE / "stdout").read_bytes()
+    if ran.stdout != (CRATE / "stdout").read_bytes():
+        print(f"{name} is proved, but answers its stored rows otherwise.")
+        return 1
     stamp_of(PLACES[0]).write_text(fingerprint() + "\n", encoding="ascii")
     PLACES[1].parent.mkdir(exist_ok=True)
     for path in (PLACES[0], stamp_of(PLACES[0])):
         shutil.copy2(path, PLACES[1].parent / path.name)
-    print(f"{PLACES[0].relative_to(TOP)} is proved" + (" and answers its stored rows." if is_as_stored else ", but answers its stored rows otherwise."))
-    return 0 if is_as_stored else 1
+    print(f"{name} is proved, and answers its stored rows.")
+    return 0

@@ -2,13 +2,18 @@
 from __future__ import annotations
 
 import json
+import os
 import pathlib
+import pty
 import resource
+import subprocess
 import time
 import unittest
 import xml.etree.ElementTree as xml
 
-from .desk_tests import POLICY, PROGRAM, REQUEST, ROWS, TOP, DeskTest, edited, executed, run
+from .desk_tests import POLICY, PROGRAM, REQUEST, ROWS, TOP, DeskTest, cli, edited, executed, run
+
+all_agree = cli.all_agree
 
 FILES = {"p.json": POLICY, "r.json": REQUEST, "rows.json": ROWS}
 ASK = ("--policy", "@p.json", "--request", "@r.json", "--at", "2026-11-23T10:00:00Z")
@@ -144,6 +149,31 @@ class Commands(DeskTest):
                 after = resource.getrusage(resource.RUSAGE_CHILDREN)
                 times.append(after.ru_utime + after.ru_stime - before.ru_utime - before.ru_stime)
             self.assertLess(min(times), 1)
+
+
+class Terminal(unittest.TestCase):
+    """Colours are for terminals."""
+
+    def on_terminal(self, **environment: str) -> str:
+        """What `check` writes to a terminal."""
+        mine, its = pty.openpty()
+        ran = subprocess.Popen([str(TOP / "author" / "policy"), "check", "--program", "none", "examples/ward/policy.json"], cwd=TOP, stdout=its, stderr=subprocess.DEVNULL,
+                               env={**os.environ, "TERM": "xterm", **environment})
+        os.close(its)
+        held = b""
+        try:
+            while piece := os.read(mine, 4096):
+                held += piece
+        except OSError:
+            pass
+        ran.wait()
+        os.close(mine)
+        return held.decode()
+
+    def test_colours(self) -> None:
+        self.assertIn("\033[32mtaken", self.on_terminal())
+        self.assertNotIn("\033", self.on_terminal(NO_COLOR="1"))
+        self.assertNotIn("\033", executed("check", "--program", "none", "examples/ward/policy.json").stdout)
 
 
 class Cases(DeskTest):

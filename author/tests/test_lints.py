@@ -2,9 +2,12 @@
 from __future__ import annotations
 
 import json
+import random
 import unittest
 
 from .desk_tests import POLICY, ROWS, DeskTest, check, checked, edited, lints, run, together
+
+from desk import contradictions  # noqa: E402
 
 DENY = "urn:oasis:names:tc:xacml:3.0:rule-combining-algorithm:deny-overrides"
 FIRST = "urn:oasis:names:tc:xacml:1.0:rule-combining-algorithm:first-applicable"
@@ -132,6 +135,22 @@ class Lints(DeskTest):
         self.assertEqual(status, 0)
         for name in lints.NAMES:
             self.assertIn(name, written)
+
+
+class Contradictions(unittest.TestCase):
+    """Comparisons of one integer contradict each other exactly where no integer passes them all."""
+
+    VERBS = ("equal", "less-than", "less-than-or-equal", "greater-than", "greater-than-or-equal")
+
+    def test_against_all_integers(self) -> None:
+        source, seen = random.Random(1), set()
+        for _ in range(1500):
+            held = policy([rule("r", "Permit", Target=target([[match(f"integer-{source.choice(self.VERBS)}", "integer", source.randrange(6)) for _ in range(source.choice([1, 2, 3]))]]))])
+            matches = list(check.checked("p.json", held.encode()).document.children[0].target.matches())
+            passes = any(all(contradictions.holds(one, ("integer", value)) for one in matches) for value in range(-2, 9))
+            self.assertEqual(contradictions.contradiction(matches) is None, passes, held)
+            seen.add(passes)
+        self.assertEqual(seen, {True, False})
 
 
 class Together(DeskTest):

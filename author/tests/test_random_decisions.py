@@ -7,7 +7,7 @@ from .desk_tests import PROGRAM, TOP, check  # noqa: F401
 from .test_random_documents import shares
 
 import agree  # noqa: E402
-from desk import ask, setting  # noqa: E402
+from desk import ask, explain, setting  # noqa: E402
 from desk.model import decisions, route_bodies, rows, versions  # noqa: E402
 
 COUNT, SHARE = 5000, 250
@@ -30,7 +30,7 @@ def share(seed: int, count: int = SHARE) -> list[tuple[list[str], list[str], str
         row = source.makers["decisions"]()
         held, body, moment = setting_of(row)
         answer = ask.answered(held, [(body, moment)], None)[0]
-        found.append((row, ask.row_of(held, body, moment), answer.body, ask.is_explained(answer.results(), ask.explanation(held, body, moment))))
+        found.append((row, ask.row_of(held, body, moment), answer.body, ask.is_explained(answer.results(), explain.explained(held, body, moment))))
     return found
 
 
