@@ -7,10 +7,10 @@ SHELL := bash
 NAME ?= $(word 2,$(MAKECMDGOALS))
 crate = $(or $(NAME),$(error make $@ NAME: the name of a crate is missing, one of $(notdir $(wildcard crates/*))))
 
-.PHONY: help run pdpd try check test edits fmt rows agreement bench
+.PHONY: help run pdpd try check test edits fmt rows agreement author-test bench
 
 help:
-	@awk -F ':.*## ' '/^[a-z]+:.*## / { printf "  make %-12s %s\n", $$1 ($$1 ~ /^(try|check|edits)$$/ ? " NAME" : ""), $$2 }' Makefile
+	@awk -F ':.*## ' '/^[a-z-]+:.*## / { printf "  make %-12s %s\n", $$1 ($$1 ~ /^(try|check|edits)$$/ ? " NAME" : ""), $$2 }' Makefile
 
 run: ## answers six stored messages, from a new domain to a decision; compiles without proving, in about a minute
 	@echo '# Compiled without proving, in about 40 s (rt try); `make test` proves it.'
@@ -52,6 +52,10 @@ rows: ## writes the stored input and output of xa_trials anew, from trials/*.row
 agreement: ## answers random rows and transcripts by xa_trials and pdpd and by a model in Python, and compares
 	agreement/run
 	agreement/replay
+
+author-test: ## tests the policy author's desk (author/policy); proves and builds the program of rows first, where it isn't built
+	author/policy build
+	author/test
 
 bench: pdpd ## proves and builds pdpd, and runs all benchmarks
 	bench/all
