@@ -25,9 +25,11 @@ class Asking:
         self.remarks, self.ids = remarks, {}
 
     def fault(self, node: Node, sentence: str, expected: str = "", found: str = "", nearest: str = "") -> None:
+        """Says that the server takes this for no request of the profile."""
         self.remarks.fault("NotProfile", node, sentence, expected=expected, found=found or kind_of(node), nearest=nearest)
 
     def is_kind(self, node: Node, kind: str, wanted: str) -> bool:
+        """Whether the value is of the kind; else the fault."""
         if node.kind != kind:
             self.fault(node, f"Here stands {wanted}.", wanted)
         return node.kind == kind
@@ -45,15 +47,18 @@ class Asking:
             self.remarks.warning("repeated-member", name_node(member), f'"{member.name}" stands here more than once: the last one counts.', found=member.name)
 
     def of_text(self, found: Node, name: str) -> str | None:
+        """The text of a member, where it is there."""
         node = found.at(name)
         return node.value if node is not None and self.is_kind(node, "string", "a text") else None
 
     def of_flag(self, found: Node, name: str) -> None:
+        """Looks whether a member is true or false, where it is there."""
         node = found.at(name)
         if node is not None:
             self.is_kind(node, "boolean", "true or false")
 
     def needs(self, label: str, node: Node, name: str) -> bool:
+        """Whether the member is there; else the fault."""
         if node.at(name) is None:
             self.fault(node, f'{label} needs the member "{name}", which is missing.', f"the member {name}", listed(list(node.last()), "and"))
         return node.at(name) is not None
@@ -67,6 +72,7 @@ class Asking:
         return [item for item in items if self.is_kind(item, "object", "an object, or an array of objects")]
 
     def request(self, node: Node) -> None:
+        """A body."""
         if not self.is_kind(node, "object", 'an object with the member "Request"'):
             return
         self.ignored("The body", node, ["Request"])
@@ -85,6 +91,7 @@ class Asking:
         self.references(asked)
 
     def category(self, node: Node, is_named: bool) -> None:
+        """A Category object, which names its category itself or stands under a shorthand."""
         self.ignored("A category", node, OF_CATEGORY)
         if is_named and self.needs("An item of Category", node, "CategoryId"):
             self.category_id(node.at("CategoryId"), self.of_text(node, "CategoryId"))
@@ -97,10 +104,12 @@ class Asking:
             self.attribute(item)
 
     def category_id(self, node: Node, held: str | None) -> None:
+        """Warns of a category that is none of the standard."""
         if held is not None and not names.is_known_category(held):
             unknown_category(self.remarks, node, held)
 
     def attribute(self, node: Node) -> None:
+        """An attribute of a category."""
         self.ignored("An attribute", node, OF_ATTRIBUTE)
         if self.needs("An attribute", node, "AttributeId"):
             self.of_text(node, "AttributeId")
@@ -120,6 +129,7 @@ class Asking:
         return identifiers.DATA_TYPES.get(held)
 
     def values(self, node: Node, data_type: str | None, value: Node) -> None:
+        """The value of an attribute, or its values."""
         items = value.value if value.kind == "array" else [value]
         kinds = {item.kind for item in items}
         wrong = [item for item in items if item.kind not in KIND_TYPES]
@@ -132,6 +142,7 @@ class Asking:
                 self.value(data_type or KIND_TYPES[item.kind], item, node)
 
     def value(self, data_type: str, item: Node, node: Node) -> None:
+        """One value under its type."""
         if item.kind == "number" and item.value is None:
             self.fault(item, "A number is whole here, without point and exponent.", "a whole number of 64 bits")
         elif item.kind != "string" and data_type != KIND_TYPES[item.kind]:
@@ -143,6 +154,7 @@ class Asking:
                 self.fault(item, f"This is no {data_type}, the type that {'DataType names' if node.at('DataType') else 'its kind has'}.", SHAPES[data_type])
 
     def references(self, asked: Node) -> None:
+        """The request references."""
         group = asked.at("MultiRequests")
         if group is None or not self.is_kind(group, "object", "an object") or not self.needs("MultiRequests", group, "RequestReference"):
             return

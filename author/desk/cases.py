@@ -68,6 +68,7 @@ class CaseReader:
         self.source = Source(path, files.held(path))
 
     def fault(self, node: Node, sentence: str, **more: str) -> None:
+        """Says what is wrong with the file of cases."""
         self.remarks.fault("case", node, sentence, **more)
 
     def known(self, node: Node | None, table: list[str], needed: list[str]) -> bool:
@@ -105,11 +106,13 @@ class CaseReader:
         return None if self.remarks.faults() or held is None else Suite(self.path, held, [case for case in found if case is not None])
 
     def items(self, node: Node | None) -> list[Node]:
+        """The items of an array."""
         if node is not None and node.kind != "array":
             self.fault(node, "Here stands an array.")
         return node.value if node is not None and node.kind == "array" else []
 
     def setting(self, node: Node) -> setting.Setting | None:
+        """What decides on the cases."""
         policy = node.at("Policy")
         paths = [self.text(item) for item in ([policy] if policy.kind == "string" else self.items(policy))]
         documents = files.documents([str(self.folder / path) for path in paths if path is not None])
@@ -120,6 +123,7 @@ class CaseReader:
         return None if self.remarks.faults() else setting.Setting(documents, setting.root_of(self.text(node.at("Root")), documents), rows)
 
     def rows(self, node: Node | None) -> Rows | None:
+        """The source rows, which stand here or in a file."""
         if node is None:
             return None
         if node.kind == "object":
@@ -128,6 +132,7 @@ class CaseReader:
         return None if path is None else files.rows(str(self.folder / path))
 
     def case(self, node: Node, number: int) -> Case | None:
+        """A case."""
         if not self.known(node, OF_CASE, ["Request"] + ["Decision"] * (node.kind == "object" and node.at("Results") is None)):
             return None
         expected = [self.result(item) for item in self.items(node.at("Results"))] if node.at("Results") is not None else [self.result(node, OF_CASE)]
@@ -157,6 +162,7 @@ class CaseReader:
         return found
 
     def duty(self, node: Node) -> dict:
+        """An obligation, or advice, that is expected."""
         if node.kind == "string":
             return {"Id": node.value}
         if not self.known(node, ["Id", "Assignments"], ["Id"]):
@@ -195,6 +201,7 @@ def differences(expected: dict, given: dict) -> list[str]:
 
 
 def shown(duties: list[dict]) -> str:
+    """Obligations, or advice, as a case has them."""
     held = [duty["Id"] if "Assignments" not in duty else f"{duty['Id']} {json.dumps(duty['Assignments'], ensure_ascii=False)}" for duty in duties]
     return ", ".join(held) or "none"
 
@@ -230,6 +237,7 @@ def run_suite(suite: Suite, program: Program | None, reached: coverage.Coverage)
 
 
 def print_outcome(one: Outcome) -> None:
+    """A case, and why it failed where it did."""
     place = f"{one.case.node.source.path}:{one.case.node.place.line}"
     if not one.failures:
         print(text.wrapped(f"{text.painted('ok', 'green')}      {one.case.name}", "", "        "))
@@ -256,6 +264,7 @@ def junit(suites: list[Suite]) -> bytes:
 
 
 def print_suite(suite: Suite) -> None:
+    """The outcomes of a file of cases."""
     print(text.painted(suite.path, "bold"))
     for one in suite.outcomes:
         print_outcome(one)

@@ -56,6 +56,7 @@ def model_code(read_by, held: bytes) -> str | None:
 
 
 def agreed(source: Source, code: str | None, by_model: str | None) -> None:
+    """Raises where the desk and the model don't find the same first."""
     if code != by_model:
         raise Disagreement(f"{source.path}: the desk finds {code or 'no fault'} first, and the model {by_model or 'no fault'}. This is a fault of the desk or of the model.")
 

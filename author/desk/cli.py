@@ -37,6 +37,7 @@ def all_agree(pairs: list[tuple[str, str, str]]) -> bool:
 
 
 def print_remarks(found: list[Remark]) -> None:
+    """Remarks, in the order of their places."""
     for remark in sorted(found, key=lambda remark: (remark.source.path, remark.start)):
         print(text.remark_shown(remark) + "\n")
 
@@ -71,6 +72,7 @@ def checked_together(options: argparse.Namespace) -> tuple[list[Checked], Rows |
 
 
 def check(options: argparse.Namespace) -> int:
+    """Answers `check`."""
     documents, rows = checked_together(options)
     found = chosen_program(options)
     pairs = check_pairs(documents, rows, found)
@@ -86,6 +88,7 @@ def check(options: argparse.Namespace) -> int:
 
 
 def print_summary(documents: list[Checked], rows: Rows | None, every: list[Remark], found: program.Program | None) -> None:
+    """What became of each file, and how much was remarked."""
     for one in documents:
         named = f"{setting.KIND_NAMES[one.document.kind]} {one.document.name} {one.document.version or '?'}" if one.document else "no document"
         verdict = text.painted("taken", "green") if one.is_sound else text.painted(f"refused, {one.code}", "red")
@@ -115,6 +118,7 @@ def setting_of(options: argparse.Namespace, paths: list[str]) -> setting.Setting
 
 
 def remarks_on_root(held: setting.Setting) -> Remarks:
+    """What is to be said of the root and of the source rows."""
     remarks = Remarks()
     setting.check_root(held, remarks)
     if held.rows is not None:
@@ -146,6 +150,7 @@ def decided(options: argparse.Namespace) -> int:
 
 
 def explanation_agrees(answer: ask.Answer, shown: list[dict] | None) -> bool:
+    """Whether the explanation comes to the response; else that is said loudly."""
     if not ask.is_explained(answer.results(), shown):
         text.loud(f"THE EXPLANATION AND THE RESPONSE DISAGREE. The response: {answer.body[:400]}")
         return False
@@ -153,6 +158,7 @@ def explanation_agrees(answer: ask.Answer, shown: list[dict] | None) -> bool:
 
 
 def print_asked(options: argparse.Namespace, answer: ask.Answer, moment: int, remarks: list[Remark]) -> None:
+    """The response, laid out and as the server writes it, or alone."""
     if options.raw:
         print(answer.body)
         return
@@ -166,6 +172,7 @@ def print_asked(options: argparse.Namespace, answer: ask.Answer, moment: int, re
 
 
 def print_explained(options: argparse.Namespace, answer: ask.Answer, shown: list[dict] | None, moment: int, remarks: list[Remark]) -> None:
+    """The explanation, as text or as JSON."""
     if options.json:
         held = {"at": setting.moment_shown(moment), "by": "model" if answer.by_program is None else "model and program", "remarks": [remark.as_json() for remark in remarks],
                 "response": None if answer.is_refused else json.loads(answer.body), "results": shown}
@@ -186,6 +193,7 @@ def print_explained(options: argparse.Namespace, answer: ask.Answer, shown: list
 
 
 def add_question(parser: argparse.ArgumentParser) -> None:
+    """The options of `ask` and `explain`."""
     parser.add_argument("--policy", nargs="+", required=True, metavar="FILE", help="policy documents, all active; a folder stands for its documents")
     parser.add_argument("--root", metavar="ID", help="the id of the document where a decision begins; may be left out where there is one document")
     parser.add_argument("--rows", metavar="ROWS", help='source rows, {"Row":[..]}')
@@ -247,15 +255,18 @@ def parser() -> argparse.ArgumentParser:
 
 
 def lints_run(_: argparse.Namespace) -> int:
+    """Answers `lints`."""
     print("\n".join(lints.lint_lines()))
     return FINE
 
 
 def cases_run(options: argparse.Namespace) -> int:
+    """Answers `test`."""
     return cases.run(options.files, chosen_program(options), options.junit, options.coverage)
 
 
 def diff_run(options: argparse.Namespace) -> int:
+    """Answers `diff`."""
     old, new = setting_of(options, [options.old]), setting_of(options, [options.new])
     if old is None or new is None:
         return FAULTS

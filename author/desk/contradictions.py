@@ -83,6 +83,7 @@ def ways(targets: list[Target]) -> list[list[Match]] | None:
 
 
 def said(match: Match) -> str:
+    """A match in a few words."""
     return f'{names.short(match.function)} "{values.to_text(match.literal.value)}" (line {match.node.place.line})'
 
 
@@ -93,9 +94,11 @@ class TargetLints:
         self.remarks = remarks
 
     def warn(self, node, sentence: str) -> None:
+        """Warns that a target never matches."""
         self.remarks.warning("never-matches", node, sentence)
 
     def document(self, held: Document, around: list[Document]) -> None:
+        """Warns of targets of the document and of its rules."""
         outer = [document.target for document in around if document.target is not None]
         self.target(held.target, outer, held)
         inner = outer + ([held.target] if held.target is not None else [])
@@ -103,6 +106,7 @@ class TargetLints:
             self.target(rule.target, inner, rule)
 
     def target(self, held: Target | None, around: list[Target], of: Document | Rule) -> None:
+        """Warns of a target that can never match, alone or inside those around it."""
         if held is None:
             return
         alternatives = [alternative for part in held.parts if part for alternative in part.alternatives if alternative]
@@ -134,5 +138,6 @@ class TargetLints:
 
 
 def attribute_of(pair: tuple[Match, Match]) -> str:
+    """The attribute of two matches."""
     designator = pair[0].designator
     return f"{names.category_shown(designator.category or '?')} {names.attribute_shown(designator.attribute_id or '?')}"

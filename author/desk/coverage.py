@@ -22,6 +22,7 @@ class Point:
 
 
 def place_of(node: Node) -> tuple[str, int, str]:
+    """The file, line and pointer of a value."""
     return node.source.path, node.place.line, node.pointer
 
 
@@ -37,6 +38,7 @@ class Coverage:
                 self.expect_document(document)
 
     def expect_document(self, held: Document) -> None:
+        """Counts the points of one document in."""
         label = f"{KIND_NAMES[held.kind]} {held.name}"
         if held.target is not None and held.target.parts:
             self.reach(place_of(held.node), "target", label)
@@ -49,6 +51,7 @@ class Coverage:
                 self.reach(place, "condition", f"rule {rule.id}")
 
     def reach(self, place: tuple[str, int, str], kind: str, name: str, way: bool | None = None) -> None:
+        """Notes a point, and the way in which it was reached, where there is one."""
         ways = self.points.setdefault(Point(*place, kind, name), set())
         if way is not None:
             ways.add(way)
@@ -60,6 +63,7 @@ class Coverage:
                 self.add_part(result["tree"])
 
     def add_part(self, part: dict) -> None:
+        """Takes in what a part of an explained tree reached."""
         if part["element"] == "reference":
             return
         place, is_rule = (part["file"], part["line"], part["pointer"]), part["element"] == "rule"

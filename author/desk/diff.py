@@ -83,6 +83,7 @@ def in_words(answer: ask.Answer) -> str:
 
 
 def print_change(request: Request, old: setting.Setting, new: setting.Setting, before: ask.Answer, after: ask.Answer) -> None:
+    """A request whose answer changes, with both answers and what settled them."""
     print(text.painted(request.name, "bold") + f" at {setting.moment_shown(request.moment)}")
     words = told(request.held)
     if words:

@@ -19,14 +19,17 @@ SETTLES = {
 
 
 def decision_shown(decision: str) -> str:
+    """A decision as people read it."""
     return LETTERS.get(decision, decision)
 
 
 def status_shown(status: str) -> str:
+    """The last part of a status code."""
     return names.short(status)
 
 
 def verdict(evaluated: policies.Evaluated) -> dict[str, object]:
+    """Decision and status."""
     return {"decision": decision_shown(evaluated.decision), "status": status_shown(evaluated.status)}
 
 
@@ -62,10 +65,12 @@ class Explainer:
         return {**found, **verdict(evaluated), **self.gathered(evaluated)}, evaluated
 
     def pair_variables(self, tracing: Tracing, document, element: Document) -> None:
+        """Notes where the variables' definitions stand."""
         for (_, expression), variable in zip(document.variables, element.variables):
             tracing.pair(expression, variable.expression)
 
     def children(self, tree: policies.Tree, element: Document, tracing: Tracing, path: tuple) -> tuple[list[dict], list[policies.Evaluated]]:
+        """What the children come to: rules, or trees."""
         if tree.document.form == "Policy":
             pairs = [self.rule(tracing, rule, inner) for rule, inner in zip(tree.document.children, element.children)]
         else:
@@ -127,6 +132,7 @@ class Explainer:
             found["status_from"] = self.status_source(algorithm, found["children"], children)
 
     def status_source(self, algorithm: str, shown: list[dict], children: list[policies.Evaluated]) -> str:
+        """Which child the status of an Indeterminate comes from."""
         if algorithm == "only-one-applicable":
             end = combining.ending([child.target.word for child in children])
             if end is not None:
@@ -157,6 +163,7 @@ class Explainer:
 
 
 def assignments_shown(assignments: list) -> list[str]:
+    """Assignments in a few words."""
     return [f"{one.attribute_id} = {value_shown(one.value)}" for one in assignments]
 
 
@@ -180,6 +187,7 @@ def settling_children(algorithm: str, children: list[policies.Evaluated]) -> lis
 
 
 def words(child: policies.Evaluated) -> str | None:
+    """What the target of a child comes to."""
     return child.target.word if child.target else None
 
 

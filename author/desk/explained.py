@@ -8,6 +8,7 @@ FROM = {"request": "from the request", "clock": "from the clock", "nowhere": "fo
 
 
 def line(depth: int, text: str, *styles: str) -> str:
+    """A line of the text, indented."""
     indent = "  " * depth
     return painted(wrapped(text, indent, indent + "    "), *styles) if styles else wrapped(text, indent, indent + "    ")
 
@@ -20,15 +21,18 @@ def found_shown(found: dict) -> str:
 
 
 def near_shown(found: dict, depth: int) -> list[str]:
+    """What is nearly an attribute that wasn't found."""
     return [line(depth, f"nearly: {near}") for near in found.get("near", [])]
 
 
 def word_shown(part: dict) -> str:
+    """What a target, or a part of it, comes to."""
     word, _ = MARKS[part["is"]]
     return word + (f" ({part['status'].rsplit(':', 1)[1]})" if "status" in part else "")
 
 
 def match_shown(match: dict, depth: int) -> list[str]:
+    """A match: whether it is true, and with what."""
     because = f"; {match['because']}" if "because" in match else ""
     verdict = {"Match": "true", "NoMatch": "false", "Indeterminate": "Indeterminate"}[match["is"]]
     text = f"{verdict}: {match['match']} with {match['attribute']}: {found_shown(match)}{because} (line {match['line']})"
@@ -68,6 +72,7 @@ def step_shown(step: dict, depth: int) -> list[str]:
 
 
 def duties_shown(part: dict, depth: int) -> list[str]:
+    """The obligations and advice that a part adds, and with how many it is returned."""
     lines = []
     for duty in part.get("own_duties", []):
         word = "obligation" if "obligation" in duty else "advice"

@@ -34,6 +34,7 @@ class Remark:
         return text if len(text) <= MOST_SHOWN else text[:MOST_SHOWN - 3] + "..."
 
     def as_json(self) -> dict[str, object]:
+        """The remark as JSON has it."""
         held = {"level": self.level, "code": self.code, "file": self.source.path, "line": self.place.line, "column": self.place.column,
                 "pointer": self.pointer, "text": self.text, "expected": self.expected, "found": self.found, "nearest": self.nearest,
                 "sentence": self.sentence, "answered": self.is_first}
@@ -50,13 +51,17 @@ class Remarks:
         self.found.append(Remark("fault", code, node.source, node.start, node.end, node.pointer, sentence, **more))
 
     def slip(self, source: Source, slip: Slip) -> None:
+        """Says that the text is no JSON at a place."""
         self.found.append(Remark("fault", "NotJson", source, slip.start, slip.end, slip.pointer, slip.advice, slip.expected, slip.found))
 
     def warning(self, name: str, node: Node, sentence: str, **more: str) -> None:
+        """Warns of a value, under a name."""
         self.found.append(Remark("warning", name, node.source, node.start, node.end, node.pointer, sentence, **more))
 
     def note(self, name: str, node: Node, sentence: str, **more: str) -> None:
+        """Notes something about a value, under a name."""
         self.found.append(Remark("note", name, node.source, node.start, node.end, node.pointer, sentence, **more))
 
     def faults(self) -> list[Remark]:
+        """The faults alone."""
         return [remark for remark in self.found if remark.level == "fault"]

@@ -71,6 +71,7 @@ class Kinds:
         self.is_sure = True
 
     def ill_typed(self, code: str, node, sentence: str, **more: str) -> None:
+        """Says that the server answers IllTyped of this code."""
         self.remarks.fault(f"IllTyped({code})", node, sentence, **more)
 
     # Expressions.
@@ -92,12 +93,14 @@ class Kinds:
         return self.apply(held, depth)
 
     def is_too_deep(self, held: Expression, depth: int) -> bool:
+        """Whether the expression stands inside too many; it is remarked."""
         if depth > expressions.MAX_DEPTH:
             self.ill_typed("TooDeep", held.node, f"At most {expressions.MAX_DEPTH} expressions stand inside one another: give a part a name by a VariableDefinition.",
                            expected=f"at most {expressions.MAX_DEPTH}", found=f"the {depth}th")
         return depth > expressions.MAX_DEPTH
 
     def variable(self, held: Expression) -> str | None:
+        """The kind of a variable's definition."""
         if held.name is None or held.name in self.variables or not self.is_sure:
             return self.variables.get(held.name)
         nearest = names.nearest(held.name, self.variables)
@@ -109,6 +112,7 @@ class Kinds:
         return None
 
     def apply(self, held: Expression, depth: int) -> str | None:
+        """The kind that a function gives, whose arguments are checked."""
         if held.name in functions.HIGHER_ORDER:
             return self.higher(functions.HIGHER_ORDER[held.name], held, depth)
         known = signature(held.name)
@@ -126,6 +130,7 @@ class Kinds:
         return gives
 
     def unknown_function(self, held: Expression, known=None) -> None:
+        """Remarks a function that isn't there, with the nearest that is."""
         sentence, nearest = names.unknown_function(held.name, known)
         self.ill_typed("UnknownFunction", held.node.at("FunctionId") or held.node, sentence, expected="the name of a function", found=held.name, nearest=nearest)
 
@@ -143,6 +148,7 @@ class Kinds:
     # Higher-order functions.
 
     def higher(self, verb: str, held: Expression, depth: int) -> str | None:
+        """The kind that a higher-order function gives, whose arguments are checked."""
         if not held.arguments:
             self.ill_typed("WrongCount", held.node, f'"{verb}" takes a Function and then values and bags, and has no argument here.', expected="a Function first", found="no argument")
             return "boolean" if verb != "map" else None
@@ -174,6 +180,7 @@ class Kinds:
         return functions.FUNCTIONS[held.name][:2] if held.name in functions.FUNCTIONS else None
 
     def fit_inner(self, verb: str, held: Expression, takes: list[str], kinds: list[str]) -> None:
+        """Remarks where the values and bags behind a Function don't fit it."""
         bags = [place for place, kind in enumerate(kinds) if kind.startswith("bag ")]
         if verb in PAIRS and not functions.takes_so_many(takes, 2):
             self.ill_typed("WrongType", held.arguments[0].node, f'"{verb}" asks a function of two values.', expected="a function of two values", found=takes_shown(takes))
@@ -190,6 +197,7 @@ class Kinds:
     # Targets, rules, documents.
 
     def match(self, held: Match) -> None:
+        """Remarks a match that its function doesn't take."""
         if held.function is None:
             return
         node, known = held.node.at("MatchId") or held.node, signature(held.function)
@@ -205,16 +213,19 @@ class Kinds:
                            found=names.short(held.function), nearest=better)
 
     def target(self, held: Target | None) -> None:
+        """Remarks the matches of a target."""
         for match in held.matches() if held else []:
             self.match(match)
 
     def duties(self, held: list[Duty | None]) -> None:
+        """Remarks the expressions of obligations and advice."""
         for duty in held:
             for assignment in duty.assignments if duty else []:
                 if assignment is not None:
                     self.kind(assignment.expression)
 
     def rule(self, held: Rule) -> None:
+        """Remarks what is ill-typed in a rule."""
         self.target(held.target)
         kind = self.kind(held.condition)
         if kind not in (None, "boolean"):
@@ -234,6 +245,7 @@ class Kinds:
                 self.variables.setdefault(variable.name, kind)
 
     def document(self, held: Document) -> None:
+        """Remarks what is ill-typed in a document, in table order."""
         self.target(held.target)
         self.define(held)
         for child in held.children:

@@ -6,6 +6,7 @@ from .text import decided, painted, wrapped
 
 
 def value_shown(value: object) -> str:
+    """A value of a response."""
     if isinstance(value, list):
         return "[" + ", ".join(map(value_shown, value)) + "]"
     return f'"{value}"' if isinstance(value, str) else str(value).lower()
@@ -19,6 +20,7 @@ def attribute_line(held: dict) -> str:
 
 
 def duties_lines(word: str, duties: list[dict]) -> list[str]:
+    """Obligations or advice with their assignments."""
     lines = []
     for duty in duties:
         lines.append(f"    {word} {painted(duty['Id'], 'bold')}")
@@ -27,6 +29,7 @@ def duties_lines(word: str, duties: list[dict]) -> list[str]:
 
 
 def result_shown(result: dict) -> str:
+    """A result: its decision, obligations, advice, and the attributes that the request wants to see again."""
     status = names.short(result["Status"]["StatusCode"]["Value"])
     lines = [decided(result["Decision"]) + (f"  status {status}" if status != "ok" else "")]
     lines += duties_lines("obligation", result.get("Obligations", [])) + duties_lines("advice", result.get("AssociatedAdvice", []))
@@ -37,6 +40,7 @@ def result_shown(result: dict) -> str:
 
 
 def shown(results: list[dict]) -> str:
+    """All results."""
     if len(results) == 1:
         return result_shown(results[0])
     return "\n".join(f"{number}. {result_shown(result)}" for number, result in enumerate(results, 1))

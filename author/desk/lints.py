@@ -51,6 +51,7 @@ class Lints:
             remarks.found = [remark for remark in remarks.found if remark.code not in self.off]
 
     def document(self, remarks: Remarks, held: Document, around: list[Document]) -> None:
+        """The lints of a document, and of those inside it."""
         for designator in held.designators():
             self.category(remarks, designator)
         for lint in (self.repeated_rules, self.no_rules, self.deny_rules, self.unused_variables, self.idle):
@@ -61,17 +62,20 @@ class Lints:
                 self.document(remarks, child, [*around, held])
 
     def category(self, remarks: Remarks, designator: Designator) -> None:
+        """Warns of a category that is none of the standard."""
         node = designator.node.at("Category")
         if node is not None and node.kind == "string" and not names.is_known_category(node.value):
             unknown_category(remarks, node, node.value)
 
     def repeated_members(self, remarks: Remarks, node: Node) -> None:
+        """Warns of members that don't count, since their name stands again."""
         for member in node.repeated():
             remarks.warning("repeated-member", name_node(member), f'"{member.name}" stands in this object more than once: the last one counts, and this one is ignored.', found=member.name)
         for inner in [member.node for member in node.members] + (node.value if node.kind == "array" else []):
             self.repeated_members(remarks, inner)
 
     def repeated_rules(self, remarks: Remarks, held: Document) -> None:
+        """Warns of rules of one id."""
         seen: dict[str, Rule] = {}
         for rule in held.rules():
             if rule.id is None:
@@ -82,6 +86,7 @@ class Lints:
                                 expected="another RuleId", found=rule.id)
 
     def no_rules(self, remarks: Remarks, held: Document) -> None:
+        """Warns of a policy without rules, and of a set without children."""
         if not held.children:
             what, inner = ("policy", "rules") if held.form == "Policy" else ("set", "children")
             result = {"deny-unless-permit": "Deny", "permit-unless-deny": "Permit"}.get(held.algorithm or "", "NotApplicable")
@@ -100,6 +105,7 @@ class Lints:
                                     "silence. With MustBePresent true it is Indeterminate.", expected="true", found="false")
 
     def unused_variables(self, remarks: Remarks, held: Document) -> None:
+        """Warns of variables that nothing names."""
         used = {one.name for expression in held.expressions() for one in expression.all() if one.form == "variable"}
         for variable in held.variables:
             if variable is not None and variable.name is not None and variable.name not in used:
@@ -109,6 +115,7 @@ class Lints:
     # Algorithms under which a child can never decide.
 
     def idle(self, remarks: Remarks, held: Document) -> None:
+        """Warns of children that can never decide."""
         kind = (held.algorithm or "").removeprefix("ordered-")
         effect = {"deny-unless-permit": "Deny", "permit-unless-deny": "Permit"}.get(kind)
         for rule in held.rules():
@@ -133,6 +140,7 @@ class Lints:
                                 f"{rule.effect} rule never.")
 
     def always_two(self, remarks: Remarks, held: Document) -> None:
+        """Warns where two children apply always, of which only one may."""
         always = [child for child in held.children if isinstance(child, Document) and (child.target is None or not child.target.parts) and "Target" not in (child.node.last() or {})]
         for child in always[1:]:
             remarks.warning("idle-rule", child.node, f"Two children without a target apply always, this one and that of line {always[0].node.place.line}: under only-one-applicable the set is "
@@ -152,6 +160,7 @@ class Lints:
                 self.type(one.remarks, designator, by_rows, before)
 
     def type(self, remarks: Remarks, held: Designator, by_rows: dict, before: dict) -> None:
+        """Warns of a designator of another type."""
         if None in (held.category, held.attribute_id, held.data_type):
             return
         place, node = (held.category, held.attribute_id), held.node.at("DataType") or held.node
@@ -193,6 +202,7 @@ SETTLED = ("deny-overrides", "permit-overrides", "deny-unless-permit", "permit-u
 
 
 def attribute(held: Designator) -> str:
+    """An attribute in a few words."""
     return f"{names.category_shown(held.category or '?')} {names.attribute_shown(held.attribute_id or '?')}"
 
 
@@ -206,9 +216,11 @@ def is_unconditional(rule: Rule) -> bool:
 
 
 def all_designators(document: Document | None) -> Iterator[Designator]:
+    """The designators of a document and of those inside it."""
     for inner in document.documents() if document else []:
         yield from inner.designators()
 
 
 def lint_lines() -> list[str]:
+    """The lints by their names."""
     return [f"{name:18} {meaning}" for name, meaning in NAMES.items()]

@@ -54,6 +54,7 @@ class Pools:
 
 
 def designators_in(held: Expression) -> list[Designator]:
+    """The designators of an expression."""
     return [one.designator for one in held.all() if one.designator is not None]
 
 
@@ -72,6 +73,7 @@ def take_expression(pools: Pools, held: Expression) -> None:
 
 
 def take_document(pools: Pools, document: Document) -> None:
+    """Takes in a document: literals are compared with the attributes of the same match."""
     for target in document.targets():
         for match in target.matches():
             pool = pools.attribute(match.designator)

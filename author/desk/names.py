@@ -34,6 +34,7 @@ def short(name: str) -> str:
 
 
 def likeness(name: str, other: str) -> float:
+    """How like one another two names are, from 0 to 1."""
     return difflib.SequenceMatcher(None, name.lower(), other.lower()).ratio()
 
 
@@ -102,6 +103,7 @@ def containing(name: str) -> str:
 
 
 def is_known_category(name: str) -> bool:
+    """Whether the name is a shorthand or a URI of a category of the standard."""
     return name in identifiers.SHORTHANDS or name in identifiers.SHORTHANDS.values()
 
 

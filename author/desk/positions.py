@@ -35,6 +35,7 @@ class Source:
         self.line_starts = [0] + [found.end() for found in re.finditer("\n", self.text)]
 
     def place(self, offset: int) -> Place:
+        """Where the letter at the offset stands."""
         line = bisect.bisect_right(self.line_starts, offset)
         return Place(line, offset - self.line_starts[line - 1] + 1)
 
@@ -61,6 +62,7 @@ class Node:
 
     @property
     def place(self) -> Place:
+        """Where the letter at the offset stands."""
         return self.source.place(self.start)
 
     @property
@@ -77,6 +79,7 @@ class Node:
         return [member for member in self.members if counting[member.name] is not member]
 
     def at(self, name: str) -> Node | None:
+        """The value of the member of that name, where there is one."""
         found = self.last().get(name)
         return found.node if found else None
 
@@ -120,6 +123,7 @@ class Reader:
         self.depth = 0
 
     def slip(self, start: int, end: int, pointer: str, expected: str, found: str, advice: str) -> None:
+        """Notes a slip."""
         self.slips.append(Slip(start, end, pointer, expected, found, advice))
 
     def stop(self, pointer: str, expected: str, advice: str, end: int | None = None) -> Stop:
@@ -132,6 +136,7 @@ class Reader:
         return Stop()
 
     def word_end(self) -> int:
+        """Where the word that stands here ends."""
         found = re.compile(r"\w+|.", re.DOTALL).match(self.text, self.offset)
         return min(found.end(), self.offset + 20) if found else self.offset
 
@@ -161,6 +166,7 @@ class Reader:
             return None
 
     def is_no_text(self) -> bool:
+        """Whether the bytes are no text; a byte order mark is noted and passed over."""
         try:
             self.source.held.decode()
         except UnicodeDecodeError as fault:
@@ -173,6 +179,7 @@ class Reader:
         return False
 
     def value(self, pointer: str) -> Node:
+        """The value that begins here."""
         letter = self.text[self.offset:self.offset + 1]
         if letter in ("{", "["):
             return self.nested(letter, pointer)
@@ -190,6 +197,7 @@ class Reader:
         raise self.stop(pointer, "a JSON value", advice.get(letter, "A text stands in double quotes; true, false and null are written in small letters."))
 
     def nested(self, letter: str, pointer: str) -> Node:
+        """The object or array that begins here, which may not stand in too many."""
         self.depth += 1
         if self.depth > json_texts.MOST_NESTED:
             raise self.stop(pointer, f"at most {json_texts.MOST_NESTED} arrays and objects inside one another", "This is too deep for JSON here.")
@@ -198,6 +206,7 @@ class Reader:
         return found
 
     def object(self, pointer: str) -> Node:
+        """The object that begins here."""
         found = Node(self.source, pointer, "object", self.offset)
         self.offset += 1
         self.skip(pointer)
@@ -217,6 +226,7 @@ class Reader:
         return found
 
     def array(self, pointer: str) -> Node:
+        """The array that begins here."""
         found = Node(self.source, pointer, "array", self.offset, value=[])
         self.offset += 1
         self.skip(pointer)
@@ -263,6 +273,7 @@ class Reader:
                 raise self.stop(pointer, "no control character in a text", f"Write \\u{ord(letter):04x} for this character.", self.offset + 1)
 
     def escape(self, pointer: str) -> str:
+        """The letter of the escape here."""
         letter = self.text[self.offset + 1:self.offset + 2]
         if letter in ESCAPES and letter:
             self.offset += 2
@@ -285,6 +296,7 @@ class Reader:
         return int(found.group(1), 16) if found else None
 
     def number(self, pointer: str) -> Node:
+        """The number that begins here."""
         found = NUMBER.match(self.text, self.offset)
         if found is None:
             raise self.stop(pointer, "a number", "A minus stands before a digit.")

@@ -65,6 +65,7 @@ class Program:
         return found
 
     def run(self, held: str) -> str:
+        """What the program writes to the rows."""
         try:
             ran = subprocess.run(self.command, input=held.encode("ascii"), capture_output=True, timeout=SECONDS, check=False)
         except (OSError, subprocess.TimeoutExpired) as fault:

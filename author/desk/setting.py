@@ -40,6 +40,7 @@ def moment_of(text: str | None) -> int:
 
 
 def moment_shown(seconds: int) -> str:
+    """A moment as a dateTime."""
     return values.to_text(contexts.moment_as("dateTime", seconds))
 
 
@@ -66,10 +67,12 @@ class Setting:
                 self.place(child, inner)
 
     def source_rows(self) -> list[contexts.SourceRow]:
+        """The source rows of the model."""
         found = self.rows.rows if self.rows else []
         return [contexts.SourceRow(row.category, row.entity, row.attribute_id, row.literal.value) for row in found]
 
     def view(self) -> decisions.View:
+        """The view of the model."""
         return decisions.View(self.active, self.root, self.source_rows())
 
     def tree(self) -> policies.Tree | None:
@@ -131,6 +134,7 @@ def check_root(setting: Setting, remarks: Remarks) -> None:
 
 
 def reference_shown(reference: Reference) -> str:
+    """A reference in a few words."""
     held = reference.reference
     pattern = f" {'.'.join(held.pattern)}" if held and held.pattern else ""
     return f"{KIND_NAMES[reference.kind]} {reference.id}{pattern}"

@@ -41,6 +41,7 @@ def form_of(known: list[str], node: Node) -> str:
 
 
 def kind_of(node: Node) -> str:
+    """What kind of JSON a value is, in words."""
     if node.kind == "boolean":
         return "true" if node.value else "false"
     if node.kind == "number":
@@ -71,6 +72,7 @@ class Shapes:
     # Objects and their members.
 
     def wrong_kind(self, node: Node, wanted: str, sentence: str = "") -> None:
+        """Remarks a value that is of another kind than is wanted."""
         self.remarks.fault("BadValue", node, sentence or f"Here stands {wanted}.", expected=wanted, found=kind_of(node))
 
     def members(self, table: str, node: Node, label: str = "") -> dict[str, Node] | None:
@@ -131,9 +133,11 @@ class Shapes:
         return meant
 
     def unknown_form(self, member: Member, sentence: str, known: list[str], nearest: str) -> None:
+        """Remarks a member that stands where another one alone may."""
         self.remarks.fault("UnknownMember", name_node(member), sentence, expected=f"one of {listed(known)}", found=member.name, nearest=nearest)
 
     def optional(self, reads: Callable, found: dict[str, Node], name: str):
+        """What is read of a member, where it is there."""
         return reads(found[name]) if name in found else None
 
     def each(self, reads: Callable, found: dict[str, Node], name: str, least: int = 0) -> list:
@@ -152,12 +156,14 @@ class Shapes:
     # Texts and names.
 
     def text(self, node: Node) -> str | None:
+        """A text."""
         if node.kind != "string":
             self.wrong_kind(node, "a text")
             return None
         return node.value
 
     def flag(self, node: Node) -> bool | None:
+        """True or false."""
         if node.kind != "boolean":
             quoted = " without quotes" if node.kind == "string" else ""
             self.wrong_kind(node, "true or false", f"Here stands true or false{quoted}.")
@@ -174,12 +180,14 @@ class Shapes:
         return None
 
     def effect(self, node: Node) -> str | None:
+        """Permit or Deny."""
         def say(held: str) -> tuple[str, str]:
             meant = names.nearest(held, ["Permit", "Deny"])
             return f'An effect is Permit or Deny.{f" Did you mean {meant}?" if meant else ""}', meant
         return self.among(["Permit", "Deny"], "BadValue", node, say)
 
     def data_type(self, node: Node) -> str | None:
+        """The name of a data type."""
         held = self.text(node)
         if held is None or held in identifiers.DATA_TYPES:
             return identifiers.DATA_TYPES.get(held)
@@ -188,6 +196,7 @@ class Shapes:
         return None
 
     def algorithm(self, kind: str) -> Callable[[Node], str | None]:
+        """Reads a combining algorithm of rules, or of policies."""
         known, others = documents.RULE_ALGORITHMS, documents.POLICY_ALGORITHMS
         known, others = (known, others) if kind == "rules" else (others, known)
 
@@ -197,10 +206,12 @@ class Shapes:
         return reads
 
     def category(self, node: Node) -> str | None:
+        """A category, of which a shorthand stands for its URI."""
         held = self.text(node)
         return None if held is None else identifiers.category(held)
 
     def identifier(self, node: Node) -> str | None:
+        """The id of a policy or of a set."""
         held = self.text(node)
         if held is not None and not 1 <= len(held.encode()) <= documents.MAX_ID_BYTES:
             self.remarks.fault("BadValue", node, f"An id has 1 to {documents.MAX_ID_BYTES} bytes.", expected=f"1 to {documents.MAX_ID_BYTES} bytes",
@@ -209,6 +220,7 @@ class Shapes:
         return held
 
     def version(self, shape: str) -> Callable[[Node], list[str] | None]:
+        """Reads the parts of a version, or of a pattern of versions."""
         what = "A version" if shape == versions.VERSION else "A pattern of versions"
         wanted = "numbers with dots between, as 1.0" + ("" if shape == versions.VERSION else ", with * for one number and + for one or more at the end")
 
@@ -228,6 +240,7 @@ class Shapes:
     # Values and expressions.
 
     def literal(self, node: Node) -> Literal | None:
+        """An attribute value."""
         found = self.members("AttributeValue", node)
         return None if found is None else self.typed(node, found)
 
@@ -276,6 +289,7 @@ class Shapes:
         self.remarks.fault("BadValue", node, sentence + ask, expected=shape, found=node.text, nearest=meant)
 
     def designator(self, node: Node) -> Designator | None:
+        """An attribute designator."""
         found = self.members("AttributeDesignator", node)
         if found is None:
             return None
@@ -283,6 +297,7 @@ class Shapes:
         return Designator(node, *held, self.optional(self.flag, found, "MustBePresent"), self.optional(self.text, found, "Issuer"))
 
     def expression(self, node: Node) -> Expression | None:
+        """An expression."""
         named = self.one_of("expression", node, "An expression")
         if named is None:
             return None
@@ -301,6 +316,7 @@ class Shapes:
     # Targets.
 
     def match(self, node: Node) -> Match | None:
+        """A match."""
         found = self.members("Match", node)
         if found is None:
             return None
@@ -308,20 +324,24 @@ class Shapes:
         return Match(node, *held, self.optional(self.designator, found, "AttributeDesignator"))
 
     def all_of(self, node: Node) -> AllOf | None:
+        """A conjunction of matches."""
         found = self.members("AllOf", node)
         return None if found is None else AllOf(node, self.each(self.match, found, "Match", 1))
 
     def any_of(self, node: Node) -> AnyOf | None:
+        """A part of a target."""
         found = self.members("AnyOf", node)
         return None if found is None else AnyOf(node, self.each(self.all_of, found, "AllOf", 1))
 
     def target(self, node: Node) -> Target | None:
+        """A target."""
         found = self.members("Target", node)
         return None if found is None else Target(node, self.each(self.any_of, found, "AnyOf"))
 
     # Rules, policies and sets.
 
     def assignment(self, node: Node) -> Assignment | None:
+        """An assignment of an obligation or of advice."""
         found = self.members("AttributeAssignmentExpression", node, "An assignment")
         if found is None:
             return None
@@ -330,6 +350,7 @@ class Shapes:
         return Assignment(node, *held, self.optional(self.expression, found, "Expression"))
 
     def duty(self, table: str, name: str, decision: str) -> Callable[[Node], Duty | None]:
+        """Reads an obligation, or advice, by the names of its table."""
         def reads(node: Node) -> Duty | None:
             found = self.members(table, node)
             if found is None:
@@ -339,10 +360,12 @@ class Shapes:
         return reads
 
     def duties(self, found: dict[str, Node]) -> list[Duty | None]:
+        """Obligations, and then advice."""
         obligations = self.each(self.duty("ObligationExpression", "ObligationId", "FulfillOn"), found, "ObligationExpressions")
         return obligations + self.each(self.duty("AdviceExpression", "AdviceId", "AppliesTo"), found, "AdviceExpressions")
 
     def rule(self, node: Node) -> Rule | None:
+        """A rule."""
         found = self.members("Rule", node)
         if found is None:
             return None
@@ -352,6 +375,7 @@ class Shapes:
         return Rule(node, *held, *inner, self.duties(found), "Target" in found, "Condition" in found)
 
     def variable(self, seen: dict[str, Node]) -> Callable[[Node], Variable | None]:
+        """Reads a definition; `seen` are the names before it."""
         def reads(node: Node) -> Variable | None:
             found = self.members("VariableDefinition", node)
             if found is None:
@@ -366,6 +390,7 @@ class Shapes:
         return reads
 
     def policy(self, node: Node) -> Document | None:
+        """A policy."""
         found = self.members("Policy", node)
         if found is None:
             return None
@@ -381,6 +406,7 @@ class Shapes:
         return named, version and ".".join(version), combines
 
     def policy_set(self, node: Node, sets: int = 1) -> Document | None:
+        """A policy set inside this many, itself counted."""
         if node.kind == "object" and sets > documents.MAX_SETS:
             self.remarks.fault("TooLarge", node, f"At most {documents.MAX_SETS} policy sets stand inside one another: refer to this one by a PolicySetIdReference.",
                                expected=f"at most {documents.MAX_SETS}", found=f"the {sets}th")
@@ -393,6 +419,7 @@ class Shapes:
         return Document(node, "PolicySet", *held, target, [], children, self.duties(found))
 
     def reference(self, kind: str, node: Node) -> Reference | None:
+        """A reference to a document of the kind."""
         found = self.members("Reference", node)
         if found is None:
             return None
@@ -404,6 +431,7 @@ class Shapes:
         return Reference(node, kind, held[0], whole)
 
     def child(self, node: Node, sets: int) -> Document | Reference | None:
+        """A child of a policy set."""
         named = self.one_of("child", node, "A child of a policy set")
         if named is None:
             return None

@@ -90,4 +90,5 @@ def loud(message: str) -> None:
 
 
 def warn(message: str) -> None:
+    """Says something on standard error."""
     print(wrapped(message, "warning: ", "    "), file=sys.stderr)

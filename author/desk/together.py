@@ -61,6 +61,7 @@ class Together:
         return None if reference.reference is None else versions.resolved(reference.reference, self.keys)
 
     def check_target(self, remarks: Remarks, reference: Reference) -> None:
+        """Remarks a reference for which there is no document."""
         if reference.reference is not None and self.place(reference) is None:
             sentence, nearest = no_document(reference.reference, [one.document for one in self.known])
             remarks.fault("leads-nowhere", reference.node, f"This reference leads nowhere, so {EFFECT}. {sentence}", found=reference.id, nearest=nearest)
@@ -77,6 +78,7 @@ class Together:
                                             expected=f"at most {linking.MOST_IN_A_TREE}", found="more")
 
     def walk(self, document: Document, remarks: Remarks, path: list[int]) -> None:
+        """Goes through the tree of a document that stands at the end of the path."""
         self.reached.add(path[-1])
         self.size += 1
         if self.size > linking.MOST_IN_A_TREE:
@@ -88,6 +90,7 @@ class Together:
                 self.follow(child, remarks, path)
 
     def follow(self, reference: Reference, remarks: Remarks, path: list[int]) -> None:
+        """Goes on behind a reference, or remarks why nothing is behind it."""
         place = self.place(reference)
         if place in path:
             way = " -> ".join(self.keys[one][1] for one in [*path[path.index(place):], place])
@@ -98,6 +101,7 @@ class Together:
             self.walk(self.known[place].document, self.known[place].remarks, [*path, place])
 
     def once(self, code: str, reference: Reference, remarks: Remarks, sentence: str) -> None:
+        """Remarks a reference, one time."""
         if id(reference) not in self.said:
             self.said.add(id(reference))
             remarks.fault(code, reference.node, sentence, found=reference.id)

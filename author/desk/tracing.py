@@ -29,6 +29,7 @@ def value_shown(value: tuple) -> str:
 
 
 def fault_shown(fault: values.Fault) -> str:
+    """A fault as people read it."""
     return FAULTS.get(str(fault), str(fault))
 
 
@@ -48,6 +49,7 @@ class Origins(contexts.Context):
     """A context that says where the values of a designator come from."""
 
     def origin(self, designator: expressions.Designator) -> str:
+        """Where the values come from: request, clock, rows or nowhere."""
         data_type, category, attribute_id, issuer, _ = designator
         if self.asked(category, attribute_id, data_type, issuer):
             return "request"
@@ -87,6 +89,7 @@ class Origins(contexts.Context):
         return list(dict.fromkeys(found))
 
     def said(self, who: str, same: tuple[bool, ...], category: str, attribute_id: str, data_type: str, issuer: str | None) -> str:
+        """How an attribute differs from the one that is wanted, in words."""
         other = [f"in the category {names.category_shown(category)}", f"as {names.attribute_shown(attribute_id)}", f"as {names.kind_shown(data_type)}",
                  f"by {issuer}" if issuer is not None else "without an issuer"]
         return f"{who} {other[same.index(False)]}"
@@ -108,6 +111,7 @@ class Tracing(expressions.Evaluation):
                 self.pair(argument, inner)
 
     def value(self, expression: tuple) -> tuple:
+        """The value of an expression; that it was asked for is noted."""
         element, around = self.placed.get(id(expression)), self.steps
         step = {"expression": shown(expression), **({"line": element.node.place.line} if element else {})}
         around.append(step)
@@ -127,6 +131,7 @@ class Tracing(expressions.Evaluation):
             self.steps = around
 
     def variable(self, name: str) -> tuple:
+        """The value of a variable, which is looked at once."""
         is_known = name in self.known
         try:
             return super().variable(name)
@@ -159,6 +164,7 @@ def traced(tracing: Tracing, expression: tuple, element: Expression) -> dict[str
 
 
 def word_of(matching: expressions.Matching) -> dict[str, object]:
+    """What a part of a target comes to."""
     return {"is": matching.word, **({"status": matching.status} if matching.status else {})}
 
 
@@ -194,10 +200,12 @@ def target_traced(tracing: Tracing, target: list, element: Target | None) -> dic
 
 
 def any_of_traced(tracing: Tracing, part: list, element: AnyOf) -> dict[str, object]:
+    """What a part of a target comes to."""
     alternatives = [all_of_traced(tracing, matches, inner) for matches, inner in zip(part, element.alternatives)]
     return {**word_of(expressions.target_value(tracing.plain, [part])), "all_of": alternatives}
 
 
 def all_of_traced(tracing: Tracing, matches: list, element: AllOf) -> dict[str, object]:
+    """What a conjunction of matches comes to."""
     held = [match_traced(tracing, match, inner) for match, inner in zip(matches, element.matches)]
     return {**word_of(expressions.target_value(tracing.plain, [[matches]])), "matches": held}

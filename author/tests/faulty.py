@@ -6,7 +6,6 @@ from the desk's own reading.
 from __future__ import annotations
 
 import json
-import random
 from collections.abc import Callable, Iterator
 from dataclasses import dataclass, field
 

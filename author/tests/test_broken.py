@@ -116,7 +116,7 @@ class Broken(unittest.TestCase):
             self.assertTrue(test_commands.all_agree(answered[:1]))
         if PROGRAM is not None:
             with mock.patch.object(test_random_decisions.ask, "row_of", lambda setting, held, moment: ["decide", *setting.fields(), "moment:0", "{}"]):
-                row, asked, body, _ = test_random_decisions.share(3, 1)[0]
+                _, asked, body, _ = test_random_decisions.share(3, 1)[0]
             self.assertNotEqual(test_random_decisions.answers([asked])[0], body)
 
 

@@ -103,7 +103,7 @@ class Commands(DeskTest):
                       "time-in-range is true", "10:00:00Z from the clock", "condition is false"):
             self.assertIn(words, " ".join(written.split()))
         self.narrow(written)
-        status, written, _ = ask(edited(REQUEST, (', \n    {"AttributeId": "urn:test:name", "Value": "alice"}' if False else ',\n    {"AttributeId": "urn:test:name", "Value": "alice"}', "")),
+        status, written, _ = ask(edited(REQUEST, (',\n    {"AttributeId": "urn:test:name", "Value": "alice"}', "")),
                                  word="explain")
         for words in ("Indeterminate{DP}", "status missing-attribute from: rule thieves, the first that is Indeterminate", "status missing-attribute from: the condition",
                       "found nowhere; the attribute is missing, and must be present"):
@@ -130,11 +130,11 @@ class Commands(DeskTest):
     def test_duties(self) -> None:
         duty = '"ObligationExpressions": [{"ObligationId": "urn:o", "FulfillOn": "Permit", "AttributeAssignmentExpression": [{"AttributeId": "urn:who", "Expression": %s}]}],\n     "Target"'
         given = duty % '{"AttributeDesignator": {"Category": "AccessSubject", "AttributeId": "urn:test:name", "DataType": "string", "MustBePresent": true}}'
-        status, written, _ = ask(REQUEST, word="explain", **{"p.json": edited(POLICY, ('"Target"', given))})
+        written = ask(REQUEST, word="explain", **{"p.json": edited(POLICY, ('"Target"', given))})[1]
         for words in ("adds the obligation urn:o (line 16)", 'urn:who = "alice"', "is returned with 1 obligations"):
             self.assertIn(words, " ".join(written.split()))
         absent = given.replace("urn:test:name", "urn:none")
-        status, written, _ = ask(REQUEST, word="explain", **{"p.json": edited(POLICY, ('"Target"', absent))})
+        written = ask(REQUEST, word="explain", **{"p.json": edited(POLICY, ('"Target"', absent))})[1]
         for words in ("the obligation urn:o has no value", "so Permit is Indeterminate{P}", "status missing-attribute from: the obligation urn:o"):
             self.assertIn(words, " ".join(written.split()))
 
@@ -242,14 +242,25 @@ class Cases(DeskTest):
         for old, new in (("17:00:00Z", "17:00:02Z"), ('"staff"},\n        "Attr', '"stuff"},\n        "Attr'), ("thief", "thieves"), ('"Permit"', '"Deny"'), ("deny-overrides", "permit-overrides")):
             with self.subTest(new):
                 files = {**FILES, "q.json": edited(POLICY, (old, new))}
-                status, written, _ = run("diff", "@p.json", "@q.json", "--random", "400", files=files)
+                written = run("diff", "@p.json", "@q.json", "--random", "400", files=files)[1]
                 self.assertFalse(written.split("\n")[-2].startswith("0 of 400 answers change"))
                 self.narrow(written)
         self.assertIn("0 of 400 answers change", run("diff", "@p.json", "@p.json", "--random", "400", files=FILES)[1])
 
 
 class Examples(DeskTest):
-    """The examples of the repository."""
+    """The examples of the repository, and what its pages show."""
+
+    def test_what_the_pages_show(self) -> None:
+        slipped = edited((TOP / "examples" / "ward" / "policy.json").read_text(encoding="utf-8"), ('"Condition"', '"Condtion"'))
+        written = run("check", "@policy.json", files={"policy.json": slipped})[1]
+        page = (TOP / "author" / "README.md").read_text(encoding="utf-8")
+        self.assertIn("".join(f"    {line}\n" for line in written.split("\n\n")[0].split("\n")), page)
+        front = (TOP / "README.md").read_text(encoding="utf-8").split("\n")
+        shown = [line[4:] for line in front[next(place for place, line in enumerate(front) if line.startswith("    $ author/policy check")):] if line.startswith("    ")]
+        self.assertEqual(shown[1:3], ["examples/ward/" + line if place == 0 else line for place, line in enumerate(written.split("\n")[:2])])
+        ran = executed(*shown[3].removeprefix("$ author/policy ").split(), *([] if PROGRAM else ["--program", "none"]))
+        self.assertEqual(ran.stdout.split("\n")[0], shown[4])
 
     def test_the_examples(self) -> None:
         program = [] if PROGRAM else ["--program", "none"]
