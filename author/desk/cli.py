@@ -5,6 +5,7 @@ import argparse
 import contextlib
 import json
 import sys
+from collections.abc import Callable
 
 from . import ask, asking, cases, diff, explain, explained, files, laid_out, lints, program, setting, text, together
 from .check import Checked, Disagreement, Rows
@@ -201,56 +202,61 @@ def add_question(parser: argparse.ArgumentParser) -> None:
     parser.add_argument("--at", metavar="TIME", help="a dateTime, as 2026-11-23T10:00:00Z, or seconds since 1970; now where it is left out")
 
 
+def add_check(parser: argparse.ArgumentParser) -> None:
+    """The options of `check`."""
+    parser.add_argument("files", nargs="+", metavar="FILE", help="policy documents, which are active together; a folder stands for its documents")
+    parser.add_argument("--rows", metavar="ROWS", help='source rows, {"Row":[..]}, checked too')
+    parser.add_argument("--root", metavar="ID", help="the id of the document where decisions begin")
+    parser.add_argument("--off", action="append", default=[], metavar="LINT", help="switches a lint off (see `policy lints`)")
+    parser.add_argument("--strict", action="store_true", help="ends with status 1 for warnings too")
+    parser.add_argument("--json", action="store_true", help="writes the remarks as JSON")
+
+
+def add_test(parser: argparse.ArgumentParser) -> None:
+    """The options of `test`."""
+    parser.add_argument("files", nargs="+", metavar="FILE", help="files of cases")
+    parser.add_argument("--junit", metavar="OUT", help="writes the results as JUnit XML too")
+    parser.add_argument("--coverage", action="store_true", help="lists rules, targets and conditions that no case reached both ways")
+
+
+def add_diff(parser: argparse.ArgumentParser) -> None:
+    """The options of `diff`."""
+    parser.add_argument("old", metavar="OLD", help="a document, or a folder of documents")
+    parser.add_argument("new", metavar="NEW", help="a document, or a folder of documents")
+    parser.add_argument("--requests", metavar="FILE", help="an array of requests, a request, or a file of cases")
+    parser.add_argument("--random", type=int, default=0, metavar="N", help="makes N requests from the values that the policies name")
+    parser.add_argument("--seed", type=int, default=1, help="another seed makes other requests")
+    parser.add_argument("--root", metavar="ID", help="the id of the document where a decision begins")
+    parser.add_argument("--rows", metavar="ROWS", help='source rows, {"Row":[..]}')
+    parser.add_argument("--at", metavar="TIME", help="the time of requests that have none of their own")
+    parser.add_argument("--strict", action="store_true", help="ends with status 1 where an answer changes")
+
+
 def parser() -> argparse.ArgumentParser:
+    """The words of the command, with their options."""
     whole = argparse.ArgumentParser(prog="policy", description="A policy author's desk: what is wrong with a policy, what it decides, and why.",
                                     epilog="Exit status: 0 fine, 1 faults or failed cases, 2 usage, 3 model and program disagree.")
     words = whole.add_subparsers(dest="word", required=True, metavar="WORD")
-    both = argparse.ArgumentParser(add_help=False)
-    both.add_argument("--program", default="", metavar="PATH", help="the program that is asked: a path, `try` for the unproved one by `rt try`, `none` for the model alone")
+    asks = argparse.ArgumentParser(add_help=False)
+    asks.add_argument("--program", default="", metavar="PATH", help="the program that is asked: a path, `try` for the unproved one by `rt try`, `none` for the model alone")
+    asks.add_argument("--build", action="store_true", help="proves and builds the program first, where it isn't built of these sources")
 
-    both.add_argument("--build", action="store_true", help="proves and builds the program first, where it isn't built of these sources")
+    def word(name: str, meaning: str, run: Callable, add: Callable | None, **more: object) -> argparse.ArgumentParser:
+        one = words.add_parser(name, parents=[asks] if add else [], help=meaning, description=meaning[0].upper() + meaning[1:] + ".")
+        if add:
+            add(one)
+        one.set_defaults(run=run, **more)
+        return one
 
-    one = words.add_parser("check", parents=[both], help="names all faults of documents, with their places")
-    one.add_argument("files", nargs="+", metavar="FILE", help="policy documents, which are active together; a folder stands for its documents")
-    one.add_argument("--rows", metavar="ROWS", help='source rows, {"Row":[..]}, checked too')
-    one.add_argument("--root", metavar="ID", help="the id of the document where decisions begin")
-    one.add_argument("--off", action="append", default=[], metavar="LINT", help="switches a lint off (see `policy lints`)")
-    one.add_argument("--strict", action="store_true", help="ends with status 1 for warnings too")
-    one.add_argument("--json", action="store_true", help="writes the remarks as JSON")
-    one.set_defaults(run=check)
-
-    one = words.add_parser("ask", parents=[both], help="decides on a request")
-    add_question(one)
+    word("check", "names all faults of documents, with their places", check, add_check)
+    one = word("ask", "decides on a request", decided, add_question, is_explained=False)
     one.add_argument("--raw", action="store_true", help="writes the body of the response alone")
-    one.set_defaults(run=decided, is_explained=False)
-
-    one = words.add_parser("explain", parents=[both], help="shows how a decision comes about")
-    add_question(one)
+    one = word("explain", "shows how a decision comes about", decided, add_question, is_explained=True)
     one.add_argument("--json", action="store_true", help="writes the explanation as JSON")
-    one.set_defaults(run=decided, is_explained=True)
-
-    one = words.add_parser("test", parents=[both], help="runs cases")
-    one.add_argument("files", nargs="+", metavar="FILE", help="files of cases")
-    one.add_argument("--junit", metavar="OUT", help="writes the results as JUnit XML too")
-    one.add_argument("--coverage", action="store_true", help="lists rules, targets and conditions that no case reached both ways")
-    one.set_defaults(run=cases_run)
-
-    one = words.add_parser("diff", parents=[both], help="shows requests whose answer changes from one set of documents to another")
-    one.add_argument("old", metavar="OLD", help="a document, or a folder of documents")
-    one.add_argument("new", metavar="NEW", help="a document, or a folder of documents")
-    one.add_argument("--requests", metavar="FILE", help="an array of requests, a request, or a file of cases")
-    one.add_argument("--random", type=int, default=0, metavar="N", help="makes N requests from the values that the policies name")
-    one.add_argument("--seed", type=int, default=1, help="another seed makes other requests")
-    one.add_argument("--root", metavar="ID", help="the id of the document where a decision begins")
-    one.add_argument("--rows", metavar="ROWS", help='source rows, {"Row":[..]}')
-    one.add_argument("--at", metavar="TIME", help="the time of requests that have none of their own")
-    one.add_argument("--strict", action="store_true", help="ends with status 1 where an answer changes")
-    one.set_defaults(run=diff_run)
-
-    one = words.add_parser("build", help="proves and builds the program, and keeps it for the other words")
-    one.set_defaults(run=lambda _: program.built())
-    one = words.add_parser("lints", help="lists the lints by their names")
-    one.set_defaults(run=lints_run)
+    word("test", "runs cases", cases_run, add_test)
+    word("diff", "shows requests whose answer changes from one set of documents to another", diff_run, add_diff)
+    word("build", "proves and builds the program, and keeps it for the other words", lambda _: program.built(), None)
+    word("lints", "lists the lints by their names", lints_run, None)
     return whole
 
 

@@ -119,7 +119,10 @@ class Explainer:
 
     def combined(self, found: dict, algorithm: str, target: expressions.Matching, children: list[policies.Evaluated]) -> None:
         """Notes what the algorithm makes of the children, which of them settle it, and where the status comes from."""
-        decision, _, _ = policies.combined(algorithm, children)
+        decision, _, evaluated = policies.combined(algorithm, children)
+        for shown, child in zip(found["children"], children):
+            if child.decision == decision and (child.obligations or child.advice) and not any(child is one for one in evaluated):
+                shown["not_gathered"] = "its obligations and advice are not gathered: the one that settled it stands before it"
         settling = settling_children(algorithm, children)
         found["combined"] = decision
         found["settled_by"] = [label(found["children"][place]) for place in settling]

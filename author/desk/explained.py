@@ -78,8 +78,9 @@ def duties_shown(part: dict, depth: int) -> list[str]:
         word = "obligation" if "obligation" in duty else "advice"
         lines.append(line(depth, f"adds the {word} {duty[word]} (line {duty['line']})"))
         lines += [line(depth + 1, text) for text in duty["assignments"]]
-    gathered = [f"{len(part[name])} {name}" for name in ("obligations", "advice") if name in part]
-    return lines + [line(depth, f"is returned with {' and '.join(gathered)}")] * bool(gathered and "children" in part)
+    gathered = [f"the {name} {', '.join(part[name])}" for name in ("obligations", "advice") if name in part]
+    lines += [line(depth, f"is returned with {' and '.join(gathered)}")] * bool(gathered and "children" in part)
+    return lines + ([line(depth, part["not_gathered"])] if "not_gathered" in part else [])
 
 
 def head(part: dict, depth: int) -> str:

@@ -99,13 +99,13 @@ def found(named: str = "") -> Program | None:
 
 
 def warning_of(path: pathlib.Path) -> str:
-    """What isn't sure about the program there: whether it was built of the sources as they are now."""
+    """What isn't sure about the program there: whether it is proved, of the sources as they are now."""
     stamp = stamp_of(path)
     if stamp.is_file():
         is_of_these = stamp.read_text(encoding="ascii").strip() == fingerprint()
     else:
-        is_of_these = path.stat().st_mtime >= max(source.stat().st_mtime for source in sources())
-    return "" if is_of_these else f"{path.relative_to(TOP)} may be of older sources: `author/policy build` proves and builds it anew."
+        is_of_these = path == PLACES[0] and path.stat().st_mtime >= max(source.stat().st_mtime for source in sources())
+    return "" if is_of_these else f"whether {path.relative_to(TOP)} is proved, and of these sources, isn't known: `author/policy build` proves and builds it."
 
 
 def is_built() -> bool:

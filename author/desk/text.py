@@ -9,6 +9,7 @@ import textwrap
 from .faults import Remark
 
 WIDTH = 80
+CONTROL = re.compile(r"\x1b(?!\[[0-9;]*m)|[\x00-\x08\x0b\x0c\x0e-\x1a\x1c-\x1f\x7f-\x9f]")
 CODES = {"bold": "1", "dim": "2", "red": "31", "green": "32", "yellow": "33", "blue": "34"}
 LEVELS = {"fault": "red", "warning": "yellow", "note": "blue"}
 DECISIONS = {"Permit": "green", "Deny": "red", "NotApplicable": "yellow", "Indeterminate": "yellow"}
@@ -27,8 +28,14 @@ def decided(decision: str) -> str:
     return painted(decision, "bold", DECISIONS.get(decision, "yellow"))
 
 
+def harmless(text: str) -> str:
+    """The text without control characters, but for white space and colours: a file's text can't steer the terminal."""
+    return CONTROL.sub(lambda found: f"\\u{ord(found.group()):04x}", text)
+
+
 def wrapped(text: str, indent: str = "", hanging: str | None = None) -> str:
     """The text in lines of at most 80 columns, behind an indent; words that are longer stand whole."""
+    text = harmless(text)
     hanging = indent if hanging is None else hanging
     return "\n".join(textwrap.wrap(text, WIDTH, initial_indent=indent, subsequent_indent=hanging, break_long_words=False, break_on_hyphens=False)) or indent.rstrip()
 
@@ -41,7 +48,7 @@ def cut(text: str, room: int) -> str:
 def broken(text: str, room: int) -> list[str]:
     """The text in pieces that fit the room, parted before slashes, or wherever it must be."""
     pieces = [""]
-    for part in re.findall(r"/?[^/]*", text):
+    for part in re.findall(r"/?[^/]*", harmless(text)):
         while len(part) > room:
             pieces, part = [*pieces, part[:room]], part[room:]
         if len(pieces[-1]) + len(part) > room:

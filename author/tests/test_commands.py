@@ -131,12 +131,25 @@ class Commands(DeskTest):
         duty = '"ObligationExpressions": [{"ObligationId": "urn:o", "FulfillOn": "Permit", "AttributeAssignmentExpression": [{"AttributeId": "urn:who", "Expression": %s}]}],\n     "Target"'
         given = duty % '{"AttributeDesignator": {"Category": "AccessSubject", "AttributeId": "urn:test:name", "DataType": "string", "MustBePresent": true}}'
         written = ask(REQUEST, word="explain", **{"p.json": edited(POLICY, ('"Target"', given))})[1]
-        for words in ("adds the obligation urn:o (line 16)", 'urn:who = "alice"', "is returned with 1 obligations"):
+        for words in ("adds the obligation urn:o (line 16)", 'urn:who = "alice"', "is returned with the obligations urn:o"):
             self.assertIn(words, " ".join(written.split()))
         absent = given.replace("urn:test:name", "urn:none")
         written = ask(REQUEST, word="explain", **{"p.json": edited(POLICY, ('"Target"', absent))})[1]
         for words in ("the obligation urn:o has no value", "so Permit is Indeterminate{P}", "status missing-attribute from: the obligation urn:o"):
             self.assertIn(words, " ".join(written.split()))
+
+    def test_duties_behind_what_settled(self) -> None:
+        given = ('"ObligationExpressions": [{"ObligationId": "urn:%s", "FulfillOn": "Deny"}],\n     "Condition"')
+        more = edited(POLICY, ('"Effect": "Permit"', '"Effect": "Deny"'), ('"Condition"', given % "a"), ('"Effect": "Deny",\n     "Condition"', '"Effect": "Deny",\n     ' + given % "b"))
+        written = " ".join(ask(edited(REQUEST, ("alice", "thief")), word="explain", **{"p.json": more})[1].split())
+        self.assertIn("is returned with the obligations urn:a", written)
+        self.assertIn("adds the obligation urn:b (line 24) its obligations and advice are not gathered", written)
+
+    def test_a_file_doesnt_steer_the_terminal(self) -> None:
+        status, written, _ = run("check", "@p.json", files={"p.json": edited(POLICY, ('"1.0"', '"\\u001b]0;title\\u0007"'))})
+        self.assertEqual(status, 1)
+        self.assertNotIn("\x1b", written)
+        self.assertIn("\\u001b]0;title\\u0007", written)
 
     def test_an_answer_takes_under_a_second(self) -> None:
         """Of processor time: what else the machine does is not the desk's."""
