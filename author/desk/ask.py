@@ -63,5 +63,6 @@ def is_explained(results: list[dict], shown: list[dict] | None) -> bool:
     """Whether an explanation comes to the decisions and statuses of the response; none belongs to a request that isn't decided at all."""
     given = [(result["Decision"], result["Status"]["StatusCode"]["Value"].rsplit(":", 1)[1]) for result in results]
     if shown is None:
-        return len(given) < 2 and all(one in (("Indeterminate", "syntax-error"), ("Indeterminate", "processing-error")) for one in given)
+        return len(given) < 2 and all(one in (("Indeterminate", "syntax-error"), ("Indeterminate", "processing-error"))
+                                      for one in given)
     return given == [plain_decision(result) for result in shown]

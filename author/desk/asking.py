@@ -41,10 +41,13 @@ class Asking:
                 continue
             meant = names.nearest(name, known)
             ask = f' Did you mean "{meant}"?' if meant else ""
-            self.remarks.warning("ignored-member", name_node(member), f'{label} has no member "{name}": it is ignored, with all inside it.{ask}', expected=listed(known),
+            self.remarks.warning("ignored-member", name_node(member),
+                                 f'{label} has no member "{name}": it is ignored, with all inside it.{ask}',
+                                 expected=listed(known),
                                  found=name, nearest=meant)
         for member in node.repeated():
-            self.remarks.warning("repeated-member", name_node(member), f'"{member.name}" stands here more than once: the last one counts.', found=member.name)
+            self.remarks.warning("repeated-member", name_node(member),
+                                 f'"{member.name}" stands here more than once: the last one counts.', found=member.name)
 
     def of_text(self, found: Node, name: str) -> str | None:
         """The text of a member, where it is there."""
@@ -60,7 +63,8 @@ class Asking:
     def needs(self, label: str, node: Node, name: str) -> bool:
         """Whether the member is there; else the fault."""
         if node.at(name) is None:
-            self.fault(node, f'{label} needs the member "{name}", which is missing.', f"the member {name}", listed(list(node.last()), "and"))
+            self.fault(node, f'{label} needs the member "{name}", which is missing.', f"the member {name}",
+                       listed(list(node.last()), "and"))
         return node.at(name) is not None
 
     def objects(self, found: Node, name: str) -> list[Node]:
@@ -136,7 +140,8 @@ class Asking:
         for item in wrong:
             self.fault(item, "A value is a text, true or false, or a whole number, or an array of one of these kinds.", "a value")
         if not wrong and len(kinds) > 1:
-            self.fault(value, "The values of an array are of one kind: texts, or booleans, or whole numbers.", "values of one kind", "values of several kinds")
+            self.fault(value, "The values of an array are of one kind: texts, or booleans, or whole numbers.",
+                       "values of one kind", "values of several kinds")
         elif not wrong and items and data_type is not None:
             for item in items:
                 self.value(data_type or KIND_TYPES[item.kind], item, node)
@@ -151,12 +156,14 @@ class Asking:
             try:
                 values.read(data_type, item.value if item.kind == "string" else str(item.value).lower())
             except values.Fault:
-                self.fault(item, f"This is no {data_type}, the type that {'DataType names' if node.at('DataType') else 'its kind has'}.", SHAPES[data_type])
+                self.fault(item,
+                           f"This is no {data_type}, the type that {'DataType names' if node.at('DataType') else 'its kind has'}.", SHAPES[data_type])
 
     def references(self, asked: Node) -> None:
         """The request references."""
         group = asked.at("MultiRequests")
-        if group is None or not self.is_kind(group, "object", "an object") or not self.needs("MultiRequests", group, "RequestReference"):
+        if group is None or not self.is_kind(group, "object",
+                                             "an object") or not self.needs("MultiRequests", group, "RequestReference"):
             return
         self.ignored("MultiRequests", group, ["RequestReference"])
         for item in self.objects(group, "RequestReference"):
@@ -166,14 +173,17 @@ class Asking:
                 for one in node.value if node.kind == "array" else [node]:
                     if self.is_kind(one, "string", "a text, or an array of texts") and one.value not in self.ids:
                         nearest = names.nearest(one.value, self.ids)
-                        self.remarks.warning("unknown-id", one, f'No category has the Id "{one.value}": this result is Indeterminate, syntax-error.', found=one.value, nearest=nearest)
+                        self.remarks.warning("unknown-id", one,
+                                             f'No category has the Id "{one.value}": this result is Indeterminate, syntax-error.',
+                                             found=one.value, nearest=nearest)
 
 
 def unknown_category(remarks: Remarks, node: Node, held: str) -> None:
     """Warns of a category that is no shorthand and no known URI."""
     nearest = names.category_nearest(held)
     ask = f' Did you mean "{nearest}"?' if nearest else ""
-    remarks.warning("unknown-category", node, f'"{held}" is no shorthand and no category of the standard: it is taken as it stands.{ask}',
+    remarks.warning("unknown-category", node,
+                    f'"{held}" is no shorthand and no category of the standard: it is taken as it stands.{ask}',
                     expected=listed(list(identifiers.SHORTHANDS)), found=held, nearest=nearest)
 
 

@@ -27,7 +27,8 @@ from .faults import Remarks
 from .positions import Node, Source
 from .program import Program
 
-OF_FILE, OF_CASE = ["Policy", "Root", "Rows", "Case"], ["Name", "Request", "At", "Decision", "Status", "Obligations", "Advice", "Results"]
+OF_FILE, OF_CASE = ["Policy", "Root", "Rows", "Case"], ["Name", "Request", "At", "Decision", "Status", "Obligations", "Advice",
+                                                        "Results"]
 OF_RESULT = ["Decision", "Status", "Obligations", "Advice"]
 DECISIONS = ["Permit", "Deny", "NotApplicable", "Indeterminate"]
 STATUSES = ["ok", "missing-attribute", "syntax-error", "processing-error"]
@@ -80,7 +81,9 @@ class CaseReader:
         for member in node.members:
             if member.name not in table:
                 nearest = names.nearest(member.name, table)
-                self.fault(member.node, f'There is no member "{member.name}" here.' + (f' Did you mean "{nearest}"?' if nearest else ""), expected=text.listed(table), nearest=nearest)
+                self.fault(member.node,
+                           f'There is no member "{member.name}" here.' + (f' Did you mean "{nearest}"?' if nearest else ""),
+                           expected=text.listed(table), nearest=nearest)
         for name in needed:
             if node.at(name) is None:
                 self.fault(node, f'The member "{name}" is missing.')
@@ -92,7 +95,9 @@ class CaseReader:
             return None
         if node.kind != "string" or known is not None and node.value not in known:
             nearest = names.nearest(str(node.value), known or [])
-            self.fault(node, f"Here stands {text.listed(known) if known else 'a text'}." + (f" Did you mean {nearest}?" if nearest else ""), nearest=nearest)
+            self.fault(node,
+                       f"Here stands {text.listed(known) if known else 'a text'}."
+                       + (f" Did you mean {nearest}?" if nearest else ""), nearest=nearest)
             return None
         return node.value
 
@@ -103,7 +108,8 @@ class CaseReader:
             return None
         held = self.setting(node)
         found = [self.case(item, number) for number, item in enumerate(self.items(node.at("Case")), 1)]
-        return None if self.remarks.faults() or held is None else Suite(self.path, held, [case for case in found if case is not None])
+        return None if self.remarks.faults() or held is None else Suite(self.path, held,
+                                                                        [case for case in found if case is not None])
 
     def items(self, node: Node | None) -> list[Node]:
         """The items of an array."""
@@ -120,7 +126,8 @@ class CaseReader:
         rows = self.rows(node.at("Rows"))
         for remarks in [one.remarks for one in documents] + ([rows.remarks] if rows else []):
             self.remarks.found += remarks.faults()
-        return None if self.remarks.faults() else setting.Setting(documents, setting.root_of(self.text(node.at("Root")), documents), rows)
+        return None if self.remarks.faults() else setting.Setting(documents,
+                                                                  setting.root_of(self.text(node.at("Root")), documents), rows)
 
     def rows(self, node: Node | None) -> Rows | None:
         """The source rows, which stand here or in a file."""
@@ -135,7 +142,8 @@ class CaseReader:
         """A case."""
         if not self.known(node, OF_CASE, ["Request"] + ["Decision"] * (node.kind == "object" and node.at("Results") is None)):
             return None
-        expected = [self.result(item) for item in self.items(node.at("Results"))] if node.at("Results") is not None else [self.result(node, OF_CASE)]
+        expected = [self.result(item)
+                    for item in self.items(node.at("Results"))] if node.at("Results") is not None else [self.result(node, OF_CASE)]
         at = self.text(node.at("At"))
         try:
             moment = 0 if at is None else setting.moment_of(at)
@@ -178,7 +186,8 @@ def duty_of(given: dict, wanted: dict) -> dict:
         held: dict[str, list] = {}
         for one in given.get("AttributeAssignment", []):
             held.setdefault(one["AttributeId"], []).append(one["Value"])
-        found["Assignments"] = {name: several if isinstance(wanted["Assignments"].get(name), list) or len(several) > 1 else several[0] for name, several in held.items()}
+        found["Assignments"] = {name: several if isinstance(wanted["Assignments"].get(name), list)
+                                or len(several) > 1 else several[0] for name, several in held.items()}
     return found
 
 
@@ -202,7 +211,8 @@ def differences(expected: dict, given: dict) -> list[str]:
 
 def shown(duties: list[dict]) -> str:
     """Obligations, or advice, as a case has them."""
-    held = [duty["Id"] if "Assignments" not in duty else f"{duty['Id']} {json.dumps(duty['Assignments'], ensure_ascii=False)}" for duty in duties]
+    held = [duty["Id"] if "Assignments" not in duty else f"{duty['Id']} {json.dumps(duty['Assignments'], ensure_ascii=False)}"
+            for duty in duties]
     return ", ".join(held) or "none"
 
 
@@ -212,7 +222,8 @@ def outcome(case: Case, answer: ask.Answer, explained: list[dict] | None) -> Out
         return Outcome(case, [f"the request is refused: {answer.body[1:]}"])
     results = answer.results()
     if len(results) != len(case.expected):
-        return Outcome(case, [f"expected {text.counted(len(case.expected), 'result')}, found {len(results)}: {', '.join(result['Decision'] for result in results)}"])
+        return Outcome(case,
+                       [f"expected {text.counted(len(case.expected), 'result')}, found {len(results)}: {', '.join(result['Decision'] for result in results)}"])
     failures, because = [], ""
     for number, (expected, given) in enumerate(zip(case.expected, results)):
         differ = differences(expected, given)
@@ -254,11 +265,15 @@ def junit(suites: list[Suite]) -> bytes:
     whole = xml.Element("testsuites")
     for suite in suites:
         failed = sum(bool(one.failures) for one in suite.outcomes)
-        held = xml.SubElement(whole, "testsuite", name=suite.path, tests=str(len(suite.outcomes)), failures=str(failed), errors="0")
+        held = xml.SubElement(whole, "testsuite", name=suite.path, tests=str(len(suite.outcomes)), failures=str(failed),
+                              errors="0")
         for one in suite.outcomes:
-            case = xml.SubElement(held, "testcase", classname=suite.path, name=one.case.name, file=suite.path, line=str(one.case.node.place.line))
+            case = xml.SubElement(held, "testcase", classname=suite.path, name=one.case.name, file=suite.path,
+                                  line=str(one.case.node.place.line))
             if one.failures:
-                xml.SubElement(case, "failure", message=one.failures[0]).text = "\n".join([*one.failures, *([f"because: {one.because}"] if one.because else [])])
+                xml.SubElement(case, "failure",
+                               message=one.failures[0]).text = "\n".join([*one.failures,
+                                                                          *([f"because: {one.because}"] if one.because else [])])
     xml.indent(whole)
     return xml.tostring(whole, encoding="utf-8", xml_declaration=True) + b"\n"
 
@@ -290,5 +305,6 @@ def run(paths: list[str], program: Program | None, junit_path: str | None, wants
         print("\n" + reached.shown())
     outcomes = [one for suite in suites for one in suite.outcomes]
     failed = sum(bool(one.failures) for one in outcomes)
-    print(f"\n{text.counted(len(outcomes), 'case')}: {len(outcomes) - failed} ok, {failed} failed, by " + ("the model alone" if program is None else "model and program"))
+    print(f"\n{text.counted(len(outcomes), 'case')}: {len(outcomes) - failed} ok, {failed} failed, by "
+          + ("the model alone" if program is None else "model and program"))
     return 3 if not agree else 1 if failed or has_faults else 0

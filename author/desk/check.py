@@ -42,7 +42,8 @@ def too_large(source: Source, remarks: Remarks) -> None:
     if len(source.held) > documents.MAX_BYTES:
         start = len(source.held[:documents.MAX_BYTES].decode("utf-8", "ignore"))
         node = Node(source, "", "string", start, start + 1)
-        remarks.fault("TooLarge", node, f"A document has at most {documents.MAX_BYTES} bytes, white space and line breaks counted.",
+        remarks.fault("TooLarge", node,
+                      f"A document has at most {documents.MAX_BYTES} bytes, white space and line breaks counted.",
                       expected=f"at most {documents.MAX_BYTES} bytes", found=f"{len(source.held)} bytes")
 
 
@@ -100,7 +101,8 @@ class RowShapes(Shapes):
         found = self.members("SourceRow", node)
         if found is None:
             return None
-        held = self.optional(self.category, found, "Category"), self.optional(self.text, found, "Entity"), self.optional(self.text, found, "AttributeId")
+        held = self.optional(self.category, found, "Category"), self.optional(self.text, found,
+                                                                              "Entity"), self.optional(self.text, found, "AttributeId")
         return SourceRow(node, found.get("Category"), *held, self.typed(node, found))
 
     def rows(self, node: Node) -> list[SourceRow | None]:

@@ -55,7 +55,8 @@ def check_pairs(documents: list[Checked], rows: Rows | None, found: program.Prog
     if rows is not None:
         asked.append(["rows", model_rows.encoded(rows.source.held)])
         wanted.append((rows.source.path, f"!{rows.code}" if rows.code else "taken"))
-    return [(name, by_model, fields[0] if fields[0].startswith("!") else "taken") for (name, by_model), fields in zip(wanted, found.answers(asked))]
+    return [(name, by_model, fields[0] if fields[0].startswith("!") else "taken") for (name, by_model),
+            fields in zip(wanted, found.answers(asked))]
 
 
 def checked_together(options: argparse.Namespace) -> tuple[list[Checked], Rows | None]:
@@ -95,9 +96,12 @@ def print_summary(documents: list[Checked], rows: Rows | None, every: list[Remar
         verdict = text.painted("taken", "green") if one.is_sound else text.painted(f"refused, {one.code}", "red")
         print(text.wrapped(f"{one.source.path}: {named}", "", "    ") + f": {verdict}")
     if rows is not None:
-        print(f"{rows.source.path}: {text.counted(len(rows.rows), 'row')}: " + (f"refused, {rows.code}" if rows.code else "taken"))
+        print(f"{rows.source.path}: {text.counted(len(rows.rows), 'row')}: "
+              + (f"refused, {rows.code}" if rows.code else "taken"))
     counts = [text.counted(sum(remark.level == level for remark in every), level) for level in ("fault", "warning", "note")]
-    print(", ".join(counts) + ("; the proved program says the same." if found and not found.warning else "." if found is None else "; the program says the same."))
+    print(", ".join(counts)
+          + ("; the proved program says the same." if found and not found.warning else "."
+             if found is None else "; the program says the same."))
 
 
 # ask and explain
@@ -168,14 +172,17 @@ def print_asked(options: argparse.Namespace, answer: ask.Answer, moment: int, re
         print(f'400 Bad Request: {{"Error":"{answer.body[1:]}"}}')
         return
     print(laid_out.shown(answer.results()))
-    print(f"\nat {setting.moment_shown(moment)}, by " + ("the model alone" if answer.by_program is None else "model and program") + "; the server writes:")
+    print(f"\nat {setting.moment_shown(moment)}, by " + ("the model alone" if answer.by_program is None else "model and program")
+          + "; the server writes:")
     print(answer.body)
 
 
-def print_explained(options: argparse.Namespace, answer: ask.Answer, shown: list[dict] | None, moment: int, remarks: list[Remark]) -> None:
+def print_explained(options: argparse.Namespace, answer: ask.Answer, shown: list[dict] | None, moment: int,
+                    remarks: list[Remark]) -> None:
     """The explanation, as text or as JSON."""
     if options.json:
-        held = {"at": setting.moment_shown(moment), "by": "model" if answer.by_program is None else "model and program", "remarks": [remark.as_json() for remark in remarks],
+        held = {"at": setting.moment_shown(moment), "by": "model" if answer.by_program is None else "model and program",
+                "remarks": [remark.as_json() for remark in remarks],
                 "response": None if answer.is_refused else json.loads(answer.body), "results": shown}
         print(json.dumps(held, indent=2, ensure_ascii=False))
         return
@@ -187,7 +194,8 @@ def print_explained(options: argparse.Namespace, answer: ask.Answer, shown: list
         print("    because: the request as a whole isn't decided: it is no request of the profile, asks for a combined decision, or for more than 64")
     else:
         print(explained.shown(shown))
-        print(f"\nat {setting.moment_shown(moment)}, by " + ("the model alone" if answer.by_program is None else "model and program"))
+        print(f"\nat {setting.moment_shown(moment)}, by "
+              + ("the model alone" if answer.by_program is None else "model and program"))
 
 
 # The command's words.
@@ -195,16 +203,20 @@ def print_explained(options: argparse.Namespace, answer: ask.Answer, shown: list
 
 def add_question(parser: argparse.ArgumentParser) -> None:
     """The options of `ask` and `explain`."""
-    parser.add_argument("--policy", nargs="+", required=True, metavar="FILE", help="policy documents, all active; a folder stands for its documents")
-    parser.add_argument("--root", metavar="ID", help="the id of the document where a decision begins; may be left out where there is one document")
+    parser.add_argument("--policy", nargs="+", required=True, metavar="FILE",
+                        help="policy documents, all active; a folder stands for its documents")
+    parser.add_argument("--root", metavar="ID",
+                        help="the id of the document where a decision begins; may be left out where there is one document")
     parser.add_argument("--rows", metavar="ROWS", help='source rows, {"Row":[..]}')
     parser.add_argument("--request", required=True, metavar="REQUEST", help='the request, {"Request":{..}}; - for standard input')
-    parser.add_argument("--at", metavar="TIME", help="a dateTime, as 2026-11-23T10:00:00Z, or seconds since 1970; now where it is left out")
+    parser.add_argument("--at", metavar="TIME",
+                        help="a dateTime, as 2026-11-23T10:00:00Z, or seconds since 1970; now where it is left out")
 
 
 def add_check(parser: argparse.ArgumentParser) -> None:
     """The options of `check`."""
-    parser.add_argument("files", nargs="+", metavar="FILE", help="policy documents, which are active together; a folder stands for its documents")
+    parser.add_argument("files", nargs="+", metavar="FILE",
+                        help="policy documents, which are active together; a folder stands for its documents")
     parser.add_argument("--rows", metavar="ROWS", help='source rows, {"Row":[..]}, checked too')
     parser.add_argument("--root", metavar="ID", help="the id of the document where decisions begin")
     parser.add_argument("--off", action="append", default=[], metavar="LINT", help="switches a lint off (see `policy lints`)")
@@ -216,7 +228,8 @@ def add_test(parser: argparse.ArgumentParser) -> None:
     """The options of `test`."""
     parser.add_argument("files", nargs="+", metavar="FILE", help="files of cases")
     parser.add_argument("--junit", metavar="OUT", help="writes the results as JUnit XML too")
-    parser.add_argument("--coverage", action="store_true", help="lists rules, targets and conditions that no case reached both ways")
+    parser.add_argument("--coverage", action="store_true",
+                        help="lists rules, targets and conditions that no case reached both ways")
 
 
 def add_diff(parser: argparse.ArgumentParser) -> None:
@@ -224,7 +237,8 @@ def add_diff(parser: argparse.ArgumentParser) -> None:
     parser.add_argument("old", metavar="OLD", help="a document, or a folder of documents")
     parser.add_argument("new", metavar="NEW", help="a document, or a folder of documents")
     parser.add_argument("--requests", metavar="FILE", help="an array of requests, a request, or a file of cases")
-    parser.add_argument("--random", type=int, default=0, metavar="N", help="makes N requests from the values that the policies name")
+    parser.add_argument("--random", type=int, default=0, metavar="N",
+                        help="makes N requests from the values that the policies name")
     parser.add_argument("--seed", type=int, default=1, help="another seed makes other requests")
     parser.add_argument("--root", metavar="ID", help="the id of the document where a decision begins")
     parser.add_argument("--rows", metavar="ROWS", help='source rows, {"Row":[..]}')
@@ -234,15 +248,19 @@ def add_diff(parser: argparse.ArgumentParser) -> None:
 
 def parser() -> argparse.ArgumentParser:
     """The words of the command, with their options."""
-    whole = argparse.ArgumentParser(prog="policy", description="A policy author's desk: what is wrong with a policy, what it decides, and why.",
+    whole = argparse.ArgumentParser(prog="policy",
+                                    description="A policy author's desk: what is wrong with a policy, what it decides, and why.",
                                     epilog="Exit status: 0 fine, 1 faults or failed cases, 2 usage, 3 model and program disagree.")
     words = whole.add_subparsers(dest="word", required=True, metavar="WORD")
     asks = argparse.ArgumentParser(add_help=False)
-    asks.add_argument("--program", default="", metavar="PATH", help="the program that is asked: a path, `try` for the unproved one by `rt try`, `none` for the model alone")
-    asks.add_argument("--build", action="store_true", help="proves and builds the program first, where it isn't built of these sources")
+    asks.add_argument("--program", default="", metavar="PATH",
+                      help="the program that is asked: a path, `try` for the unproved one by `rt try`, `none` for the model alone")
+    asks.add_argument("--build", action="store_true",
+                      help="proves and builds the program first, where it isn't built of these sources")
 
     def word(name: str, meaning: str, run: Callable, add: Callable | None, **more: object) -> argparse.ArgumentParser:
-        one = words.add_parser(name, parents=[asks] if add else [], help=meaning, description=meaning[0].upper() + meaning[1:] + ".")
+        one = words.add_parser(name, parents=[asks] if add else [], help=meaning,
+                               description=meaning[0].upper() + meaning[1:] + ".")
         if add:
             add(one)
         one.set_defaults(run=run, **more)

@@ -21,7 +21,8 @@ def verb(match: Match) -> str:
 
 def is_whole(match: Match | None) -> bool:
     """Whether all of the match could be read."""
-    return (match is not None and match.function in functions.FUNCTIONS and match.literal is not None and match.literal.value is not None
+    return (match is not None and match.function in functions.FUNCTIONS and match.literal is not None
+            and match.literal.value is not None
             and match.designator is not None and match.designator.data_type is not None)
 
 
@@ -61,7 +62,8 @@ def contradiction(matches: list[Match]) -> tuple[Match, Match] | None:
     for first in matches:
         same = [match for match in matches if match.designator.same_attribute(first.designator)]
         if verb(first) == "equal":
-            other = next((match for match in same if match.literal.data_type is not None and not holds(match, first.literal.value)), None)
+            other = next((match for match in same if match.literal.data_type is not None
+                          and not holds(match, first.literal.value)), None)
             if other is not None:
                 return first, other
         found = empty_range(same)
@@ -72,7 +74,8 @@ def contradiction(matches: list[Match]) -> tuple[Match, Match] | None:
 
 def ways(targets: list[Target]) -> list[list[Match]] | None:
     """The ways in which all the targets match: of each the matches; None where there are very many."""
-    parts = [[[match for match in alternative.matches if is_whole(match)] for alternative in part.alternatives if alternative is not None]
+    parts = [[[match for match in alternative.matches if is_whole(match)] for alternative in part.alternatives
+              if alternative is not None]
              for target in targets for part in target.parts if part is not None]
     count = 1
     for part in parts:
@@ -115,13 +118,15 @@ class TargetLints:
         own = ways([held])
         pairs = [contradiction(way) for way in own or []]
         if own and all(pairs):
-            self.warn(held.node, f"This target can't match while {attribute_of(pairs[0])} has one value: {said(pairs[0][0])} and {said(pairs[0][1])} contradict each other.")
+            self.warn(held.node,
+                      f"This target can't match while {attribute_of(pairs[0])} has one value: {said(pairs[0][0])} and {said(pairs[0][1])} contradict each other.")
             return
         both = ways([*around, held]) if around else None
         pairs = [contradiction(way) for way in both or []]
         if both and all(pairs):
             lines = " and ".join(str(target.node.place.line) for target in around)
-            self.warn(held.node, f"Inside the target of line {lines} this one can't match while {attribute_of(pairs[0])} has one value: {said(pairs[0][0])} and {said(pairs[0][1])} contradict "
+            self.warn(held.node,
+                      f"Inside the target of line {lines} this one can't match while {attribute_of(pairs[0])} has one value: {said(pairs[0][0])} and {said(pairs[0][1])} contradict "
                                  "each other.")
 
     def alternative(self, held: AllOf) -> bool:
@@ -129,11 +134,13 @@ class TargetLints:
         matches = [match for match in held.matches if is_whole(match)]
         hopeless = next((match for match in matches if is_hopeless(match)), None)
         if hopeless is not None:
-            self.warn(hopeless.node, f"Nothing passes {said(hopeless)}: the literal is the first argument, and the attribute's value the second.")
+            self.warn(hopeless.node,
+                      f"Nothing passes {said(hopeless)}: the literal is the first argument, and the attribute's value the second.")
             return True
         found = contradiction(matches)
         if found:
-            self.warn(held.node, f"This can't match while {attribute_of(found)} has one value: {said(found[0])} and {said(found[1])} contradict each other.")
+            self.warn(held.node,
+                      f"This can't match while {attribute_of(found)} has one value: {said(found[0])} and {said(found[1])} contradict each other.")
         return found is not None
 
 

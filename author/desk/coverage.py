@@ -84,6 +84,7 @@ class Coverage:
             missing = [words for words, way in zip(BOTH[point.kind], (True, False)) if way not in ways]
             if missing:
                 what = f"rule {point.name}" if point.kind == "rule" else f"{point.kind} of {point.name}"
-                lines.append(wrapped(f"{point.file}:{point.line}: {what}: no case where it {' or where it '.join(missing)}", "", "    "))
+                lines.append(wrapped(f"{point.file}:{point.line}: {what}: no case where it {' or where it '.join(missing)}", "",
+                                     "    "))
         covered = sum(len(ways) == 2 for ways in self.points.values())
         return "\n".join([*lines, f"{covered} of {len(self.points)} rules, targets and conditions reached both ways"])

@@ -66,7 +66,8 @@ def because(explained: list[dict] | None) -> list[str]:
 def chain(part: dict) -> list[str]:
     """The reasons from the tree's top to the part that settled it."""
     found = [part.get("because", "")]
-    settling = [child for child in part.get("children", []) if f"{child['element']} {child['id']}" in " ".join(part.get("settled_by", []))]
+    settling = [child for child in part.get("children", [])
+                if f"{child['element']} {child['id']}" in " ".join(part.get("settled_by", []))]
     return found + chain(settling[0]) if settling else found
 
 
@@ -77,8 +78,10 @@ def in_words(answer: ask.Answer) -> str:
     found = []
     for result in answer.results():
         status = names.short(result["Status"]["StatusCode"]["Value"])
-        duties = [f"{word} {', '.join(duty['Id'] for duty in result[member])}" for word, member in (("obligations", "Obligations"), ("advice", "AssociatedAdvice")) if member in result]
-        found.append(result["Decision"] + (f" ({status})" if status != "ok" else "") + (f" with {' and '.join(duties)}" if duties else ""))
+        duties = [f"{word} {', '.join(duty['Id'] for duty in result[member])}" for word,
+                  member in (("obligations", "Obligations"), ("advice", "AssociatedAdvice")) if member in result]
+        found.append(result["Decision"] + (f" ({status})" if status != "ok" else "")
+                     + (f" with {' and '.join(duties)}" if duties else ""))
     return "; ".join(found)
 
 
@@ -111,7 +114,8 @@ def run(old: setting.Setting, new: setting.Setting, options: argparse.Namespace,
         print_change(asked[place], old, new, before[place], after[place])
     if len(changed) > MOST_SHOWN:
         print(f"and {len(changed) - MOST_SHOWN} more\n")
-    print(f"{len(changed)} of {text.counted(len(asked), 'answer')} change, by " + ("the model alone" if program is None else "model and program"))
+    print(f"{len(changed)} of {text.counted(len(asked), 'answer')} change, by "
+          + ("the model alone" if program is None else "model and program"))
     disagreeing = [asked[place].name for place in range(len(asked)) if not (before[place].agrees and after[place].agrees)]
     if disagreeing:
         text.loud(f"MODEL AND PROGRAM DISAGREE on {text.listed(disagreeing[:5], 'and')}. One of them is wrong: please report this with the files.")

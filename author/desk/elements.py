@@ -18,7 +18,8 @@ class Designator:
     issuer: str | None
 
     def same_attribute(self, other: Designator) -> bool:
-        return (self.category, self.attribute_id, self.data_type, self.issuer) == (other.category, other.attribute_id, other.data_type, other.issuer)
+        return (self.category, self.attribute_id, self.data_type,
+                self.issuer) == (other.category, other.attribute_id, other.data_type, other.issuer)
 
 
 @dataclass

@@ -39,13 +39,15 @@ class Explainer:
     def __init__(self, setting: Setting, objects: list, moment: int):
         self.setting, self.context = setting, Origins(objects, setting.source_rows(), moment)
 
-    def tree(self, tree: policies.Tree, reference: Reference | None = None, path: tuple = ()) -> tuple[dict[str, object], policies.Evaluated]:
+    def tree(self, tree: policies.Tree, reference: Reference | None = None,
+             path: tuple = ()) -> tuple[dict[str, object], policies.Evaluated]:
         """What a tree comes to, and how."""
         if tree == policies.LEAF:
             evaluated = policies.tree_value(self.context.values_of, tree)
             return {"element": "reference", **self.leaf(reference, path), **verdict(evaluated)}, evaluated
         document, element = tree.document, self.setting.placed[id(tree.document)]
-        found = {"element": KIND_NAMES[element.kind], "id": element.id, "version": element.version, "file": element.node.source.path,
+        found = {"element": KIND_NAMES[element.kind], "id": element.id, "version": element.version,
+                 "file": element.node.source.path,
                  "line": element.node.place.line, "pointer": element.node.pointer, "algorithm": document.algorithm}
         if reference is not None:
             found["referred_to_by"] = reference_shown(reference)
@@ -69,23 +71,27 @@ class Explainer:
         for (_, expression), variable in zip(document.variables, element.variables):
             tracing.pair(expression, variable.expression)
 
-    def children(self, tree: policies.Tree, element: Document, tracing: Tracing, path: tuple) -> tuple[list[dict], list[policies.Evaluated]]:
+    def children(self, tree: policies.Tree, element: Document, tracing: Tracing,
+                 path: tuple) -> tuple[list[dict], list[policies.Evaluated]]:
         """What the children come to: rules, or trees."""
         if tree.document.form == "Policy":
             pairs = [self.rule(tracing, rule, inner) for rule, inner in zip(tree.document.children, element.children)]
         else:
-            pairs = [self.tree(child, inner if isinstance(inner, Reference) else None, path) for child, inner in zip(tree.children, element.children)]
+            pairs = [self.tree(child, inner if isinstance(inner, Reference) else None, path) for child,
+                     inner in zip(tree.children, element.children)]
         return [shown for shown, _ in pairs], [evaluated for _, evaluated in pairs]
 
     def leaf(self, reference: Reference | None, path: tuple) -> dict[str, object]:
         """A reference for which there is no document, and why."""
         root = self.setting.root
         held = reference.reference if reference is not None else root
-        found = {"id": held.id} if reference is None else {"id": held.id, "file": reference.node.source.path, "line": reference.node.place.line}
+        found = {"id": held.id} if reference is None else {"id": held.id, "file": reference.node.source.path,
+                                                           "line": reference.node.place.line}
         active = [one[:3] for one in self.setting.active]
         place = versions.resolved(held, active)
         if place is None:
-            return {**found, "because": "it leads nowhere: " + no_document(held, [one.document for one in self.setting.documents])[0]}
+            return {**found,
+                    "because": "it leads nowhere: " + no_document(held, [one.document for one in self.setting.documents])[0]}
         kind, name, version = active[place]
         if (kind, name, ".".join(map(str, version))) in path:
             return {**found, "because": f"it is circular: {name} is on the way here already"}
@@ -94,14 +100,17 @@ class Explainer:
     def rule(self, tracing: Tracing, rule, element: Rule) -> tuple[dict[str, object], policies.Evaluated]:
         """What a rule comes to, and how."""
         evaluated = policies.rule_value(tracing.plain, rule)
-        found = {"element": "rule", "id": element.id, "effect": rule.effect, "file": element.node.source.path, "line": element.node.place.line,
+        found = {"element": "rule", "id": element.id, "effect": rule.effect, "file": element.node.source.path,
+                 "line": element.node.place.line,
                  "pointer": element.node.pointer, "target": target_traced(tracing, rule.target, element.target)}
         word = found["target"]["is"]
         if word == "NoMatch":
             return {**found, **verdict(evaluated), "because": "the target doesn't match"}, evaluated
         if word == "Indeterminate":
-            return {**found, **verdict(evaluated), "because": "the target is Indeterminate", "status_from": "the target"}, evaluated
-        return {**found, **self.behind_target(tracing, rule, element, evaluated), **verdict(evaluated), **self.gathered(evaluated)}, evaluated
+            return {**found, **verdict(evaluated), "because": "the target is Indeterminate",
+                    "status_from": "the target"}, evaluated
+        return {**found, **self.behind_target(tracing, rule, element, evaluated), **verdict(evaluated),
+                **self.gathered(evaluated)}, evaluated
 
     def behind_target(self, tracing: Tracing, rule, element: Rule, evaluated: policies.Evaluated) -> dict[str, object]:
         """The condition and the duties of a rule whose target matches."""
@@ -109,7 +118,8 @@ class Explainer:
         if rule.condition is not None:
             found["condition"] = traced(tracing, rule.condition, element.condition)
             if "fault" in found["condition"]:
-                return {**found, "because": f"the condition has no value: {found['condition']['fault']}", "status_from": "the condition"}
+                return {**found, "because": f"the condition has no value: {found['condition']['fault']}",
+                        "status_from": "the condition"}
             if found["condition"]["value"] == "false":
                 return {**found, "because": "the condition is false"}
         reason = "the condition is true" if rule.condition is not None else "there is no condition"
@@ -153,7 +163,9 @@ class Explainer:
             word = "obligation" if element.is_obligation else "advice"
             try:
                 given = policies.returned(tracing.plain, [duty], decision)[0]
-                found.setdefault("own_duties", []).append({word: duty.id, "line": element.node.place.line, "assignments": assignments_shown(given.assignments)})
+                found.setdefault("own_duties",
+                                 []).append({word: duty.id, "line": element.node.place.line,
+                                             "assignments": assignments_shown(given.assignments)})
             except values.Fault as fault:
                 found["because"] += f"; but the {word} {duty.id} has no value ({fault_shown(fault)}), so {decision} is {decision_shown(policies.INDETERMINATE[decision])}"
                 found["status_from"] = f"the {word} {duty.id} in line {element.node.place.line}"
@@ -181,7 +193,8 @@ def settling_children(algorithm: str, children: list[policies.Evaluated]) -> lis
         return policies.combined(algorithm, [children[place] for place in places])[0]
 
     wanted = decides(list(range(len(children))))
-    places = [next(place for place in range(len(children)) if children[place][:2] == child[:2] and words(children[place]) == words(child)) for child in children]
+    places = [next(place for place in range(len(children)) if children[place][:2] == child[:2]
+                   and words(children[place]) == words(child)) for child in children]
     kept = list(dict.fromkeys(places)) if algorithm != "only-one-applicable" else list(range(len(children)))
     for place in sorted(kept, reverse=True):
         fewer = [other for other in kept if other != place]
@@ -200,9 +213,11 @@ def because(algorithm: str, decision: str, settling: list[dict], children: list[
     if not children:
         return f"{algorithm}: there are no children"
     if not settling:
-        none = "none of them applies" if all(child.decision == "NotApplicable" for child in children) else f"none of them changes {decision_shown(decision)}"
+        none = "none of them applies" if all(child.decision == "NotApplicable"
+                                             for child in children) else f"none of them changes {decision_shown(decision)}"
         return f"{algorithm} ({rule}): {none}"
-    found = " and ".join(f"{label(one)} is {one['decision']}" for one in settling[:3]) + (" and more" if len(settling) > 3 else "")
+    found = " and ".join(f"{label(one)} is {one['decision']}"
+                         for one in settling[:3]) + (" and more" if len(settling) > 3 else "")
     return f"{algorithm} ({rule}): {found}"
 
 
@@ -225,7 +240,8 @@ def told(found: list, places: list[int]) -> str:
     """The ids by which an individual request differs from others."""
     shown = []
     for place in places:
-        named = [value_shown(attribute.values[0]) for attribute in found[place].attributes if attribute.id.endswith(("subject-id", "resource-id", "action-id")) and attribute.values]
+        named = [value_shown(attribute.values[0]) for attribute in found[place].attributes
+                 if attribute.id.endswith(("subject-id", "resource-id", "action-id")) and attribute.values]
         if named:
             shown.append(f"{names.category_shown(found[place].category)} {named[0]}")
     return ", ".join(shown)
@@ -239,11 +255,13 @@ def explained(setting: Setting, held: bytes, moment: int) -> list[dict[str, obje
     for objects, name in asked:
         result: dict[str, object] = {"individual": name} if name else {}
         if objects is None:
-            result.update(decision="Indeterminate", status="syntax-error", because="a request reference names an Id that isn't there, or two categories alike")
+            result.update(decision="Indeterminate", status="syntax-error",
+                          because="a request reference names an Id that isn't there, or two categories alike")
         elif setting.root is None:
             result.update(decision="NotApplicable", status="ok", because="there is no root")
         elif tree is None:
-            result.update(decision="Indeterminate{DP}", status="processing-error", because=f"the tree has more than {linking.MOST_IN_A_TREE} policies and sets")
+            result.update(decision="Indeterminate{DP}", status="processing-error",
+                          because=f"the tree has more than {linking.MOST_IN_A_TREE} policies and sets")
         else:
             shown, evaluated = Explainer(setting, objects, moment).tree(tree)
             result.update(verdict(evaluated), tree=shown)

@@ -68,7 +68,8 @@ def step_shown(step: dict, depth: int) -> list[str]:
     found = f"has no value: {step['fault']}" if "fault" in step else f"is {step['value']}"
     if not step.get("steps") and step.get("value") == step["expression"]:
         return [line(depth, step["value"])]
-    return [line(depth, f"{step['expression']} {found}")] + [text for inner in step.get("steps", []) for text in step_shown(inner, depth + 1)]
+    return [line(depth, f"{step['expression']} {found}")] + [text for inner in step.get("steps", [])
+                                                             for text in step_shown(inner, depth + 1)]
 
 
 def duties_shown(part: dict, depth: int) -> list[str]:

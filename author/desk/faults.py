@@ -35,8 +35,10 @@ class Remark:
 
     def as_json(self) -> dict[str, object]:
         """The remark as JSON has it."""
-        held = {"level": self.level, "code": self.code, "file": self.source.path, "line": self.place.line, "column": self.place.column,
-                "pointer": self.pointer, "text": self.text, "expected": self.expected, "found": self.found, "nearest": self.nearest,
+        held = {"level": self.level, "code": self.code, "file": self.source.path, "line": self.place.line,
+                "column": self.place.column,
+                "pointer": self.pointer, "text": self.text, "expected": self.expected, "found": self.found,
+                "nearest": self.nearest,
                 "sentence": self.sentence, "answered": self.is_first}
         return {name: value for name, value in held.items() if value not in ("", False)}
 
@@ -52,7 +54,8 @@ class Remarks:
 
     def slip(self, source: Source, slip: Slip) -> None:
         """Says that the text is no JSON at a place."""
-        self.found.append(Remark("fault", "NotJson", source, slip.start, slip.end, slip.pointer, slip.advice, slip.expected, slip.found))
+        self.found.append(Remark("fault", "NotJson", source, slip.start, slip.end, slip.pointer, slip.advice, slip.expected,
+                                 slip.found))
 
     def warning(self, name: str, node: Node, sentence: str, **more: str) -> None:
         """Warns of a value, under a name."""

@@ -25,7 +25,8 @@ def takes_shown(takes: list[str]) -> str:
     """`a string and a bag of string`, `two or more integers`."""
     if takes and takes[-1].endswith("*"):
         rest = takes[:-1]
-        return (listed([names.kind_shown(kind) for kind in rest], "and") + " and " if rest else "") + f"any number of {takes[-1].rstrip('*')}"
+        return (listed([names.kind_shown(kind) for kind in rest], "and") + " and "
+                if rest else "") + f"any number of {takes[-1].rstrip('*')}"
     return listed([names.kind_shown(kind) for kind in takes], "and")
 
 
@@ -87,7 +88,8 @@ class Kinds:
         if held.form == "variable":
             return self.variable(held)
         if held.form == "function":
-            self.ill_typed("WrongType", held.node, "A Function stands only first in an Apply of any-of, all-of, any-of-any, map, all-of-any or all-of-all.",
+            self.ill_typed("WrongType", held.node,
+                           "A Function stands only first in an Apply of any-of, all-of, any-of-any, map, all-of-any or all-of-all.",
                            expected="a value or a bag", found="a Function")
             return None
         return self.apply(held, depth)
@@ -95,7 +97,8 @@ class Kinds:
     def is_too_deep(self, held: Expression, depth: int) -> bool:
         """Whether the expression stands inside too many; it is remarked."""
         if depth > expressions.MAX_DEPTH:
-            self.ill_typed("TooDeep", held.node, f"At most {expressions.MAX_DEPTH} expressions stand inside one another: give a part a name by a VariableDefinition.",
+            self.ill_typed("TooDeep", held.node,
+                           f"At most {expressions.MAX_DEPTH} expressions stand inside one another: give a part a name by a VariableDefinition.",
                            expected=f"at most {expressions.MAX_DEPTH}", found=f"the {depth}th")
         return depth > expressions.MAX_DEPTH
 
@@ -108,7 +111,9 @@ class Kinds:
             sentence = f'The variable "{held.name}" is defined only in line {self.later[held.name]}: a definition may refer to those before it alone.'
         else:
             sentence = f'No variable "{held.name}" is defined in this policy.' + (f' Did you mean "{nearest}"?' if nearest else "")
-        self.ill_typed("UnknownVariable", held.node, sentence, expected=f"one of {listed(list(self.variables))}" if self.variables else "no variable", found=held.name, nearest=nearest)
+        self.ill_typed("UnknownVariable", held.node, sentence,
+                       expected=f"one of {listed(list(self.variables))}" if self.variables else "no variable", found=held.name,
+                       nearest=nearest)
         return None
 
     def apply(self, held: Expression, depth: int) -> str | None:
@@ -123,7 +128,8 @@ class Kinds:
             return None
         takes, gives = known
         if not functions.takes_so_many(takes, len(kinds)):
-            self.ill_typed("WrongCount", held.node, f'"{names.short(held.name)}" takes {takes_shown(takes)}, and has {counted(len(kinds), "argument")} here.',
+            self.ill_typed("WrongCount", held.node,
+                           f'"{names.short(held.name)}" takes {takes_shown(takes)}, and has {counted(len(kinds), "argument")} here.',
                            expected=takes_shown(takes), found=counted(len(kinds), "argument"))
         else:
             self.fit(held, takes, kinds)
@@ -132,7 +138,8 @@ class Kinds:
     def unknown_function(self, held: Expression, known=None) -> None:
         """Remarks a function that isn't there, with the nearest that is."""
         sentence, nearest = names.unknown_function(held.name, known)
-        self.ill_typed("UnknownFunction", held.node.at("FunctionId") or held.node, sentence, expected="the name of a function", found=held.name, nearest=nearest)
+        self.ill_typed("UnknownFunction", held.node.at("FunctionId") or held.node, sentence, expected="the name of a function",
+                       found=held.name, nearest=nearest)
 
     def fit(self, held: Expression, takes: list[str], kinds: list[str | None], first: int = 0) -> None:
         """Remarks each argument that doesn't fit."""
@@ -142,7 +149,8 @@ class Kinds:
             wanted, found = wanted_at(takes, place), kinds[place]
             way = f"write {better}" if better else way_from(found, wanted)
             sentence = f'Argument {place + 1} of "{names.short(held.name)}" is {names.kind_shown(wanted)}, and this is {names.kind_shown(found)}'
-            self.ill_typed("WrongType", held.arguments[place + first].node, sentence + (f"; {way}." if way else "."), expected=names.kind_shown(wanted),
+            self.ill_typed("WrongType", held.arguments[place + first].node, sentence + (f"; {way}." if way else "."),
+                           expected=names.kind_shown(wanted),
                            found=names.kind_shown(found) + (f"; {way}" if way else ""), nearest=better)
 
     # Higher-order functions.
@@ -150,7 +158,9 @@ class Kinds:
     def higher(self, verb: str, held: Expression, depth: int) -> str | None:
         """The kind that a higher-order function gives, whose arguments are checked."""
         if not held.arguments:
-            self.ill_typed("WrongCount", held.node, f'"{verb}" takes a Function and then values and bags, and has no argument here.', expected="a Function first", found="no argument")
+            self.ill_typed("WrongCount", held.node,
+                           f'"{verb}" takes a Function and then values and bags, and has no argument here.',
+                           expected="a Function first", found="no argument")
             return "boolean" if verb != "map" else None
         known = self.inner(verb, held.arguments[0], depth + 1)
         kinds = [self.kind(argument, depth + 1) for argument in held.arguments[1:]]
@@ -159,12 +169,15 @@ class Kinds:
         takes, gives = known
         if len(kinds) != 2 if verb in PAIRS else not functions.takes_so_many(takes, len(kinds)):
             count = "two bags" if verb in PAIRS else f"{takes_shown(takes)}, one of them as a bag"
-            self.ill_typed("WrongCount", held.node, f'"{verb}" takes behind this Function {count}, and has {counted(len(kinds), "argument")} there.', expected=count,
+            self.ill_typed("WrongCount", held.node,
+                           f'"{verb}" takes behind this Function {count}, and has {counted(len(kinds), "argument")} there.',
+                           expected=count,
                            found=counted(len(kinds), "argument"))
         elif None not in kinds:
             self.fit_inner(verb, held, takes, kinds)
         if verb != "map" and gives != "boolean":
-            self.ill_typed("WrongType", held.arguments[0].node, f'"{verb}" asks a function that gives a boolean, and this one gives {names.kind_shown(gives)}.',
+            self.ill_typed("WrongType", held.arguments[0].node,
+                           f'"{verb}" asks a function that gives a boolean, and this one gives {names.kind_shown(gives)}.',
                            expected="a function that gives a boolean", found=names.kind_shown(gives))
         return "bag " + gives if verb == "map" else "boolean"
 
@@ -173,7 +186,8 @@ class Kinds:
         if held is None or self.is_too_deep(held, depth):
             return None
         if held.form != "function":
-            self.ill_typed("WrongType", held.node, f'First in "{verb}" stands a Function: {{"Function": {{"FunctionId": ..}}}}.', expected="a Function", found=f"a {held.form}")
+            self.ill_typed("WrongType", held.node, f'First in "{verb}" stands a Function: {{"Function": {{"FunctionId": ..}}}}.',
+                           expected="a Function", found=f"a {held.form}")
             return None
         if held.name is not None and held.name not in functions.FUNCTIONS:
             self.unknown_function(held, functions.FUNCTIONS)
@@ -183,7 +197,8 @@ class Kinds:
         """Remarks where the values and bags behind a Function don't fit it."""
         bags = [place for place, kind in enumerate(kinds) if kind.startswith("bag ")]
         if verb in PAIRS and not functions.takes_so_many(takes, 2):
-            self.ill_typed("WrongType", held.arguments[0].node, f'"{verb}" asks a function of two values.', expected="a function of two values", found=takes_shown(takes))
+            self.ill_typed("WrongType", held.arguments[0].node, f'"{verb}" asks a function of two values.',
+                           expected="a function of two values", found=takes_shown(takes))
             return
         found = [kind.removeprefix("bag ") for kind in kinds]
         if not functions.fits(takes, found):
@@ -191,7 +206,8 @@ class Kinds:
             return
         wanted = len(kinds) if verb in PAIRS else 1
         if verb != "any-of-any" and len(bags) != wanted:
-            self.ill_typed("WrongType", held.node, f'"{verb}" takes {"bags alone" if verb in PAIRS else "exactly one bag"} behind the Function, and has {counted(len(bags), "bag")} here.',
+            self.ill_typed("WrongType", held.node,
+                           f'"{verb}" takes {"bags alone" if verb in PAIRS else "exactly one bag"} behind the Function, and has {counted(len(bags), "bag")} here.',
                            expected=counted(wanted, "bag"), found=counted(len(bags), "bag"))
 
     # Targets, rules, documents.
@@ -204,12 +220,15 @@ class Kinds:
         kinds = [held.literal and held.literal.data_type, held.designator and held.designator.data_type]
         if known is None and held.function not in functions.HIGHER_ORDER:
             sentence, nearest = names.unknown_function(held.function)
-            self.ill_typed("UnknownFunction", node, sentence, expected="the name of a function", found=held.function, nearest=nearest)
+            self.ill_typed("UnknownFunction", node, sentence, expected="the name of a function", found=held.function,
+                           nearest=nearest)
         elif None not in kinds and (known is None or known[1] != "boolean" or not functions.fits(known[0], kinds)):
             better = function_for(held.function, kinds)
             takes = f'takes {takes_shown(known[0])} and gives {names.kind_shown(known[1])}' if known else "is a higher-order function"
-            self.ill_typed("WrongType", node, f'A match asks a function of the literal\'s and the designator\'s types that gives a boolean; "{names.short(held.function)}" {takes}.'
-                           + (f" Write {better}." if better else ""), expected=f"a function of {names.kind_shown(kinds[0])} and {names.kind_shown(kinds[1])} that gives a boolean",
+            self.ill_typed("WrongType", node,
+                           f'A match asks a function of the literal\'s and the designator\'s types that gives a boolean; "{names.short(held.function)}" {takes}.'
+                           + (f" Write {better}." if better else ""),
+                           expected=f"a function of {names.kind_shown(kinds[0])} and {names.kind_shown(kinds[1])} that gives a boolean",
                            found=names.short(held.function), nearest=better)
 
     def target(self, held: Target | None) -> None:
@@ -230,7 +249,8 @@ class Kinds:
         kind = self.kind(held.condition)
         if kind not in (None, "boolean"):
             way = "wrap it in boolean-one-and-only" if kind == "bag boolean" else "ask something of it, as an -equal or -is-in does"
-            self.ill_typed("WrongType", held.condition.node, f"A condition is a boolean, and this is {names.kind_shown(kind)}; {way}.", expected="a boolean",
+            self.ill_typed("WrongType", held.condition.node,
+                           f"A condition is a boolean, and this is {names.kind_shown(kind)}; {way}.", expected="a boolean",
                            found=f"{names.kind_shown(kind)}; {way}")
         self.duties(held.duties)
 

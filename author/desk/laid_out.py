@@ -16,7 +16,8 @@ def attribute_line(held: dict) -> str:
     """`urn:example:who = "alice" (string)`."""
     issuer = f" by {held['Issuer']}" if "Issuer" in held else ""
     category = f"{names.category_shown(held['Category'])} " if "Category" in held else ""
-    return wrapped(f"{category}{held['AttributeId']}{issuer} = {value_shown(held['Value'])} ({names.short(held['DataType'])})", "      ", "          ")
+    return wrapped(f"{category}{held['AttributeId']}{issuer} = {value_shown(held['Value'])} ({names.short(held['DataType'])})",
+                   "      ", "          ")
 
 
 def duties_lines(word: str, duties: list[dict]) -> list[str]:
@@ -32,7 +33,8 @@ def result_shown(result: dict) -> str:
     """A result: its decision, obligations, advice, and the attributes that the request wants to see again."""
     status = names.short(result["Status"]["StatusCode"]["Value"])
     lines = [decided(result["Decision"]) + (f"  status {status}" if status != "ok" else "")]
-    lines += duties_lines("obligation", result.get("Obligations", [])) + duties_lines("advice", result.get("AssociatedAdvice", []))
+    lines += duties_lines("obligation",
+                          result.get("Obligations", [])) + duties_lines("advice", result.get("AssociatedAdvice", []))
     for category in result.get("Category", []):
         lines.append(f"    of {names.category_shown(category['CategoryId'])}")
         lines += [attribute_line(one) for one in category["Attribute"]]

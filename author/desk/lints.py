@@ -70,7 +70,8 @@ class Lints:
     def repeated_members(self, remarks: Remarks, node: Node) -> None:
         """Warns of members that don't count, since their name stands again."""
         for member in node.repeated():
-            remarks.warning("repeated-member", name_node(member), f'"{member.name}" stands in this object more than once: the last one counts, and this one is ignored.', found=member.name)
+            remarks.warning("repeated-member", name_node(member),
+                            f'"{member.name}" stands in this object more than once: the last one counts, and this one is ignored.', found=member.name)
         for inner in [member.node for member in node.members] + (node.value if node.kind == "array" else []):
             self.repeated_members(remarks, inner)
 
@@ -82,7 +83,8 @@ class Lints:
                 continue
             first = seen.setdefault(rule.id, rule)
             if first is not rule:
-                remarks.warning("repeated-rule", rule.node.at("RuleId") or rule.node, f'The rule of line {first.node.place.line} has the id "{rule.id}" too: nobody can tell them apart.',
+                remarks.warning("repeated-rule", rule.node.at("RuleId") or rule.node,
+                                f'The rule of line {first.node.place.line} has the id "{rule.id}" too: nobody can tell them apart.',
                                 expected="another RuleId", found=rule.id)
 
     def no_rules(self, remarks: Remarks, held: Document) -> None:
@@ -90,7 +92,8 @@ class Lints:
         if not held.children:
             what, inner = ("policy", "rules") if held.form == "Policy" else ("set", "children")
             result = {"deny-unless-permit": "Deny", "permit-unless-deny": "Permit"}.get(held.algorithm or "", "NotApplicable")
-            remarks.warning("no-rules", held.node, f"This {what} has no {inner}: where its target matches it is always {result}.", expected=inner, found="none")
+            remarks.warning("no-rules", held.node, f"This {what} has no {inner}: where its target matches it is always {result}.",
+                            expected=inner, found="none")
 
     def deny_rules(self, remarks: Remarks, held: Document) -> None:
         """Warns of attributes that a Deny rule may miss in silence."""
@@ -101,7 +104,8 @@ class Lints:
             found += [one.designator for one in (rule.condition.all() if rule.condition else []) if one.designator is not None]
             for designator in found:
                 if designator.must_be_present is False:
-                    remarks.warning("may-be-missing", designator.node.at("MustBePresent") or designator.node, f'Where {attribute(designator)} is missing, the Deny rule "{rule.id}" is passed over in '
+                    remarks.warning("may-be-missing", designator.node.at("MustBePresent") or designator.node,
+                                    f'Where {attribute(designator)} is missing, the Deny rule "{rule.id}" is passed over in '
                                     "silence. With MustBePresent true it is Indeterminate.", expected="true", found="false")
 
     def unused_variables(self, remarks: Remarks, held: Document) -> None:
@@ -110,7 +114,8 @@ class Lints:
         for variable in held.variables:
             if variable is not None and variable.name is not None and variable.name not in used:
                 nearest = names.nearest(variable.name, {name for name in used if name is not None})
-                remarks.warning("unused-variable", variable.node.at("VariableId") or variable.node, f'Nothing names the variable "{variable.name}".', found=variable.name, nearest=nearest)
+                remarks.warning("unused-variable", variable.node.at("VariableId") or variable.node,
+                                f'Nothing names the variable "{variable.name}".', found=variable.name, nearest=nearest)
 
     # Algorithms under which a child can never decide.
 
@@ -120,30 +125,39 @@ class Lints:
         effect = {"deny-unless-permit": "Deny", "permit-unless-deny": "Permit"}.get(kind)
         for rule in held.rules():
             if effect is not None and rule.effect == effect:
-                remarks.warning("idle-rule", rule.node, f'Under {kind} what no rule {"permits" if effect == "Deny" else "denies"} is {effect} anyway: this {effect} rule decides nothing.')
+                remarks.warning("idle-rule", rule.node,
+                                f'Under {kind} what no rule {"permits" if effect == "Deny" else "denies"} is {effect} anyway: this {effect} rule decides nothing.')
         self.behind_unconditional(remarks, held, kind)
         if kind == "only-one-applicable":
             self.always_two(remarks, held)
 
     def behind_unconditional(self, remarks: Remarks, held: Document, kind: str) -> None:
         """Warns of rules beside one that always decides."""
-        wanted = {"deny-overrides": "Deny", "permit-overrides": "Permit", "deny-unless-permit": "Permit", "permit-unless-deny": "Deny"}.get(kind)
+        wanted = {"deny-overrides": "Deny", "permit-overrides": "Permit", "deny-unless-permit": "Permit",
+                  "permit-unless-deny": "Deny"}.get(kind)
         rules = held.rules()
-        first = next((rule for rule in rules if is_unconditional(rule) and (kind == "first-applicable" or rule.effect == wanted)), None)
+        first = next((rule for rule in rules if is_unconditional(rule) and (kind == "first-applicable" or rule.effect == wanted)),
+                     None)
         if first is None or kind not in ("first-applicable", *SETTLED):
             return
-        for rule in rules[rules.index(first) + 1:] if kind == "first-applicable" else [rule for rule in rules if rule is not first and rule.effect == wanted]:
-            remarks.warning("idle-rule", rule.node, f'The rule "{first.id}" in line {first.node.place.line} has no target and no condition: under {kind} it always decides, and this one never.')
+        for rule in rules[rules.index(first)
+                          + 1:] if kind == "first-applicable" else [rule for rule in rules if rule is not first
+                                                                    and rule.effect == wanted]:
+            remarks.warning("idle-rule", rule.node,
+                            f'The rule "{first.id}" in line {first.node.place.line} has no target and no condition: under {kind} it always decides, and this one never.')
         for rule in rules if kind != "first-applicable" else []:
             if rule.effect not in (None, wanted) and kind in ("deny-overrides", "permit-overrides"):
-                remarks.warning("idle-rule", rule.node, f'The {wanted} rule "{first.id}" in line {first.node.place.line} has no target and no condition: under {kind} it always decides, and this '
+                remarks.warning("idle-rule", rule.node,
+                                f'The {wanted} rule "{first.id}" in line {first.node.place.line} has no target and no condition: under {kind} it always decides, and this '
                                 f"{rule.effect} rule never.")
 
     def always_two(self, remarks: Remarks, held: Document) -> None:
         """Warns where two children apply always, of which only one may."""
-        always = [child for child in held.children if isinstance(child, Document) and (child.target is None or not child.target.parts) and "Target" not in (child.node.last() or {})]
+        always = [child for child in held.children if isinstance(child, Document)
+                  and (child.target is None or not child.target.parts) and "Target" not in (child.node.last() or {})]
         for child in always[1:]:
-            remarks.warning("idle-rule", child.node, f"Two children without a target apply always, this one and that of line {always[0].node.place.line}: under only-one-applicable the set is "
+            remarks.warning("idle-rule", child.node,
+                            f"Two children without a target apply always, this one and that of line {always[0].node.place.line}: under only-one-applicable the set is "
                             "always Indeterminate.")
 
     # Types of attributes.
@@ -176,7 +190,8 @@ class Lints:
             wanted = first.data_type
             why = f"{first.node.source.path}:{first.node.place.line} asks for {attribute(held)} as {names.kind_shown(wanted)}"
         if wanted:
-            remarks.warning("other-type", node, f"{why}: asked for as {names.kind_shown(held.data_type)} it isn't found there.", expected=wanted, found=held.data_type, nearest=wanted)
+            remarks.warning("other-type", node, f"{why}: asked for as {names.kind_shown(held.data_type)} it isn't found there.",
+                            expected=wanted, found=held.data_type, nearest=wanted)
 
     # Rows.
 
@@ -192,10 +207,13 @@ class Lints:
             counts[node.value] = counts.get(node.value, 0) + 1
         for name, uri in identifiers.SHORTHANDS.items():
             if name in counts:
-                first = next(row.category_node for row in rows.rows if row.category_node is not None and row.category_node.value == name)
+                first = next(row.category_node for row in rows.rows if row.category_node is not None
+                             and row.category_node.value == name)
                 entity = contexts.entity_id(uri)
                 when = f"the request's {names.short(entity)} of this category is the row's Entity" if entity else "the row's Entity is the empty text"
-                rows.remarks.note("shorthand", first, f"{name} is a shorthand for {uri}. Such rows ({counts[name]}) are found where {when}.", found=name)
+                rows.remarks.note("shorthand", first,
+                                  f"{name} is a shorthand for {uri}. Such rows ({counts[name]}) are found where {when}.",
+                                  found=name)
 
 
 SETTLED = ("deny-overrides", "permit-overrides", "deny-unless-permit", "permit-unless-deny")
@@ -211,7 +229,8 @@ def is_unconditional(rule: Rule) -> bool:
     no_target = not rule.has_target or rule.target is not None and not rule.target.parts and not rule.target.node.value
     literal = rule.condition.literal if rule.condition is not None else None
     no_condition = not rule.has_condition or literal is not None and literal.value == ("boolean", True)
-    sure = all(one.form == "value" for expression in rule.expressions() if expression is not rule.condition for one in expression.all())
+    sure = all(one.form == "value" for expression in rule.expressions() if expression is not rule.condition
+               for one in expression.all())
     return no_target and no_condition and sure and rule.effect is not None
 
 

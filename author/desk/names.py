@@ -11,8 +11,10 @@ STANDARD = "urn:oasis:names:tc:xacml:1.0:"
 # functions that the standard has and this server hasn't
 LEFT_OUT = {
     "regexp-match": "regular expressions are left out", "equal-ignore-case": "letter case is never ignored",
-    "normalize-to-lower-case": "letter case is never ignored", "double": "floating numbers are left out", "x500Name": "names of directories are left out",
-    "rfc822Name": "mail addresses are left out", "ipAddress": "network addresses are left out", "dnsName": "network addresses are left out",
+    "normalize-to-lower-case": "letter case is never ignored", "double": "floating numbers are left out",
+    "x500Name": "names of directories are left out",
+    "rfc822Name": "mail addresses are left out", "ipAddress": "network addresses are left out",
+    "dnsName": "network addresses are left out",
     "xpath": "XPath is left out", "any-of-all": "any-of-all is left out", "anyURI-substring": "anyURI-substring is left out",
     "access-permitted": "access-permitted is left out",
 }
@@ -67,7 +69,8 @@ def unknown_function(name: str, known: Iterable[str] | None = None) -> tuple[str
     if left_out:
         return f'This server has no function "{short(name)}": {left_out}.', ""
     found = nearest_by_end(name, known)
-    return (f'There is no function "{short(name)}". Did you mean "{short(found)}"?', found) if found else (f'There is no function "{name}".', "")
+    return (f'There is no function "{short(name)}". Did you mean "{short(found)}"?',
+            found) if found else (f'There is no function "{name}".', "")
 
 
 def unknown_type(name: str) -> tuple[str, str]:
@@ -83,7 +86,8 @@ def unknown_algorithm(name: str, known: dict[str, str], of_others: dict[str, str
     """A sentence on a combining algorithm that is none here, and the nearest name."""
     if name in of_others:
         found = next((uri for uri, its in known.items() if its == of_others[name]), "")
-        sentence = f"This algorithm doesn't combine {what}: " + (f"write {found}." if found else f"no algorithm of {what} does what it does.")
+        sentence = f"This algorithm doesn't combine {what}: " + (f"write {found}."
+                                                                 if found else f"no algorithm of {what} does what it does.")
         return sentence, found
     found = nearest_by_end(name, known)
     same = f' "{short(found)}" is there under this name: {found}.' if found and short(found) == short(name) else ""
@@ -93,7 +97,10 @@ def unknown_algorithm(name: str, known: dict[str, str], of_others: dict[str, str
 
 def category_nearest(name: str) -> str:
     """The shorthand of a category that is nearest to the name, or the known URI."""
-    return nearest(name, identifiers.SHORTHANDS) or ("" if ":" not in name else nearest(name, identifiers.SHORTHANDS.values())) or containing(name)
+    return nearest(name,
+                   identifiers.SHORTHANDS) or (""
+                                               if ":" not in name else nearest(name,
+                                                                               identifiers.SHORTHANDS.values())) or containing(name)
 
 
 def containing(name: str) -> str:

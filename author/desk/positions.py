@@ -171,7 +171,8 @@ class Reader:
             self.source.held.decode()
         except UnicodeDecodeError as fault:
             start = len(self.source.held[:fault.start].decode())
-            self.slip(start, start + 1, "", "text in UTF-8", f"the byte 0x{self.source.held[fault.start]:02x}", "Save the file as UTF-8.")
+            self.slip(start, start + 1, "", "text in UTF-8", f"the byte 0x{self.source.held[fault.start]:02x}",
+                      "Save the file as UTF-8.")
             return True
         if self.text.startswith("\ufeff"):
             self.slip(0, 1, "", "JSON", "a byte order mark", "Save the file without a byte order mark.")
@@ -194,13 +195,15 @@ class Reader:
                 self.offset += len(word)
                 return Node(self.source, pointer, kind, self.offset - len(word), self.offset, held)
         advice = {"'": "Texts stand in double quotes."}
-        raise self.stop(pointer, "a JSON value", advice.get(letter, "A text stands in double quotes; true, false and null are written in small letters."))
+        raise self.stop(pointer, "a JSON value",
+                        advice.get(letter, "A text stands in double quotes; true, false and null are written in small letters."))
 
     def nested(self, letter: str, pointer: str) -> Node:
         """The object or array that begins here, which may not stand in too many."""
         self.depth += 1
         if self.depth > json_texts.MOST_NESTED:
-            raise self.stop(pointer, f"at most {json_texts.MOST_NESTED} arrays and objects inside one another", "This is too deep for JSON here.")
+            raise self.stop(pointer, f"at most {json_texts.MOST_NESTED} arrays and objects inside one another",
+                            "This is too deep for JSON here.")
         found = self.object(pointer) if letter == "{" else self.array(pointer)
         self.depth -= 1
         return found
@@ -212,13 +215,15 @@ class Reader:
         self.skip(pointer)
         while not self.ends("}", pointer, bool(found.members)):
             if self.text[self.offset:self.offset + 1] != '"':
-                raise self.stop(pointer, 'the name of a member, in double quotes, or "}"', "The names of members stand in double quotes.")
+                raise self.stop(pointer, 'the name of a member, in double quotes, or "}"',
+                                "The names of members stand in double quotes.")
             start = self.offset
             name = self.string(pointer)
             end = self.offset
             self.skip(pointer)
             if self.text[self.offset:self.offset + 1] != ":":
-                raise self.stop(pointer + step(name), f'":" behind the name "{name}"', "A colon stands between a member's name and its value.")
+                raise self.stop(pointer + step(name), f'":" behind the name "{name}"',
+                                "A colon stands between a member's name and its value.")
             self.offset += 1
             self.skip(pointer + step(name))
             found.members.append(Member(name, start, end, self.value(pointer + step(name))))
@@ -243,7 +248,8 @@ class Reader:
             self.offset += 1
             self.skip(pointer)
             if self.text[self.offset:self.offset + 1] == bracket:
-                self.slip(comma, comma + 1, pointer, f'no comma before "{bracket}"', "a comma", "The last one has no comma behind it: take it out.")
+                self.slip(comma, comma + 1, pointer, f'no comma before "{bracket}"', "a comma",
+                          "The last one has no comma behind it: take it out.")
         if self.text[self.offset:self.offset + 1] == bracket:
             self.offset += 1
             return True
@@ -268,9 +274,11 @@ class Reader:
                 held += self.escape(pointer)
             elif letter in ("", "\n", "\r"):
                 self.offset = start
-                raise self.stop(pointer, "a closing quote on the same line", "This text isn't closed; a line break in a text is written \\n.", found.end())
+                raise self.stop(pointer, "a closing quote on the same line",
+                                "This text isn't closed; a line break in a text is written \\n.", found.end())
             else:
-                raise self.stop(pointer, "no control character in a text", f"Write \\u{ord(letter):04x} for this character.", self.offset + 1)
+                raise self.stop(pointer, "no control character in a text", f"Write \\u{ord(letter):04x} for this character.",
+                                self.offset + 1)
 
     def escape(self, pointer: str) -> str:
         """The letter of the escape here."""
@@ -280,7 +288,8 @@ class Reader:
             return ESCAPES[letter]
         unit = self.unit(self.offset)
         if unit is None:
-            raise self.stop(pointer, 'one of \\" \\\\ \\/ \\b \\f \\n \\r \\t \\uXXXX', "A backslash itself is written \\\\.", self.offset + 2)
+            raise self.stop(pointer, 'one of \\" \\\\ \\/ \\b \\f \\n \\r \\t \\uXXXX', "A backslash itself is written \\\\.",
+                            self.offset + 2)
         if not 0xD800 <= unit < 0xE000:
             self.offset += 6
             return chr(unit)
@@ -302,7 +311,8 @@ class Reader:
             raise self.stop(pointer, "a number", "A minus stands before a digit.")
         after = self.text[found.end():found.end() + 1]
         if found.group() in ("0", "-0") and after.isdigit() or after in (".", "e", "E"):
-            raise self.stop(pointer, "a number", "A number has no leading zeros, and digits behind a point and an exponent.", found.end() + 1)
+            raise self.stop(pointer, "a number", "A number has no leading zeros, and digits behind a point and an exponent.",
+                            found.end() + 1)
         try:
             held = json_texts.fraction(found.group()) if found.group(1) or found.group(2) else json_texts.number(found.group())
         except (ValueError, OverflowError):

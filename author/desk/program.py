@@ -89,7 +89,8 @@ def found(named: str = "") -> Program | None:
     if named == "none":
         return None
     if named == "try":
-        return Program(["rt", "try", "--steps", "1000", "--seconds", "600", "--cases"], "The program is compiled without proof (rt try): what it answers isn't proved.", True)
+        return Program(["rt", "try", "--steps", "1000", "--seconds", "600", "--cases"],
+                       "The program is compiled without proof (rt try): what it answers isn't proved.", True)
     if named:
         return Program([named], f"{named} is taken as it is: whether it is proved isn't known here.")
     for path in PLACES:

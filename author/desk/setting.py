@@ -129,7 +129,8 @@ def check_root(setting: Setting, remarks: Remarks) -> None:
     sentence, nearest = no_document(root, [one.document for one in setting.documents])
     first = setting.documents[0]
     node = Node(first.source, "", "object", first.node.start, first.node.end)
-    remarks.fault("leads-nowhere", node, f"The root leads nowhere. {sentence} Every decision is Indeterminate, processing-error.", nearest=nearest, found=root.id)
+    remarks.fault("leads-nowhere", node, f"The root leads nowhere. {sentence} Every decision is Indeterminate, processing-error.",
+                  nearest=nearest, found=root.id)
     remarks.found[-1].end = remarks.found[-1].start
 
 

@@ -14,8 +14,10 @@ from .model import documents, identifiers, values, versions
 from .positions import Member, Node
 from .text import listed
 
-FORMS = {"AttributeValue": "value", "AttributeDesignator": "designator", "Apply": "apply", "Function": "function", "VariableReference": "variable"}
-KINDS = {"object": "an object", "array": "an array", "string": "a text", "number": "a number", "boolean": "true or false", "null": "null"}
+FORMS = {"AttributeValue": "value", "AttributeDesignator": "designator", "Apply": "apply", "Function": "function",
+         "VariableReference": "variable"}
+KINDS = {"object": "an object", "array": "an array", "string": "a text", "number": "a number", "boolean": "true or false",
+         "null": "null"}
 SHAPES = {
     "boolean": "true or false", "integer": "digits with a sign or none, from -9223372036854775808 to 9223372036854775807",
     "date": 'YYYY-MM-DD with a time zone or none, as "2026-11-23Z"', "time": 'hh:mm:ss with a time zone or none, as "09:00:00Z"',
@@ -23,7 +25,8 @@ SHAPES = {
     "dayTimeDuration": 'days, hours, minutes and seconds, as "P1DT2H30M"', "yearMonthDuration": 'years and months, as "P1Y6M"',
     "hexBinary": "pairs of hexadecimal digits", "base64Binary": "base64 with its padding", "anyURI": "a text", "string": "a text",
 }
-WHERE = {"Policy": "A policy", "PolicySet": "A policy set", "Reference": "A reference", "AnyOf": "An item of AnyOf", "AllOf": "An item of AllOf",
+WHERE = {"Policy": "A policy", "PolicySet": "A policy set", "Reference": "A reference", "AnyOf": "An item of AnyOf",
+         "AllOf": "An item of AllOf",
          "Source": "The body", "SourceRow": "A row"}
 
 
@@ -34,7 +37,8 @@ def name_node(member: Member) -> Node:
 
 def form_of(known: list[str], node: Node) -> str:
     """The form of which the object has members, though it should have that form alone; the empty text where there is none."""
-    tables = {form: {row.rstrip("?") for row in names.table_of("Reference" if form.endswith("IdReference") else form)} for form in known}
+    tables = {form: {row.rstrip("?") for row in names.table_of("Reference" if form.endswith("IdReference") else form)}
+              for form in known}
     alike = {form: len(rows & set(node.last())) / len(node.last()) for form, rows in tables.items()} if node.members else {}
     best = max(alike, key=alike.get, default="")
     return best if best and alike[best] >= 0.5 else ""
@@ -52,12 +56,15 @@ def kind_of(node: Node) -> str:
 def example_of(data_type: str, node: Node) -> str:
     """A text that may have been meant by one that is no value of the type; the empty text where none comes to mind."""
     held = str(node.value).strip()
-    tried = {"time": [f"0{held}:00Z", f"{held}:00Z", f"0{held}", f"{held.zfill(2)}:00:00Z", f"{held}Z"], "dateTime": [f"{held}T00:00:00Z", f"{held}:00Z", held.replace(" ", "T", 1)],
-             "date": [held[:10], held.replace("/", "-"), held.replace(".", "-")], "boolean": [held.lower()], "dayTimeDuration": [f"PT{held.upper()}", held.upper(), f"P{held.upper()}"],
+    tried = {"time": [f"0{held}:00Z", f"{held}:00Z", f"0{held}", f"{held.zfill(2)}:00:00Z", f"{held}Z"],
+             "dateTime": [f"{held}T00:00:00Z", f"{held}:00Z", held.replace(" ", "T", 1)],
+             "date": [held[:10], held.replace("/", "-"), held.replace(".", "-")], "boolean": [held.lower()],
+             "dayTimeDuration": [f"PT{held.upper()}", held.upper(), f"P{held.upper()}"],
              "yearMonthDuration": [f"P{held.upper()}", held.upper()], "base64Binary": [held + "=", held + "=="]}
     for text in tried.get(data_type, []):
         try:
-            return values.to_text(values.read(data_type, text)) if data_type == "boolean" else values.read(data_type, text) and text
+            return values.to_text(values.read(data_type,
+                                              text)) if data_type == "boolean" else values.read(data_type, text) and text
         except values.Fault:
             continue
     return ""
@@ -89,7 +96,8 @@ class Shapes:
                 self.unknown_member(label, name, member, known, found)
         for name in rows:
             if not name.endswith("?") and name not in found:
-                self.remarks.fault(f"MissingMember({name})", node, f'{label} needs the member "{name}", which is missing.', expected=f"the member {name}",
+                self.remarks.fault(f"MissingMember({name})", node, f'{label} needs the member "{name}", which is missing.',
+                                   expected=f"the member {name}",
                                    found=listed(list(node.last()), "and"))
         return found
 
@@ -101,7 +109,8 @@ class Shapes:
             ask = f' "{meant}" is there already.'
         elif meant:
             found[meant] = member.node
-        self.remarks.fault("UnknownMember", name_node(member), f'{label} has no member "{name}".{ask}', expected=listed(known), found=name, nearest=meant)
+        self.remarks.fault("UnknownMember", name_node(member), f'{label} has no member "{name}".{ask}', expected=listed(known),
+                           found=name, nearest=meant)
 
     def one_of(self, kind: str, node: Node, label: str) -> tuple[str, Node] | None:
         """The name and the value of the one member that the object has, or that was meant."""
@@ -117,7 +126,8 @@ class Shapes:
             return bare, node
         meant = self.strays(known, there, node, label)
         if not node.members:
-            self.remarks.fault(f"MissingMember({known[0]})", node, f"{label} is empty.", expected=f"one of {listed(known)}", found="{}")
+            self.remarks.fault(f"MissingMember({known[0]})", node, f"{label} is empty.", expected=f"one of {listed(known)}",
+                               found="{}")
         return (there[0], node.at(there[0])) if there else meant
 
     def strays(self, known: list[str], there: list[str], node: Node, label: str) -> tuple[str, Node] | None:
@@ -126,7 +136,9 @@ class Shapes:
         for name, member in node.last().items():
             if name not in known:
                 near = names.nearest(name, known)
-                self.unknown_form(member, f'{label} has no member "{name}".' + (f' Did you mean "{near}"?' if near and not there else ""), known, near)
+                self.unknown_form(member,
+                                  f'{label} has no member "{name}".' + (f' Did you mean "{near}"?' if near and not there else ""),
+                                  known, near)
                 meant = meant or (near, member.node) if near else meant
             elif name in there[1:]:
                 self.unknown_form(member, f'{label} has one member alone: "{there[0]}" is there already.', known, "")
@@ -134,7 +146,8 @@ class Shapes:
 
     def unknown_form(self, member: Member, sentence: str, known: list[str], nearest: str) -> None:
         """Remarks a member that stands where another one alone may."""
-        self.remarks.fault("UnknownMember", name_node(member), sentence, expected=f"one of {listed(known)}", found=member.name, nearest=nearest)
+        self.remarks.fault("UnknownMember", name_node(member), sentence, expected=f"one of {listed(known)}", found=member.name,
+                           nearest=nearest)
 
     def optional(self, reads: Callable, found: dict[str, Node], name: str):
         """What is read of a member, where it is there."""
@@ -150,7 +163,8 @@ class Shapes:
             self.wrong_kind(node, "an array", f'"{name}" is an array.{inner}')
             return [reads(node)] if node.kind == "object" else []
         if len(node.value) < least:
-            self.remarks.fault("BadValue", node, f'"{name}" has at least {least} item.', expected=f"an array of at least {least}", found="an empty array")
+            self.remarks.fault("BadValue", node, f'"{name}" has at least {least} item.', expected=f"an array of at least {least}",
+                               found="an empty array")
         return [reads(item) for item in node.value]
 
     # Texts and names.
@@ -201,7 +215,8 @@ class Shapes:
         known, others = (known, others) if kind == "rules" else (others, known)
 
         def reads(node: Node) -> str | None:
-            found = self.among(list(known), "UnknownAlgorithm", node, lambda held: names.unknown_algorithm(held, known, others, kind))
+            found = self.among(list(known), "UnknownAlgorithm", node,
+                               lambda held: names.unknown_algorithm(held, known, others, kind))
             return known.get(found)
         return reads
 
@@ -214,7 +229,8 @@ class Shapes:
         """The id of a policy or of a set."""
         held = self.text(node)
         if held is not None and not 1 <= len(held.encode()) <= documents.MAX_ID_BYTES:
-            self.remarks.fault("BadValue", node, f"An id has 1 to {documents.MAX_ID_BYTES} bytes.", expected=f"1 to {documents.MAX_ID_BYTES} bytes",
+            self.remarks.fault("BadValue", node, f"An id has 1 to {documents.MAX_ID_BYTES} bytes.",
+                               expected=f"1 to {documents.MAX_ID_BYTES} bytes",
                                found=f"{len(held.encode())} bytes")
             return None
         return held
@@ -222,7 +238,8 @@ class Shapes:
     def version(self, shape: str) -> Callable[[Node], list[str] | None]:
         """Reads the parts of a version, or of a pattern of versions."""
         what = "A version" if shape == versions.VERSION else "A pattern of versions"
-        wanted = "numbers with dots between, as 1.0" + ("" if shape == versions.VERSION else ", with * for one number and + for one or more at the end")
+        wanted = "numbers with dots between, as 1.0" + (""
+                                                        if shape == versions.VERSION else ", with * for one number and + for one or more at the end")
 
         def reads(node: Node) -> list[str] | None:
             held = self.text(node) if node.kind == "string" else self.wrong_kind(node, f"a text, {wanted}", f"{what} is a text: write it in quotes.")
@@ -251,7 +268,9 @@ class Shapes:
         if value is None:
             return Literal(node, data_type, None)
         if value.kind not in ("string", "boolean", "number"):
-            self.wrong_kind(value, "a text, true or false, or a whole number", "One value stands here." + (" Several values need as many AttributeValues." if value.kind == "array" else ""))
+            self.wrong_kind(value, "a text, true or false, or a whole number",
+                            "One value stands here."
+                            + (" Several values need as many AttributeValues." if value.kind == "array" else ""))
             return Literal(node, data_type, None)
         if data_type is None:
             return Literal(node, None, None)
@@ -265,12 +284,15 @@ class Shapes:
         if node.kind == "number" and data_type == "integer":
             if node.value is not None and -2**63 <= node.value < 2**63:
                 return data_type, node.value
-            self.remarks.fault("BadValue", node, "An integer is a whole number of 64 bits, without point and exponent.", expected=shape, found=node.text)
+            self.remarks.fault("BadValue", node, "An integer is a whole number of 64 bits, without point and exponent.",
+                               expected=shape, found=node.text)
             return None
         if node.kind != "string":
-            example = example_of(data_type, node) or {"date": "2026-11-23", "dateTime": "2026-11-23T09:00:00Z", "time": "09:00:00Z"}.get(data_type, "")
+            example = example_of(data_type, node) or {"date": "2026-11-23", "dateTime": "2026-11-23T09:00:00Z",
+                                                      "time": "09:00:00Z"}.get(data_type, "")
             as_text = f' as "{example}"' if example else " in quotes"
-            self.remarks.fault("BadValue", node, f"A value of type {data_type} is written as a text{as_text if data_type != 'string' else ' in quotes'}.",
+            self.remarks.fault("BadValue", node,
+                               f"A value of type {data_type} is written as a text{as_text if data_type != 'string' else ' in quotes'}.",
                                expected=f"a text: {shape}" if shape != "a text" else "a text", found=kind_of(node))
             return None
         try:
@@ -293,8 +315,10 @@ class Shapes:
         found = self.members("AttributeDesignator", node)
         if found is None:
             return None
-        held = self.optional(self.category, found, "Category"), self.optional(self.text, found, "AttributeId"), self.optional(self.data_type, found, "DataType")
-        return Designator(node, *held, self.optional(self.flag, found, "MustBePresent"), self.optional(self.text, found, "Issuer"))
+        held = self.optional(self.category, found, "Category"), self.optional(self.text, found,
+                                                                              "AttributeId"), self.optional(self.data_type, found, "DataType")
+        return Designator(node, *held, self.optional(self.flag, found, "MustBePresent"),
+                          self.optional(self.text, found, "Issuer"))
 
     def expression(self, node: Node) -> Expression | None:
         """An expression."""
@@ -311,7 +335,8 @@ class Shapes:
             return None
         held = self.optional(self.text, found, "VariableId" if name == "VariableReference" else "FunctionId")
         self.optional(self.text, found, "Description")
-        return Expression(FORMS[name], inner, held, arguments=self.each(self.expression, found, "Expression") if name == "Apply" else [])
+        return Expression(FORMS[name], inner, held,
+                          arguments=self.each(self.expression, found, "Expression") if name == "Apply" else [])
 
     # Targets.
 
@@ -356,7 +381,8 @@ class Shapes:
             if found is None:
                 return None
             held = self.optional(self.text, found, name), self.optional(self.effect, found, decision)
-            return Duty(node, table == "ObligationExpression", *held, self.each(self.assignment, found, "AttributeAssignmentExpression"))
+            return Duty(node, table == "ObligationExpression", *held,
+                        self.each(self.assignment, found, "AttributeAssignmentExpression"))
         return reads
 
     def duties(self, found: dict[str, Node]) -> list[Duty | None]:
@@ -382,7 +408,8 @@ class Shapes:
                 return None
             name = self.optional(self.text, found, "VariableId")
             if name in seen and name is not None:
-                self.remarks.fault("BadValue", found["VariableId"], f'The variable "{name}" is defined already, in line {seen[name].place.line}.',
+                self.remarks.fault("BadValue", found["VariableId"],
+                                   f'The variable "{name}" is defined already, in line {seen[name].place.line}.',
                                    expected="another VariableId", found=name)
             elif name is not None:
                 seen[name] = found["VariableId"]
@@ -400,7 +427,8 @@ class Shapes:
 
     def key(self, found: dict[str, Node], name: str, algorithm: Callable, algorithm_name: str) -> tuple:
         """Id, version and algorithm of a policy or a set, whose description is looked at too."""
-        named, version = self.optional(self.identifier, found, name), self.optional(self.version(versions.VERSION), found, "Version")
+        named, version = self.optional(self.identifier, found,
+                                       name), self.optional(self.version(versions.VERSION), found, "Version")
         combines = self.optional(algorithm, found, algorithm_name)
         self.optional(self.text, found, "Description")
         return named, version and ".".join(version), combines
@@ -408,14 +436,16 @@ class Shapes:
     def policy_set(self, node: Node, sets: int = 1) -> Document | None:
         """A policy set inside this many, itself counted."""
         if node.kind == "object" and sets > documents.MAX_SETS:
-            self.remarks.fault("TooLarge", node, f"At most {documents.MAX_SETS} policy sets stand inside one another: refer to this one by a PolicySetIdReference.",
+            self.remarks.fault("TooLarge", node,
+                               f"At most {documents.MAX_SETS} policy sets stand inside one another: refer to this one by a PolicySetIdReference.",
                                expected=f"at most {documents.MAX_SETS}", found=f"the {sets}th")
             return None
         found = self.members("PolicySet", node)
         if found is None:
             return None
         held = self.key(found, "PolicySetId", self.algorithm("policies"), "PolicyCombiningAlgId")
-        target, children = self.optional(self.target, found, "Target"), self.each(lambda item: self.child(item, sets), found, "Children")
+        target, children = self.optional(self.target, found,
+                                         "Target"), self.each(lambda item: self.child(item, sets), found, "Children")
         return Document(node, "PolicySet", *held, target, [], children, self.duties(found))
 
     def reference(self, kind: str, node: Node) -> Reference | None:
@@ -438,7 +468,10 @@ class Shapes:
         name, inner = named
         if name == "Policy":
             return self.policy(inner)
-        return self.policy_set(inner, sets + 1) if name == "PolicySet" else self.reference("policy" if name == "PolicyIdReference" else "set", inner)
+        return self.policy_set(inner,
+                               sets
+                               + 1) if name == "PolicySet" else self.reference("policy" if name == "PolicyIdReference" else "set",
+                                                                               inner)
 
     def document(self, node: Node) -> Document | None:
         """The document of a whole text."""

@@ -13,7 +13,8 @@ CONTROL = re.compile(r"\x1b(?!\[[0-9;]*m)|[\x00-\x08\x0b\x0c\x0e-\x1a\x1c-\x1f\x
 CODES = {"bold": "1", "dim": "2", "red": "31", "green": "32", "yellow": "33", "blue": "34"}
 LEVELS = {"fault": "red", "warning": "yellow", "note": "blue"}
 DECISIONS = {"Permit": "green", "Deny": "red", "NotApplicable": "yellow", "Indeterminate": "yellow"}
-IS_COLOURED = {stream: stream.isatty() and "NO_COLOR" not in os.environ and os.environ.get("TERM") != "dumb" for stream in (sys.stdout, sys.stderr)}
+IS_COLOURED = {stream: stream.isatty() and "NO_COLOR" not in os.environ and os.environ.get("TERM") != "dumb"
+               for stream in (sys.stdout, sys.stderr)}
 
 
 def painted(text: str, *styles: str) -> str:
@@ -37,7 +38,8 @@ def wrapped(text: str, indent: str = "", hanging: str | None = None) -> str:
     """The text in lines of at most 80 columns, behind an indent; words that are longer stand whole."""
     text = harmless(text)
     hanging = indent if hanging is None else hanging
-    return "\n".join(textwrap.wrap(text, WIDTH, initial_indent=indent, subsequent_indent=hanging, break_long_words=False, break_on_hyphens=False)) or indent.rstrip()
+    return "\n".join(textwrap.wrap(text, WIDTH, initial_indent=indent, subsequent_indent=hanging, break_long_words=False,
+                                   break_on_hyphens=False)) or indent.rstrip()
 
 
 def cut(text: str, room: int) -> str:
@@ -67,7 +69,8 @@ def remark_shown(remark: Remark) -> str:
     place = f"{remark.source.path}:{remark.place.line}:{remark.place.column}"
     head = painted(remark.level, "bold", LEVELS[remark.level]) + " " + painted(remark.code, "bold")
     lines = [f"{painted(place, 'bold')}: {head}", wrapped(remark.sentence, "    ")]
-    for label, text in (("at", remark.pointer or "(the whole document)"), ("text", remark.text), ("expected", remark.expected), ("found", remark.found),
+    for label, text in (("at", remark.pointer or "(the whole document)"), ("text", remark.text), ("expected", remark.expected),
+                        ("found", remark.found),
                         ("nearest", remark.nearest)):
         if text and label == "at":
             lines.append(("\n" + " " * 14).join([f"    {label:9} " + (parts := broken(text, WIDTH - 14))[0], *parts[1:]]))

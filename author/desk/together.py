@@ -39,7 +39,8 @@ class Together:
         for one in self.known:
             for reference in one.document.references():
                 self.check_target(one.remarks, reference)
-        targets = {place for one in self.known for reference in one.document.references() for place in [self.place(reference)] if place is not None}
+        targets = {place for one in self.known for reference in one.document.references() for place in [self.place(reference)]
+                   if place is not None}
         roots = [place for place in range(len(self.known)) if place not in targets]
         for place in roots + list(range(len(self.known))):
             if place not in self.reached:
@@ -53,7 +54,8 @@ class Together:
             if other is not one:
                 same = other.source.held == one.source.held
                 one.remarks.fault("same-key", one.document.node, f"{other.source.path} has the same kind, id and version"
-                                  + (", and the same text." if same else ": the server takes one of them, and refuses the other (SameVersionOtherText)."),
+                                  + (", and the same text."
+                                     if same else ": the server takes one of them, and refuses the other (SameVersionOtherText)."),
                                   expected="another Version", found=f"{name} {one.document.version}")
 
     def place(self, reference: Reference) -> int | None:
@@ -64,7 +66,8 @@ class Together:
         """Remarks a reference for which there is no document."""
         if reference.reference is not None and self.place(reference) is None:
             sentence, nearest = no_document(reference.reference, [one.document for one in self.known])
-            remarks.fault("leads-nowhere", reference.node, f"This reference leads nowhere, so {EFFECT}. {sentence}", found=reference.id, nearest=nearest)
+            remarks.fault("leads-nowhere", reference.node, f"This reference leads nowhere, so {EFFECT}. {sentence}",
+                          found=reference.id, nearest=nearest)
 
     def check_tree(self, place: int) -> None:
         """Remarks circles and long ways in the tree that begins at the document, and whether it is too large."""
@@ -73,7 +76,8 @@ class Together:
             self.walk(self.known[place].document, self.known[place].remarks, [place])
         except TooLarge:
             node = self.known[place].document.node
-            self.known[place].remarks.fault("tree-too-large", node, f"With all references followed this tree has more than {linking.MOST_IN_A_TREE} policies and sets:"
+            self.known[place].remarks.fault("tree-too-large", node,
+                                            f"With all references followed this tree has more than {linking.MOST_IN_A_TREE} policies and sets:"
                                             " with it as root every decision is Indeterminate, processing-error.",
                                             expected=f"at most {linking.MOST_IN_A_TREE}", found="more")
 
@@ -96,7 +100,8 @@ class Together:
             way = " -> ".join(self.keys[one][1] for one in [*path[path.index(place):], place])
             self.once("circle", reference, remarks, f"This reference leads back to where it came from, so {EFFECT}: {way}.")
         elif len(path) == linking.MOST_ON_A_PATH:
-            self.once("way-too-long", reference, remarks, f"More than {linking.MOST_ON_A_PATH} documents refer to one another on the way through this reference, so {EFFECT} here.")
+            self.once("way-too-long", reference, remarks,
+                      f"More than {linking.MOST_ON_A_PATH} documents refer to one another on the way through this reference, so {EFFECT} here.")
         else:
             self.walk(self.known[place].document, self.known[place].remarks, [*path, place])
 

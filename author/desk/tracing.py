@@ -9,8 +9,10 @@ from .elements import AllOf, AnyOf, Expression, Match, Target
 from .model import contexts, expressions, functions, values
 
 FAULTS = {
-    "MissingAttribute": "the attribute is missing, and must be present", "ZeroDivisor": "the divisor is zero", "Overflow": "the result is outside 64 bits",
-    "BadText": "the text is none of the type", "Position": "the numbers don't fit", "CalendarRange": "the result is outside the years 1 to 9999",
+    "MissingAttribute": "the attribute is missing, and must be present", "ZeroDivisor": "the divisor is zero",
+    "Overflow": "the result is outside 64 bits",
+    "BadText": "the text is none of the type", "Position": "the numbers don't fit",
+    "CalendarRange": "the result is outside the years 1 to 9999",
     "NotOne": "the bag has not exactly one value",
 }
 MOST_VALUES, MOST_NEAR = 8, 4
@@ -41,7 +43,8 @@ def attribute_shown(designator: expressions.Designator) -> str:
 
 def attribute_members(designator: expressions.Designator) -> dict[str, object]:
     """The attribute in a few words, and whole."""
-    held = {"attribute": attribute_shown(designator), "category": designator.category, "attribute_id": designator.attribute_id, "data_type": designator.data_type}
+    held = {"attribute": attribute_shown(designator), "category": designator.category, "attribute_id": designator.attribute_id,
+            "data_type": designator.data_type}
     return held if designator.issuer is None else {**held, "issuer": designator.issuer}
 
 
@@ -60,7 +63,8 @@ class Origins(contexts.Context):
     def found(self, designator: expressions.Designator) -> dict[str, object]:
         """What the designator finds, and where; where it finds nothing, also what is nearly it."""
         origin, held = self.origin(designator), self.values_of(designator)
-        found: dict[str, object] = {**attribute_members(designator), "from": origin, "values": [value_shown(value) for value in held[:MOST_VALUES]]}
+        found: dict[str, object] = {**attribute_members(designator), "from": origin,
+                                    "values": [value_shown(value) for value in held[:MOST_VALUES]]}
         if len(held) > MOST_VALUES:
             found["count"] = len(held)
         if origin == "rows" and self.entity(designator.category):
@@ -76,21 +80,26 @@ class Origins(contexts.Context):
         found = []
         for held in self.objects:
             for attribute in held.attributes:
-                same = (held.category == category, attribute.id == attribute_id, attribute.data_type == data_type, issuer in (None, attribute.issuer))
+                same = (held.category == category, attribute.id == attribute_id, attribute.data_type == data_type,
+                        issuer in (None, attribute.issuer))
                 if sum(same) == 3 and attribute.values and (same[1] or names.likeness(attribute.id, attribute_id) >= MOST_ALIKE):
-                    found.append(self.said("the request has it", same, held.category, attribute.id, attribute.data_type, attribute.issuer))
+                    found.append(self.said("the request has it", same, held.category, attribute.id, attribute.data_type,
+                                           attribute.issuer))
         entity = self.entity(category)
         for row in self.source:
             same = (row.category == category, row.attribute_id == attribute_id, row.value[0] == data_type, issuer is None)
             if all(same):
-                found.append(f'a row has it for the entity "{row.entity}", and the request names ' + (f'"{entity}"' if entity else "none"))
-            elif sum(same) == 3 and row.entity == entity and (same[1] or names.likeness(row.attribute_id, attribute_id) >= MOST_ALIKE):
+                found.append(f'a row has it for the entity "{row.entity}", and the request names '
+                             + (f'"{entity}"' if entity else "none"))
+            elif sum(same) == 3 and row.entity == entity and (same[1]
+                                                              or names.likeness(row.attribute_id, attribute_id) >= MOST_ALIKE):
                 found.append(self.said("a row has it", same, row.category, row.attribute_id, row.value[0], None))
         return list(dict.fromkeys(found))
 
     def said(self, who: str, same: tuple[bool, ...], category: str, attribute_id: str, data_type: str, issuer: str | None) -> str:
         """How an attribute differs from the one that is wanted, in words."""
-        other = [f"in the category {names.category_shown(category)}", f"as {names.attribute_shown(attribute_id)}", f"as {names.kind_shown(data_type)}",
+        other = [f"in the category {names.category_shown(category)}", f"as {names.attribute_shown(attribute_id)}",
+                 f"as {names.kind_shown(data_type)}",
                  f"by {issuer}" if issuer is not None else "without an issuer"]
         return f"{who} {other[same.index(False)]}"
 
@@ -171,7 +180,8 @@ def word_of(matching: expressions.Matching) -> dict[str, object]:
 def match_traced(tracing: Tracing, match: tuple, element: Match) -> dict[str, object]:
     """Whether a match is true, and why."""
     name, literal, designator = match
-    found = {"match": f"{names.short(name)} {value_shown(literal)}", "line": element.node.place.line, **tracing.context.found(designator),
+    found = {"match": f"{names.short(name)} {value_shown(literal)}", "line": element.node.place.line,
+             **tracing.context.found(designator),
              **word_of(expressions.match_value(tracing.plain, *match))}
     if found["is"] == "Indeterminate":
         found["because"] = fault_of(tracing, name, literal, designator)

@@ -123,5 +123,6 @@ class DeskTest(unittest.TestCase):
     def narrow(self, written: str) -> None:
         """What is written for people fits 80 columns, but for words that are longer and a response as the server writes it."""
         for line in written.split("\n"):
-            self.assertTrue(len(line) <= 80 or len(line.split()) <= 2 or line.startswith('{"Response"'), f"wider than 80 columns: {line}")
+            self.assertTrue(len(line) <= 80 or len(line.split()) <= 2 or line.startswith('{"Response"'),
+                            f"wider than 80 columns: {line}")
         self.assertNotIn("\033", written, "no colours but on a terminal")

@@ -20,16 +20,24 @@ NAMES = {row.rstrip("?") for table in [*TABLES.values(), *ONE_OF.values()] for r
 FORMS = set(ONE_OF["document"].split() + ONE_OF["child"].split() + ONE_OF["expression"].split())
 REQUIRED = {table: [row for row in rows.split() if not row.endswith("?")] for table, rows in TABLES.items()}
 # the table of an object that is the value of a member of this name, or an item of its array
-TABLE_OF = {name: name for name in ("Policy", "PolicySet", "Rule", "Target", "AnyOf", "AllOf", "Match", "VariableDefinition", "AttributeValue", "AttributeDesignator", "Apply", "Function",
+TABLE_OF = {name: name
+            for name in ("Policy", "PolicySet", "Rule", "Target", "AnyOf", "AllOf", "Match", "VariableDefinition",
+                         "AttributeValue", "AttributeDesignator", "Apply", "Function",
                                     "VariableReference", "AttributeAssignmentExpression")}
-TABLE_OF.update(ObligationExpressions="ObligationExpression", AdviceExpressions="AdviceExpression", PolicyIdReference="Reference", PolicySetIdReference="Reference")
+TABLE_OF.update(ObligationExpressions="ObligationExpression", AdviceExpressions="AdviceExpression", PolicyIdReference="Reference",
+                PolicySetIdReference="Reference")
 # what is wrong as the value of a member of this name, and the code of it
 WRONG = {
-    "Effect": ("Permitt", "BadValue"), "FulfillOn": ("permit", "BadValue"), "AppliesTo": ("", "BadValue"), "DataType": ("str", "BadValue"), "MustBePresent": ("true", "BadValue"),
-    "PolicyId": ("", "BadValue"), "PolicySetId": (5, "BadValue"), "RuleId": (5, "BadValue"), "Category": (None, "BadValue"), "Issuer": (True, "BadValue"), "Description": (5, "BadValue"),
-    "RuleCombiningAlgId": ("deny-overrides", "UnknownAlgorithm"), "PolicyCombiningAlgId": ("urn:x", "UnknownAlgorithm"), "AttributeId": ([], "BadValue"), "Id": (7, "BadValue"),
-    "Value": ([], "BadValue"), "ObligationId": ({}, "BadValue"), "AdviceId": (1, "BadValue"), "MatchId": (1, "BadValue"), "FunctionId": (False, "BadValue"), "VariableId": (1, "BadValue"),
-    "EarliestVersion": ("1.*", "BadValue"), "LatestVersion": ("x", "BadValue"), "Match": ([], "BadValue"), "AllOf": ([], "BadValue"), "Rule": ({}, "BadValue"), "Children": ("", "BadValue"),
+    "Effect": ("Permitt", "BadValue"), "FulfillOn": ("permit", "BadValue"), "AppliesTo": ("", "BadValue"),
+    "DataType": ("str", "BadValue"), "MustBePresent": ("true", "BadValue"),
+    "PolicyId": ("", "BadValue"), "PolicySetId": (5, "BadValue"), "RuleId": (5, "BadValue"), "Category": (None, "BadValue"),
+    "Issuer": (True, "BadValue"), "Description": (5, "BadValue"),
+    "RuleCombiningAlgId": ("deny-overrides", "UnknownAlgorithm"), "PolicyCombiningAlgId": ("urn:x", "UnknownAlgorithm"),
+    "AttributeId": ([], "BadValue"), "Id": (7, "BadValue"),
+    "Value": ([], "BadValue"), "ObligationId": ({}, "BadValue"), "AdviceId": (1, "BadValue"), "MatchId": (1, "BadValue"),
+    "FunctionId": (False, "BadValue"), "VariableId": (1, "BadValue"),
+    "EarliestVersion": ("1.*", "BadValue"), "LatestVersion": ("x", "BadValue"), "Match": ([], "BadValue"),
+    "AllOf": ([], "BadValue"), "Rule": ({}, "BadValue"), "Children": ("", "BadValue"),
     "Version": ("1.x", "BadValue"),
 }
 STRAY = "Qqqqqqqqqqqq"
@@ -117,7 +125,8 @@ class Faulty:
             for member in held:
                 found += self.renamed(pointer, held, member)
                 found += [self.wrong(pointer, held, member)] if member in WRONG else []
-            found += [self.missing(pointer, held, member) for member in REQUIRED.get(TABLE_OF.get(name, ""), []) if member in held]
+            found += [self.missing(pointer, held, member) for member in REQUIRED.get(TABLE_OF.get(name, ""), [])
+                      if member in held]
             found += self.typed(pointer, name, held)
         return found
 
@@ -127,7 +136,8 @@ class Faulty:
             return [self.setting(held, "VariableId", "no-such", Put("IllTyped(UnknownVariable)", pointer, False, pointer))]
         if name in ("Apply", "Match"):
             member = "FunctionId" if name == "Apply" else "MatchId"
-            found = [self.setting(held, member, "urn:no-such:function", Put("IllTyped(UnknownFunction)", f"{pointer}/{member}", False, f"{pointer}/{member}"))]
+            found = [self.setting(held, member, "urn:no-such:function",
+                                  Put("IllTyped(UnknownFunction)", f"{pointer}/{member}", False, f"{pointer}/{member}"))]
             takes = FUNCTIONS.get(held.get(member), [None])[0] if name == "Apply" else None
             return found + ([self.ill_typed(pointer, held, takes)] if takes and held.get("Expression") else [])
         if name == "Rule" and "Condition" in held:
@@ -178,7 +188,8 @@ class Faulty:
             if len(puts) < wanted and not any(conflict(put, other) or conflict(other, put) for other in puts):
                 puts.append(put)
                 change()
-        made = Written(comment_at=self.random.choice([name for name, _, _ in places(draft)]) if self.random.random() < 0.05 else None)
+        made = Written(comment_at=self.random.choice([name for name, _, _ in places(draft)])
+                       if self.random.random() < 0.05 else None)
         made.put(draft, "", self.random.choice)
         found = [(put, (made.names if put.is_name else made.values)[put.pointer]) for put in puts]
         return made.text, found + [(Put("NotJson", made.comment_at, False, ""), made.comment)] * (made.comment_at is not None)

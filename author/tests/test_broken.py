@@ -71,7 +71,9 @@ BREAKS: list[tuple[object, str, object, Callable[[], bool]]] = [
     (faults.Remarks, "fault", shifted, misses),
     (check, "marked", last_first, misses),
     (positions.Reader, "slip", nothing, misses),
-    (explain.Explainer, "rule", lambda self, tracing, rule, element: ({"element": "rule", "id": "", "target": {"is": "Match"}, "decision": "Permit", "status": "ok"}, permits()), unexplained),
+    (explain.Explainer, "rule", lambda self, tracing, rule,
+     element: ({"element": "rule", "id": "", "target": {"is": "Match"}, "decision": "Permit", "status": "ok"}, permits()),
+     unexplained),
     (explain.Explainer, "children", lambda self, tree, *_: ([], []), unexplained),
     (explain, "individuals", lambda held: [], unexplained),
     (explain, "individuals", nothing, unexplained),
@@ -95,7 +97,8 @@ BREAKS: list[tuple[object, str, object, Callable[[], bool]]] = [
     (tracing.Origins, "near", lambda self, designator: [], fails(test_commands.Commands, "test_what_is_nearly_found")),
     (cases, "differences", lambda expected, given: [], fails(test_commands.Cases, "test_cases_that_fail")),
     (coverage.Coverage, "add", nothing, fails(test_commands.Cases, "test_coverage")),
-    (made.Maker, "request", lambda self: (b'{"Request":{}}', 0), fails(test_commands.Cases, "test_random_requests_find_what_changes")),
+    (made.Maker, "request", lambda self: (b'{"Request":{}}', 0),
+     fails(test_commands.Cases, "test_random_requests_find_what_changes")),
 ]
 
 
@@ -115,7 +118,8 @@ class Broken(unittest.TestCase):
             self.assertFalse(test_commands.all_agree(answered))
             self.assertTrue(test_commands.all_agree(answered[:1]))
         if PROGRAM is not None:
-            with mock.patch.object(test_random_decisions.ask, "row_of", lambda setting, held, moment: ["decide", *setting.fields(), "moment:0", "{}"]):
+            with mock.patch.object(test_random_decisions.ask, "row_of", lambda setting, held,
+                                   moment: ["decide", *setting.fields(), "moment:0", "{}"]):
                 _, asked, body, _ = test_random_decisions.share(3, 1)[0]
             self.assertNotEqual(test_random_decisions.answers([asked])[0], body)
 

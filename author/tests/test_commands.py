@@ -19,19 +19,22 @@ FILES = {"p.json": POLICY, "r.json": REQUEST, "rows.json": ROWS}
 ASK = ("--policy", "@p.json", "--request", "@r.json", "--at", "2026-11-23T10:00:00Z")
 LIAR = "#!/bin/sh\nwhile read -r line; do echo '{\"Response\":[]}'; done\n"
 CASES = {"Policy": "p.json", "Case": [
-    {"Name": "staff by day", "Request": json.loads(REQUEST), "At": "2026-11-23T10:00:00Z", "Decision": "Permit", "Status": "ok", "Obligations": []},
+    {"Name": "staff by day", "Request": json.loads(REQUEST), "At": "2026-11-23T10:00:00Z", "Decision": "Permit", "Status": "ok",
+     "Obligations": []},
     {"Name": "staff at night", "Request": "r.json", "At": "2026-11-23T20:00:00Z", "Decision": "NotApplicable"}]}
 
 
 def ask(request: str, at: str = "2026-11-23T10:00:00Z", *more: str, word: str = "ask", **files: str) -> tuple[int, str, str]:
-    return run(word, "--policy", "@p.json", "--request", "@r.json", "--at", at, *more, files={**FILES, "r.json": request, **files})
+    return run(word, "--policy", "@p.json", "--request", "@r.json", "--at", at, *more,
+               files={**FILES, "r.json": request, **files})
 
 
 class Commands(DeskTest):
     """What is written, and with which status it ends."""
 
     def test_usage(self) -> None:
-        for words in ([], ["no-such"], ["check"], ["ask"], ["check", "@none.json"], ["ask", *ASK[:-1], "9:00"], ["ask", *ASK[:-1], "99999999999999"], ["diff", "@p.json", "@p.json"],
+        for words in ([], ["no-such"], ["check"], ["ask"], ["check", "@none.json"], ["ask", *ASK[:-1], "9:00"],
+                      ["ask", *ASK[:-1], "99999999999999"], ["diff", "@p.json", "@p.json"],
                       ["ask", "--policy", "@p.json", "@q.json", *ASK[2:]], ["test", "@none.json"]):
             with self.subTest(words):
                 self.assertEqual(run(*words, files={**FILES, "q.json": POLICY.replace("urn:test:shop", "urn:test:other")})[0], 2)
@@ -42,17 +45,20 @@ class Commands(DeskTest):
         self.assertIn("only the model in Python spoke", " ".join(said.split()))
         status, written, _ = run("check", "@p.json", "--json", files={"p.json": edited(POLICY, ('"Permit"', '"Permitt"'))})
         self.assertEqual(status, 1)
-        self.assertEqual([(one["line"], one["column"], one["pointer"], one["code"], one["nearest"], one["answered"]) for one in json.loads(written)],
+        self.assertEqual([(one["line"], one["column"], one["pointer"], one["code"], one["nearest"], one["answered"])
+                          for one in json.loads(written)],
                          [(15, 16, "/Policy/Rule/0/Effect", "BadValue", "Permit", True)])
         self.assertEqual(run("check", "@p.json", "--root", "urn:none", files=FILES)[0], 1)
         self.assertEqual(run("check", "@p.json", "--rows", "@rows.json", files={**FILES, "rows.json": "[]"})[0], 1)
 
     def test_a_program_that_says_otherwise(self) -> None:
-        for words in (["check", "@p.json"], ["ask", *ASK], ["explain", *ASK], ["test", "@cases.json"], ["diff", "@p.json", "@p.json", "--requests", "@cases.json"]):
+        for words in (["check", "@p.json"], ["ask", *ASK], ["explain", *ASK], ["test", "@cases.json"],
+                      ["diff", "@p.json", "@p.json", "--requests", "@cases.json"]):
             with self.subTest(words[0]):
                 liar = pathlib.Path("/tmp", f"desk-liar-{time.time_ns()}")
                 try:
-                    liar.write_text(LIAR if words[0] != "check" else LIAR.replace("{\"Response\":[]}", "!NotJson"), encoding="utf-8")
+                    liar.write_text(LIAR if words[0] != "check" else LIAR.replace("{\"Response\":[]}", "!NotJson"),
+                                    encoding="utf-8")
                     liar.chmod(0o755)
                     status, _, said = run(*words, files={**FILES, "cases.json": json.dumps(CASES)}, program=str(liar))
                 finally:
@@ -73,16 +79,22 @@ class Commands(DeskTest):
         self.assertEqual(run("ask", *ASK, "--raw", files=FILES)[1], body + "\n")
         self.assertTrue(run("ask", *ASK[:-1], "2026-11-23T20:00:00Z", files=FILES)[1].startswith("NotApplicable\n"))
         self.assertTrue(ask(edited(REQUEST, ("alice", "thief")))[1].startswith("Deny\n"))
-        status, written, _ = run("ask", *ASK, "--rows", "@rows.json", files={**FILES, "r.json": edited(REQUEST, ('{"AttributeId": "urn:test:role", "Value": "staff"}',
+        status, written, _ = run("ask", *ASK, "--rows", "@rows.json",
+                                 files={**FILES, "r.json": edited(REQUEST, ('{"AttributeId": "urn:test:role", "Value": "staff"}',
                                  '{"AttributeId": "urn:oasis:names:tc:xacml:1.0:subject:subject-id", "Value": "alice"}'))})
         self.assertEqual((status, written.split("\n")[0]), (0, "Permit"))
 
     def test_requests_with_faults(self) -> None:
-        for held, code, words in ((edited(REQUEST, ('"AttributeId": "urn:test:role"', '"AtributeId": "urn:test:role"')), "NotProfile", 'needs the member "AttributeId"'),
-                                  (edited(REQUEST, ('"staff"', "5.5")), "NotProfile", "A number is whole here"), (edited(REQUEST, ('"staff"', '["staff", 5]')), "NotProfile", "of one kind"),
-                                  (edited(REQUEST, ('"Value": "staff"', '"Value": "x", "DataType": "integer"')), "NotProfile", "This is no integer"),
-                                  (edited(REQUEST, ('"Value": "staff"', '"Value": "x", "DataType": "str"')), "NotProfile", 'Did you mean "string"?'),
-                                  (REQUEST.replace("Request", "Requst", 1), "NotProfile", 'Did you mean "Request"?'), (REQUEST[:-4], "NotJson", "ends too early")):
+        for held, code, words in ((edited(REQUEST, ('"AttributeId": "urn:test:role"', '"AtributeId": "urn:test:role"')),
+                                   "NotProfile", 'needs the member "AttributeId"'),
+                                  (edited(REQUEST, ('"staff"', "5.5")), "NotProfile", "A number is whole here"),
+                                  (edited(REQUEST, ('"staff"', '["staff", 5]')), "NotProfile", "of one kind"),
+                                  (edited(REQUEST, ('"Value": "staff"', '"Value": "x", "DataType": "integer"')), "NotProfile",
+                                   "This is no integer"),
+                                  (edited(REQUEST, ('"Value": "staff"', '"Value": "x", "DataType": "str"')), "NotProfile",
+                                   'Did you mean "string"?'),
+                                  (REQUEST.replace("Request", "Requst", 1), "NotProfile", 'Did you mean "Request"?'),
+                                  (REQUEST[:-4], "NotJson", "ends too early")):
             with self.subTest(words):
                 status, written, _ = ask(held)
                 self.assertEqual(status, 1)
@@ -99,24 +111,30 @@ class Commands(DeskTest):
     def test_explain(self) -> None:
         status, written, _ = ask(REQUEST, word="explain")
         self.assertEqual(status, 0)
-        for words in ("Permit: policy urn:test:shop 1.0", "rule staff is Permit", 'true: string-equal "staff" with AccessSubject urn:test:role (string): "staff" from the request',
+        for words in ("Permit: policy urn:test:shop 1.0", "rule staff is Permit",
+                      'true: string-equal "staff" with AccessSubject urn:test:role (string): "staff" from the request',
                       "time-in-range is true", "10:00:00Z from the clock", "condition is false"):
             self.assertIn(words, " ".join(written.split()))
         self.narrow(written)
         status, written, _ = ask(edited(REQUEST, (',\n    {"AttributeId": "urn:test:name", "Value": "alice"}', "")),
                                  word="explain")
-        for words in ("Indeterminate{DP}", "status missing-attribute from: rule thieves, the first that is Indeterminate", "status missing-attribute from: the condition",
+        for words in ("Indeterminate{DP}", "status missing-attribute from: rule thieves, the first that is Indeterminate",
+                      "status missing-attribute from: the condition",
                       "found nowhere; the attribute is missing, and must be present"):
             self.assertIn(words, " ".join(written.split()))
 
     def test_what_is_nearly_found(self) -> None:
-        for old, new, words in (('"Value": "staff"', '"Value": "staff", "DataType": "anyURI"', "nearly: the request has it as an anyURI"),
-                                ('"AccessSubject": {"Attribute": [\n    {"AttributeId": "urn:test:role", "Value": "staff"},', '"Resource": {"Attribute": {"AttributeId": "urn:test:role", "Value": "staff"}}, '
+        for old, new, words in (('"Value": "staff"', '"Value": "staff", "DataType": "anyURI"',
+                                 "nearly: the request has it as an anyURI"),
+                                ('"AccessSubject": {"Attribute": [\n    {"AttributeId": "urn:test:role", "Value": "staff"},',
+                                 '"Resource": {"Attribute": {"AttributeId": "urn:test:role", "Value": "staff"}}, '
                                  '"AccessSubject": {"Attribute": [', "nearly: the request has it in the category Resource"),
                                 ("urn:test:role", "urn:test:rol", "nearly: the request has it as urn:test:rol")):
             with self.subTest(words):
                 self.assertIn(words, " ".join(ask(edited(REQUEST, (old, new)), word="explain")[1].split()))
-        held = edited(REQUEST, ('{"AttributeId": "urn:test:role", "Value": "staff"}', '{"AttributeId": "urn:oasis:names:tc:xacml:1.0:subject:subject-id", "Value": "bob"}'))
+        held = edited(REQUEST,
+                      ('{"AttributeId": "urn:test:role", "Value": "staff"}',
+                       '{"AttributeId": "urn:oasis:names:tc:xacml:1.0:subject:subject-id", "Value": "bob"}'))
         written = ask(held, "0", "--rows", "@rows.json", word="explain")[1]
         self.assertIn('nearly: a row has it for the entity "alice", and the request names "bob"', " ".join(written.split()))
 
@@ -124,7 +142,8 @@ class Commands(DeskTest):
         held = json.loads(ask(REQUEST, "2026-11-23T10:00:00Z", "--json", word="explain")[1])
         tree = held["results"][0]["tree"]
         self.assertEqual((tree["decision"], tree["id"], tree["settled_by"]), ("Permit", "urn:test:shop", ["rule staff"]))
-        self.assertEqual([(rule["id"], rule["decision"], rule["line"]) for rule in tree["children"]], [("staff", "Permit", 14), ("thieves", "NotApplicable", 21)])
+        self.assertEqual([(rule["id"], rule["decision"], rule["line"]) for rule in tree["children"]],
+                         [("staff", "Permit", 14), ("thieves", "NotApplicable", 21)])
         self.assertEqual(tree["children"][0]["target"]["any_of"][0]["all_of"][0]["matches"][0]["from"], "request")
 
     def test_duties(self) -> None:
@@ -135,12 +154,14 @@ class Commands(DeskTest):
             self.assertIn(words, " ".join(written.split()))
         absent = given.replace("urn:test:name", "urn:none")
         written = ask(REQUEST, word="explain", **{"p.json": edited(POLICY, ('"Target"', absent))})[1]
-        for words in ("the obligation urn:o has no value", "so Permit is Indeterminate{P}", "status missing-attribute from: the obligation urn:o"):
+        for words in ("the obligation urn:o has no value", "so Permit is Indeterminate{P}",
+                      "status missing-attribute from: the obligation urn:o"):
             self.assertIn(words, " ".join(written.split()))
 
     def test_duties_behind_what_settled(self) -> None:
         given = ('"ObligationExpressions": [{"ObligationId": "urn:%s", "FulfillOn": "Deny"}],\n     "Condition"')
-        more = edited(POLICY, ('"Effect": "Permit"', '"Effect": "Deny"'), ('"Condition"', given % "a"), ('"Effect": "Deny",\n     "Condition"', '"Effect": "Deny",\n     ' + given % "b"))
+        more = edited(POLICY, ('"Effect": "Permit"', '"Effect": "Deny"'), ('"Condition"', given % "a"),
+                      ('"Effect": "Deny",\n     "Condition"', '"Effect": "Deny",\n     ' + given % "b"))
         written = " ".join(ask(edited(REQUEST, ("alice", "thief")), word="explain", **{"p.json": more})[1].split())
         self.assertIn("is returned with the obligations urn:a", written)
         self.assertIn("adds the obligation urn:b (line 24) its obligations and advice are not gathered", written)
@@ -157,7 +178,8 @@ class Commands(DeskTest):
             times = []
             for _ in range(3):
                 before = resource.getrusage(resource.RUSAGE_CHILDREN)
-                executed(word, "--policy", "examples/company", "--root", "urn:example:company", "--request", "examples/company/request-two.json", "--at", "0",
+                executed(word, "--policy", "examples/company", "--root", "urn:example:company", "--request",
+                         "examples/company/request-two.json", "--at", "0",
                          *([] if PROGRAM else ["--program", "none"]))
                 after = resource.getrusage(resource.RUSAGE_CHILDREN)
                 times.append(after.ru_utime + after.ru_stime - before.ru_utime - before.ru_stime)
@@ -170,7 +192,8 @@ class Terminal(unittest.TestCase):
     def on_terminal(self, **environment: str) -> str:
         """What `check` writes to a terminal."""
         mine, its = pty.openpty()
-        ran = subprocess.Popen([str(TOP / "author" / "policy"), "check", "--program", "none", "examples/ward/policy.json"], cwd=TOP, stdout=its, stderr=subprocess.DEVNULL,
+        ran = subprocess.Popen([str(TOP / "author" / "policy"), "check", "--program", "none", "examples/ward/policy.json"],
+                               cwd=TOP, stdout=its, stderr=subprocess.DEVNULL,
                                env={**os.environ, "TERM": "xterm", **environment})
         os.close(its)
         held = b""
@@ -204,8 +227,10 @@ class Cases(DeskTest):
         self.assertIn("2 cases: 2 ok, 0 failed, by the model alone", written)
 
     def test_cases_that_fail(self) -> None:
-        for more, words in (({"Decision": "Deny"}, "expected Deny, found NotApplicable (ok)"), ({"Status": "syntax-error"}, "expected the status syntax-error, found ok"),
-                            ({"Obligations": ["urn:o"]}, "expected obligations urn:o, found none"), ({"Advice": [{"Id": "urn:o", "Assignments": {}}]}, "expected advice urn:o {}, found none")):
+        for more, words in (({"Decision": "Deny"}, "expected Deny, found NotApplicable (ok)"),
+                            ({"Status": "syntax-error"}, "expected the status syntax-error, found ok"),
+                            ({"Obligations": ["urn:o"]}, "expected obligations urn:o, found none"),
+                            ({"Advice": [{"Id": "urn:o", "Assignments": {}}]}, "expected advice urn:o {}, found none")):
             with self.subTest(words):
                 status, written, _ = self.run_cases(self.changed(**more))
                 self.assertEqual(status, 1)
@@ -215,7 +240,9 @@ class Cases(DeskTest):
         self.assertIn("expected 2 results, found 1", self.run_cases(several)[1])
 
     def test_faults_in_files_of_cases(self) -> None:
-        for cases, words in ((self.changed(Decison="Deny"), 'Did you mean "Decision"?'), (self.changed(Decision="Permitt"), "Did you mean Permit?"), ({**CASES, "Polcy": 1}, 'Did you mean "Policy"?'),
+        for cases, words in ((self.changed(Decison="Deny"), 'Did you mean "Decision"?'),
+                             (self.changed(Decision="Permitt"), "Did you mean Permit?"),
+                             ({**CASES, "Polcy": 1}, 'Did you mean "Policy"?'),
                              (self.changed(At="noon"), "is no dateTime"), ({"Case": []}, 'The member "Policy" is missing.')):
             with self.subTest(words):
                 status, written, _ = self.run_cases(cases)
@@ -235,11 +262,14 @@ class Cases(DeskTest):
 
     def test_coverage(self) -> None:
         _, written, _ = self.run_cases(CASES, "--coverage")
-        for words in ("p.json:14: target of rule staff: no case where it doesn't match", "p.json:21: rule thieves: no case where it applies",
-                      "p.json:21: condition of rule thieves: no case where it is true", "2 of 5 rules, targets and conditions reached both ways"):
+        for words in ("p.json:14: target of rule staff: no case where it doesn't match",
+                      "p.json:21: rule thieves: no case where it applies",
+                      "p.json:21: condition of rule thieves: no case where it is true",
+                      "2 of 5 rules, targets and conditions reached both ways"):
             self.assertIn(words, " ".join(written.split()))
         more = [{"Request": edited_request, "Decision": decision, "At": "2026-11-23T10:00:00Z"} for edited_request, decision in (
-            (json.loads(edited(REQUEST, ("alice", "thief"))), "Deny"), (json.loads(edited(REQUEST, ('"staff"', '"guest"'))), "NotApplicable"))]
+            (json.loads(edited(REQUEST, ("alice", "thief"))), "Deny"),
+            (json.loads(edited(REQUEST, ('"staff"', '"guest"'))), "NotApplicable"))]
         self.assertIn("5 of 5 rules", self.run_cases({**CASES, "Case": CASES["Case"] + more}, "--coverage")[1])
 
     def test_diff(self) -> None:
@@ -252,7 +282,8 @@ class Cases(DeskTest):
         self.assertIn("0 of 2 answers change", run("diff", "@p.json", "@p.json", "--requests", "@cases.json", files=files)[1])
 
     def test_random_requests_find_what_changes(self) -> None:
-        for old, new in (("17:00:00Z", "17:00:02Z"), ('"staff"},\n        "Attr', '"stuff"},\n        "Attr'), ("thief", "thieves"), ('"Permit"', '"Deny"'), ("deny-overrides", "permit-overrides")):
+        for old, new in (("17:00:00Z", "17:00:02Z"), ('"staff"},\n        "Attr', '"stuff"},\n        "Attr'),
+                         ("thief", "thieves"), ('"Permit"', '"Deny"'), ("deny-overrides", "permit-overrides")):
             with self.subTest(new):
                 files = {**FILES, "q.json": edited(POLICY, (old, new))}
                 written = run("diff", "@p.json", "@q.json", "--random", "400", files=files)[1]
@@ -270,8 +301,12 @@ class Examples(DeskTest):
         page = (TOP / "author" / "README.md").read_text(encoding="utf-8")
         self.assertIn("".join(f"    {line}\n" for line in written.split("\n\n")[0].split("\n")), page)
         front = (TOP / "README.md").read_text(encoding="utf-8").split("\n")
-        shown = [line[4:] for line in front[next(place for place, line in enumerate(front) if line.startswith("    $ author/policy check")):] if line.startswith("    ")]
-        self.assertEqual(shown[1:3], ["examples/ward/" + line if place == 0 else line for place, line in enumerate(written.split("\n")[:2])])
+        shown = [line[4:]
+                 for line in front[next(place for place,
+                                        line in enumerate(front) if line.startswith("    $ author/policy check")):]
+                                        if line.startswith("    ")]
+        self.assertEqual(shown[1:3],
+                         ["examples/ward/" + line if place == 0 else line for place, line in enumerate(written.split("\n")[:2])])
         ran = executed(*shown[3].removeprefix("$ author/policy ").split(), *([] if PROGRAM else ["--program", "none"]))
         self.assertEqual(ran.stdout.split("\n")[0], shown[4])
 
@@ -285,7 +320,8 @@ class Examples(DeskTest):
         for folder, root in (("ward", "urn:example:ward:records"), ("company", "urn:example:company")):
             for request in sorted((TOP / "examples" / folder).glob("request-*.json")):
                 rows = ["--rows", "examples/ward/rows.json"] if folder == "ward" else []
-                ran = executed("explain", *program, "--policy", f"examples/{folder}", "--root", root, *rows, "--request", str(request), "--at", "2026-11-23T10:00:00Z")
+                ran = executed("explain", *program, "--policy", f"examples/{folder}", "--root", root, *rows, "--request",
+                               str(request), "--at", "2026-11-23T10:00:00Z")
                 self.assertEqual(ran.returncode, 0, ran.stdout)
                 self.narrow(ran.stdout)
 

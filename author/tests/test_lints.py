@@ -18,7 +18,8 @@ FUNCTION = "urn:oasis:names:tc:xacml:1.0:function:"
 
 def match(function: str, data_type: str, value: object, attribute: str = "urn:a") -> dict:
     return {"MatchId": FUNCTION + function, "AttributeValue": {"DataType": data_type, "Value": value},
-            "AttributeDesignator": {"Category": "Resource", "AttributeId": attribute, "DataType": data_type, "MustBePresent": False}}
+            "AttributeDesignator": {"Category": "Resource", "AttributeId": attribute, "DataType": data_type,
+                                    "MustBePresent": False}}
 
 
 def target(*parts: list[list[dict]]) -> dict:
@@ -30,11 +31,13 @@ def rule(name: str, effect: str, **more: object) -> dict:
 
 
 def policy(rules: list[dict], algorithm: str = DENY, **more: object) -> str:
-    return json.dumps({"Policy": {"PolicyId": "urn:p", "Version": "1", "RuleCombiningAlgId": algorithm, **more, "Rule": rules}}, indent=1)
+    return json.dumps({"Policy": {"PolicyId": "urn:p", "Version": "1", "RuleCombiningAlgId": algorithm, **more, "Rule": rules}},
+                      indent=1)
 
 
 def policy_set(name: str, children: list[dict], algorithm: str = SETS) -> str:
-    return json.dumps({"PolicySet": {"PolicySetId": name, "Version": "1", "PolicyCombiningAlgId": algorithm, "Children": children}}, indent=1)
+    return json.dumps({"PolicySet": {"PolicySetId": name, "Version": "1", "PolicyCombiningAlgId": algorithm,
+                                     "Children": children}}, indent=1)
 
 
 def to_set(name: str) -> dict:
@@ -43,16 +46,22 @@ def to_set(name: str) -> dict:
 
 A, B = match("string-equal", "string", "a"), match("string-equal", "string", "b")
 NEVER = {
-    "two values": [target([[A, B]])], "two parts": [target([[A]], [[B]])], "an empty range": [target([[match("integer-less-than", "integer", 5), match("integer-greater-than", "integer", 6)]])],
-    "a strict bound": [target([[match("integer-less-than", "integer", 5), match("integer-greater-than-or-equal", "integer", 5)]])],
+    "two values": [target([[A, B]])], "two parts": [target([[A]], [[B]])],
+    "an empty range": [target([[match("integer-less-than", "integer", 5), match("integer-greater-than", "integer", 6)]])],
+    "a strict bound": [target([[match("integer-less-than", "integer", 5),
+                                match("integer-greater-than-or-equal", "integer", 5)]])],
     "a value out of a range": [target([[match("integer-equal", "integer", 5), match("integer-less-than", "integer", 5)]])],
-    "the greatest": [target([[match("integer-less-than", "integer", 2**63 - 1)]])], "nothing before the empty text": [target([[match("string-greater-than", "string", "")]])],
+    "the greatest": [target([[match("integer-less-than", "integer", 2**63 - 1)]])],
+    "nothing before the empty text": [target([[match("string-greater-than", "string", "")]])],
     "every alternative": [target([[A, B], [B, A]])],
 }
 SOMETIMES = {
-    "one value": [target([[A]])], "either": [target([[A], [B]])], "two attributes": [target([[A, match("string-equal", "string", "b", "urn:b")]])], "the same twice": [target([[A, A]])],
-    "a range": [target([[match("integer-less-than", "integer", 5), match("integer-greater-than", "integer", 7)]])], "one of two": [target([[A], [B]], [[B]])],
-    "at a bound": [target([[match("integer-less-than-or-equal", "integer", 5), match("integer-greater-than-or-equal", "integer", 5)]])],
+    "one value": [target([[A]])], "either": [target([[A], [B]])],
+    "two attributes": [target([[A, match("string-equal", "string", "b", "urn:b")]])], "the same twice": [target([[A, A]])],
+    "a range": [target([[match("integer-less-than", "integer", 5), match("integer-greater-than", "integer", 7)]])],
+    "one of two": [target([[A], [B]], [[B]])],
+    "at a bound": [target([[match("integer-less-than-or-equal", "integer", 5),
+                            match("integer-greater-than-or-equal", "integer", 5)]])],
 }
 
 
@@ -74,7 +83,8 @@ class Lints(DeskTest):
 
     def test_a_target_inside_another(self) -> None:
         held = policy([rule("r", "Permit", Target=target([[B]]))], Target=target([[A]]))
-        self.remark(checked(held).remarks, "never-matches", held.index("{", held.index('"Target"', held.index('"Rule"'))), "Inside the target of line", level="warning")
+        self.remark(checked(held).remarks, "never-matches", held.index("{", held.index('"Target"', held.index('"Rule"'))),
+                    "Inside the target of line", level="warning")
         self.assertEqual(self.codes(policy([rule("r", "Permit", Target=target([[A]]))], Target=target([[A], [B]]))), [])
 
     def test_idle_rules(self) -> None:
@@ -83,8 +93,10 @@ class Lints(DeskTest):
         for algorithm, rules, idle in (
             (until + "deny-unless-permit", [rule("a", "Permit", **matched), rule("b", "Deny", **matched)], 1),
             (until + "permit-unless-deny", [rule("a", "Permit", **matched), rule("b", "Deny", **matched)], 0),
-            (FIRST, [rule("a", "Permit", **matched), rule("b", "Deny"), rule("c", "Permit")], 2), (FIRST, [rule("a", "Permit", **matched), rule("b", "Deny")], None),
-            (DENY, [rule("a", "Permit", **matched), rule("b", "Deny")], 0), (DENY, [rule("a", "Permit"), rule("b", "Deny", **matched)], None),
+            (FIRST, [rule("a", "Permit", **matched), rule("b", "Deny"), rule("c", "Permit")], 2),
+            (FIRST, [rule("a", "Permit", **matched), rule("b", "Deny")], None),
+            (DENY, [rule("a", "Permit", **matched), rule("b", "Deny")], 0),
+            (DENY, [rule("a", "Permit"), rule("b", "Deny", **matched)], None),
             (until + "permit-overrides", [rule("a", "Permit"), rule("b", "Deny", **matched)], 1),
         ):
             with self.subTest(algorithm):
@@ -103,16 +115,22 @@ class Lints(DeskTest):
         self.assertEqual(self.codes(held.replace("false", "true")), [])
 
     def test_variables_that_nothing_names(self) -> None:
-        held = edited(POLICY, ('{"VariableReference": {"VariableId": "open"}}', '{"AttributeValue": {"DataType": "boolean", "Value": true}}'))
-        self.remark(checked(held).remarks, "unused-variable", held.index('"open"'), 'Nothing names the variable "open"', level="warning")
+        held = edited(POLICY,
+                      ('{"VariableReference": {"VariableId": "open"}}',
+                       '{"AttributeValue": {"DataType": "boolean", "Value": true}}'))
+        self.remark(checked(held).remarks, "unused-variable", held.index('"open"'), 'Nothing names the variable "open"',
+                    level="warning")
 
     def test_other_types(self) -> None:
         clock = edited(POLICY, (':current-time", "DataType": "time"', ':current-date", "DataType": "time"'))
-        self.remark(checked(clock).remarks, "other-type", clock.index('"time"'), "The clock gives current-date as a date", level="warning")
+        self.remark(checked(clock).remarks, "other-type", clock.index('"time"'), "The clock gives current-date as a date",
+                    level="warning")
         rows = edited(ROWS, ('"string", "Value": "staff"', '"integer", "Value": 5'))
         found = checked(POLICY, rows=rows)
-        self.remark(found.remarks, "other-type", POLICY.index('"string", "MustBePresent": false'), "The rows have AccessSubject urn:test:role as an integer", level="warning")
-        held = policy([rule("r", "Permit", Target=target([[A]])), rule("s", "Permit", Target=target([[match("integer-equal", "integer", 1)]]))])
+        self.remark(found.remarks, "other-type", POLICY.index('"string", "MustBePresent": false'),
+                    "The rows have AccessSubject urn:test:role as an integer", level="warning")
+        held = policy([rule("r", "Permit", Target=target([[A]])),
+                       rule("s", "Permit", Target=target([[match("integer-equal", "integer", 1)]]))])
         self.remark(checked(held).remarks, "other-type", held.rindex('"integer"'), "as a string", level="warning")
 
     def test_members_that_stand_twice(self) -> None:
@@ -120,10 +138,15 @@ class Lints(DeskTest):
         self.remark(checked(held).remarks, "repeated-member", held.index('"Version"'), "the last one counts", level="warning")
 
     def test_each_lint_can_be_switched_off(self) -> None:
-        every = policy([rule("r", "Deny", Target=target([[A, B]])), rule("r", "Deny", Target=target([[{**A, "AttributeDesignator": {**A["AttributeDesignator"], "Category": "Subject"}}]]))],
-                       "urn:oasis:names:tc:xacml:3.0:rule-combining-algorithm:deny-unless-permit", VariableDefinition=[{"VariableId": "v", "Expression": {"AttributeValue": A["AttributeValue"]}}])
+        every = policy([rule("r", "Deny", Target=target([[A, B]])),
+                        rule("r", "Deny",
+                             Target=target([[{**A,
+                                              "AttributeDesignator": {**A["AttributeDesignator"], "Category": "Subject"}}]]))],
+                       "urn:oasis:names:tc:xacml:3.0:rule-combining-algorithm:deny-unless-permit",
+                       VariableDefinition=[{"VariableId": "v", "Expression": {"AttributeValue": A["AttributeValue"]}}])
         codes = self.codes(every)
-        self.assertEqual(codes, ["idle-rule", "may-be-missing", "never-matches", "repeated-rule", "unknown-category", "unused-variable"])
+        self.assertEqual(codes,
+                         ["idle-rule", "may-be-missing", "never-matches", "repeated-rule", "unknown-category", "unused-variable"])
         for code in codes:
             self.assertEqual(self.codes(every, (code,)), [one for one in codes if one != code])
         self.assertEqual(run("check", "@p.json", "--off", "no-such", files={"p.json": every})[0], 2)
@@ -145,7 +168,9 @@ class Contradictions(unittest.TestCase):
     def test_against_all_integers(self) -> None:
         source, seen = random.Random(1), set()
         for _ in range(1500):
-            held = policy([rule("r", "Permit", Target=target([[match(f"integer-{source.choice(self.VERBS)}", "integer", source.randrange(6)) for _ in range(source.choice([1, 2, 3]))]]))])
+            held = policy([rule("r", "Permit",
+                                Target=target([[match(f"integer-{source.choice(self.VERBS)}", "integer", source.randrange(6))
+                                                for _ in range(source.choice([1, 2, 3]))]]))])
             matches = list(check.checked("p.json", held.encode()).document.children[0].target.matches())
             passes = any(all(contradictions.holds(one, ("integer", value)) for one in matches) for value in range(-2, 9))
             self.assertEqual(contradictions.contradiction(matches) is None, passes, held)
@@ -159,20 +184,26 @@ class Together(DeskTest):
     def remarks_of(self, texts: list[str]) -> list[tuple[str, str]]:
         found = [check.checked(f"{place}.json", text.encode()) for place, text in enumerate(texts)]
         together.Together(found).check()
-        return [(one.code, f"{remark.source.path}{remark.pointer}") for held in found for remark in held.remarks.found for one in [remark]]
+        return [(one.code, f"{remark.source.path}{remark.pointer}") for held in found for remark in held.remarks.found
+                for one in [remark]]
 
     def test_a_reference_that_leads_nowhere(self) -> None:
         held = policy_set("urn:s", [to_set("urn:none"), {"PolicyIdReference": {"Id": "urn:p", "Version": "2.+"}}])
-        self.assertEqual(self.remarks_of([held, policy([])]), [("leads-nowhere", "0.json/PolicySet/Children/0/PolicySetIdReference"), ("leads-nowhere", "0.json/PolicySet/Children/1/PolicyIdReference")])
-        self.assertEqual(self.remarks_of([edited(held, ("2.+", "1"), ("urn:none", "urn:t")), policy([]), policy_set("urn:t", [])]), [])
+        self.assertEqual(self.remarks_of([held, policy([])]),
+                         [("leads-nowhere", "0.json/PolicySet/Children/0/PolicySetIdReference"),
+                          ("leads-nowhere", "0.json/PolicySet/Children/1/PolicyIdReference")])
+        self.assertEqual(self.remarks_of([edited(held, ("2.+", "1"), ("urn:none", "urn:t")), policy([]),
+                                          policy_set("urn:t", [])]), [])
         status, written, _ = run("check", "@s.json", "@p.json", files={"s.json": held, "p.json": policy([])})
         self.assertEqual(status, 1)
         self.assertIn("urn:p is there in version 1, which doesn't fit the reference.", " ".join(written.split()))
 
     def test_circles(self) -> None:
-        held = [policy_set("urn:a", [to_set("urn:b")]), policy_set("urn:b", [to_set("urn:c")]), policy_set("urn:c", [to_set("urn:b")])]
+        held = [policy_set("urn:a", [to_set("urn:b")]), policy_set("urn:b", [to_set("urn:c")]),
+                policy_set("urn:c", [to_set("urn:b")])]
         self.assertEqual(self.remarks_of(held), [("circle", "2.json/PolicySet/Children/0/PolicySetIdReference")])
-        self.assertEqual(self.remarks_of([policy_set("urn:a", [to_set("urn:a")])]), [("circle", "0.json/PolicySet/Children/0/PolicySetIdReference")])
+        self.assertEqual(self.remarks_of([policy_set("urn:a", [to_set("urn:a")])]),
+                         [("circle", "0.json/PolicySet/Children/0/PolicySetIdReference")])
 
     def test_ways_that_are_too_long(self) -> None:
         chain = [policy_set(f"urn:{place}", [to_set(f"urn:{place + 1}")] if place < 17 else []) for place in range(18)]

@@ -9,8 +9,10 @@ import agree  # noqa: E402
 from desk.model import json_texts, rows  # noqa: E402
 
 COUNT = 3000
-TEXTS = ['{"a":1,}', '{"a":1 "b":2}', "[1,2] // x", '"x\n"', "{a:1}", "[01]", "[1e400]", '["\\ud800"]', '"\\ud83d\\ude00"', "\ufeff{}", "{} x", "[-0,1.0,18446744073709551615,18446744073709551616]",
-         "[" * 127 + "]" * 127, "[" * 128 + "]" * 128, "", '{"a":tru}', "[,]", "[1,,2]", "{,}", "{'a':1}", "[1.]", "[-]", '"abc', "[1e5,2E+3]", '{"a" 1}', "null", "[NaN]", '{"a":1,"a":2}', '"\\x"', '"\t"',
+TEXTS = ['{"a":1,}', '{"a":1 "b":2}', "[1,2] // x", '"x\n"', "{a:1}", "[01]", "[1e400]", '["\\ud800"]', '"\\ud83d\\ude00"',
+         "\ufeff{}", "{} x", "[-0,1.0,18446744073709551615,18446744073709551616]",
+         "[" * 127 + "]" * 127, "[" * 128 + "]" * 128, "", '{"a":tru}', "[,]", "[1,,2]", "{,}", "{'a':1}", "[1.]", "[-]", '"abc',
+         "[1e5,2E+3]", '{"a" 1}', "null", "[NaN]", '{"a":1,"a":2}', '"\\x"', '"\t"',
          "/* x */ {}", "# x\n[]", "[Infinity]", "\u00a0[]", "[1 2]", "nul", "[--1]", '"\\u12"', '{"a":{"b":[{"c":null}]}}']
 
 
@@ -57,7 +59,8 @@ class Positions(unittest.TestCase):
     def test_more_than_one_slip(self) -> None:
         held = '{"a": 1, // one\n "b": [1, 2,], /* two */ "c": 3 "d": 4}'
         _, slips = positions.read(positions.Source("x", held.encode()))
-        self.assertEqual([slip.start for slip in slips], [held.index("//"), held.index(",]"), held.index("/*"), held.index('"d"')])
+        self.assertEqual([slip.start for slip in slips],
+                         [held.index("//"), held.index(",]"), held.index("/*"), held.index('"d"')])
 
 
 if __name__ == "__main__":

@@ -30,7 +30,8 @@ def share(seed: int, count: int = SHARE) -> list[tuple[list[str], list[str], str
         row = source.makers["decisions"]()
         held, body, moment = setting_of(row)
         answer = ask.answered(held, [(body, moment)], None)[0]
-        found.append((row, ask.row_of(held, body, moment), answer.body, ask.is_explained(answer.results(), explain.explained(held, body, moment))))
+        found.append((row, ask.row_of(held, body, moment), answer.body,
+                      ask.is_explained(answer.results(), explain.explained(held, body, moment))))
     return found
 
 
