@@ -26,10 +26,11 @@ class Answer:
 
     @property
     def is_refused(self) -> bool:
-        return self.body.startswith("!")
+        return self.by_model.startswith("!")
 
     def results(self) -> list[dict]:
-        return [] if self.is_refused else json.loads(self.body)["Response"]
+        """The results by the model, which are the program's too where the two agree."""
+        return [] if self.is_refused else json.loads(self.by_model)["Response"]
 
 
 def by_model(setting: Setting, held: bytes, moment: int) -> str:
@@ -51,7 +52,7 @@ def answered(setting: Setting, asked: list[tuple[bytes, int]], program: Program 
     if program is None:
         return [Answer(model, None) for model in models]
     written = program.answers([row_of(setting, held, moment) for held, moment in asked])
-    return [Answer(model, rows.decoded(fields[0]).decode()) for model, fields in zip(models, written)]
+    return [Answer(model, rows.decoded(fields[0]).decode("utf-8", "replace")) for model, fields in zip(models, written)]
 
 
 def plain_decision(result: dict) -> tuple[str, str]:

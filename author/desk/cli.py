@@ -10,6 +10,8 @@ from collections.abc import Callable
 from . import ask, asking, cases, diff, explain, explained, files, laid_out, lints, program, setting, text, together
 from .check import Checked, Disagreement, Rows
 from .faults import Remark, Remarks
+from .model import documents as documents_of_model
+from .model import route_bodies
 from .model import rows as model_rows
 
 FINE, FAULTS, USAGE, DISAGREE = 0, 1, 2, 3
@@ -50,13 +52,12 @@ def check_pairs(documents: list[Checked], rows: Rows | None, found: program.Prog
     """What the model and the program say of each file."""
     if found is None:
         return []
-    asked = [["document", model_rows.encoded(one.source.held)] for one in documents]
-    wanted = [(one.source.path, f"!{one.code}" if one.code else "taken") for one in documents]
+    asked = [(one.source.path, documents_of_model.document, "document", one.source.held) for one in documents]
     if rows is not None:
-        asked.append(["rows", model_rows.encoded(rows.source.held)])
-        wanted.append((rows.source.path, f"!{rows.code}" if rows.code else "taken"))
-    return [(name, by_model, fields[0] if fields[0].startswith("!") else "taken") for (name, by_model),
-            fields in zip(wanted, found.answers(asked))]
+        asked.append((rows.source.path, route_bodies.rows, "rows", rows.source.held))
+    fields = [model_rows.encoded(held) for _, _, _, held in asked]
+    answers = found.answers([[kind, field] for (_, _, kind, _), field in zip(asked, fields)])
+    return [(name, " ".join(by_model(field)), " ".join(by_program)) for (name, by_model, _, _), field, by_program in zip(asked, fields, answers)]
 
 
 def checked_together(options: argparse.Namespace) -> tuple[list[Checked], Rows | None]:
@@ -143,14 +144,14 @@ def decided(options: argparse.Namespace) -> int:
     found = chosen_program(options)
     answer = ask.answered(held, [(body, moment)], found)[0]
     shown = explain.explained(held, body, moment)
+    pairs = [("the response", answer.by_model, answer.by_program)] if answer.by_program is not None else []
+    if not all_agree(pairs) or not explanation_agrees(answer, shown):
+        return DISAGREE
     remarks = remarks_on_root(held).found + asked.remarks.found
     if options.is_explained:
         print_explained(options, answer, shown, moment, remarks)
     else:
         print_asked(options, answer, moment, remarks)
-    pairs = [("the response", answer.by_model, answer.by_program)] if answer.by_program is not None else []
-    if not all_agree(pairs) or not explanation_agrees(answer, shown):
-        return DISAGREE
     return FAULTS if any(remark.level == "fault" for remark in remarks) else FINE
 
 

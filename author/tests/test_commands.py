@@ -7,6 +7,7 @@ import pathlib
 import pty
 import resource
 import subprocess
+import tempfile
 import time
 import unittest
 import xml.etree.ElementTree as xml
@@ -17,7 +18,7 @@ all_agree = cli.all_agree
 
 FILES = {"p.json": POLICY, "r.json": REQUEST, "rows.json": ROWS}
 ASK = ("--policy", "@p.json", "--request", "@r.json", "--at", "2026-11-23T10:00:00Z")
-LIAR = "#!/bin/sh\nwhile read -r line; do echo '{\"Response\":[]}'; done\n"
+LIAR = "#!/bin/sh\nwhile read -r line; do printf '%%s\\n' '%s'; done\n"
 CASES = {"Policy": "p.json", "Case": [
     {"Name": "staff by day", "Request": json.loads(REQUEST), "At": "2026-11-23T10:00:00Z", "Decision": "Permit", "Status": "ok",
      "Obligations": []},
@@ -52,19 +53,18 @@ class Commands(DeskTest):
         self.assertEqual(run("check", "@p.json", "--rows", "@rows.json", files={**FILES, "rows.json": "[]"})[0], 1)
 
     def test_a_program_that_says_otherwise(self) -> None:
-        for words in (["check", "@p.json"], ["ask", *ASK], ["explain", *ASK], ["test", "@cases.json"],
+        files = {**FILES, "cases.json": json.dumps(CASES)}
+        for words in (["check", "@p.json", "--rows", "@rows.json"], ["ask", *ASK], ["explain", *ASK], ["test", "@cases.json"],
                       ["diff", "@p.json", "@p.json", "--requests", "@cases.json"]):
-            with self.subTest(words[0]):
-                liar = pathlib.Path("/tmp", f"desk-liar-{time.time_ns()}")
-                try:
-                    liar.write_text(LIAR if words[0] != "check" else LIAR.replace("{\"Response\":[]}", "!NotJson"),
-                                    encoding="utf-8")
-                    liar.chmod(0o755)
-                    status, _, said = run(*words, files={**FILES, "cases.json": json.dumps(CASES)}, program=str(liar))
-                finally:
-                    liar.unlink()
-                self.assertEqual(status, 3)
-                self.assertIn("DISAGREE", said)
+            for lie in ("!NotJson", '{"Response":[]}', "x", "\\xff"):
+                with self.subTest(words[0], lie=lie), tempfile.NamedTemporaryFile("w", delete=False) as liar:
+                    liar.write(LIAR % lie)
+                    liar.close()
+                    os.chmod(liar.name, 0o700)
+                    status, _, said = run(*words, files=files, program=liar.name)
+                    os.unlink(liar.name)
+                    self.assertEqual(status, 3)
+                    self.assertIn("DISAGREE", said)
 
     def test_a_program_that_doesnt_run(self) -> None:
         self.assertEqual(run("ask", *ASK, files=FILES, program="/bin/false")[0], 3)
