@@ -1,3 +1,4 @@
 mod IndexLemmas
 mod KeyLemmas
 mod NamingLemmas
+pub mod TimelessLemmas

@@ -2,3 +2,4 @@ pub mod Context
 pub mod Decision
 pub mod indexing
 pub mod Rows
+pub mod Timeless

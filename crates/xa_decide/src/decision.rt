@@ -1,13 +1,16 @@
 //! The decision on a request.
-ghost use Rattle.std.specs.Prelude.{◌≡◌, false, [], ◌∷◌, map, option_map, IfOk};
+ghost use Rattle.std.specs.Prelude.{◌≡◌, true, [], ◌∷◌, map, option_map, IfOk, IfSome};
 ghost use Rattle.xa_link.specs.Linking.{link};
+ghost use Rattle.xa_expr.specs.declared.fault.Fault.TheVariants.{SyntaxError};
 ghost use Rattle.xa_policy.specs.Rule.{undecided};
 ghost use Rattle.xa_profile.specs.declared.individuals.Individual.TheVariants.{Places};
 ghost use Rattle.xa_profile.specs.Response.{response_body};
 ghost use Rattle.xa_decide.specs.Decision.{tree_of, by_tree, result_without_objects, result_of, decided, body_of, answer};
+ghost use Rattle.xa_decide.specs.Timeless.{is_timeless_answer, is_timeless_request, is_timeless_tree};
 
 use crate::context::IndividualContext;
 use crate::indexed_object::IndexedObject;
+use crate::timeless::is_timeless_tree;
 use crate::view::View;
 use std::alloc::{AllocError, Global};
 use xa_expr::{Context, Fault};
@@ -21,8 +24,24 @@ use xa_value::{Items, Moment, OrMemory};
 #[derive(Debug, Drop)]
 pub struct Decided<'a> {
     pub response: Response<'a>,
-    /// Whether the response is known to be the same at every moment.
+    /// Whether no attribute of the clock is asked for, so that the response is the same at every moment.
     pub timeless: bool,
+}
+
+/// The body of a response, and whether it is the same at every moment.
+#[derive(Debug, Drop)]
+pub struct Responded {
+    /// The body, in JSON.
+    pub body: Items<u8>,
+    /// Whether no attribute of the clock is asked for, so that the body is the same at every moment.
+    pub timeless: bool,
+}
+
+/// The results of a request, and whether they are the same at every moment.
+#[derive(Drop)]
+struct Outcome {
+    results: Items<ResultObject>,
+    timeless: bool,
 }
 
 /// Links the tree that a root stands for; it may be too large.
@@ -94,6 +113,17 @@ fn one_result(alloc: Global, fault: Fault) -> Result<Items<ResultObject>, AllocE
     Ok(results)
 }
 
+/// What comes of a request whose individual requests aren't decided.
+fn one_outcome(alloc: Global, fault: Fault) -> Result<Outcome, AllocError>
+    ensures results { IfOk result (λ outcome. outcome.results ≡ result_without_objects fault ∷ []) }
+    ensures timeless { IfOk result (λ outcome. outcome.timeless ≡ true) }
+{
+    Ok(Outcome {
+        results: one_result(alloc, fault)?,
+        timeless: true,
+    })
+}
+
 /// What the individual requests of a request are decided by: a view and the tree that its root stands for, the Category objects of the
 /// request, and a moment.
 #[derive(Drop)]
@@ -158,17 +188,19 @@ fn indexed_objects<'a>(
     Ok(indexed)
 }
 
-/// The results of the individual requests. For all of them the tree is linked once, and each object put in order once.
-fn results_of_individuals(
+/// What comes of the individual requests. For all of them the tree is linked once, and each object put in order once.
+fn outcome_of_individuals(
     alloc: Global,
     view: &View,
     objects: &[CategoryObject],
     moment: Moment,
     individuals: Items<Individual>,
-) -> Result<Items<ResultObject>, AllocError>
-    ensures { IfOk result (λ results. results ≡ map (result_of view.now objects.now moment) individuals) }
+) -> Result<Outcome, AllocError>
+    ensures results { IfOk result (λ outcome. outcome.results ≡ map (result_of view.now objects.now moment) individuals) }
+    ensures timeless { IfOk result (λ outcome. outcome.timeless ≡ is_timeless_tree (tree_of view.now.active view.now.root)) }
 {
     let tree = tree_of(alloc, view)?;
+    let timeless = is_timeless_tree(&tree);
     let indexed = indexed_objects(alloc, objects)?;
     let deciding = Deciding {
         view,
@@ -176,29 +208,31 @@ fn results_of_individuals(
         objects: indexed.as_slice(),
         moment,
     };
-    deciding.results_of(alloc, individuals)
+    let results = deciding.results_of(alloc, individuals)?;
+    Ok(Outcome { results, timeless })
 }
 
-/// The results of the request.
-#[tactic(auto, unfolding(crate::specs::Decision::decided))]
-fn results_of_request(
+/// What comes of the request.
+#[tactic(auto, unfolding(crate::specs::Decision::decided, crate::specs::Timeless::is_timeless_request))]
+fn outcome_of_request(
     alloc: Global,
     view: &View,
     request: &Request,
     moment: Moment,
-) -> Result<Items<ResultObject>, AllocError>
-    ensures { IfOk result (λ results. results ≡ decided view.now request.now moment) }
+) -> Result<Outcome, AllocError>
+    ensures results { IfOk result (λ outcome. outcome.results ≡ decided view.now request.now moment) }
+    ensures timeless { IfOk result (λ outcome. outcome.timeless ≡ is_timeless_request view.now request.now) }
 {
     if request.combined_decision {
-        return one_result(alloc, Fault::ProcessingError);
+        return one_outcome(alloc, Fault::ProcessingError);
     }
     match request.individuals(alloc) {
         Ok(individuals) => {
             let objects = request.objects.as_slice();
-            results_of_individuals(alloc, view, objects, moment, individuals)
+            outcome_of_individuals(alloc, view, objects, moment, individuals)
         },
         Err(OrMemory::Memory) => Err(AllocError),
-        Err(OrMemory::Error(_)) => one_result(alloc, Fault::ProcessingError),
+        Err(OrMemory::Error(_)) => one_outcome(alloc, Fault::ProcessingError),
     }
 }
 
@@ -212,44 +246,71 @@ pub fn decide<'a>(
 ) -> Result<Decided<'a>, AllocError>
     ensures objects { IfOk result (λ d. d.response.objects.now ≡ request.now.objects) }
     ensures results { IfOk result (λ d. d.response.results ≡ decided view.now request.now moment) }
-    ensures timeless { IfOk result (λ d. d.timeless ≡ false) }
+    ensures timeless { IfOk result (λ d. d.timeless ≡ is_timeless_request view.now request.now) }
 {
-    let results = results_of_request(alloc, view, request, moment)?;
+    let outcome = outcome_of_request(alloc, view, request, moment)?;
     Ok(Decided {
         response: Response {
             objects: request.objects.as_slice(),
-            results,
+            results: outcome.results,
         },
-        timeless: false,
+        timeless: outcome.timeless,
     })
 }
 
-/// The body of the response to a body that is no request.
-fn body_of_one_result(alloc: Global, fault: Fault) -> Result<Vec<u8>, AllocError>
-    ensures { IfOk result (λ body. body.items ≡ response_body [] (result_without_objects fault ∷ [])) }
+/// What is responded to a body that is no request.
+fn respond_to_no_request(alloc: Global) -> Result<Responded, AllocError>
+    ensures body { IfOk result (λ responded. responded.body ≡ response_body [] (result_without_objects SyntaxError ∷ [])) }
+    ensures timeless { IfOk result (λ responded. responded.timeless ≡ true) }
 {
     let response = Response {
         objects: &[],
-        results: one_result(alloc, fault)?,
+        results: one_result(alloc, Fault::SyntaxError)?,
     };
-    response.to_body(alloc)
+    Ok(Responded {
+        body: Items::from_vec(response.to_body(alloc)?),
+        timeless: true,
+    })
 }
 
-/// The body of the response to the request.
-fn decided_body(
+/// What is responded to the request.
+fn respond_to_request(
     alloc: Global,
     view: &View,
     request: &Request,
     moment: Moment,
-) -> Result<Vec<u8>, AllocError>
-    ensures { IfOk result (λ body. body.items ≡ response_body request.now.objects (decided view.now request.now moment)) }
+) -> Result<Responded, AllocError>
+    ensures body { IfOk result (λ responded. responded.body ≡ response_body request.now.objects (decided view.now request.now moment)) }
+    ensures timeless { IfOk result (λ responded. responded.timeless ≡ is_timeless_request view.now request.now) }
 {
     let decided = decide(alloc, view, request, moment)?;
-    decided.response.to_body(alloc)
+    Ok(Responded {
+        body: Items::from_vec(decided.response.to_body(alloc)?),
+        timeless: decided.timeless,
+    })
+}
+
+/// The body of the response to the body of a request, at the moment, and whether it is the same at every moment; none, where the body of
+/// the request is no JSON.
+#[tactic(auto, unfolding(crate::specs::Decision::answer, crate::specs::Timeless::is_timeless_answer))]
+pub fn respond(
+    alloc: Global,
+    view: &View,
+    body: &[u8],
+    moment: Moment,
+) -> Result<Option<Responded>, AllocError>
+    ensures body { IfOk result (λ sent. option_map (λ r. r.body) sent ≡ option_map body_of (answer view.now body.now moment)) }
+    ensures timeless { IfOk result (λ sent. IfSome sent (λ r. r.timeless ≡ is_timeless_answer view.now body.now)) }
+{
+    match Request::read(alloc, body) {
+        Ok(request) => Ok(Some(respond_to_request(alloc, view, &request, moment)?)),
+        Err(OrMemory::Memory) => Err(AllocError),
+        Err(OrMemory::Error(RequestError::NotJson)) => Ok(None),
+        Err(OrMemory::Error(RequestError::NotProfile)) => Ok(Some(respond_to_no_request(alloc)?)),
+    }
 }
 
 /// The body of the response to the body of a request, at the moment; none, where that is no JSON.
-#[tactic(auto, unfolding(crate::specs::Decision::answer))]
 pub fn answer(
     alloc: Global,
     view: &View,
@@ -258,12 +319,8 @@ pub fn answer(
 ) -> Result<Option<Vec<u8>>, AllocError>
     ensures { IfOk result (λ sent. option_map (λ b. b.items) sent ≡ option_map body_of (answer view.now body.now moment)) }
 {
-    match Request::read(alloc, body) {
-        Ok(request) => Ok(Some(decided_body(alloc, view, &request, moment)?)),
-        Err(OrMemory::Memory) => Err(AllocError),
-        Err(OrMemory::Error(RequestError::NotJson)) => Ok(None),
-        Err(OrMemory::Error(RequestError::NotProfile)) => {
-            Ok(Some(body_of_one_result(alloc, Fault::SyntaxError)?))
-        },
+    match respond(alloc, view, body, moment)? {
+        Some(responded) => Ok(Some(responded.body.into_vec())),
+        None => Ok(None),
     }
 }

@@ -16,9 +16,11 @@ mod order;
 mod rows;
 mod source;
 mod source_row;
+mod timeless;
 mod view;
 
-pub use decision::{Decided, answer, decide};
+pub use decision::{Decided, Responded, answer, decide, respond};
 pub use rows::{read_rows, write_rows};
 pub use source_row::SourceRow;
+pub use timeless::timeless_answers_stay;
 pub use view::View;

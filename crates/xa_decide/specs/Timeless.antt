@@ -1,0 +1,43 @@
+-- Whether what is answered to a body is the same at every moment: no attribute that the clock gives is asked for (XACML 3.0, core, section
+-- 7.3.6 and appendix B.7).
+use Rattle.std.specs.Prelude.{◌≡◌, ℕ, Bool, true, List, Option, Some, None, Result, Ok, Err, ℤ, if◌then◌else◌}
+use Rattle.xa_expr.specs.Timeless.{is_timeless}
+use Rattle.xa_policy.specs.declared.linked.Linked.{Linked}
+use Rattle.xa_policy.specs.Designators.{designators_of_linked}
+use Rattle.xa_link.specs.declared.link_error.LinkError.{LinkError}
+use Rattle.xa_profile.specs.declared.individuals.Individual.{Individual}
+use Rattle.xa_profile.specs.declared.individuals.TooMany.{TooMany}
+use Rattle.xa_profile.specs.declared.request.Request.{Request}
+use Rattle.xa_profile.specs.declared.request_error.RequestError.{RequestError}
+use Rattle.xa_profile.specs.Individuals.{individuals}
+use Rattle.xa_profile.specs.Request.{request_of}
+use Rattle.xa_decide.specs.Decision.{Viewed, answer, tree_of}
+
+-- no designator of the tree names the clock. Where there is no tree, and where it is too large, no attribute is asked for
+abbrev pub is_timeless_tree : Option (Result Linked LinkError) → Bool
+is_timeless_tree None = true
+is_timeless_tree (Some (Err e)) = true
+is_timeless_tree (Some (Ok tree)) = is_timeless (designators_of_linked tree)
+
+-- the individual requests go by the tree, whatever they are; one result stands for too many of them
+abbrev pub are_timeless : Viewed → Result (List Individual) TooMany → Bool
+are_timeless view (Ok individuals) = is_timeless_tree (tree_of view.active view.root)
+are_timeless view (Err e) = true
+
+-- a request; where one decision for all is wanted (CombinedDecision), one result stands for it
+unfoldable pub is_timeless_request : Viewed → Request → Bool
+is_timeless_request view request = if request.combined_decision then true else are_timeless view (individuals request)
+
+-- what was read as a request. The one result of JSON that is no request is always the same, and so is it that no JSON has no answer
+abbrev pub is_timeless_read : Viewed → Result Request RequestError → Bool
+is_timeless_read view (Ok request) = is_timeless_request view request
+is_timeless_read view (Err e) = true
+
+-- what is answered to a body
+unfoldable pub is_timeless_answer : Viewed → List ℕ → Bool
+is_timeless_answer view body = is_timeless_read view (request_of body)
+
+-- law: such an answer is the same at every two moments
+abbrev pub TimelessAnswersStay : Type 0
+TimelessAnswersStay =
+    (view : Viewed) (body : List ℕ) → is_timeless_answer view body ≡ true → (first second : ℤ) → answer view body first ≡ answer view body second

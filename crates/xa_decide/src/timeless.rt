@@ -1,0 +1,23 @@
+//! Whether what is answered is the same at every moment.
+ghost use Rattle.std.specs.Prelude.{◌≡◌};
+ghost use Rattle.xa_decide.specs.Timeless.{TimelessAnswersStay, is_timeless_tree};
+
+use xa_link::LinkError;
+use xa_policy::{Linked, timeless};
+
+/// Law: what is answered to a body is the same at every two moments, where no attribute that the clock gives is asked for.
+pub fn timeless_answers_stay()
+    ensures { TimelessAnswersStay }
+{}
+
+/// Whether no designator of the tree names the clock (XACML 3.0, core, appendix B.7). Where there is no tree, and where it is too large, none is
+/// asked for.
+pub(crate) fn is_timeless_tree(tree: &Option<Result<Linked, LinkError>>) -> bool
+    ensures { result ≡ is_timeless_tree tree.now }
+{
+    match tree {
+        Some(Ok(linked)) => timeless(linked),
+        Some(Err(_)) => true,
+        None => true,
+    }
+}
