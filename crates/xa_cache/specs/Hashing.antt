@@ -1,0 +1,31 @@
+-- How keys are hashed: by the value of a polynomial at a secret point, modulo the prime 2^61 - 1. Nothing rests on it but time.
+use Rattle.std.specs.Prelude.{ℕ, ◌+◌, ◌*◌, ◌/◌, ◌%◌, ◌^◌, List, length, drop}
+use Rattle.std.specs.List.{fold}
+use Rattle.std.specs.Simd.{first_chunks}
+use Rattle.xa_cache.specs.declared.seeded.Polynomial.{Polynomial}
+
+-- the same number modulo 2^61 - 1, and a shorter one
+abbrev pub folded : ℕ → ℕ
+folded n = n % 2 ^ 61 + n / 2 ^ 61
+
+-- the value once a part was written
+abbrev pub term : ℕ → ℕ → ℕ → ℕ
+term point value number = folded (folded (value * point + number))
+
+-- a byte after the bytes before it
+abbrev pub next_byte : ℕ → ℕ → ℕ
+next_byte number byte = (number * 256 % 2 ^ 64 + byte) % 2 ^ 64
+
+-- a part as a number that begins with a one
+abbrev pub part : List ℕ → ℕ
+part bytes = fold next_byte 1 bytes
+
+-- the value once parts were written
+abbrev pub valued : ℕ → ℕ → List (List ℕ) → ℕ
+valued point value parts = fold (λ v bytes. term point v (part bytes)) value parts
+
+-- the hasher once bytes were written: in parts of seven, and then the rest
+abbrev pub hashed : Polynomial → List ℕ → Polynomial
+hashed hasher bytes =
+    let whole = length bytes / 7 in
+    record { point = hasher.point; value = term hasher.point (valued hasher.point hasher.value (first_chunks 7 whole bytes)) (part (drop (whole * 7) bytes)) }

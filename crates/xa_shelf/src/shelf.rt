@@ -1,0 +1,125 @@
+//! The shelf: at most 128 documents, of which the one that was not asked for for the longest time goes.
+ghost use Rattle.std.specs.Prelude.{◌≡◌, Ok, IfOk, OnErr, IfSome, IsOk, IsErr};
+ghost use Rattle.xa_value.specs.Gives.{Gives};
+ghost use Rattle.xa_notation.specs.Document.{document_of};
+ghost use Rattle.xa_shelf.specs.Readings.{AreDocuments, CountsOne, one_more};
+
+use lru::LruCache;
+use std::alloc::{AllocError, Global};
+use std::marker::Model;
+use std::num::NonZeroUsize;
+use xa_notation::{NotationError, Parsed};
+use xa_value::{OrMemory, Shared};
+
+/// The most documents that are kept.
+const MAX_DOCUMENTS: usize = 128;
+
+/// Documents, each under its whole text. Contracts see the number of texts that were read and not found.
+#[derive(Drop)]
+pub struct Shelf {
+    alloc: Global,
+    documents: LruCache<String, Shared<Parsed>>,
+    readings: u64,
+}
+
+impl Model for Shelf {
+    ghost use Rattle.std.specs.Prelude.{◌≡◌, ℕ};
+    ghost use Rattle.xa_shelf.specs.Readings.{AreDocuments};
+
+    ghost Value = { ℕ };
+
+    ghost view = { λ shelf. shelf.readings };
+
+    ghost invariant = { λ shelf. AreDocuments shelf.documents.entries × (shelf.documents.cap ≡ 128) };
+}
+
+impl Shelf {
+    /// No documents, and no readings.
+    pub fn new(alloc: Global) -> Result<Shelf, AllocError>
+        ensures { IfOk result (λ shelf. shelf ≡ 0) }
+    {
+        let size = NonZeroUsize::new(MAX_DOCUMENTS).unwrap();
+        Ok(Shelf {
+            alloc,
+            documents: LruCache::new(alloc, size)?,
+            readings: 0,
+        })
+    }
+
+    /// A share of the text's document, or the text's first fault. A text that is found is neither read nor copied, and its document is now
+    /// the one that was asked for last. A fault isn't kept, nor a document for which there is no memory.
+    pub fn get_or_read(&mut self, text: &[u8]) -> Result<Shared<Parsed>, OrMemory<NotationError>>
+        ensures value { Gives result (document_of text.now) }
+        ensures counted { CountsOne self.old self.new }
+        ensures faulty { IsErr (document_of text.now) → self.new ≡ one_more self.old }
+    {
+        let Ok(written) = str::from_utf8(text) else {
+            return self.read(text);
+        };
+        match shelved(&mut self.documents, written)? {
+            Some(document) => Ok(document),
+            None => self.read_and_keep(written),
+        }
+    }
+
+    /// How many texts were read and not found, as far as they can be counted.
+    pub fn readings(&self) -> u64
+        ensures { result ≡ self.now }
+    {
+        self.readings
+    }
+
+    /// Reads the text.
+    fn read(&mut self, text: &[u8]) -> Result<Shared<Parsed>, OrMemory<NotationError>>
+        ensures value { Gives result (document_of text.now) }
+        ensures counted { self.new ≡ one_more self.old }
+    {
+        self.readings = self.readings.saturating_add(1);
+        let document = Parsed::read(self.alloc, text)?;
+        Ok(Shared::new(self.alloc, document)?)
+    }
+
+    /// Reads the text, and keeps its document.
+    fn read_and_keep(&mut self, text: &str) -> Result<Shared<Parsed>, OrMemory<NotationError>>
+        ensures value { Gives result (document_of text.now) }
+        ensures counted { self.new ≡ one_more self.old }
+    {
+        let document = self.read(text.as_bytes())?;
+        let _put = put_up(&mut self.documents, self.alloc, text, &document);
+        Ok(document)
+    }
+}
+
+/// A share of the document that stands under the text.
+fn shelved(
+    documents: &mut LruCache<String, Shared<Parsed>>,
+    text: &str,
+) -> Result<Option<Shared<Parsed>>, AllocError>
+    requires { AreDocuments documents.old.entries }
+    ensures documents { AreDocuments documents.new.entries }
+    ensures cap { documents.new.cap ≡ documents.old.cap }
+    ensures found { IfOk result (λ there. IfSome there (λ document. document_of text.now ≡ Ok document)) }
+    ensures unshared { OnErr result (IsOk (document_of text.now)) }
+{
+    match documents.get(text) {
+        Some(document) => Ok(Some(document.clone()?)),
+        None => Ok(None),
+    }
+}
+
+/// Puts a share of the document up under a copy of its text.
+fn put_up(
+    documents: &mut LruCache<String, Shared<Parsed>>,
+    alloc: Global,
+    text: &str,
+    document: &Shared<Parsed>,
+) -> Result<(), AllocError>
+    requires { AreDocuments documents.old.entries × (document_of text.now ≡ Ok document.now) }
+    ensures documents { AreDocuments documents.new.entries }
+    ensures cap { documents.new.cap ≡ documents.old.cap }
+{
+    let text = String::from_str(alloc, text)?;
+    let share = document.clone()?;
+    documents.put(text, share)?;
+    Ok(())
+}
