@@ -1,7 +1,11 @@
 pub mod AdmissionLemmas
 pub mod AnswerLemmas
+pub mod AskingLemmas
 pub mod AuthorizationLemmas
+pub mod GrowthLemmas
 pub mod IsolationLemmas
 pub mod NameLemmas
 pub mod ReplyLemmas
 pub mod ServedLemmas
+pub mod ValidLemmas
+pub mod WorkLemmas

@@ -1,29 +1,47 @@
 -- How the code answers a message: words that only contracts of private functions cite.
-use Rattle.std.specs.Prelude.{◌≡◌, ◌≢◌, ◌⊎◌, ℕ, ℤ, List, Option, Some, None, Result, Ok, Err}
+use Rattle.std.specs.Option.{ok_or}
+use Rattle.std.specs.Prelude.{◌≡◌, ◌≢◌, ◌⊎◌, ℕ, ℤ, Bool, List, Option, Some, None, option_and_then, option_map, Result, Ok, Err}
 use Rattle.xa_value.specs.Gives.{◌>>=◌}
 use Rattle.xa_notation.specs.declared.notation_error.NotationError.{NotationError}
+use Rattle.xa_notation.specs.declared.notation_error.NotationError.TheVariants.{NotJson}
+use Rattle.xa_records.specs.declared.refusal.Refusal.TheVariants.{Absent}
+use Rattle.xa_decide.specs.declared.decision.Responded.{Responded}
+use Rattle.xa_http.specs.declared.command.DomainCommand.{DomainCommand}
+use Rattle.xa_http.specs.declared.command.DomainCommand.TheVariants as domain
 use Rattle.xa_http.specs.declared.message.Message.{Message}
 use Rattle.xa_http.specs.declared.route.Route.{Route}
+use Rattle.xa_http.specs.Routes.{route_of}
 use Rattle.xa_records.specs.declared.refusal.Failure.TheVariants.{Memory, Store}
 use Rattle.xa_records.specs.DomainState.{DomainState}
 use Rattle.xa_records.specs.Keeper.{IsOneMore}
-use Rattle.xa_records.specs.Kept.{Kept, names_of, state_of}
+use Rattle.xa_records.specs.declared.gate.Gate.{Gate}
+use Rattle.xa_records.specs.Kept.{Domain, Kept, names_of, state_of}
+use Rattle.xa_records.specs.Readings.{gate_of}
 use Rattle.xa_server.specs.declared.error_code.ErrorCode.{ErrorCode}
+use Rattle.xa_server.specs.declared.error_code.ErrorCode.TheVariants as error
 use Rattle.xa_server.specs.declared.stop.Stop.{Stop}
 use Rattle.xa_server.specs.declared.stop.Stop.TheVariants.{Code, Failed}
 use Rattle.xa_server.specs.declared.replies.Reply.{Reply}
 use Rattle.xa_server.specs.declared.replies.Reply.TheVariants.{Sent, Refused}
 use Rattle.xa_server.specs.ErrorCode.{error_reply}
+use Rattle.xa_server.specs.Replies.{decision_reply}
+use Rattle.xa_server.specs.Growth.{Grows}
+use Rattle.xa_cache.specs.declared.key.Key.{Key}
+use Rattle.xa_decide.specs.Decision.{Viewed}
+use Rattle.xa_server.specs.Tally.{Tally}
+use Rattle.xa_server.specs.View.{view_of}
+use Rattle.xa_server.specs.Work.{IsWorkedOut, body_held, domain_of_message, domain_of_route, key_in, looked_up, worked_out}
 use Rattle.xa_server.specs.Machine.{Answer, answer, by_route, general_answer, general_by_route, or_body_fault}
 
 -- what is made of what a body says, or its fault
 abbrev pub by_body : {X : Type 0} → (X → Option DomainState → Answer) → Result X NotationError → Option DomainState → Answer
 by_body answer given state = or_body_fault given >>= (λ x. answer x state)
 
--- the domain of that name is in that state, and every other domain is in the state in which it was
+-- the domain of that name is in that state, every other domain is in the state in which it was, and numbers and epochs have gone on
 pub record IsMoved (old new : Kept) (name : List ℕ) (after : Option DomainState) : Type 0 where
   pub here : state_of name new ≡ after
   pub others : (other : List ℕ) → other ≢ name → state_of other new ≡ state_of other old
+  pub grows : Grows old new
 
 -- a message of the domain of that name was answered as its machine answers it, or it failed; nothing has changed but by a reply
 abbrev pub Answers : Kept → Kept → List ℕ → Result (List ℕ) Stop → Answer → Type 0
@@ -36,6 +54,12 @@ abbrev pub Tells : {X : Type 0} → Kept → Kept → Result X Stop → Result X
 Tells old new (Ok x) meant = (meant ≡ Ok x) × (new ≡ old)
 Tells old new (Err (Code code)) meant = (meant ≡ Err code) × (new ≡ old)
 Tells old new (Err (Failed failure)) meant = new ≡ old
+
+-- a message was let in: then that is the gate of the domain of that name
+abbrev pub Opens : Kept → Kept → List ℕ → Result Gate Stop → Result (Unit {0}) ErrorCode → Type 0
+Opens old new name (Ok gate) meant = (gate_of name old ≡ Some gate) × (meant ≡ Ok tt) × (new ≡ old)
+Opens old new name (Err (Code code)) meant = (meant ≡ Err code) × (new ≡ old)
+Opens old new name (Err (Failed failure)) meant = new ≡ old
 
 -- a message that asks for this was answered, by the domain that its path names, if it names one
 abbrev pub AnswersRoute : List ℕ → Kept → Kept → Option (List ℕ) → Message → ℤ → Route → Result (List ℕ) Stop → Type 0
@@ -65,3 +89,79 @@ abbrev pub CountsReply : ℕ → ℕ → Reply → Type 0
 CountsReply old new (Sent bytes) = new ≡ old
 CountsReply old new (Refused Memory) = new ≡ old
 CountsReply old new (Refused Store) = IsOneMore old new
+
+-- ---- asking for a decision
+
+-- the body of the response, and whether it is the same at every moment; nothing of an absent domain, and where the body is no JSON
+abbrev pub worked_in : Option DomainState → List ℕ → ℤ → Option (List ℕ × Bool)
+worked_in state body moment = option_and_then (λ s. worked_out s body moment) state
+
+-- the same, or why there is none
+abbrev pub response_told : List ℕ → ℤ → Option DomainState → Result (List ℕ × Bool) ErrorCode
+response_told body moment state = ok_or state (error.Refused Absent) >>= (λ s. ok_or (worked_out s body moment) (error.Body NotJson))
+
+-- what decides in a domain; nothing in an absent one
+abbrev pub view_told : Option DomainState → Result Viewed ErrorCode
+view_told state = ok_or (option_map view_of state) (error.Refused Absent)
+
+-- it was worked out by what decides; or the body is no JSON; or there was no memory
+abbrev pub IsResponse : Option (List ℕ × Bool) → Result Responded Stop → Type 0
+IsResponse meant (Ok responded) = meant ≡ Some (responded.body, responded.timeless)
+IsResponse meant (Err (Code code)) = (meant ≡ None) × (code ≡ error.Body NotJson)
+IsResponse meant (Err (Failed failure)) = failure ≡ Memory
+
+-- it was worked out, or an error answer says why not, or that failed; and nothing has changed
+abbrev pub Responds : Kept → Kept → Result Responded Stop → Result (List ℕ × Bool) ErrorCode → Type 0
+Responds old new (Ok responded) meant = (meant ≡ Ok (responded.body, responded.timeless)) × (new ≡ old)
+Responds old new (Err (Code code)) meant = (meant ≡ Err code) × (new ≡ old)
+Responds old new (Err (Failed failure)) meant = new ≡ old
+
+-- the reply
+abbrev pub reply_told : List ℕ → ℤ → Option DomainState → Result (List ℕ) ErrorCode
+reply_told body moment state = response_told body moment state >>= (λ response. Ok (decision_reply response.0))
+
+-- under which key a decision is held, by the domain's gate
+abbrev pub key_by_gate : Gate → List ℕ → Key
+key_by_gate gate body = record { number = gate.number; epoch = gate.epoch; body = body }
+
+-- the decision was worked out, with success; by an error answer nothing was there to be worked out, and a failure has left all
+abbrev pub IsFresh : Key → Option (List ℕ × Bool) → Result (List ℕ) Stop → Tally → Tally → Type 0
+IsFresh key worked (Ok bytes) old new = IsWorkedOut key worked old new
+IsFresh key worked (Err (Code code)) old new = (worked ≡ None) × (new ≡ old)
+IsFresh key worked (Err (Failed failure)) old new = new ≡ old
+
+-- a look-up where a decision is held, or isn't
+abbrev pub IsLookedUp : Option (List ℕ) → Key → Tally → Tally → Type 0
+IsLookedUp None key old new = new ≡ old
+IsLookedUp (Some body) key old new = new ≡ looked_up key old
+
+-- an ask that was let in, where a decision is held, or isn't
+abbrev pub IsAsked : Key → Option (List ℕ) → Option (List ℕ × Bool) → Result (List ℕ) Stop → Tally → Tally → Type 0
+IsAsked key (Some body) worked (Ok bytes) old new = new ≡ looked_up key old
+IsAsked key (Some body) worked (Err (Code code)) old new = ⊥
+IsAsked key (Some body) worked (Err (Failed failure)) old new = (new ≡ old) ⊎ (new ≡ looked_up key old)
+IsAsked key None worked result old new = IsFresh key worked result old new
+
+-- ---- what was done to what is held of decisions
+
+-- by a command in a domain that was let in
+abbrev pub WorksCommand : DomainCommand → Gate → List ℕ → Option DomainState → ℤ → Result (List ℕ) Stop → Tally → Tally → Type 0
+WorksCommand domain.Decide gate body state moment result old new =
+    IsAsked (key_by_gate gate body) (body_held (key_by_gate gate body) body old) (worked_in state body moment) result old new
+WorksCommand domain.Upload gate body state moment result old new = new ≡ old
+WorksCommand domain.List gate body state moment result old new = new ≡ old
+WorksCommand domain.SetRoot gate body state moment result old new = new ≡ old
+WorksCommand domain.SetSource gate body state moment result old new = new ≡ old
+WorksCommand domain.Source gate body state moment result old new = new ≡ old
+
+-- by a message, by the domain that it asks
+abbrev pub WorksOf : Option Domain → List ℕ → ℤ → Result (List ℕ) Stop → Tally → Tally → Type 0
+WorksOf None body moment result old new = new ≡ old
+WorksOf (Some domain) body moment result old new =
+    IsAsked (key_in domain body) (body_held (key_in domain body) body old) (worked_out domain.state body moment) result old new
+
+abbrev pub WorksRoute : Kept → Message → ℤ → Route → Result (List ℕ) Stop → Tally → Tally → Type 0
+WorksRoute kept message moment route result old new = WorksOf (domain_of_route kept message route) message.body moment result old new
+
+abbrev pub WorksMessage : Kept → Message → ℤ → Result (List ℕ) Stop → Tally → Tally → Type 0
+WorksMessage kept message moment result old new = WorksOf (domain_of_message kept message (route_of message)) message.body moment result old new

@@ -6,9 +6,13 @@ pub mod DocumentKey
 pub mod View
 pub mod Machine
 pub mod Alone
+pub mod Tally
 pub mod World
 pub mod Served
 pub mod Isolation
+pub mod ValidCache
+pub mod Work
 pub mod Tokens
+pub mod Growth
 pub mod Stop
 pub mod Handling

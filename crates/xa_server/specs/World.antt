@@ -1,16 +1,18 @@
 -- What the replies of a server may depend on.
 use Rattle.std.specs.Prelude.{ℕ, List}
 use Rattle.xa_records.specs.Kept.{Kept}
+use Rattle.xa_server.specs.Tally.{Tally}
 
 -- the digest of the operator's token, and what is kept of all domains
 pub record World : Type 0 where
   pub operator : List ℕ
   pub kept : Kept
 
--- a server as contracts see it: the digest of the operator's token, and its keeper
+-- a server as contracts see it: the digest of the operator's token, its keeper, and what it holds of decisions with its counts
 pub record Serving (R : Type 0) : Type 0 where
   pub operator : List ℕ
   pub records : R
+  pub tally : Tally
 
 -- the world of a server, by what its keeper keeps
 abbrev pub world : {R : Type 0} → (R → Kept) → Serving R → World

@@ -1,29 +1,33 @@
 //! The answer to one message: the questions in their order, and then what the message asks for.
-ghost use Rattle.std.specs.Prelude.{◌≡◌, ℕ, ℤ, IsTrue, List};
+ghost use Rattle.std.specs.Prelude.{◌≡◌, ℕ, ℤ, IsTrue, List, Some};
 ghost use Rattle.xa_http.specs.Routes.{named_by};
 ghost use Rattle.xa_http.specs.declared.route.Route.TheVariants as to;
 ghost use Rattle.xa_records.specs.DomainName.{is_domain_name};
 ghost use Rattle.xa_records.specs.Kept.{state_of};
-ghost use Rattle.xa_server.specs.Handling.{Answers, AnswersMessage, AnswersRoute, Counts};
+ghost use Rattle.xa_server.specs.Handling.{Answers, AnswersMessage, AnswersRoute, Counts, WorksCommand, WorksMessage, WorksRoute};
 ghost use Rattle.xa_server.specs.Machine.{by_document_command, by_domain_command, by_operator_command};
 ghost use Rattle.xa_server.specs.Owner.{name_if, owner};
+ghost use Rattle.xa_server.specs.ValidCache.{AreValid};
+ghost use Rattle.xa_records.specs.Readings.{gate_of};
 ghost use Rattle.std.specs.Option.{option_and_then};
 
-use crate::admission::{admitted, by_operator, is_decision};
+use crate::admission::{admitted, by_operator, gate_opened, is_decision};
+use crate::asking::decide;
 use crate::changes::{
     create, delete, drop_token, put_token, remove, set_active, set_root, set_source, upload,
 };
 use crate::document_key::key_of_parts;
 use crate::error_code::ErrorCode;
 use crate::name::name_if;
-use crate::readings::{decide, domains, list, show, source};
+use crate::readings::{domains, list, show, source};
+use crate::resources::Resources;
 use crate::stop::Stop;
 use std::alloc::Global;
 use xa_http::{
     DocumentCommand, DocumentParts, DomainCommand, Message, OperatorCommand, Route, Routes,
 };
 use xa_policy::DocumentKey;
-use xa_records::{Digest, Records, Refusal};
+use xa_records::{Digest, Gate, Records, Refusal};
 use xa_value::{Items, Moment, Text};
 
 /// Does what the operator asks for of a domain.
@@ -50,18 +54,21 @@ fn by_operator_command<R: Records>(
 /// Does what is asked for in a domain.
 fn by_domain_command<R: Records>(
     alloc: Global,
+    resources: &mut Resources,
     records: &mut R,
     name: &Text,
+    gate: &Gate,
     command: DomainCommand,
     body: &[u8],
     moment: Moment,
 ) -> Result<Items<u8>, Stop>
-    ensures answers { R.sound records.new → Answers (R.kept records.old) (R.kept records.new) name.now result (by_domain_command command body.now moment (state_of name.now (R.kept records.old))) }
+    ensures answers { gate_of name.now (R.kept records.old) ≡ Some gate.now → AreValid (R.kept records.old) resources.old.held → R.sound records.new → Answers (R.kept records.old) (R.kept records.new) name.now result (by_domain_command command body.now moment (state_of name.now (R.kept records.old))) }
+    ensures works { R.sound records.new → WorksCommand command gate.now body.now (state_of name.now (R.kept records.old)) moment result resources.old resources.new }
     ensures sound { R.sound records.new → R.sound records.old }
     ensures counts { Counts (R.faults records.old) (R.faults records.new) result }
 {
     match command {
-        DomainCommand::Decide => decide(alloc, records, name, body, moment),
+        DomainCommand::Decide => decide(alloc, resources, records, name, gate, body, moment),
         DomainCommand::Upload => upload(alloc, records, name, body),
         DomainCommand::List => list(alloc, records, name),
         DomainCommand::SetRoot => set_root(alloc, records, name, body),
@@ -111,22 +118,26 @@ fn operator_route<R: Records>(
 /// Answers a message to one of a domain's paths.
 fn domain_route<R: Records>(
     alloc: Global,
+    resources: &mut Resources,
     records: &mut R,
     message: &Message,
     moment: Moment,
     domain: Items<u8>,
     command: DomainCommand,
 ) -> Result<Items<u8>, Stop>
-    ensures answers { (operator : List ℕ) → R.sound records.new → AnswersRoute operator (R.kept records.old) (R.kept records.new) (name_if domain) message.now moment (to.Domain domain command) result }
+    ensures answers { (operator : List ℕ) → AreValid (R.kept records.old) resources.old.held → R.sound records.new → AnswersRoute operator (R.kept records.old) (R.kept records.new) (name_if domain) message.now moment (to.Domain domain command) result }
+    ensures works { R.sound records.new → WorksRoute (R.kept records.old) message.now moment (to.Domain domain command) result resources.old resources.new }
     ensures sound { R.sound records.new → R.sound records.old }
     ensures counts { Counts (R.faults records.old) (R.faults records.new) result }
 {
     let name = name_if(domain).ok_or(ErrorCode::Unauthorized)?;
-    admitted(alloc, records, &name, is_decision(command), message)?;
+    let gate = gate_opened(alloc, records, &name, is_decision(command), message)?;
     by_domain_command(
         alloc,
+        resources,
         records,
         &name,
+        &gate,
         command,
         message.body.as_slice(),
         moment,
@@ -156,12 +167,14 @@ fn document_route<R: Records>(
 fn answer_route<R: Records>(
     alloc: Global,
     operator: Digest,
+    resources: &mut Resources,
     records: &mut R,
     message: &Message,
     moment: Moment,
     route: Route,
 ) -> Result<Items<u8>, Stop>
-    ensures answers { R.sound records.new → AnswersRoute operator (R.kept records.old) (R.kept records.new) (option_and_then name_if (named_by route)) message.now moment route result }
+    ensures answers { AreValid (R.kept records.old) resources.old.held → R.sound records.new → AnswersRoute operator (R.kept records.old) (R.kept records.new) (option_and_then name_if (named_by route)) message.now moment route result }
+    ensures works { R.sound records.new → WorksRoute (R.kept records.old) message.now moment route result resources.old resources.new }
     ensures sound { R.sound records.new → R.sound records.old }
     ensures counts { Counts (R.faults records.old) (R.faults records.new) result }
 {
@@ -174,7 +187,7 @@ fn answer_route<R: Records>(
             operator_route(alloc, operator, records, message, domain, command)
         }
         Route::Domain { domain, command } => {
-            domain_route(alloc, records, message, moment, domain, command)
+            domain_route(alloc, resources, records, message, moment, domain, command)
         }
         Route::Document {
             domain,
@@ -189,14 +202,16 @@ pub(crate) fn answer<R: Records>(
     alloc: Global,
     routes: &Routes,
     operator: Digest,
+    resources: &mut Resources,
     records: &mut R,
     moment: Moment,
     message: &Message,
 ) -> Result<Items<u8>, Stop>
-    ensures answers { R.sound records.new → AnswersMessage operator (R.kept records.old) (R.kept records.new) (owner message.now) message.now moment result }
+    ensures answers { AreValid (R.kept records.old) resources.old.held → R.sound records.new → AnswersMessage operator (R.kept records.old) (R.kept records.new) (owner message.now) message.now moment result }
+    ensures works { R.sound records.new → WorksMessage (R.kept records.old) message.now moment result resources.old resources.new }
     ensures sound { R.sound records.new → R.sound records.old }
     ensures counts { Counts (R.faults records.old) (R.faults records.new) result }
 {
     let route = routes.route(alloc, message)?;
-    answer_route(alloc, operator, records, message, moment, route)
+    answer_route(alloc, operator, resources, records, message, moment, route)
 }

@@ -23,6 +23,7 @@ use xa_records::{Digest, Records, Upload};
 use xa_value::{Items, Text};
 
 /// Makes a domain in which nothing has been put yet.
+#[tactic(auto, using(crate::proofs::GrowthLemmas::moves))]
 pub(crate) fn create<R: Records>(
     alloc: Global,
     records: &mut R,
@@ -39,6 +40,7 @@ pub(crate) fn create<R: Records>(
 }
 
 /// Removes the domain with all that is in it.
+#[tactic(auto, using(crate::proofs::GrowthLemmas::moves))]
 pub(crate) fn remove<R: Records>(
     alloc: Global,
     records: &mut R,
@@ -54,6 +56,7 @@ pub(crate) fn remove<R: Records>(
 }
 
 /// Puts the token of the body into the domain, or gives it another role.
+#[tactic(auto, using(crate::proofs::GrowthLemmas::moves))]
 pub(crate) fn put_token<R: Records>(
     alloc: Global,
     records: &mut R,
@@ -72,6 +75,7 @@ pub(crate) fn put_token<R: Records>(
 }
 
 /// Takes the token of the body from the domain.
+#[tactic(auto, using(crate::proofs::GrowthLemmas::moves))]
 pub(crate) fn drop_token<R: Records>(
     alloc: Global,
     records: &mut R,
@@ -100,6 +104,7 @@ fn key_of(parsed: &Parsed) -> Result<DocumentKey, AllocError>
 }
 
 /// Keeps the document that the body is; the very text again changes nothing. Which of both it is isn't known before, so both replies are made.
+#[tactic(auto, using(crate::proofs::GrowthLemmas::moves))]
 pub(crate) fn upload<R: Records>(
     alloc: Global,
     records: &mut R,
@@ -121,6 +126,7 @@ pub(crate) fn upload<R: Records>(
 }
 
 /// Sets the root to the reference of the body, or takes it away.
+#[tactic(auto, using(crate::proofs::GrowthLemmas::moves))]
 pub(crate) fn set_root<R: Records>(
     alloc: Global,
     records: &mut R,
@@ -138,6 +144,7 @@ pub(crate) fn set_root<R: Records>(
 }
 
 /// Puts the rows of the body into the source of attributes, in place of all that were there.
+#[tactic(auto, using(crate::proofs::GrowthLemmas::moves))]
 pub(crate) fn set_source<R: Records>(
     alloc: Global,
     records: &mut R,
@@ -155,6 +162,7 @@ pub(crate) fn set_source<R: Records>(
 }
 
 /// Deletes a document.
+#[tactic(auto, using(crate::proofs::GrowthLemmas::moves))]
 pub(crate) fn delete<R: Records>(
     alloc: Global,
     records: &mut R,
@@ -171,6 +179,7 @@ pub(crate) fn delete<R: Records>(
 }
 
 /// Lets references resolve to a document, or no longer.
+#[tactic(auto, using(crate::proofs::GrowthLemmas::moves))]
 pub(crate) fn set_active<R: Records>(
     alloc: Global,
     records: &mut R,

@@ -3,6 +3,7 @@
 
 mod admission;
 mod answer;
+mod asking;
 mod authorization;
 mod changes;
 mod document_key;
@@ -10,6 +11,7 @@ mod error_code;
 mod name;
 mod readings;
 mod replies;
+mod resources;
 mod server;
 mod stop;
 mod view;

@@ -5,6 +5,7 @@ ghost use Rattle.xa_server.specs.Handling.{CountsReply, IsReplyOf};
 
 use crate::answer::answer;
 use crate::replies::Reply;
+use crate::resources::Resources;
 use crate::stop::Stop;
 use std::alloc::{AllocError, AllocFailed, Global};
 use std::marker::Model;
@@ -19,17 +20,22 @@ pub struct Server<R: Records> {
     routes: Routes,
     operator: Digest,
     records: R,
+    resources: Resources,
 }
 
 impl<R: Records> Model for Server<R> {
     ghost use Rattle.std.specs.Coded.{codes};
+    ghost use Rattle.xa_server.specs.ValidCache.{AreValid};
     ghost use Rattle.xa_server.specs.World.{Serving};
+    ghost use Rattle.xa_server.specs.contracts.resources.Resources as shared;
 
     ghost Value = { Serving R };
 
-    ghost coded = { Prim.hlevel (codes, R.code) };
+    ghost coded = { Prim.hlevel (codes, R.code, shared.the_row.coded) };
 
-    ghost view = { λ s. record { operator = s.operator; records = s.records } };
+    ghost view = { λ s. record { operator = s.operator; records = s.records; tally = s.resources } };
+
+    ghost invariant = { λ s. R.sound s.records → AreValid (R.kept s.records) s.resources.held };
 }
 
 /// What goes back for a message that was answered, or wasn't.
@@ -49,21 +55,46 @@ fn reply_of(alloc: Global, answered: Result<Items<u8>, Stop>) -> Reply
 impl<R: Records> Server<R> {
     ghost use Rattle.xa_server.specs.Isolation.{IsIsolated, IsIsolatedBesideRefusals};
     ghost use Rattle.xa_server.specs.Served.{IsRun, IsServed};
+    ghost use Rattle.xa_server.specs.Tally.{nothing_held};
+    ghost use Rattle.xa_server.specs.Work.{IsWork, IsWorkOfRun};
     ghost use Rattle.xa_server.specs.World.{world};
 
     /// A server over the keeper, with the digest of the operator's token. Without memory the keeper is handed back.
     pub fn new(alloc: Global, records: R, operator: Digest) -> Result<Server<R>, AllocFailed<R>>
-        ensures { MatchResult result (λ server. (server.records ≡ records) × (server.operator ≡ operator)) (λ failed. failed.value ≡ records) }
+        ensures { MatchResult result (λ server. (server.records ≡ records) × (server.operator ≡ operator) × (server.tally ≡ nothing_held)) (λ failed. failed.value ≡ records) }
     {
-        match Routes::new(alloc) {
-            Ok(routes) => Ok(Server {
-                alloc,
-                routes,
-                operator,
-                records,
-            }),
-            Err(_) => Err(AllocFailed { value: records }),
-        }
+        let Ok(routes) = Routes::new(alloc) else {
+            return Err(AllocFailed { value: records });
+        };
+        let Ok(resources) = Resources::new(alloc, operator) else {
+            return Err(AllocFailed { value: records });
+        };
+        Ok(Server {
+            alloc,
+            routes,
+            operator,
+            records,
+            resources,
+        })
+    }
+
+    /// How many decisions were worked out; at the greatest number it stays.
+    pub fn evaluations(&self) -> u64
+        ensures { result ≡ self.now.tally.evaluations }
+    {
+        self.resources.evaluations()
+    }
+
+    /// How many decisions were to be held, and weren't for want of memory; at the greatest number it stays.
+    pub fn unkept(&self) -> u64
+        ensures { result ≡ self.now.tally.unkept }
+    {
+        self.resources.unkept()
+    }
+
+    /// How many texts of policies were read that weren't on the shelf; at the greatest number it stays.
+    pub fn readings(&self) -> u64 {
+        self.resources.readings()
     }
 
     /// Answers one message: by the machine of the domain that its path names, and no other domain's state moves; after a refusal none has moved.
@@ -72,11 +103,13 @@ impl<R: Records> Server<R> {
         ensures served { R.sound self.new.records → IsServed (world R.kept self.old) (world R.kept self.new) moment message.now result }
         ensures sound { R.sound self.new.records → R.sound self.old.records }
         ensures counts { CountsReply (R.faults self.old.records) (R.faults self.new.records) result }
+        ensures work { R.sound self.new.records → IsWork (R.kept self.old.records) moment message.now result self.old.tally self.new.tally }
     {
         let answered = answer(
             self.alloc,
             &self.routes,
             self.operator,
+            &mut self.resources,
             &mut self.records,
             moment,
             message,
@@ -91,6 +124,7 @@ impl<R: Records> Server<R> {
         ensures headline { IfOk result (λ replies. R.sound self.new.records → IsIsolated (world R.kept self.old) (world R.kept self.new) events.now replies.items) }
         ensures beside_refusals { IfOk result (λ replies. R.sound self.new.records → IsIsolatedBesideRefusals (world R.kept self.old) (world R.kept self.new) events.now replies.items) }
         ensures run { IfOk result (λ replies. R.sound self.new.records → IsRun (world R.kept self.old) events.now replies.items (world R.kept self.new)) }
+        ensures work { IfOk result (λ replies. R.sound self.new.records → IsWorkOfRun (world R.kept self.old) self.old.tally events.now replies.items (world R.kept self.new) self.new.tally) }
         ensures sound { R.sound self.new.records → R.sound self.old.records }
         ensures err { OnErr result (self.new ≡ self.old) }
     {

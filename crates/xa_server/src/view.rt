@@ -9,46 +9,52 @@ use xa_decide::View;
 use xa_link::Active;
 use xa_notation::Parsed;
 use xa_records::KeptView;
+use xa_shelf::Shelf;
 use xa_value::{Items, OrMemory, Shared};
 
 /// The document as references may resolve to it.
-fn active_document(alloc: Global, parsed: Parsed) -> Result<Active, AllocError>
-    ensures { IfOk result (λ active. active ≡ active_document parsed) }
+fn active_document(document: Shared<Parsed>) -> Result<Active, AllocError>
+    ensures { IfOk result (λ active. active ≡ active_document document) }
 {
+    let parsed = document.get();
     Ok(Active {
         kind: parsed.kind(),
         id: parsed.id().clone()?,
         version: *parsed.version(),
-        document: Shared::new(alloc, parsed)?,
+        document,
     })
 }
 
-/// The document that the text is, if it is one.
-fn active_if(alloc: Global, text: &[u8]) -> Result<Option<Active>, AllocError>
+/// The document that the text is, if it is one. A text that was read before is on the shelf.
+fn active_if(shelf: &mut Shelf, text: &[u8]) -> Result<Option<Active>, AllocError>
     ensures { IfOk result (λ active. active ≡ active_if (document_of text.now)) }
 {
-    match Parsed::read(alloc, text) {
-        Ok(parsed) => Ok(Some(active_document(alloc, parsed)?)),
+    match shelf.get_or_read(text) {
+        Ok(document) => Ok(Some(active_document(document)?)),
         Err(OrMemory::Error(_)) => Ok(None),
         Err(OrMemory::Memory) => Err(AllocError),
     }
 }
 
 /// The documents of the texts, in order.
-fn active_documents(alloc: Global, texts: &[Items<u8>]) -> Result<Items<Active>, AllocError>
+fn active_documents(
+    alloc: Global,
+    shelf: &mut Shelf,
+    texts: &[Items<u8>],
+) -> Result<Items<Active>, AllocError>
     ensures { IfOk result (λ active. active ≡ filter_map (λ text. active_if (document_of text)) texts.now) }
 {
     let mut documents = Items::new(alloc);
     for text in texts {
-        if let Some(document) = active_if(alloc, text.as_slice())? {
+        if let Some(document) = active_if(shelf, text.as_slice())? {
             documents.push(document)?;
         }
     }
     Ok(documents)
 }
 
-/// What decides: each text is read, as it was when it was uploaded. What this costs grows with the texts.
-pub(crate) fn viewed(alloc: Global, kept: KeptView) -> Result<View, AllocError>
+/// What decides: each text is looked up on the shelf, or read as it was when it was uploaded. What this costs grows with the texts.
+pub(crate) fn viewed(alloc: Global, shelf: &mut Shelf, kept: KeptView) -> Result<View, AllocError>
     ensures { IfOk result (λ view. view ≡ viewed kept) }
 {
     let KeptView {
@@ -56,6 +62,6 @@ pub(crate) fn viewed(alloc: Global, kept: KeptView) -> Result<View, AllocError>
         root,
         source,
     } = kept;
-    let active = active_documents(alloc, texts.as_slice())?;
+    let active = active_documents(alloc, shelf, texts.as_slice())?;
     View::new(alloc, active, root, source)
 }

@@ -5,6 +5,7 @@ use Rattle.xa_server.specs.Served.{IsRun}
 use Rattle.xa_server.specs.World.{world}
 use Rattle.xa_server.proofs.IsolationLemmas.{headline, isolated}
 use Rattle.xa_server.proofs.ServedLemmas.{run_more}
+use Rattle.xa_server.proofs.WorkLemmas.{run_more as worked_more}
 use Rattle.xa_server.proofs.server.Server.run.Goals as goal
 
 pub loop-event-preserved : goal.loop-event-preserved
@@ -14,6 +15,7 @@ loop-event-preserved g c =
     let pushed : c.push.new.self.items ≡ c.loop-event.replies.items ++ c.serve-reply.result ∷ [] = search rules in
     record {
       run = λ sound. rw (more, pushed) (run_more _ _ _ _ _ _ _ (c.loop-event.invariant.run (c.serve-reply.ensures.sound sound)) (c.serve-reply.ensures.served sound));
+      work = λ sound. rw (more, pushed) (worked_more _ _ _ _ _ _ _ _ _ _ (c.loop-event.invariant.work (c.serve-reply.ensures.sound sound)) (c.serve-reply.ensures.served sound) (c.serve-reply.ensures.work sound));
       sound = λ sound. c.loop-event.invariant.sound (c.serve-reply.ensures.sound sound);
       told = search rules;
       room = search rules;

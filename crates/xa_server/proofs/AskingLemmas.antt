@@ -1,0 +1,145 @@
+-- A decision that is held, and one that is worked out, as the machine tells it.
+use Rattle.std.proofs.Common.{◌≡◌, ℕ, ℤ, List, refl, sym, ap, ◌∙◌, subst, cond, true, false}
+use Rattle.std.specs.Option.{ok_or}
+use Rattle.std.specs.Prelude.{Bool, nat_le, length, Option, Some, None, option_map, option_and_then, Result, Ok, Err, IfSome}
+use Rattle.std.specs.FinMap.{get}
+use Rattle.xa_value.specs.Gives.{◌>>=◌}
+use Rattle.xa_cache.specs.Bodies.{found}
+use Rattle.xa_cache.specs.declared.key.Key.{Key}
+use Rattle.xa_decide.specs.declared.decision.Responded.{Responded}
+use Rattle.xa_decide.specs.Decision as decision
+use Rattle.xa_decide.specs.Decision.{Viewed}
+use Rattle.xa_decide.specs.Timeless.{is_timeless_answer}
+use Rattle.xa_http.specs.declared.command.DomainCommand.TheVariants as domain
+use Rattle.xa_notation.specs.declared.notation_error.NotationError.TheVariants.{NotJson}
+use Rattle.xa_records.specs.declared.gate.Gate.{Gate}
+use Rattle.xa_records.specs.declared.refusal.Refusal.TheVariants.{Absent}
+use Rattle.xa_records.specs.DomainState.{DomainState}
+use Rattle.xa_records.specs.Kept.{Domain, Kept, state_of}
+use Rattle.xa_records.specs.Readings.{gate_of, gate_of_domain}
+use Rattle.xa_server.specs.declared.error_code.ErrorCode.{ErrorCode}
+use Rattle.xa_server.specs.declared.error_code.ErrorCode.TheVariants as error
+use Rattle.xa_server.specs.declared.stop.Stop.{Stop}
+use Rattle.xa_server.specs.declared.stop.Stop.TheVariants.{Code, Failed}
+use Rattle.xa_server.specs.Handling.{Answers, IsResponse, Responds, Tells, key_by_gate, reply_told, response_told, view_told, worked_in}
+use Rattle.xa_server.specs.Machine.{by_domain_command, response_to, told}
+use Rattle.xa_server.specs.Replies.{decision_reply}
+use Rattle.xa_server.specs.Tally.{Tally}
+use Rattle.xa_server.specs.ValidCache.{AreValid, response_body_at}
+use Rattle.xa_server.specs.View.{view_of}
+use Rattle.xa_server.specs.Work.{body_held, response_of, worked_out}
+use Rattle.xa_server.proofs.GrowthLemmas.{stays}
+use Rattle.xa_server.proofs.ValidLemmas.{found_right}
+use Rattle.xa_server.proofs.WorkLemmas.{opened}
+
+-- ---- what was responded
+
+-- a response with its mark is what is worked out
+pub response_is : (view : Viewed) (body : List ℕ) (moment : ℤ) (sent : Option Responded) → option_map (λ r. r.body) sent ≡ option_map decision.body_of (decision.answer view body moment)
+    → IfSome sent (λ r. r.timeless ≡ is_timeless_answer view body) → response_of view body moment ≡ option_map (λ r. (r.body, r.timeless)) sent
+unfolding response_of
+response_is view body moment sent is timeless = by_answer (decision.answer view body moment) refl sent is timeless where
+  by_answer : (answered : Option decision.Answered) → decision.answer view body moment ≡ answered → (s : Option Responded)
+      → option_map (λ r. r.body) s ≡ option_map decision.body_of (decision.answer view body moment) → IfSome s (λ r. r.timeless ≡ is_timeless_answer view body)
+      → response_of view body moment ≡ option_map (λ r. (r.body, r.timeless)) s
+  by_answer None e None is timeless = rw e refl
+  by_answer None e (Some r) is timeless = let none : Some r.body ≡ None = is ∙ ap (option_map decision.body_of) e in absurd cc
+  by_answer (Some answered) e None is timeless = let none : None ≡ Some (decision.body_of answered) = is ∙ ap (option_map decision.body_of) e in absurd cc
+  by_answer (Some answered) e (Some r) is timeless =
+      let some : Some r.body ≡ Some (decision.body_of answered) = is ∙ ap (option_map decision.body_of) e in
+      let body_is : r.body ≡ decision.body_of answered = cc in
+      rw e (ap (λ b. Some (b, is_timeless_answer view body)) (sym body_is) ∙ ap (λ t. Some (r.body, t)) (sym timeless))
+
+-- the view of a domain that is there is that of its state
+by_view : (state : Option DomainState) (view : Viewed) (body : List ℕ) (moment : ℤ) → view_told state ≡ Ok view
+    → response_told body moment state ≡ ok_or (response_of view body moment) (error.Body NotJson)
+by_view None view body moment is = absurd cc
+by_view (Some state) view body moment is =
+    let same : view_of state ≡ view = let it : Ok (view_of state) ≡ Ok view = is in cc in ap (λ v. ok_or (response_of v body moment) (error.Body NotJson)) same
+
+pub responds : (old new : Kept) (name body : List ℕ) (moment : ℤ) (view : Viewed) (result : Result Responded Stop) → view_told (state_of name old) ≡ Ok view
+    → IsResponse (response_of view body moment) result → new ≡ old → Responds old new result (response_told body moment (state_of name old))
+responds old new name body moment view (Ok r) is response same =
+    (by_view (state_of name old) view body moment is ∙ ap (λ told. ok_or told (error.Body NotJson)) response, same)
+responds old new name body moment view (Err (Code code)) is (none, no_json) same =
+    (by_view (state_of name old) view body moment is ∙ ap (λ told. ok_or told (error.Body NotJson)) none ∙ ap Err (sym no_json), same)
+responds old new name body moment view (Err (Failed failure)) is response same = same
+
+-- an absent domain has no response
+pub absent_told : (state : Option DomainState) (body : List ℕ) (moment : ℤ) (code : ErrorCode) → view_told state ≡ Err code → response_told body moment state ≡ Err code
+absent_told None body moment code is = let e : error.Refused Absent ≡ code = cc in ap Err e
+absent_told (Some state) body moment code is = absurd cc
+
+-- ---- what the response comes to
+
+-- where it is told, it was worked out; where an error is told, nothing was there to be worked out
+pub told_worked : (state : Option DomainState) (body : List ℕ) (moment : ℤ) (response : List ℕ × Bool) → response_told body moment state ≡ Ok response → worked_in state body moment ≡ Some response
+told_worked None body moment response is = absurd cc
+told_worked (Some state) body moment response is = by_worked (worked_out state body moment) is where
+  by_worked : (worked : Option (List ℕ × Bool)) → ok_or worked (error.Body NotJson) ≡ Ok response → worked ≡ Some response
+  by_worked None is = absurd cc
+  by_worked (Some pair) is = cc
+
+pub told_nothing : (state : Option DomainState) (body : List ℕ) (moment : ℤ) (code : ErrorCode) → response_told body moment state ≡ Err code → worked_in state body moment ≡ None
+told_nothing None body moment code is = refl
+told_nothing (Some state) body moment code is = by_worked (worked_out state body moment) is where
+  by_worked : (worked : Option (List ℕ × Bool)) → ok_or worked (error.Body NotJson) ≡ Err code → worked ≡ None
+  by_worked None is = refl
+  by_worked (Some pair) is = absurd cc
+
+-- the machine tells the same
+machine_tells : (state : Option DomainState) (body : List ℕ) (moment : ℤ) → by_domain_command domain.Decide body moment state ≡ (reply_told body moment state >>= λ bytes. Ok (bytes, state))
+unfolding response_to response_of
+machine_tells None body moment = refl
+machine_tells (Some state) body moment = by_answer (decision.answer (view_of state) body moment) refl where
+  by_answer : (answered : Option decision.Answered) → decision.answer (view_of state) body moment ≡ answered
+      → by_domain_command domain.Decide body moment (Some state) ≡ (reply_told body moment (Some state) >>= λ bytes. Ok (bytes, Some state))
+  by_answer None e = rw e refl
+  by_answer (Some answered) e = rw e refl
+
+pub answers : (old new : Kept) (name body : List ℕ) (moment : ℤ) (result : Result (List ℕ) Stop) → Tells old new result (reply_told body moment (state_of name old))
+    → Answers old new name result (by_domain_command domain.Decide body moment (state_of name old))
+answers old new name body moment (Ok bytes) (meant, same) =
+    (state_of name old, machine_tells (state_of name old) body moment ∙ ap (λ told. told >>= λ bs. Ok (bs, state_of name old)) meant, stays old new name same)
+answers old new name body moment (Err (Code code)) (meant, same) =
+    (machine_tells (state_of name old) body moment ∙ ap (λ told. told >>= λ bs. Ok (bs, state_of name old)) meant, same)
+answers old new name body moment (Err (Failed failure)) same = same
+
+-- ---- a decision that is held
+
+held_is : (key : Key) (body decided : List ℕ) (tally : Tally) → body_held key body tally ≡ Some decided → found key tally.held ≡ Some decided
+held_is key body decided tally is = by_size (nat_le (length body) 16_384) is where
+  by_size : (small : Bool) → cond small (found key tally.held) None ≡ Some decided → found key tally.held ≡ Some decided
+  by_size true is = is
+  by_size false is = absurd cc
+
+-- the machine tells it
+pub hit : (kept : Kept) (name body decided : List ℕ) (moment : ℤ) (gate : Gate) (tally : Tally) → gate_of name kept ≡ Some gate → AreValid kept tally.held
+    → body_held (key_by_gate gate body) body tally ≡ Some decided → reply_told body moment (state_of name kept) ≡ Ok (decision_reply decided)
+unfolding response_body_at response_of
+hit kept name body decided moment gate tally opens valid held = by_gate (opened kept name gate opens) where
+  by_answer : (state : DomainState) → response_body_at state body moment ≡ Some decided → (answered : Option decision.Answered) → decision.answer (view_of state) body moment ≡ answered
+      → reply_told body moment (Some state) ≡ Ok (decision_reply decided)
+  by_answer state right None e = let none : None ≡ Some decided = rw e at right in absurd cc
+  by_answer state right (Some answered) e =
+      let same : Some (decision.body_of answered) ≡ Some decided = rw e at right in
+      let body_is : decision.body_of answered ≡ decided = cc in rw e (ap (λ b. Ok (decision_reply b)) body_is)
+
+  by_gate : ((d : Domain) × (get kept.domains name ≡ Some d) × (gate_of_domain d ≡ gate)) → reply_told body moment (state_of name kept) ≡ Ok (decision_reply decided)
+  by_gate (d, there, is) =
+      let key : found (key_by_gate (gate_of_domain d) body) tally.held ≡ Some decided =
+      subst (λ g. found (key_by_gate g body) tally.held ≡ Some decided) (sym is) (held_is (key_by_gate gate body) body decided tally held) in
+      let right = found_right kept name d tally.held body decided moment valid there key in
+      rw there (by_answer d.state right (decision.answer (view_of d.state) body moment) refl)
+
+-- the reply by it is the machine's
+pub hit_reply : (kept : Kept) (name body : List ℕ) (moment : ℤ) (gate : Gate) (tally : Tally) (reply : List ℕ) → gate_of name kept ≡ Some gate → AreValid kept tally.held
+    → Some reply ≡ option_map decision_reply (body_held (key_by_gate gate body) body tally)
+    → Answers kept kept name (Ok reply) (by_domain_command domain.Decide body moment (state_of name kept))
+hit_reply kept name body moment gate tally reply opens valid is = by_held (body_held (key_by_gate gate body) body tally) refl is where
+  by_held : (held : Option (List ℕ)) → body_held (key_by_gate gate body) body tally ≡ held → Some reply ≡ option_map decision_reply held
+      → Answers kept kept name (Ok reply) (by_domain_command domain.Decide body moment (state_of name kept))
+  by_held None e is = absurd cc
+  by_held (Some decided) e is =
+      let same : reply ≡ decision_reply decided = cc in
+      answers kept kept name body moment (Ok reply) (hit kept name body decided moment gate tally opens valid e ∙ ap Ok (sym same), refl)

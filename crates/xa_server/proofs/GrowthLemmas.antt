@@ -1,0 +1,77 @@
+-- Numbers and epochs go on through every change.
+use Rattle.std.proofs.Common.{◌≡◌, ◌≤◌, ◌+◌, ℕ, List, refl, sym, ap, ◌∙◌, subst, inl, inr, arith}
+use Rattle.std.specs.Prelude.{Option, Some, None, ◌⊎◌, option_map}
+use Rattle.std.specs.FinMap.{get}
+use Rattle.xa_records.specs.DomainState.{DomainState}
+use Rattle.xa_records.specs.Kept.{Becomes, DecidesAlike, Domain, IsChanged, IsNextEpoch, IsNextNumber, Kept, state_of}
+use Rattle.xa_records.proofs.FinMapLemmas.{different, here_or_elsewhere}
+use Rattle.xa_records.proofs.OrderLemmas.{bytes_exact, bytes_total}
+use Rattle.xa_server.specs.Growth.{GoesOn, Grows}
+use Rattle.xa_server.specs.Handling.{IsMoved}
+
+nothing : (d : Domain) → None ≡ Some d → ⊥
+nothing d e = cc
+
+one_value : (a b : Domain) → Some a ≡ Some b → a ≡ b
+one_value a b e = cc
+
+same_goes_on : (domain : Domain) → GoesOn domain domain
+same_goes_on domain = record { number = refl; epoch = omega arith; alike = λ _. record { documents = refl; root = refl; source = refl } }
+
+goes : (before : Domain) (state : DomainState) (epoch : ℕ) → IsNextEpoch before.state state before.epoch epoch
+    → GoesOn before (record { number = before.number; epoch = epoch; state = state })
+goes before state epoch (inl (alike, same)) = record { number = refl; epoch = omega arith; alike = λ _. alike }
+goes before state epoch (inr (differs, (up, fits))) = record { number = refl; epoch = omega arith; alike = λ same. absurd (omega arith) }
+
+-- a domain of the changed name is new, or has gone on
+went : (next after : ℕ) (old : Option Domain) (state : Option DomainState) (new : Option Domain) (d : Domain) → Becomes next old state new → new ≡ Some d
+    → (next ≤ d.number) ⊎ ((before : Domain) × (old ≡ Some before) × GoesOn before d)
+went next after None None new d becomes there = absurd (nothing d (sym becomes ∙ there))
+went next after (Some before) None new d becomes there = absurd (nothing d (sym becomes ∙ there))
+went next after None (Some state) new d becomes there =
+    let e : next ≡ d.number = ap (λ x. x.number) (one_value (record { number = next; epoch = 0; state = state }) d (sym becomes ∙ there)) in inl (omega arith)
+went next after (Some before) (Some state) new d (epoch, is, becomes) there =
+    inr (before, refl, subst (GoesOn before) (one_value (record { number = before.number; epoch = epoch; state = state }) d (sym becomes ∙ there)) (goes before state epoch is))
+
+rises : (next : ℕ) (old : Option Domain) (state : Option DomainState) (after : ℕ) → IsNextNumber next old state after → next ≤ after
+rises next None None after is = omega arith
+rises next None (Some state) after (up, fits) = omega arith
+rises next (Some domain) None after is = omega arith
+rises next (Some domain) (Some state) after is = omega arith
+
+pub grows : (old new : Kept) (name : List ℕ) (state : Option DomainState) → IsChanged old new name state → Grows old new
+grows old new name state changed = record {
+  next = rises old.next (get old.domains name) state new.next changed.next;
+  each = λ q d there. elim (here_or_elsewhere bytes_exact q name) [
+    | inl here ↦ elim (went old.next new.next (get old.domains name) state (get new.domains name) d changed.domain (ap (get new.domains) (sym here) ∙ there)) [
+      | inl fresh ↦ inl fresh
+      | inr on ↦ inr (on.0, ap (get old.domains) here ∙ on.1, on.2)
+    ]
+    | inr away ↦ inr (d, sym (changed.others q (different bytes_total q name away)) ∙ there, same_goes_on d)
+  ];
+}
+
+pub same_grows : (old : Kept) → Grows old old
+same_grows old = record { next = omega arith; each = λ name domain there. inr (domain, there, same_goes_on domain) }
+
+state_after : (next : ℕ) (old : Option Domain) (state : Option DomainState) (new : Option Domain) → Becomes next old state new → option_map (λ d. d.state) new ≡ state
+state_after next None None new becomes = rw becomes refl
+state_after next (Some before) None new becomes = rw becomes refl
+state_after next None (Some state) new becomes = rw becomes refl
+state_after next (Some before) (Some state) new (epoch, is, becomes) = rw becomes refl
+
+-- a change of the domain of that name
+pub moves : (old new : Kept) (name : List ℕ) (state : Option DomainState) → IsChanged old new name state → IsMoved old new name state
+moves old new name state changed = record {
+  here = state_after old.next (get old.domains name) state (get new.domains name) changed.domain;
+  others = λ other apart. ap (option_map (λ d. d.state)) (changed.others other apart);
+  grows = grows old new name state changed;
+}
+
+-- nothing has changed
+pub stays : (old new : Kept) (name : List ℕ) → new ≡ old → IsMoved old new name (state_of name old)
+stays old new name same = record {
+  here = ap (state_of name) same;
+  others = λ other apart. ap (state_of other) same;
+  grows = subst (Grows old) (sym same) (same_grows old);
+}

@@ -1,0 +1,101 @@
+-- What was done for a message to what is held of decisions.
+use Rattle.std.proofs.Common.{◌≡◌, ℕ, ℤ, List, [], ◌∷◌, ◌++◌, refl, sym, ap, ◌∙◌, subst, inl, inr}
+use Rattle.std.specs.Prelude.{Bool, Option, Some, None, option_and_then, option_map, Result, Ok, Err, ◌⊎◌}
+use Rattle.std.specs.FinMap.{get}
+use Rattle.xa_cache.specs.declared.key.Key.{Key}
+use Rattle.xa_value.specs.declared.or_memory.OrMemory.{OrMemory}
+use Rattle.xa_value.specs.declared.or_memory.OrMemory.TheVariants as or_memory
+use Rattle.xa_value.specs.Gives.{Gives}
+use Rattle.xa_http.specs.declared.route.RouteFault.{RouteFault}
+use Rattle.xa_http.specs.declared.message.Message.{Message}
+use Rattle.xa_http.specs.declared.route.Route.{Route}
+use Rattle.xa_http.specs.Routes.{route_of}
+use Rattle.xa_records.specs.declared.gate.Gate.{Gate}
+use Rattle.xa_records.specs.declared.refusal.Failure.{Failure}
+use Rattle.xa_records.specs.declared.refusal.Failure.TheVariants.{Memory}
+use Rattle.xa_records.specs.Kept.{Domain, Kept, state_of}
+use Rattle.xa_records.specs.Readings.{gate_of, gate_of_domain}
+use Rattle.xa_server.specs.Alone.{Event}
+use Rattle.xa_server.specs.declared.error_code.ErrorCode.{ErrorCode}
+use Rattle.xa_server.specs.declared.replies.Reply.{Reply}
+use Rattle.xa_server.specs.declared.replies.Reply.TheVariants.{Sent, Refused}
+use Rattle.xa_server.specs.declared.stop.Stop.{Stop}
+use Rattle.xa_server.specs.declared.stop.Stop.TheVariants.{Code, Failed}
+use Rattle.xa_server.specs.ErrorCode.{error_reply}
+use Rattle.xa_server.specs.Handling.{IsAsked, IsFresh, IsReplyOf, WorksMessage, WorksOf, WorksRoute}
+use Rattle.xa_server.specs.Stop.{stop_of_route}
+use Rattle.xa_server.specs.Served.{IsServed}
+use Rattle.xa_server.specs.Tally.{Tally}
+use Rattle.xa_server.specs.Work.{IsAskWork, IsWork, IsWorkOf, IsWorkOfRun, IsWorkedOut, body_held, domain_asked, domain_of_message, key_in, looked_up, worked_out}
+use Rattle.xa_server.specs.World.{World}
+
+-- ---- a message that failed, or was turned away, before anything was done
+
+failed_ask : (key : Key) (held : Option (List ℕ)) (worked : Option (List ℕ × Bool)) (failure : Failure) (tally : Tally) → IsAsked key held worked (Err (Failed failure)) tally tally
+failed_ask key None worked failure tally = refl
+failed_ask key (Some body) worked failure tally = inl refl
+
+pub failed : (asked : Option Domain) (body : List ℕ) (moment : ℤ) (failure : Failure) (tally : Tally) → WorksOf asked body moment (Err (Failed failure)) tally tally
+failed None body moment failure tally = refl
+failed (Some domain) body moment failure tally =
+    failed_ask (key_in domain body) (body_held (key_in domain body) body tally) (worked_out domain.state body moment) failure tally
+
+-- ---- a message that was let in
+
+-- the domain of the gate
+pub opened : (kept : Kept) (name : List ℕ) (gate : Gate) → gate_of name kept ≡ Some gate
+    → (domain : Domain) × (get kept.domains name ≡ Some domain) × (gate_of_domain domain ≡ gate)
+opened kept name gate opens = by_domain (get kept.domains name) refl where
+  by_domain : (found : Option Domain) → get kept.domains name ≡ found → (domain : Domain) × (get kept.domains name ≡ Some domain) × (gate_of_domain domain ≡ gate)
+  by_domain None there = let e : None ≡ Some gate = rw there at opens in absurd cc
+  by_domain (Some domain) there = let e : Some (gate_of_domain domain) ≡ Some gate = rw there at opens in (domain, there, cc)
+
+-- ---- what the message asks for
+
+pub asked_work : (kept : Kept) (message : Message) (moment : ℤ) (route : Route) (result : Result (List ℕ) Stop) (old new : Tally) → route_of message ≡ Ok route
+    → WorksRoute kept message moment route result old new → WorksMessage kept message moment result old new
+asked_work kept message moment route result old new asks work = rw asks work
+
+pub unasked_work : (kept : Kept) (message : Message) (moment : ℤ) (error : OrMemory RouteFault) (tally : Tally) → Gives {X = Route} (Err error) (route_of message)
+    → WorksMessage kept message moment (Err (stop_of_route error)) tally tally
+unasked_work kept message moment or_memory.Memory tally gives = failed (domain_of_message kept message (route_of message)) message.body moment Memory tally
+unasked_work kept message moment (or_memory.Error fault) tally gives = rw gives refl
+
+-- ---- what goes back
+
+fresh_work : (key : Key) (worked : Option (List ℕ × Bool)) (result : Result (List ℕ) Stop) (reply : Reply) (old new : Tally)
+    → IsFresh key worked result old new → IsReplyOf result reply → IsAskWork key None worked reply old new
+fresh_work key worked (Ok bytes) reply old new work is = subst (λ r. IsAskWork key None worked r old new) (sym is) work
+fresh_work key worked (Err (Failed failure)) reply old new work is = subst (λ r. IsAskWork key None worked r old new) (sym is) (inl work)
+fresh_work key worked (Err (Code code)) reply old new (none, same) (inl is) =
+    subst (λ r. IsAskWork key None worked r old new) (sym is) (subst (λ w. IsWorkedOut key w old new) (sym none) same)
+fresh_work key worked (Err (Code code)) reply old new (none, same) (inr is) = subst (λ r. IsAskWork key None worked r old new) (sym is) (inl same)
+
+ask_work : (key : Key) (held : Option (List ℕ)) (worked : Option (List ℕ × Bool)) (result : Result (List ℕ) Stop) (reply : Reply) (old new : Tally)
+    → IsAsked key held worked result old new → IsReplyOf result reply → IsAskWork key held worked reply old new
+ask_work key None worked result reply old new work is = fresh_work key worked result reply old new work is
+ask_work key (Some body) worked (Ok bytes) reply old new work is = subst (λ r. IsAskWork key (Some body) worked r old new) (sym is) work
+ask_work key (Some body) worked (Err (Failed failure)) reply old new work is = subst (λ r. IsAskWork key (Some body) worked r old new) (sym is) work
+ask_work key (Some body) worked (Err (Code code)) reply old new work is = elim work [ ]
+
+pub work_of : (asked : Option Domain) (body : List ℕ) (moment : ℤ) (result : Result (List ℕ) Stop) (reply : Reply) (old new : Tally)
+    → WorksOf asked body moment result old new → IsReplyOf result reply → IsWorkOf asked body moment reply old new
+work_of None body moment result reply old new work is = work
+work_of (Some domain) body moment result reply old new work is =
+    ask_work (key_in domain body) (body_held (key_in domain body) body old) (worked_out domain.state body moment) result reply old new work is
+
+-- a run goes on by one message
+pub run_more : (old mid new : World) (held between left : Tally) (events : List Event) (replies : List Reply) (event : Event) (reply : Reply)
+    → IsWorkOfRun old held events replies mid between → IsServed mid new event.0 event.1 reply → IsWork mid.kept event.0 event.1 reply between left
+    → IsWorkOfRun old held (events ++ event ∷ []) (replies ++ reply ∷ []) new left
+run_more old mid new held between left [] [] event reply run served work = (
+  new,
+  left,
+  subst (λ (w : World). IsServed w new event.0 event.1 reply) run.0 served,
+  subst (λ (t : Tally). IsWork old.kept event.0 event.1 reply t left) run.1 (subst (λ (w : World). IsWork w.kept event.0 event.1 reply between left) run.0 work),
+  (refl, refl),
+)
+run_more old mid new held between left (e ∷ events) (r ∷ replies) event reply run served work =
+    (run.0, run.1, run.2, run.3, run_more run.0 mid new run.1 between left events replies event reply run.4 served work)
+run_more old mid new held between left [] (r ∷ replies) event reply run served work = elim run [ ]
+run_more old mid new held between left (e ∷ events) [] event reply run served work = elim run [ ]

@@ -1,0 +1,104 @@
+-- The work of answering: what is held is given again, and all else is worked out and held, where it stays true.
+use Rattle.std.specs.Prelude.{◌≡◌, ◌⊎◌, ◌&&◌, ℕ, ℤ, Bool, true, false, List, [], ◌∷◌, Option, Some, None, option_and_then, option_map, Result, Ok, Err, length, nat_le, if◌then◌else◌}
+use Rattle.std.specs.FinMap.{get}
+use Rattle.xa_cache.specs.Bodies.{fits, found, kept, looked}
+use Rattle.xa_cache.specs.declared.key.Key.{Key}
+use Rattle.xa_decide.specs.Decision as decision
+use Rattle.xa_decide.specs.Decision.{Viewed}
+use Rattle.xa_decide.specs.Timeless.{is_timeless_answer}
+use Rattle.xa_http.specs.declared.command.DomainCommand.TheVariants as domain
+use Rattle.xa_http.specs.declared.message.Message.{Message}
+use Rattle.xa_http.specs.declared.route.Route.{Route}
+use Rattle.xa_http.specs.declared.route.Route.TheVariants as to
+use Rattle.xa_http.specs.declared.route.RouteFault.{RouteFault}
+use Rattle.xa_http.specs.Routes.{route_of}
+use Rattle.xa_records.specs.Keeper.{IsOneMore}
+use Rattle.xa_records.specs.DomainState.{DomainState}
+use Rattle.xa_records.specs.Kept.{Domain, Kept}
+use Rattle.xa_server.specs.declared.error_code.ErrorCode.{ErrorCode}
+use Rattle.xa_server.specs.declared.replies.Reply.{Reply}
+use Rattle.xa_server.specs.declared.replies.Reply.TheVariants.{Sent, Refused}
+use Rattle.xa_server.specs.Alone.{Event}
+use Rattle.xa_server.specs.Machine.{admitted}
+use Rattle.xa_server.specs.Owner.{name_if}
+use Rattle.xa_server.specs.Served.{IsServed}
+use Rattle.xa_server.specs.Tally.{Tally}
+use Rattle.xa_server.specs.View.{view_of}
+use Rattle.xa_server.specs.World.{World}
+
+-- ---- which decision a message asks for
+
+abbrev pub domain_if : Domain → Result (Unit {0}) ErrorCode → Option Domain
+domain_if domain (Ok _) = Some domain
+domain_if domain (Err code) = None
+
+-- the domain of that name, where it lets the message ask for decisions
+abbrev pub domain_asked : Kept → Message → List ℕ → Option Domain
+domain_asked kept message name = option_and_then (λ d. domain_if d (admitted true (Some d.state) message)) (get kept.domains name)
+
+-- the domain of which that route asks for a decision
+abbrev pub domain_of_route : Kept → Message → Route → Option Domain
+domain_of_route kept message (to.Domain part domain.Decide) = option_and_then (domain_asked kept message) (name_if part)
+domain_of_route kept message _ = None
+
+abbrev pub domain_of_message : Kept → Message → Result Route RouteFault → Option Domain
+domain_of_message kept message (Ok route) = domain_of_route kept message route
+domain_of_message kept message (Err fault) = None
+
+-- under which key its decision on that body is held
+abbrev pub key_in : Domain → List ℕ → Key
+key_in domain body = record { number = domain.number; epoch = domain.epoch; body = body }
+
+-- the body of the response that is worked out, and whether it is the same at every moment; nothing where the body is no JSON
+unfoldable pub response_of : Viewed → List ℕ → ℤ → Option (List ℕ × Bool)
+response_of view body moment = option_map (λ answered. (decision.body_of answered, is_timeless_answer view body)) (decision.answer view body moment)
+
+abbrev pub worked_out : DomainState → List ℕ → ℤ → Option (List ℕ × Bool)
+worked_out state body moment = response_of (view_of state) body moment
+
+-- ---- what becomes of what is held, and of the counts
+
+-- a body of a request of more than 16,384 bytes isn't looked up
+abbrev pub body_held : Key → List ℕ → Tally → Option (List ℕ)
+body_held key body tally = if nat_le (length body) 16_384 then found key tally.held else None
+
+-- a look-up makes that decision the newest use
+abbrev pub looked_up : Key → Tally → Tally
+looked_up key tally = record tally { held = looked key tally.held }
+
+-- a body that is to be held is held, or is counted as not held
+abbrev pub IsHeld : Bool → Key → List ℕ → Tally → Tally → Type 0
+IsHeld true key body old new =
+    ((new.held ≡ kept key body old.held) × (new.unkept ≡ old.unkept)) ⊎ ((new.held ≡ old.held) × IsOneMore old.unkept new.unkept)
+IsHeld false key body old new = (new.held ≡ old.held) × (new.unkept ≡ old.unkept)
+
+-- a decision was worked out: it is counted, and held where it is the same at every moment and neither body is too large. Of no JSON nothing is worked out
+abbrev pub IsWorkedOut : Key → Option (List ℕ × Bool) → Tally → Tally → Type 0
+IsWorkedOut key None old new = new ≡ old
+IsWorkedOut key (Some (body, timeless)) old new = IsOneMore old.evaluations new.evaluations × IsHeld (timeless && fits key body) key body old new
+
+-- an ask by a body that is held, or isn't. One that is refused may have done as much, or nothing
+abbrev pub IsAskWork : Key → Option (List ℕ) → Option (List ℕ × Bool) → Reply → Tally → Tally → Type 0
+IsAskWork key (Some body) worked (Sent _) old new = new ≡ looked_up key old
+IsAskWork key (Some body) worked (Refused _) old new = (new ≡ old) ⊎ (new ≡ looked_up key old)
+IsAskWork key None worked (Sent _) old new = IsWorkedOut key worked old new
+IsAskWork key None worked (Refused _) old new = (new ≡ old) ⊎ IsWorkedOut key worked old new
+
+-- an ask of a domain; any other message moves nothing
+abbrev pub IsWorkOf : Option Domain → List ℕ → ℤ → Reply → Tally → Tally → Type 0
+IsWorkOf None body moment reply old new = new ≡ old
+IsWorkOf (Some domain) body moment reply old new =
+    IsAskWork (key_in domain body) (body_held (key_in domain body) body old) (worked_out domain.state body moment) reply old new
+
+-- the work of one message
+abbrev pub IsWork : Kept → ℤ → Message → Reply → Tally → Tally → Type 0
+IsWork kept moment message reply old new = IsWorkOf (domain_of_message kept message (route_of message)) message.body moment reply old new
+
+-- the work of one message after another
+abbrev pub IsWorkOfRun : World → Tally → List Event → List Reply → World → Tally → Type 0
+IsWorkOfRun old held [] [] new left = (new ≡ old) × (left ≡ held)
+IsWorkOfRun old held (event ∷ events) (reply ∷ replies) new left =
+    (mid : World) × (between : Tally) × IsServed old mid event.0 event.1 reply × IsWork old.kept event.0 event.1 reply held between
+    × IsWorkOfRun mid between events replies new left
+IsWorkOfRun old held [] (_ ∷ _) new left = ⊥
+IsWorkOfRun old held (_ ∷ _) [] new left = ⊥
