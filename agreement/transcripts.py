@@ -15,12 +15,14 @@ import folders  # noqa: F401
 from agree import Rows
 from alone import alone, owners, replies_of, told
 from breaking import Breaking
-from commands import NAMES, Commands, alter
+from commands import KIND_NAMES, NAMES, Commands, alter
 from exchanges import Exchanges
+from linking import active_in
 from machines import Server
 from messages import Message, Stream
 from replays import Connections, Entry, replay
-from servers import OPERATOR_TOKEN
+from replies import compact
+from servers import OPERATOR_TOKEN, ROOTS, path
 from views import Decisions
 
 MESSAGES = 40
@@ -93,14 +95,42 @@ class Transcripts:
             found += self.opening(name) + [self.ask(name, body), self.known(self.exchanges.plain(self.commands.of("remove", name)))]
         return found[:-1]
 
+    def alike(self, name, text):
+        """The messages behind which the domain decides by that text, mostly, or by one like it."""
+        text = self.commands.like(text) if self.seldom(0.4) else text
+        key = active_in(text)[:3]
+        ways = [("upload", text), ("activate", b""), ("root", compact({ROOTS[key[0]]: {"Id": key[1]}}))]
+        for command, body in ways:
+            asking = self.commands.of(command, name)
+            if command == "activate":
+                asking = asking._replace(path=path("domains", name, "pap", KIND_NAMES[key[0]], key[1], ".".join(map(str, key[2])), "active"))
+            yield self.known(self.exchanges.plain(asking._replace(body=body)))
+
+    def turns(self, connection):
+        """Domains that decide by texts which are mostly equal, asked the same in turn, again and again at some moments, with a change of one of them now and then."""
+        names, body = self.commands.names, self.commands.request()
+        text = self.commands.decisions.drafts.text(self.commands.draft(names[0])).encode()
+        for _ in range(self.one_of([2, 3, 4])):
+            for name in names:
+                self.send(connection, self.opening(name))
+                if self.seldom(0.5):
+                    self.send(connection, self.alike(name, text))
+            for _ in range(self.one_of([1, 2])):
+                self.send(connection, [self.ask(name, body) for name in self.random.sample(names, len(names))])
+            name, change = self.one_of(names), self.one_of(["upload", "activate", "deactivate", "delete", "root", "source", "put", "drop", "remove"])
+            self.send(connection, [self.known(self.exchanges.plain(self.commands.of(change, name))), self.ask(name, body)])
+
     def burst(self):
-        """Many messages at once: such as make a domain anew; or some documents, or as many documents or tokens as there may be, or nearly, or one more."""
+        """Many messages at once: such as make a domain anew; or ask several the same; or some documents, or as many documents or tokens as there may be, or nearly, or
+        one more."""
         connection, name, kind = self.one_of(list(self.pieces)), self.one_of(list(self.server.states) or self.commands.names), self.random.random()
         self.mix(0)
         self.add(connection, b"")
-        if kind < 0.45:
+        if kind < 0.2:
             return self.send(connection, self.rebuilding(name))
-        many = self.commands.many_tokens(name) if kind < 0.7 else self.commands.many_documents(name, 12 if kind < 0.97 else self.one_of([255, 256, 257]))
+        if kind < 0.75:
+            return self.turns(connection)
+        many = self.commands.many_tokens(name) if kind < 0.85 else self.commands.many_documents(name, 12 if kind < 0.97 else self.one_of([255, 256, 257]))
         return self.send(connection, map(self.exchanges.plain, many))
 
     def broken(self, entries):
@@ -120,7 +150,7 @@ class Transcripts:
         for name in self.commands.names:
             if self.seldom(0.6):
                 self.send(self.one_of(numbers), self.opening(name))
-        count, bursts = MESSAGES, [self.random.randrange(MESSAGES)] * self.seldom(0.15)
+        count, bursts = MESSAGES, [self.random.randrange(MESSAGES)] * self.seldom(0.3)
         while count > 0:
             often = min(self.one_of([1, 1, 1, 1, 1, 2, 3]), count)
             count -= often

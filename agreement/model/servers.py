@@ -2,14 +2,15 @@
 import re
 from urllib.parse import quote
 
+from counting import CountingServer
 from documents import document_of
-from machines import Server
 from messages import Fault, Message, Stream
 from replies import error_reply
 from rows import decoded, encoded
 
 OPERATOR_TOKEN, SETUP_TOKEN = b"operator-token-1", b"setup-token-0"
 SETUP = ("domain", "ask", "admin", "document", "inactive", "root", "row")
+COUNTS = ("readings", "evaluations", "unkept")
 ROOTS = {"policy": "PolicyIdReference", "set": "PolicySetIdReference"}
 
 
@@ -113,7 +114,7 @@ class Setup:
 
 def set_up(fields):
     """The server that the fields before the first event make."""
-    server = Server(OPERATOR_TOKEN)
+    server = CountingServer(OPERATOR_TOKEN)
     setup = Setup(server)
     for field in fields:
         word, _, text = field.partition(":")
@@ -164,4 +165,6 @@ def server(*fields):
             stream = Stream()
         elif word == "moment":
             moment = int(text)
+        elif word in COUNTS:
+            shown.append(f"{word} {getattr(made, word)}")
     return shown

@@ -147,8 +147,12 @@ class Exchanges:
             for _ in range(often):
                 for held in self.pieces(self.message()):
                     fields += self.commands.decisions.moment(0.2) + ["piece:" + encoded(self.taken(stream, held))]
-            fields += ["close:"] * (count > 0)
-        return fields
+            fields += self.counts() + ["close:"] * (count > 0)
+        return fields + ["readings:", "evaluations:", "unkept:"]
+
+    def counts(self):
+        """A field that asks what the server has counted, or none."""
+        return [self.one_of(["readings:", "evaluations:"])] * self.seldom(0.3)
 
     def stream(self):
         """A row of a stream alone."""

@@ -34,7 +34,7 @@ class Marks:
     def assignments(self):
         """What the subject's roles are, and when it is asked; each now and then."""
         found = [{"AttributeId": "urn:roles", "Expression": designator("AccessSubject", "urn:role", "string")}] * self.seldom(0.4)
-        return found + [{"AttributeId": "urn:now", "Expression": designator("Environment", NOW, "dateTime")}] * self.seldom(0.15)
+        return found + [{"AttributeId": "urn:now", "Expression": designator("Environment", NOW, "dateTime")}] * self.seldom(0.3)
 
     def duties(self, effect):
         return {"ObligationExpressions": [{"ObligationId": self.mark(), "FulfillOn": effect, "AttributeAssignmentExpression": self.assignments()}]}

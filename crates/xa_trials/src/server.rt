@@ -1,5 +1,6 @@
 //! Rows of messages: what a server answers to a stream. After the fields that make its domains stand events: `moment:SECONDS`, which dates what
-//! follows, `piece:BYTES`, the next piece of the stream, and `close:`, after which the stream is another.
+//! follows, `piece:BYTES`, the next piece of the stream, `close:`, after which the stream is another, and `readings:`, `evaluations:` and
+//! `unkept:`, which ask how often the server has done that.
 use crate::answer::Answer;
 use crate::decisions::moment_of;
 use crate::field::bytes_of;
@@ -79,6 +80,17 @@ impl Trial {
             "piece" => self.piece(answer, text)?,
             "moment" => self.moment = moment_of(text)?,
             "close" => self.session = Session::new(self.alloc),
+            _ => self.count(answer, word)?,
+        }
+        Ok(())
+    }
+
+    /// Answers how often the server has done what the word names.
+    fn count(&self, answer: &mut Answer, word: &str) -> Result<(), NoAnswer> {
+        match word {
+            "readings" => answer.name("readings ", &self.server.readings()),
+            "evaluations" => answer.name("evaluations ", &self.server.evaluations()),
+            "unkept" => answer.name("unkept ", &self.server.unkept()),
             _ => return Err(NoAnswer::Malformed),
         }
         Ok(())
@@ -102,7 +114,17 @@ fn push_end(answer: &mut Answer, next: Next, is_first: bool) -> Result<(), NoAns
 
 /// Whether the field says what happens.
 fn is_event(field: &str) -> bool {
-    field.starts_with("piece:") || field.starts_with("moment:") || field.starts_with("close:")
+    field.starts_with("piece:")
+        || field.starts_with("moment:")
+        || field.starts_with("close:")
+        || is_count(field)
+}
+
+/// Whether the field asks how often the server has done something.
+fn is_count(field: &str) -> bool {
+    field.starts_with("readings:")
+        || field.starts_with("evaluations:")
+        || field.starts_with("unkept:")
 }
 
 /// How many fields stand before the first event.

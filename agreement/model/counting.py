@@ -1,0 +1,115 @@
+"""How often a server reads a text and works out a response, by what it keeps of those before: a shelf of texts and a cache of responses.
+
+Neither changes a reply. A response is kept where it is the same at every moment, for the domain's number, which no other domain ever has, for its epoch,
+which rises with each change of what decides, and for the very bytes of the request.
+"""
+import collections
+
+from contexts import CLOCK, ENVIRONMENT
+from expressions import Designator
+from linking import TooLarge, linked
+from machines import Server, view
+from requests import NotProfile, individuals_of, request_of
+from route_bodies import reference_shown, rows_shown
+from routes import owner, route_of
+
+MOST_TEXTS, MOST_RESPONSES, MOST_BYTES = 128, 512, 16_384
+CLOCK_IDS = {name for name, _ in CLOCK}
+
+
+class LastUsed:
+    """The keys that were used last, of which no more than so many are kept."""
+
+    def __init__(self, most):
+        self.most, self.held = most, collections.OrderedDict()
+
+    def has(self, key):
+        """Whether the key is kept; then this is a use of it."""
+        if key in self.held:
+            self.held.move_to_end(key)
+        return key in self.held
+
+    def put(self, key):
+        self.held[key] = None
+        if len(self.held) > self.most:
+            self.held.popitem(last=False)
+
+
+def designators(held):
+    """The designators that stand anywhere in a tree."""
+    if isinstance(held, Designator):
+        yield held
+    elif isinstance(held, (tuple, list)):
+        for inner in held:
+            yield from designators(inner)
+
+
+def names_the_clock(designator):
+    """Whether it names an attribute that the clock gives, whatever its type and its issuer."""
+    return designator.category == ENVIRONMENT and designator.attribute_id in CLOCK_IDS
+
+
+def is_still(deciders, held):
+    """Whether the bytes of a request are answered alike at every moment."""
+    try:
+        (combined, _), found, named = request_of(held)
+    except NotProfile:
+        return True
+    if combined or individuals_of(found, named) is None or deciders.root is None:
+        return True
+    try:
+        tree = linked(deciders.active, deciders.root)
+    except TooLarge:
+        return True
+    return not any(map(names_the_clock, designators(tree)))
+
+
+def deciding(state):
+    """All that decides in a domain, as it is shown: its epoch is another where one of these is."""
+    return state.documents, state.root and reference_shown(state.root), rows_shown(state.rows)
+
+
+class CountingServer(Server):
+    """A server that counts the texts of policies that it reads, and the responses that it works out."""
+
+    def __init__(self, operator):
+        super().__init__(operator)
+        self.shelf, self.cache = LastUsed(MOST_TEXTS), LastUsed(MOST_RESPONSES)
+        self.readings, self.evaluations, self.unkept = 0, 0, 0
+        # the next domain's number, and of each domain that is there its number and its epoch
+        self.number, self.gates = 1, {}
+
+    def answer(self, message, moment):
+        name = owner(message)
+        before = self.states.get(name)
+        made = super().answer(message, moment)
+        self.move(name, before, self.states.get(name))
+        if made.startswith((b"HTTP/1.1 200 ", b"HTTP/1.1 400 ")) and name and route_of(message).command == "decide":
+            self.count(name, message.body, made)
+        return made
+
+    def move(self, name, before, after):
+        """What the change of a domain makes of its number and its epoch."""
+        if before is None and after is not None:
+            self.gates[name], self.number = (self.number, 0), self.number + 1
+        elif before is not None and after is not None and deciding(before) != deciding(after):
+            number, epoch = self.gates[name]
+            self.gates[name] = number, epoch + 1
+
+    def count(self, name, held, made):
+        """Counts what it took to decide on the bytes of a request, which were answered so."""
+        key, is_short, state = (self.gates[name], held), len(held) <= MOST_BYTES, self.states[name]
+        if is_short and self.cache.has(key):
+            return
+        for document in sorted(state.documents):
+            self.read(state.documents[document])
+        if made.startswith(b"HTTP/1.1 200 "):
+            self.evaluations += 1
+            if is_short and len(made.partition(b"\r\n\r\n")[2]) <= MOST_BYTES and is_still(view(state), held):
+                self.cache.put(key)
+
+    def read(self, stored):
+        """Takes an active text from the shelf, or reads it."""
+        if stored.is_active and not self.shelf.has(stored.text):
+            self.readings += 1
+            self.shelf.put(stored.text)
