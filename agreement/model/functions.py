@@ -4,6 +4,7 @@ FUNCTIONS has each function of values by its URI: the types that it takes, the t
 `integer*` in the list means any number of further integers.
 """
 import itertools
+import math
 
 from values import DAY, SECOND, TYPES, WHITE_SPACE, Fault, date_of, day_number, days_in, key, read, to_text
 
@@ -179,6 +180,9 @@ def higher_order(name, meaning, arguments):
     if max(map(len, arguments), default=0) > 100:
         # a value that stands again gives what it gave before, and didn't decide there
         arguments = [list(dict.fromkeys(argument)) for argument in arguments]
+    if math.prod(map(len, arguments)) > 10**6 and name.startswith("any-of") and meaning in RISING:
+        # what is True with a False is True with the True beside it
+        arguments = [[boolean(True)] if boolean(True) in argument else list(dict.fromkeys(argument)) for argument in arguments]
     choices = itertools.product(*arguments)
     if name in ("any-of", "any-of-any"):
         return boolean(by_places(True, (meaning(*choice)[1] for choice in choices)))
@@ -188,6 +192,9 @@ def higher_order(name, meaning, arguments):
     enough = name == "all-of-any"
     return boolean(by_places(False, (by_places(enough, (meaning(v, w)[1] for w in second)) for v in first)))
 
+
+# Functions of booleans that never turn False, or to a fault or from one, as one of the booleans turns True.
+RISING = [FUNCTIONS[V1 + name][2] for name in ("or", "and", "n-of")]
 
 HIGHER_ORDER = {V3 + name: name for name in ("any-of", "all-of", "any-of-any", "map")}
 HIGHER_ORDER.update({V1 + name: name for name in ("all-of-any", "all-of-all")})

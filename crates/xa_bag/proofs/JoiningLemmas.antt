@@ -216,7 +216,7 @@ pub rest_added : {E : Type 0} (t : DataType) (b : Contents) (here next : List (R
 rest_added t b here next whole so_far at =
     after_values b.values next ∙ sym (collected_append here next ∙ ap (λ x. appended x (collected next)) (as_bag_values t (collected here) b at)) ∙ so_far
 
-map_agrees : {X Y : Type 0} (f g : X → Y) → ((x : X) → f x ≡ g x) → (xs : List X) → map f xs ≡ map g xs
+pub map_agrees : {X Y : Type 0} (f g : X → Y) → ((x : X) → f x ≡ g x) → (xs : List X) → map f xs ≡ map g xs
 map_agrees f g agree [] = refl
 map_agrees f g agree (x ∷ xs) = rw (agree x, map_agrees f g agree xs) refl
 
@@ -224,7 +224,7 @@ map_flat_map : {X Y Z : Type 0} (f : Y → Z) (g : X → List Y) (h : X → List
 map_flat_map f g h agree [] = refl
 map_flat_map f g h agree (x ∷ xs) = rw (agree x, map_flat_map f g h agree xs) (sym (map-append f (g x) (flat_map g xs)))
 
-map_after : {X Y Z : Type 0} (f : Y → Z) (g : X → Y) (h : X → Z) → ((x : X) → h x ≡ f (g x)) → (xs : List X) → map h xs ≡ map f (map g xs)
+pub map_after : {X Y Z : Type 0} (f : Y → Z) (g : X → Y) (h : X → Z) → ((x : X) → h x ≡ f (g x)) → (xs : List X) → map h xs ≡ map f (map g xs)
 map_after f g h agree [] = refl
 map_after f g h agree (x ∷ xs) = rw (agree x, map_after f g h agree xs) refl
 

@@ -17,7 +17,7 @@ use std::alloc::{AllocError, Global};
 use xa_value::{OrMemory, Value};
 
 /// Whether the value is True.
-fn is_true(value: &Value) -> bool
+pub(crate) fn is_true(value: &Value) -> bool
     ensures { result ≡ is_true value.now }
 {
     matches!(value, Value::Boolean(true))

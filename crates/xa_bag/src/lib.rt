@@ -9,6 +9,7 @@ mod fault;
 mod function;
 mod higher_order;
 mod inner;
+mod logic_at_once;
 mod members;
 mod relation;
 mod sets;
