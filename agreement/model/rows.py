@@ -3,7 +3,7 @@
 In a field a backslash begins an escape: \\n, \\r, \\t, \\\\, \\xHH for a byte, and \\{COUNT,TEXT\\} for COUNT times the text.
 Sources may also write \\u{HEX} for a character, letters beyond ASCII as they are, \\(NAME) for a text that a line `define NAME TEXT` gave
 before, where `file:PATH` is the text of a file of the repository and `rows:PATH` a field `row:..` for each source row in one, \\[COUNT,TEXT\\]
-for COUNT times the text, and \\[FIRST-LAST,TEXT\\] for the text once with each of these numbers where it has \\#; two spaces or more part fields too, fields between `[COUNT` and `]` stand COUNT times, and a field that begins with `(` or `<` is parted at spaces and before `)` and `>`.
+for COUNT times the text, and \\[FIRST-LAST,TEXT\\] for the text once with each of these numbers where it has \\#, and the one before where it has \\-; two spaces or more part fields too, fields between `[COUNT` and `]` stand COUNT times, and a field that begins with `(` or `<` is parted at spaces and before `)` and `>`.
 """
 import json
 import pathlib
@@ -94,7 +94,7 @@ def repeated(fields):
 def numbered(found):
     """The text of a match of its first number, its last one and itself, once with each number."""
     first, last, text = found.groups()
-    return "".join(text.replace("\\#", str(number)) for number in range(int(first), int(last) + 1))
+    return "".join(text.replace("\\#", str(number)).replace("\\-", str(number - 1)) for number in range(int(first), int(last) + 1))
 
 
 def parted(field):

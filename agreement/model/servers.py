@@ -151,7 +151,9 @@ def piece(stream, server, moment, held):
 
 
 def server(*fields):
-    """The answer to a row."""
+    """The answer to a row; None where its messages have a limit of work, of which the model knows nothing."""
+    if any(field.startswith("limit:") for field in fields):
+        return None
     try:
         made = set_up(fields)
     except TurnedAway as reply:

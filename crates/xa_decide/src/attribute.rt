@@ -6,6 +6,7 @@ ghost use Rattle.xa_decide.specs.Context.{is_issuer, is_named};
 use crate::bag::push_all;
 use std::alloc::AllocError;
 use xa_bag::Bag;
+use xa_expr::{Budget, units_of_bag};
 use xa_profile::Attribute;
 use xa_value::{DataType, Text};
 
@@ -34,8 +35,9 @@ pub(crate) fn is_named(
         && is_issuer(issuer, &attribute.issuer)
 }
 
-/// Puts the values of the attribute at the end of the bag, if it is of that id, type and issuer.
+/// Puts the values of the attribute at the end of the bag, if it is of that id, type and issuer. They are paid for before they are copied.
 pub(crate) fn push_attribute(
+    budget: &Budget,
     bag: &mut Bag,
     id: &str,
     data_type: DataType,
@@ -46,6 +48,7 @@ pub(crate) fn push_attribute(
     ensures { IfOk result (λ _. bag.new ≡ bag_of data_type (bag.old.values ++ (if is_named id.now data_type issuer.now attribute.now then attribute.now.values.values else []))) }
 {
     if is_named(id, data_type, issuer, attribute) {
+        budget.spend(units_of_bag(&attribute.values))?;
         push_all(bag, attribute.values.values())?;
     }
     Ok(())

@@ -12,7 +12,7 @@ use crate::source::Source;
 use std::alloc::{AllocError, Global};
 use std::marker::Model;
 use xa_bag::Bag;
-use xa_expr::{Context, Designator};
+use xa_expr::{Budget, Context, Designator, STEP};
 use xa_value::{DataType, Moment};
 
 /// The context of the decision on an individual request.
@@ -21,6 +21,7 @@ pub(crate) struct IndividualContext<'a> {
     objects: IndividualObjects<'a>,
     source: &'a Source,
     moment: Moment,
+    budget: &'a Budget,
 }
 
 impl<'a> Model for IndividualContext<'a> {
@@ -31,6 +32,12 @@ impl<'a> Model for IndividualContext<'a> {
     ghost view = { λ c. record { objects = c.objects; source = c.source.now; moment = c.moment } };
 }
 
+/// The units of looking up by two texts: a step, and their bytes.
+fn units_of_look_up(first: &str, second: &str) -> u64 {
+    STEP.saturating_add(first.len() as u64)
+        .saturating_add(second.len() as u64)
+}
+
 impl<'a> IndividualContext<'a> {
     /// The context of the individual request that has the objects at these places.
     pub(crate) fn new(
@@ -39,6 +46,7 @@ impl<'a> IndividualContext<'a> {
         places: &[usize],
         source: &'a Source,
         moment: Moment,
+        budget: &'a Budget,
     ) -> Result<IndividualContext<'a>, AllocError>
         ensures { IfOk result (λ context. context ≡ record { objects = objects_at objects.now places.now; source = source.now; moment = moment }) }
     {
@@ -47,6 +55,7 @@ impl<'a> IndividualContext<'a> {
             objects,
             source,
             moment,
+            budget,
         })
     }
 
@@ -65,7 +74,9 @@ impl<'a> IndividualContext<'a> {
             return Ok(Bag::new(alloc, data_type));
         }
         let entity = self.objects.entity(category);
-        self.source.bag(alloc, category, entity, id, data_type)
+        self.budget.spend(units_of_look_up(entity, id))?;
+        self.source
+            .bag(alloc, self.budget, category, entity, id, data_type)
     }
 
     /// The bag of the values that are not in the request.
@@ -90,14 +101,20 @@ impl<'a> Context for IndividualContext<'a> {
     fn bag(&self, alloc: Global, designator: &Designator) -> Result<Bag, AllocError> {
         let category = designator.category.as_str();
         let id = designator.attribute_id.as_str();
+        let data_type = designator.data_type;
         let issuer = &designator.issuer;
+        self.budget.spend(units_of_look_up(category, id))?;
         let own = self
             .objects
-            .bag(alloc, category, id, designator.data_type, issuer)?;
+            .bag(alloc, self.budget, category, id, data_type, issuer)?;
         if own.is_empty() && designator.issuer.is_none() {
             self.outside_bag(alloc, designator)
         } else {
             Ok(own)
         }
+    }
+
+    fn spend(&self, units: u64) -> Result<(), AllocError> {
+        self.budget.spend(units)
     }
 }

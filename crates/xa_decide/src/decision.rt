@@ -1,22 +1,21 @@
 //! The decision on a request.
 ghost use Rattle.std.specs.Prelude.{◌≡◌, true, [], ◌∷◌, map, option_map, IfOk, IfSome};
-ghost use Rattle.xa_link.specs.Linking.{link};
 ghost use Rattle.xa_expr.specs.declared.fault.Fault.TheVariants.{SyntaxError};
 ghost use Rattle.xa_policy.specs.Rule.{undecided};
 ghost use Rattle.xa_profile.specs.declared.individuals.Individual.TheVariants.{Places};
 ghost use Rattle.xa_profile.specs.Response.{response_body};
-ghost use Rattle.xa_decide.specs.Decision.{tree_of, by_tree, result_without_objects, result_of, decided, body_of, answer};
+ghost use Rattle.xa_decide.specs.Decision.{objects_at, tree_of, by_tree, result_without_objects, result_of, decided, body_of, answer};
 ghost use Rattle.xa_decide.specs.Timeless.{is_timeless_answer, is_timeless_request, is_timeless_tree};
 
 use crate::context::IndividualContext;
 use crate::indexed_object::IndexedObject;
-use crate::timeless::is_timeless_tree;
+use crate::response_work::units_of_result;
 use crate::view::View;
 use std::alloc::{AllocError, Global};
-use xa_expr::{Context, Fault};
+use xa_expr::{Budget, Context, Fault, STEP};
 use xa_func::Status;
-use xa_link::{Active, LinkError, link};
-use xa_policy::{Decision, Evaluated, Linked, Reference, evaluate};
+use xa_link::LinkError;
+use xa_policy::{Decision, Evaluated, Linked, evaluate};
 use xa_profile::{CategoryObject, Individual, Request, RequestError, Response, ResultObject};
 use xa_value::{Items, Moment, OrMemory};
 
@@ -42,31 +41,6 @@ pub struct Responded {
 struct Outcome {
     results: Items<ResultObject>,
     timeless: bool,
-}
-
-/// Links the tree that a root stands for; it may be too large.
-fn linked_tree(
-    alloc: Global,
-    active: &[Active],
-    root: &Reference,
-) -> Result<Result<Linked, LinkError>, AllocError>
-    ensures { IfOk result (λ tree. tree ≡ link active.now root.now) }
-{
-    match link(alloc, active, root) {
-        Ok(linked) => Ok(Ok(linked)),
-        Err(OrMemory::Memory) => Err(AllocError),
-        Err(OrMemory::Error(error)) => Ok(Err(error)),
-    }
-}
-
-/// The tree that decides, where there is one.
-fn tree_of(alloc: Global, view: &View) -> Result<Option<Result<Linked, LinkError>>, AllocError>
-    ensures { IfOk result (λ tree. tree ≡ tree_of view.now.active view.now.root) }
-{
-    match view.root() {
-        Some(root) => Ok(Some(linked_tree(alloc, view.active(), root)?)),
-        None => Ok(None),
-    }
 }
 
 /// Indeterminate, for the fault's reason.
@@ -124,27 +98,47 @@ fn one_outcome(alloc: Global, fault: Fault) -> Result<Outcome, AllocError>
     })
 }
 
-/// What the individual requests of a request are decided by: a view and the tree that its root stands for, the Category objects of the
-/// request, and a moment.
+/// What the individual requests of a request are decided by: a view, the Category objects of the request, and a moment; and the work that all of them
+/// together may ask for.
 #[derive(Drop)]
 struct Deciding<'a> {
     view: &'a View,
-    tree: Option<Result<Linked, LinkError>>,
     objects: &'a [IndexedObject<'a>],
     moment: Moment,
-    ghost linked: { tree ≡ tree_of view.now.active view.now.root },
+    budget: &'a Budget,
 }
 
 impl<'a> Deciding<'a> {
-    /// The result of the individual request that has the objects at these places.
+    /// The context of the individual request that has the objects at these places.
+    fn context_at(
+        &self,
+        alloc: Global,
+        places: &[usize],
+    ) -> Result<IndividualContext<'a>, AllocError>
+        ensures { IfOk result (λ context. context ≡ record { objects = objects_at self.now.objects.now places.now; source = self.now.view.now.source; moment = self.now.moment }) }
+    {
+        self.budget.spend(STEP.saturating_mul(places.len() as u64))?;
+        let source = self.view.source();
+        IndividualContext::new(
+            alloc,
+            self.objects,
+            places,
+            source,
+            self.moment,
+            self.budget,
+        )
+    }
+
+    /// The result of the individual request that has the objects at these places, which is paid for before it is written.
     #[tactic(auto, unfolding(crate::specs::Decision::decision))]
     fn result_at(&self, alloc: Global, places: Items<usize>) -> Result<ResultObject, AllocError>
         ensures { IfOk result (λ r. r ≡ result_of self.now.view.now self.now.objects.now self.now.moment (Places places)) }
     {
-        let source = self.view.source();
         let chosen = places.as_slice();
-        let context = IndividualContext::new(alloc, self.objects, chosen, source, self.moment)?;
-        let evaluated = by_tree(alloc, &self.tree, &context)?;
+        let context = self.context_at(alloc, chosen)?;
+        let evaluated = by_tree(alloc, self.view.tree(), &context)?;
+        self.budget
+            .spend(units_of_result(self.objects, chosen, &evaluated))?;
         Ok(ResultObject { evaluated, places })
     }
 
@@ -152,6 +146,7 @@ impl<'a> Deciding<'a> {
     fn result_of(&self, alloc: Global, individual: Individual) -> Result<ResultObject, AllocError>
         ensures { IfOk result (λ r. r ≡ result_of self.now.view.now self.now.objects.now self.now.moment individual) }
     {
+        self.budget.spend(STEP)?;
         match individual {
             Individual::Places(places) => self.result_at(alloc, places),
             Individual::BadReference => Ok(result_without_objects(alloc, Fault::SyntaxError)),
@@ -188,7 +183,7 @@ fn indexed_objects<'a>(
     Ok(indexed)
 }
 
-/// What comes of the individual requests. For all of them the tree is linked once, and each object put in order once.
+/// What comes of the individual requests. Each object is put in order once for all of them.
 fn outcome_of_individuals(
     alloc: Global,
     view: &View,
@@ -199,17 +194,19 @@ fn outcome_of_individuals(
     ensures results { IfOk result (λ outcome. outcome.results ≡ map (result_of view.now objects.now moment) individuals) }
     ensures timeless { IfOk result (λ outcome. outcome.timeless ≡ is_timeless_tree (tree_of view.now.active view.now.root)) }
 {
-    let tree = tree_of(alloc, view)?;
-    let timeless = is_timeless_tree(&tree);
     let indexed = indexed_objects(alloc, objects)?;
+    let budget = view.budget();
     let deciding = Deciding {
         view,
-        tree,
         objects: indexed.as_slice(),
         moment,
+        budget: &budget,
     };
     let results = deciding.results_of(alloc, individuals)?;
-    Ok(Outcome { results, timeless })
+    Ok(Outcome {
+        results,
+        timeless: view.is_timeless(),
+    })
 }
 
 /// What comes of the request.
@@ -237,7 +234,7 @@ fn outcome_of_request(
 }
 
 /// The response to the request at the moment: a result for each of its individual requests, by the tree that the view's root stands for,
-/// or one result where these aren't decided. The tree is linked once.
+/// or one result where these aren't decided.
 pub fn decide<'a>(
     alloc: Global,
     view: &View,

@@ -9,20 +9,23 @@ use crate::attribute::push_attribute;
 use crate::keys::{ByIssuer, ByName, issuer_key};
 use crate::naming::{Naming, naming_of};
 use crate::order::{item_at, order_of, places_among};
+use crate::response_work::units_included;
 use std::alloc::{AllocError, Global};
 use std::marker::Model;
 use xa_bag::Bag;
+use xa_expr::Budget;
 use xa_profile::{Attribute, CategoryObject};
 use xa_value::{DataType, Text};
 
-/// A Category object, with its attributes to be found by their ids and types, and by their issuers as well, and with what names its
-/// entity. It is made once for an object, whatever the number of the individual requests that have it.
+/// A Category object, with its attributes to be found by their ids and types, and by their issuers as well, with what names its
+/// entity, and with how much work it is to write what stands of it in a result. It is made once for an object, whatever the number of the individual requests that have it.
 #[derive(Drop)]
 pub(crate) struct IndexedObject<'a> {
     object: &'a CategoryObject,
     by_name: Vec<usize>,
     by_issuer: Vec<usize>,
     naming: Naming<'a>,
+    units_included: u64,
 }
 
 impl<'a> Model for IndexedObject<'a> {
@@ -55,7 +58,13 @@ impl<'a> IndexedObject<'a> {
             by_name,
             by_issuer,
             naming: naming_of(object),
+            units_included: units_included(object),
         })
+    }
+
+    /// The units of writing what stands of the object in a result.
+    pub(crate) fn units_included(&self) -> u64 {
+        self.units_included
     }
 
     /// The object's category.
@@ -99,6 +108,7 @@ impl<'a> IndexedObject<'a> {
 
 /// Puts the values of the object's attributes of that id, type and issuer at the end of the bag.
 pub(crate) fn push_object(
+    budget: &Budget,
     bag: &mut Bag,
     id: &str,
     data_type: DataType,
@@ -112,7 +122,7 @@ pub(crate) fn push_object(
     let attributes = object.attributes();
     for place in places {
         if let Some(attribute) = item_at(attributes, *place) {
-            push_attribute(bag, id, data_type, issuer, attribute)?;
+            push_attribute(budget, bag, id, data_type, issuer, attribute)?;
         }
     }
     Ok(())

@@ -14,6 +14,7 @@ use crate::order::{Keying, item_at, order_of, places_among};
 use std::alloc::{AllocError, Global};
 use std::marker::{Model, PhantomData};
 use xa_bag::Bag;
+use xa_expr::Budget;
 use xa_value::{DataType, Text};
 
 /// Category objects by their categories.
@@ -105,6 +106,7 @@ impl<'a> IndividualObjects<'a> {
     pub(crate) fn bag(
         &self,
         alloc: Global,
+        budget: &Budget,
         category: &str,
         id: &str,
         data_type: DataType,
@@ -116,7 +118,7 @@ impl<'a> IndividualObjects<'a> {
         let places = self.places(category);
         for place in places {
             if let Some(object) = self.object(*place) {
-                push_of_category(&mut bag, category, id, data_type, issuer, object)?;
+                push_of_category(budget, &mut bag, category, id, data_type, issuer, object)?;
             }
         }
         Ok(bag)
@@ -147,6 +149,7 @@ impl<'a> IndividualObjects<'a> {
 
 /// Puts the values of the object's attributes of that id, type and issuer at the end of the bag, if it is of that category.
 fn push_of_category(
+    budget: &Budget,
     bag: &mut Bag,
     category: &str,
     id: &str,
@@ -158,7 +161,7 @@ fn push_of_category(
     ensures { IfOk result (λ _. bag.new ≡ bag_of data_type (bag.old.values ++ (if bytes_eq object.now.category category.now then object_values id.now data_type issuer.now object.now else []))) }
 {
     if object.category() == category {
-        push_object(bag, id, data_type, issuer, object)?;
+        push_object(budget, bag, id, data_type, issuer, object)?;
     }
     Ok(())
 }

@@ -13,6 +13,7 @@ mod key;
 mod keys;
 mod naming;
 mod order;
+mod response_work;
 mod rows;
 mod source;
 mod source_row;

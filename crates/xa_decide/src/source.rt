@@ -12,6 +12,7 @@ use crate::source_row::SourceRow;
 use std::alloc::{AllocError, Global};
 use std::marker::Model;
 use xa_bag::Bag;
+use xa_expr::{Budget, units_of};
 use xa_value::{DataType, Items};
 
 /// The rows of the source, to be found by their categories, entities, ids and types.
@@ -64,6 +65,7 @@ impl Source {
     pub(crate) fn bag(
         &self,
         alloc: Global,
+        budget: &Budget,
         category: &str,
         entity: &str,
         id: &str,
@@ -76,15 +78,16 @@ impl Source {
         let mut bag = Bag::new(alloc, data_type);
         for place in places {
             if let Some(row) = item_at(rows, *place) {
-                push_row(&mut bag, category, entity, id, data_type, row)?;
+                push_row(budget, &mut bag, category, entity, id, data_type, row)?;
             }
         }
         Ok(bag)
     }
 }
 
-/// Puts the row's value at the end of the bag, if it is a row of that category, entity, id and type.
+/// Puts the row's value at the end of the bag, if it is a row of that category, entity, id and type. It is paid for before it is copied.
 fn push_row(
+    budget: &Budget,
     bag: &mut Bag,
     category: &str,
     entity: &str,
@@ -96,6 +99,7 @@ fn push_row(
     ensures { IfOk result (λ _. bag.new ≡ bag_of data_type (bag.old.values ++ (if is_row category.now entity.now id.now data_type row.now then row.now.value ∷ [] else []))) }
 {
     if is_row(category, entity, id, data_type, row) {
+        budget.spend(units_of(&row.value))?;
         push_value(bag, &row.value)?;
     }
     Ok(())

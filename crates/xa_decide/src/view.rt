@@ -1,36 +1,80 @@
 //! The view of a domain: what its decisions depend on.
-ghost use Rattle.std.specs.Prelude.{◌≡◌, option_map, IfOk};
+ghost use Rattle.std.specs.Prelude.{◌≡◌, IfOk};
+ghost use Rattle.xa_link.specs.Linking.{link};
+ghost use Rattle.xa_decide.specs.Decision.{tree_of};
+ghost use Rattle.xa_decide.specs.Timeless.{is_timeless_tree};
 
 use crate::source::Source;
 use crate::source_row::SourceRow;
+use crate::timeless::is_timeless_tree;
 use std::alloc::{AllocError, Global};
 use std::marker::Model;
-use xa_link::Active;
-use xa_policy::Reference;
-use xa_value::Items;
+use xa_expr::Budget;
+use xa_link::{Active, LinkError, link};
+use xa_policy::{Linked, Reference};
+use xa_value::{Items, OrMemory};
 
-/// What a domain's decisions depend on: its active documents, its root, if it has one, and its source rows.
+/// What a domain's decisions depend on: its active documents, its root, if it has one, and its source rows; made ready for any number of requests: the
+/// tree that the root stands for is linked, and the rows are in order. Beside these stands how much work a message may ask for, which decides nothing: a
+/// message that asks for more is answered as if memory were wanting.
 #[derive(Debug, Drop)]
 pub struct View {
     active: Items<Active>,
     root: Option<Reference>,
     source: Source,
+    tree: Option<Result<Linked, LinkError>>,
+    timeless: bool,
+    limit: u64,
 }
 
 impl Model for View {
     ghost use Rattle.std.specs.Coded.{codes};
     ghost use Rattle.xa_notation.specs.contracts.document.Document as document;
-    ghost use Rattle.xa_decide.specs.Decision.{Viewed};
+    ghost use Rattle.std.specs.Prelude.{◌≡◌};
+    ghost use Rattle.xa_decide.specs.Decision.{Viewed, tree_of};
+    ghost use Rattle.xa_decide.specs.Timeless.{is_timeless_tree};
 
     ghost Value = { Viewed };
 
     ghost coded = { Prim.hlevel (codes, document.the_row.coded) };
 
     ghost view = { λ v. record { active = v.active; root = v.root; source = v.source } };
+
+    ghost invariant = { λ v. (v.tree ≡ tree_of v.active v.root) × (v.timeless ≡ is_timeless_tree v.tree) };
+}
+
+/// Links the tree that a root stands for; it may be too large.
+fn linked_tree(
+    alloc: Global,
+    active: &[Active],
+    root: &Reference,
+) -> Result<Result<Linked, LinkError>, AllocError>
+    ensures { IfOk result (λ tree. tree ≡ link active.now root.now) }
+{
+    match link(alloc, active, root) {
+        Ok(linked) => Ok(Ok(linked)),
+        Err(OrMemory::Memory) => Err(AllocError),
+        Err(OrMemory::Error(error)) => Ok(Err(error)),
+    }
+}
+
+/// The tree that decides, where there is one.
+fn tree_of(
+    alloc: Global,
+    active: &[Active],
+    root: &Option<Reference>,
+) -> Result<Option<Result<Linked, LinkError>>, AllocError>
+    ensures { IfOk result (λ tree. tree ≡ tree_of active.now root.now) }
+{
+    match root {
+        Some(root) => Ok(Some(linked_tree(alloc, active, root)?)),
+        None => Ok(None),
+    }
 }
 
 impl View {
-    /// A view of these documents, this root and these rows, which are put in order.
+    /// A view of these documents, this root and these rows. The tree is linked and the rows are put in order here, once for all requests. The work of a message
+    /// has no limit.
     pub fn new(
         alloc: Global,
         active: Items<Active>,
@@ -40,27 +84,47 @@ impl View {
         ensures { IfOk result (λ view. view ≡ record { active = active; root = root; source = source }) }
     {
         let source = Source::new(alloc, source)?;
+        let tree = tree_of(alloc, active.as_slice(), &root)?;
+        let timeless = is_timeless_tree(&tree);
         Ok(View {
             active,
             root,
             source,
+            tree,
+            timeless,
+            limit: u64::MAX,
         })
     }
 
-    /// The active documents.
-    pub(crate) fn active(&self) -> &[Active]
-        ensures { result.now ≡ self.now.active }
+    /// The same view, under which a message may ask for this many units of work, as `Budget` counts them.
+    pub fn with_limit(self, units: u64) -> View
+        ensures { result ≡ self }
     {
-        self.active.as_slice()
+        let mut view = self;
+        view.limit = units;
+        view
     }
 
-    /// The reference to the root, if one is set.
-    pub(crate) fn root(&self) -> Option<&Reference>
-        ensures { option_map (λ r. r.now) result ≡ self.now.root }
-    {
-        self.root.as_ref()
+    /// The work that one message may ask for.
+    pub(crate) fn budget(&self) -> Budget {
+        Budget::new(self.limit)
     }
 
+    /// The tree that decides, where there is one.
+    pub(crate) fn tree(&self) -> &Option<Result<Linked, LinkError>>
+        ensures { result.now ≡ tree_of self.now.active self.now.root }
+    {
+        &self.tree
+    }
+
+    /// Whether no designator of the tree names the clock.
+    pub(crate) fn is_timeless(&self) -> bool
+        ensures { result ≡ is_timeless_tree (tree_of self.now.active self.now.root) }
+    {
+        self.timeless
+    }
+
+    /// The rows of the source of attributes.
     pub(crate) fn source(&self) -> &Source
         ensures { result.now ≡ self.now.source }
     {

@@ -16,4 +16,10 @@ pub trait Context {
     /// The bag of the designator, whether or not it must be present.
     fn bag(&self, alloc: Global, designator: &Designator) -> Result<Bag, AllocError>
         ensures { IfOk result (λ bag. bag ≡ bag_of designator.now.data_type (values_of self.now designator.now)) };
+
+    /// Takes the units from the work that the message may still ask for. A context that counts no work lets all of it be done. No
+    /// clause speaks of it: what is refused is answered as want of memory, which every evaluation may answer.
+    fn spend(&self, units: u64) -> Result<(), AllocError> {
+        Ok(())
+    }
 }

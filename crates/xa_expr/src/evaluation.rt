@@ -4,6 +4,7 @@ ghost use Rattle.xa_value.specs.Gives.{Gives};
 ghost use Rattle.xa_func.specs.declared.func_id.FuncId.TheVariants as function_id;
 ghost use Rattle.xa_func.specs.Logic.{or_of, and_of, n_among};
 ghost use Rattle.xa_func.specs.Signature.{AcceptsKinds, TakesKinds, kind_of, signature_of, bag_signature, of_each, result_type_of};
+ghost use Rattle.xa_bag.specs.declared.value_or_bag.ValueOrBag.TheVariants as given_variant;
 ghost use Rattle.xa_bag.specs.Applying.{boolean, kind_given};
 ghost use Rattle.xa_bag.specs.HigherOrder.{collected};
 ghost use Rattle.xa_bag.specs.ValueOrBag.{kind_of_argument};
@@ -19,12 +20,14 @@ use crate::fault::Fault;
 use crate::function::{of_bags, of_function, of_values};
 use crate::scope::{Scope, attribute};
 use crate::typed::Typed;
-use std::alloc::Global;
+use crate::work::{STEP, units_of};
+use std::alloc::{AllocError, Global};
 use xa_bag::ValueOrBag;
 use xa_func::{BagFunction, FuncId, HigherOrder, Logic};
 use xa_value::{DataType, Items, OrMemory, Value};
 
-/// What the expression comes to, where the variables come to the results.
+/// What the expression comes to, where the variables come to the results. Each expression that is evaluated takes a step from the work
+/// that the message may ask for, before anything is done.
 #[cycle(evaluation)]
 pub(crate) fn evaluate<'a, C: Context>(
     alloc: Global,
@@ -36,8 +39,9 @@ pub(crate) fn evaluate<'a, C: Context>(
     ensures value { Gives result (outcome (C.values_of scope.now.context.now) scope.now.results.now expression.now) }
     ensures typed { IfOk result (λ given. kind_of_argument given ≡ kind_of_typed expression.now) }
 {
+    scope.context.spend(STEP)?;
     match expression {
-        Typed::Literal(value) => Ok(ValueOrBag::Value(value.clone()?)),
+        Typed::Literal(value) => Ok(literal(scope.context, value)?),
         Typed::Attribute(designator) => attribute(alloc, scope.context, designator),
         Typed::Variable(place, _) => scope.variable(*place),
         Typed::Apply(function, arguments) => apply(alloc, scope, *function, arguments.as_slice()),
@@ -49,6 +53,14 @@ pub(crate) fn evaluate<'a, C: Context>(
             arguments.as_slice(),
         ),
     }
+}
+
+/// A copy of the literal, whose units are taken before it is made.
+fn literal<C: Context>(context: &C, value: &Value) -> Result<ValueOrBag, AllocError>
+    ensures { IfOk result (λ given. given ≡ given_variant.Value value.now) }
+{
+    context.spend(units_of(value))?;
+    Ok(ValueOrBag::Value(value.clone()?))
 }
 
 /// What the function comes to on the arguments.
@@ -229,7 +241,7 @@ fn apply_to_values<'a, C: Context>(
     ensures typed { IfOk result (λ given. kind_of_argument given ≡ result_kind (signature_of function)) }
 {
     let values = all_values(alloc, scope, arguments)?;
-    of_values(alloc, function, values.as_slice())
+    of_values(alloc, scope.context, function, values.as_slice())
 }
 
 /// What a function of bags comes to on the arguments.
@@ -248,7 +260,7 @@ fn apply_to_bags<'a, C: Context>(
     ensures typed { IfOk result (λ given. kind_of_argument given ≡ result_kind (bag_signature function data_type)) }
 {
     let given = all_given(alloc, scope, arguments)?;
-    of_bags(alloc, function, data_type, given.as_slice())
+    of_bags(alloc, scope.context, function, data_type, given.as_slice())
 }
 
 /// What a higher-order function comes to, with its inner function and the arguments after that.
@@ -267,7 +279,7 @@ fn apply_higher_order<'a, C: Context>(
     ensures typed { IfOk result (λ given. kind_of_argument given ≡ kind_given function (result_type_of (signature_of inner))) }
 {
     let given = all_given(alloc, scope, arguments)?;
-    of_function(alloc, function, inner, given.as_slice())
+    of_function(alloc, scope.context, function, inner, given.as_slice())
 }
 
 /// What the arguments come to, none of which is a bag, from the first to the last.

@@ -60,7 +60,7 @@ fn prepare<C: Context>(
     if results.len() == definitions.len() {
         return Ok(());
     }
-    match last_variable(expression) {
+    match last_variable(context, expression)? {
         Some(place) => work_out(alloc, context, definitions, results, place),
         None => Ok(()),
     }
@@ -100,6 +100,11 @@ impl<'a, C: Context> Evaluator<'a, C> {
             variables,
             results: Vec::new(alloc),
         }
+    }
+
+    /// Takes the units from the work that the message may still ask for, for what is made of the values.
+    pub fn spend(&self, units: u64) -> Result<(), AllocError> {
+        self.context.spend(units)
     }
 
     /// What the expression comes to. After want of memory nothing that was worked out is lost.

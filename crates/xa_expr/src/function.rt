@@ -1,4 +1,5 @@
-//! Functions of arguments that were worked out.
+//! Functions of arguments that were worked out. Each takes from the work that the message may ask for before it is called, by the sizes of
+//! its arguments: what functions give is no larger than these together.
 ghost use Rattle.std.specs.Prelude.{◌≡◌, map, IfOk};
 ghost use Rattle.xa_value.specs.Gives.{Gives};
 ghost use Rattle.xa_func.specs.Application as func;
@@ -8,7 +9,10 @@ ghost use Rattle.xa_bag.specs.ValueOrBag.{kind_of_argument, kind_of_each};
 ghost use Rattle.xa_expr.specs.Fault.{of_function, of_bag_function};
 ghost use Rattle.xa_expr.specs.Typed.{result_kind};
 
+use crate::charged::Charged;
+use crate::context::Context;
 use crate::fault::Fault;
+use crate::work::{units_of_bag_function, units_of_higher_order, units_of_values};
 use std::alloc::Global;
 use xa_bag::{ValueOrBag, apply_bag_function, apply_higher_order};
 use xa_func::{BagFunction, FuncId, HigherOrder};
@@ -16,8 +20,9 @@ use xa_value::{DataType, OrMemory, Value};
 
 /// What a function of values gives.
 #[tactic(auto, using(crate::proofs::FunctionLemmas::result_typed))]
-pub(crate) fn of_values(
+pub(crate) fn of_values<C: Context>(
     alloc: Global,
+    context: &C,
     function: FuncId,
     arguments: &[Value],
 ) -> Result<ValueOrBag, OrMemory<Fault>>
@@ -25,6 +30,7 @@ pub(crate) fn of_values(
     ensures value { Gives result (as_argument (of_function (func.applied function arguments.now))) }
     ensures typed { IfOk result (λ given. kind_of_argument given ≡ result_kind (signature_of function)) }
 {
+    context.spend(units_of_values(arguments))?;
     match function.apply(alloc, arguments) {
         Ok(value) => Ok(ValueOrBag::Value(value)),
         Err(OrMemory::Memory) => Err(OrMemory::Memory),
@@ -34,8 +40,9 @@ pub(crate) fn of_values(
 
 /// What a bag function of the type gives.
 #[tactic(auto, using(crate::proofs::FunctionLemmas::bag_result_typed))]
-pub(crate) fn of_bags(
+pub(crate) fn of_bags<C: Context>(
     alloc: Global,
+    context: &C,
     function: BagFunction,
     data_type: DataType,
     arguments: &[ValueOrBag],
@@ -44,6 +51,7 @@ pub(crate) fn of_bags(
     ensures value { Gives result (of_bag_function (bag_applied function data_type arguments.now)) }
     ensures typed { IfOk result (λ given. kind_of_argument given ≡ result_kind (bag_signature function data_type)) }
 {
+    context.spend(units_of_bag_function(function, arguments))?;
     match apply_bag_function(alloc, function, data_type, arguments) {
         Ok(given) => Ok(given),
         Err(OrMemory::Memory) => Err(OrMemory::Memory),
@@ -52,8 +60,9 @@ pub(crate) fn of_bags(
 }
 
 /// What a higher-order function gives, with its inner function and the arguments after that.
-pub(crate) fn of_function(
+pub(crate) fn of_function<C: Context>(
     alloc: Global,
+    context: &C,
     function: HigherOrder,
     inner: FuncId,
     arguments: &[ValueOrBag],
@@ -62,7 +71,12 @@ pub(crate) fn of_function(
     ensures value { Gives result (of_bag_function (higher_order_applied function (result_type_of (signature_of inner)) (func.applied inner) arguments.now)) }
     ensures typed { IfOk result (λ given. kind_of_argument given ≡ kind_given function (result_type_of (signature_of inner))) }
 {
-    match apply_higher_order(alloc, function, &inner, arguments) {
+    context.spend(units_of_higher_order(function, inner, arguments))?;
+    let charged = Charged {
+        function: inner,
+        context,
+    };
+    match apply_higher_order(alloc, function, &charged, arguments) {
         Ok(given) => Ok(given),
         Err(OrMemory::Memory) => Err(OrMemory::Memory),
         Err(OrMemory::Error(fault)) => Err(OrMemory::Error(Fault::with(fault.status()))),

@@ -1,6 +1,7 @@
 //! Expressions with their types and values, and targets (XACML 3.0, core, sections 5.6 to 5.9, 5.25, 5.27 to 5.29, 5.31 and 7.3 to 7.9).
 #![tactic(auto)]
 
+mod charged;
 mod check_error;
 mod checking;
 mod context;
@@ -17,6 +18,7 @@ mod target;
 mod timeless;
 mod typed;
 mod variables;
+mod work;
 mod working_out;
 
 pub use check_error::CheckError;
@@ -32,3 +34,4 @@ pub use target::{AllOf, AnyOf, Target};
 pub use timeless::{HasDesignators, all_timeless};
 pub use typed::Typed;
 pub use variables::{Definition, Variables};
+pub use work::{Budget, LOOK, STEP, units_of, units_of_bag, units_of_given, units_of_values};

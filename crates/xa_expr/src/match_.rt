@@ -17,6 +17,7 @@ use crate::designator::Designator;
 use crate::fault::Fault;
 use crate::matching::Matching;
 use crate::scope::attribute;
+use crate::work::{LOOK, STEP, units_of, units_of_values};
 use std::alloc::{AllocError, Global};
 use std::marker::Model;
 use xa_func::{FuncId, HasKind, Kind, Signature};
@@ -82,9 +83,36 @@ impl Match {
         ensures { IfOk result (λ m. m ≡ match_value (C.values_of context.now) self.now) }
     {
         match attribute(alloc, context, &self.designator) {
-            Ok(bag) => self.true_of_some(alloc, bag.values()),
+            Ok(bag) => self.found_in(alloc, context, bag.values()),
             Err(OrMemory::Error(fault)) => Ok(Matching::Indeterminate(fault)),
             Err(OrMemory::Memory) => Err(AllocError),
+        }
+    }
+
+    /// Whether the function is true of one of the values. What it takes to look at all of them is counted before.
+    fn found_in<C: Context>(
+        &self,
+        alloc: Global,
+        context: &C,
+        values: &[Value],
+    ) -> Result<Matching, AllocError>
+        requires { OfType self.now.designator.data_type values.now }
+        ensures { IfOk result (λ m. m ≡ some_match (map (answer self.now) values.now)) }
+    {
+        context.spend(STEP.saturating_add(self.units_of_looking(values)))?;
+        self.true_of_some(alloc, values)
+    }
+
+    /// The units of a look at each of the values: equality compares them where they are, and the units of the bag were counted when it
+    /// was given; every other function is called for a copy of each, beside one of the literal.
+    fn units_of_looking(&self, values: &[Value]) -> u64 {
+        let count = values.len() as u64;
+        match self.function {
+            FuncId::Equal(_) => count.saturating_mul(LOOK),
+            _ => count
+                .saturating_add(1)
+                .saturating_mul(STEP.saturating_add(units_of(&self.literal)))
+                .saturating_add(units_of_values(values)),
         }
     }
 

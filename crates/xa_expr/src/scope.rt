@@ -11,7 +11,8 @@ use crate::context::Context;
 use crate::designator::Designator;
 use crate::fault::Fault;
 use crate::variables::Definition;
-use std::alloc::Global;
+use crate::work::{STEP, units_of_bag, units_of_given};
+use std::alloc::{AllocError, Global};
 use xa_bag::ValueOrBag;
 use xa_value::OrMemory;
 
@@ -23,7 +24,8 @@ pub(crate) struct Scope<'a, C> {
     pub(crate) results: &'a [Result<ValueOrBag, Fault>],
 }
 
-/// What the designator gives (core, section 7.3.5): its bag, or a fault where that is empty and must not be.
+/// What the designator gives (core, section 7.3.5): its bag, or a fault where that is empty and must not be. It takes a step and the
+/// bag's units; the context counts by itself what it looks at before the bag is there.
 pub(crate) fn attribute<C: Context>(
     alloc: Global,
     context: &C,
@@ -33,18 +35,30 @@ pub(crate) fn attribute<C: Context>(
     ensures typed { IfOk result (λ given. kind_of_argument given ≡ kind.Bag designator.now.data_type) }
 {
     let bag = context.bag(alloc, designator)?;
+    context.spend(STEP.saturating_add(units_of_bag(&bag)))?;
     if designator.must_be_present && bag.is_empty() {
         return Err(OrMemory::Error(Fault::MissingAttribute));
     }
     Ok(ValueOrBag::Bag(bag))
 }
 
+/// A copy of a value or a bag, whose units are taken before it is made.
+fn given_copy<C: Context>(context: &C, given: &ValueOrBag) -> Result<ValueOrBag, AllocError>
+    ensures { IfOk result (λ copy. copy ≡ given.now) }
+{
+    context.spend(units_of_given(given))?;
+    given.clone()
+}
+
 /// A copy of what a variable came to.
-fn outcome_copy(outcome: &Result<ValueOrBag, Fault>) -> Result<ValueOrBag, OrMemory<Fault>>
+fn outcome_copy<C: Context>(
+    context: &C,
+    outcome: &Result<ValueOrBag, Fault>,
+) -> Result<ValueOrBag, OrMemory<Fault>>
     ensures { Gives result outcome.now }
 {
     match outcome {
-        Ok(given) => Ok(given.clone()?),
+        Ok(given) => Ok(given_copy(context, given)?),
         Err(fault) => Err(OrMemory::Error(*fault)),
     }
 }
@@ -59,6 +73,6 @@ impl<'a, C: Context> Scope<'a, C> {
         let Some(outcome) = self.results.get(place) else {
             return Err(OrMemory::Error(Fault::ProcessingError));
         };
-        outcome_copy(outcome)
+        outcome_copy(self.context, outcome)
     }
 }

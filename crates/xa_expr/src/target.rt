@@ -1,10 +1,11 @@
-//! Targets: to what a policy or a rule applies.
+//! Targets: to what a policy or a rule applies. Each part that is looked at is counted, whether or not it has matches.
 ghost use Rattle.std.specs.Prelude.{◌≡◌, IfOk};
 ghost use Rattle.xa_expr.specs.Target.{all_of_value, any_of_value, target_value};
 
 use crate::context::Context;
 use crate::match_::Match;
 use crate::matching::Matching;
+use crate::work::LOOK;
 use std::alloc::{AllocError, Global};
 use xa_value::Items;
 
@@ -35,6 +36,7 @@ impl AllOf {
     fn matching<C: Context>(&self, alloc: Global, context: &C) -> Result<Matching, AllocError>
         ensures { IfOk result (λ m. m ≡ all_of_value (C.values_of context.now) self.now) }
     {
+        context.spend(LOOK)?;
         let mut so_far = Matching::Match;
         for child in self.matches.as_slice() {
             so_far = so_far.and(child.matching(alloc, context)?);
@@ -52,6 +54,7 @@ impl AnyOf {
     fn matching<C: Context>(&self, alloc: Global, context: &C) -> Result<Matching, AllocError>
         ensures { IfOk result (λ m. m ≡ any_of_value (C.values_of context.now) self.now) }
     {
+        context.spend(LOOK)?;
         let mut so_far = Matching::NoMatch;
         for child in self.all_of.as_slice() {
             so_far = so_far.or(child.matching(alloc, context)?);

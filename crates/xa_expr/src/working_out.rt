@@ -10,33 +10,39 @@ use crate::fault::Fault;
 use crate::scope::Scope;
 use crate::typed::Typed;
 use crate::variables::Definition;
+use crate::work::LOOK;
 use std::alloc::{AllocError, Global};
 use xa_bag::ValueOrBag;
 use xa_value::OrMemory;
 
-/// The place of the last variable that the expression names. Its cost is the expression's size.
+/// The place of the last variable that the expression names. Its cost is the expression's size, and counted: more may be looked at here
+/// than is evaluated afterwards.
 #[cycle(last_variable)]
-pub(crate) fn last_variable(expression: &Typed) -> Option<usize>
-    ensures { up_to result ≡ reach expression.now }
+pub(crate) fn last_variable<C: Context>(
+    context: &C,
+    expression: &Typed,
+) -> Result<Option<usize>, AllocError>
+    ensures { IfOk result (λ last. up_to last ≡ reach expression.now) }
 {
+    context.spend(LOOK)?;
     match expression {
-        Typed::Literal(_) | Typed::Attribute(_) => None,
-        Typed::Variable(place, _) => Some(*place),
-        Typed::Apply(_, arguments) => last_of_all(arguments.as_slice()),
-        Typed::HigherOrder(_, _, arguments) => last_of_all(arguments.as_slice()),
+        Typed::Literal(_) | Typed::Attribute(_) => Ok(None),
+        Typed::Variable(place, _) => Ok(Some(*place)),
+        Typed::Apply(_, arguments) => last_of_all(context, arguments.as_slice()),
+        Typed::HigherOrder(_, _, arguments) => last_of_all(context, arguments.as_slice()),
     }
 }
 
 /// The place of the last variable that one of the expressions names.
 #[cycle(last_variable)]
-fn last_of_all(expressions: &[Typed]) -> Option<usize>
-    ensures { up_to result ≡ greatest (map reach expressions.now) }
+fn last_of_all<C: Context>(context: &C, expressions: &[Typed]) -> Result<Option<usize>, AllocError>
+    ensures { IfOk result (λ last. up_to last ≡ greatest (map reach expressions.now)) }
 {
     let mut last = None;
     for expression in expressions {
-        last = later(last, last_variable(expression));
+        last = later(last, last_variable(context, expression)?);
     }
-    last
+    Ok(last)
 }
 
 /// The later of two places.

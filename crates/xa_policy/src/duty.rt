@@ -5,6 +5,7 @@ ghost use Rattle.xa_policy.specs.Duties.{and_then, no_duties};
 use crate::decision::Effect;
 use std::alloc::{AllocError, Global};
 use std::marker::Model;
+use xa_expr::STEP;
 use xa_value::{Items, Text, Value};
 
 /// An attribute that an obligation or a piece of advice carries, as a policy states it (XACML 3.0, core, section 5.41). `E` is how
@@ -124,6 +125,12 @@ impl Duties {
         ensures { result.now ≡ self.now.advice }
     {
         self.advice.as_slice()
+    }
+
+    /// The units of moving them up to what holds their rule, policy or set: a step for each.
+    pub(crate) fn units_of_moving(&self) -> u64 {
+        let count = (self.obligations.len() as u64).saturating_add(self.advice.len() as u64);
+        STEP.saturating_mul(count)
     }
 
     /// Puts those of another behind these.

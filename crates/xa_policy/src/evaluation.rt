@@ -20,11 +20,12 @@ use crate::policy::Policy;
 use crate::policy_set::PolicySet;
 use crate::rule::{Rule, evaluate_rule};
 use std::alloc::{AllocError, Global};
-use xa_expr::{Context, Evaluator, Fault, Matching, Typed, Variables};
+use xa_expr::{Context, Evaluator, Fault, Matching, STEP, Typed, Variables};
 
 /// What the tree decides (XACML 3.0, core, sections 7.9 to 7.15 and 7.18), why where that is Indeterminate, and its obligations and advice. No
 /// child is evaluated after the one that settles its parent, and none where its parent's target is No match. Want of memory is the only
-/// error.
+/// error; it is also what comes where the context refuses more work. Each policy, set and rule that is looked at is counted, beside what
+/// expressions count: tenants nest and repeat them as they like.
 pub fn evaluate<C: Context>(
     alloc: Global,
     linked: &Linked,
@@ -36,7 +37,8 @@ pub fn evaluate<C: Context>(
     evaluate_linked(alloc, linked, target, context)
 }
 
-/// What the target of the tree's root comes to; that of a reference that leads to nothing is Indeterminate.
+/// What the target of the tree's root comes to; that of a reference that leads to nothing is Indeterminate. Each root that is looked at
+/// takes a step.
 fn target_of<C: Context>(
     alloc: Global,
     linked: &Linked,
@@ -44,6 +46,7 @@ fn target_of<C: Context>(
 ) -> Result<Matching, AllocError>
     ensures { IfOk result (λ m. m ≡ (evaluated (C.values_of context.now) linked.now).target) }
 {
+    context.spend(STEP)?;
     match linked {
         Linked::Unresolved => Ok(Matching::Indeterminate(Fault::ProcessingError)),
         Linked::Policy(policy) => policy.get().target().matching(alloc, context),
@@ -98,6 +101,18 @@ fn evaluate_policy<C: Context>(
     with_own(alloc, &mut evaluator, policy.duties(), evaluated)
 }
 
+/// What the target of the rule comes to. Each rule that is looked at takes a step.
+fn target_of_rule<C: Context>(
+    alloc: Global,
+    rule: &Rule<Typed>,
+    context: &C,
+) -> Result<Matching, AllocError>
+    ensures { IfOk result (λ m. m ≡ target_value (C.values_of context.now) rule.now.target) }
+{
+    context.spend(STEP)?;
+    rule.target.matching(alloc, context)
+}
+
 /// What the algorithm makes of the rules.
 #[tactic(auto, using(crate::proofs::WalkLemmas::walk_is_combination))]
 fn combine_rules<'a, C: Context>(
@@ -133,8 +148,9 @@ fn walk_rules<'a, C: Context>(
 {
     let mut so_far = Combination::new(alloc, algorithm);
     for rule in rules {
-        let target = rule.target.matching(alloc, context)?;
+        let target = target_of_rule(alloc, rule, context)?;
         let child = evaluate_rule(alloc, evaluator, rule, target)?;
+        context.spend(child.duties.units_of_moving())?;
         if so_far.add(child)? {
             return Ok(so_far.result_so_far(alloc));
         }
@@ -156,7 +172,7 @@ fn only_applicable_rule<'a, C: Context>(
     ensures kept { evaluator.new ≡ evaluator.old }
 {
     for (place, rule) in rules.iter().enumerate() {
-        match rule.target.matching(alloc, context)? {
+        match target_of_rule(alloc, rule, context)? {
             Matching::NoMatch => continue,
             Matching::Indeterminate(fault) => return Ok(undecided_result(alloc, fault)),
             Matching::Match => {
@@ -184,7 +200,7 @@ fn rule_unless_another<'a, C: Context>(
     ensures kept { evaluator.new ≡ evaluator.old }
 {
     for other in others {
-        match other.target.matching(alloc, context)? {
+        match target_of_rule(alloc, other, context)? {
             Matching::NoMatch => continue,
             Matching::Indeterminate(fault) => return Ok(undecided_result(alloc, fault)),
             Matching::Match => return Ok(undecided_result(alloc, Fault::ProcessingError)),
@@ -246,6 +262,7 @@ fn walk_children<C: Context>(
     for child in children {
         let target = target_of(alloc, child, context)?;
         let child = evaluate_linked(alloc, child, target, context)?;
+        context.spend(child.duties.units_of_moving())?;
         if so_far.add(child)? {
             return Ok(so_far.result_so_far(alloc));
         }

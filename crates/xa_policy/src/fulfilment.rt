@@ -1,4 +1,5 @@
-//! The obligations and advice that come with a decision, with the values of their expressions.
+//! The obligations and advice that come with a decision, with the values of their expressions. What is made is counted before it is made:
+//! a bag makes an assignment of each of its values, each with the attribute's id, category and issuer.
 ghost use Rattle.std.specs.Prelude.{◌≡◌, ◌++◌, map, IfOk, OnOk};
 ghost use Rattle.std.specs.Result.{result_map_both};
 ghost use Rattle.xa_value.specs.Gives.{Gives};
@@ -17,8 +18,8 @@ use crate::duty::{
 use crate::evaluated::Evaluated;
 use std::alloc::{AllocError, Global};
 use xa_bag::ValueOrBag;
-use xa_expr::{Context, Evaluator, Fault, Typed};
-use xa_value::{Items, OrMemory, Value};
+use xa_expr::{Context, Evaluator, Fault, LOOK, STEP, Typed, units_of_given};
+use xa_value::{Items, OrMemory, Text, Value};
 
 /// The assignment, with the value.
 fn with_value(
@@ -33,6 +34,27 @@ fn with_value(
         issuer: expression.issuer.clone()?,
         value,
     })
+}
+
+/// The units of a copy of the text, where there is one.
+fn units_of_text(text: &Option<Text>) -> u64 {
+    match text {
+        Some(text) => text.as_bytes().len() as u64,
+        None => 0,
+    }
+}
+
+/// The units of the assignments of what the expression gives: a step for each, its texts and its value.
+fn units_of_assignments(
+    expression: &AttributeAssignmentExpression<Typed>,
+    given: &ValueOrBag,
+) -> u64 {
+    let texts = (expression.attribute_id.as_bytes().len() as u64)
+        .saturating_add(units_of_text(&expression.category))
+        .saturating_add(units_of_text(&expression.issuer));
+    (given.values().len() as u64)
+        .saturating_mul(STEP.saturating_add(texts))
+        .saturating_add(units_of_given(given))
 }
 
 /// Puts an assignment of each of the values behind those so far.
@@ -77,6 +99,7 @@ fn assignments<'a, C: Context>(
     let mut assignments = Items::new(alloc);
     for expression in expressions {
         let given = evaluator.value(alloc, &expression.expression)?;
+        evaluator.spend(units_of_assignments(expression, &given))?;
         put(expression, given, &mut assignments)?;
     }
     Ok(assignments)
@@ -92,6 +115,7 @@ fn duty<'a, C: Context>(
     ensures value { Gives result (duty (value_of (C.values_of evaluator.old.0) evaluator.old.1) expression.now) }
     ensures kept { evaluator.new ≡ evaluator.old }
 {
+    evaluator.spend(STEP.saturating_add(expression.id.as_bytes().len() as u64))?;
     let assignments = assignments(alloc, evaluator, expression.assignments.as_slice())?;
     Ok(Duty {
         id: expression.id.clone()?,
@@ -99,7 +123,7 @@ fn duty<'a, C: Context>(
     })
 }
 
-/// The obligations, or the advice, that belong to the effect. No expression of another is evaluated.
+/// The obligations, or the advice, that belong to the effect. No expression of another is evaluated; a look at each is counted.
 fn duties_with<'a, C: Context>(
     alloc: Global,
     evaluator: &mut Evaluator<'a, C>,
@@ -110,6 +134,7 @@ fn duties_with<'a, C: Context>(
     ensures value { Gives (result_map_both (λ duties. duties.items) (λ e. e) result) (duties_with (value_of (C.values_of evaluator.old.0) evaluator.old.1) effect expressions.now) }
     ensures kept { evaluator.new ≡ evaluator.old }
 {
+    evaluator.spend(LOOK.saturating_mul(expressions.len() as u64))?;
     let mut duties = Vec::new(alloc);
     for expression in expressions {
         if expression.effect.is(effect) {
@@ -147,6 +172,7 @@ fn with_own_of<'a, C: Context>(
     ensures value { IfOk result (λ e. e ≡ with_found effect evaluated (own_duties (value_of (C.values_of evaluator.old.0) evaluator.old.1) effect own.now)) }
     ensures kept { evaluator.new ≡ evaluator.old }
 {
+    evaluator.spend(evaluated.duties.units_of_moving())?;
     match own_duties(alloc, evaluator, effect, own) {
         Ok(duties) => {
             evaluated.duties.append(duties)?;

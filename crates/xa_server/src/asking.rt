@@ -48,7 +48,7 @@ fn response_by(alloc: Global, view: &View, body: &[u8], moment: Moment) -> Resul
     }
 }
 
-/// The response to the request of the body by the domain's policies.
+/// The response to the request of the body by the domain's policies, within the limit of work for a message.
 #[tactic(auto, using(crate::proofs::AskingLemmas::responds, crate::proofs::AskingLemmas::absent_told))]
 fn responded<R: Records>(
     alloc: Global,
@@ -64,7 +64,7 @@ fn responded<R: Records>(
     ensures same { resources.new ≡ resources.old }
 {
     let view = view_kept(alloc, &mut resources.shelf, records, name)?;
-    response_by(alloc, &view, body, moment)
+    response_by(alloc, &view.with_limit(resources.limit()), body, moment)
 }
 
 /// The reply by a decision that is worked out.

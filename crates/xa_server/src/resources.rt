@@ -1,4 +1,4 @@
-//! What a server shares among all domains: the shelf of policies, and the cache of decisions with its counts.
+//! What a server shares among all domains: the shelf of policies, the cache of decisions with its counts, and the limit of work for a message.
 ghost use Rattle.std.specs.Prelude.{◌≡◌, true, Some, option_map, IfOk};
 ghost use Rattle.xa_server.specs.Handling.{IsLookedUp};
 ghost use Rattle.xa_server.specs.Tally.{nothing_held};
@@ -24,6 +24,7 @@ pub(crate) struct Resources {
     cache: Cache,
     evaluations: u64,
     unkept: u64,
+    limit: u64,
 }
 
 impl Model for Resources {
@@ -39,7 +40,7 @@ impl Model for Resources {
 }
 
 impl Resources {
-    /// Nothing is held yet. The operator's token, of which tenants know nothing, makes the places of what is held unknown to them.
+    /// Nothing is held yet, and work has no limit. The operator's token, of which tenants know nothing, makes the places of what is held unknown to them.
     pub(crate) fn new(alloc: Global, operator: Digest) -> Result<Resources, AllocError>
         ensures { IfOk result (λ r. r ≡ nothing_held) }
     {
@@ -48,7 +49,27 @@ impl Resources {
             cache: Cache::new(alloc, operator.as_bytes())?,
             evaluations: 0,
             unkept: 0,
+            limit: u64::MAX,
         })
+    }
+
+    /// The same, with this limit of work for a message.
+    pub(crate) fn with_limit(self, units: u64) -> Resources
+        ensures { result ≡ self }
+    {
+        Resources {
+            shelf: self.shelf,
+            cache: self.cache,
+            evaluations: self.evaluations,
+            unkept: self.unkept,
+            limit: units,
+        }
+    }
+
+    /// The work that a message may ask for, in units. It is a number: what a message spends is taken from a budget of its own, so that no
+    /// message finds less for another's use.
+    pub(crate) fn limit(&self) -> u64 {
+        self.limit
     }
 
     /// How many decisions were worked out.

@@ -78,6 +78,24 @@ impl<R: Records> Server<R> {
         })
     }
 
+    /// The same server, which from now on refuses each message whose decision asks for more work than so many units. A unit is a byte of a
+    /// text or of a value that is made, copied or compared; a step, such as an expression, a match or a rule that is looked at, is 32
+    /// (`xa_expr::Budget`). Work is counted and not timed, and each message begins anew: the same message on the same state is refused, or
+    /// is not, on every machine, whatever other domains ask. Reading and linking policies, administration, and decisions that are held aren't
+    /// counted. A refusal is `Reply::Refused` as for want of memory: nothing has changed, and the reply is the fixed 503. A server that
+    /// is new has no limit.
+    pub fn with_limit(self, units: u64) -> Server<R>
+        ensures { result ≡ self }
+    {
+        Server {
+            alloc: self.alloc,
+            routes: self.routes,
+            operator: self.operator,
+            records: self.records,
+            resources: self.resources.with_limit(units),
+        }
+    }
+
     /// How many decisions were worked out; at the greatest number it stays.
     pub fn evaluations(&self) -> u64
         ensures { result ≡ self.now.tally.evaluations }

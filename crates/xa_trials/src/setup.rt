@@ -1,9 +1,9 @@
 //! The domains of a row's server, made by messages to one that has none: fields `domain:NAME`, after each of which stand its tokens,
 //! `ask:TOKEN` and `admin:TOKEN`, its documents, `document:TEXT`, or `inactive:TEXT` where one isn't active, its root, `root:REFERENCE`, and the
-//! rows of its source of attributes, `row:CATEGORY|ENTITY|ID|TYPE=TEXT`.
+//! rows of its source of attributes, `row:CATEGORY|ENTITY|ID|TYPE=TEXT`. A field `limit:UNITS` limits the work for each message of the row's events.
 use crate::decisions::moment_of;
 use crate::documents::document_of;
-use crate::field::{bytes_of, text_of};
+use crate::field::{bytes_of, number_of, text_of};
 use crate::no_answer::NoAnswer;
 use crate::setup_messages::{message, new_token, old_token, path_part, root};
 use crate::source_rows::source_row;
@@ -60,6 +60,8 @@ struct Setup {
     domain: String,
     /// The rows of its source of attributes.
     rows: Items<SourceRow>,
+    /// The limit of work for a message, once all domains are there.
+    limit: Option<u64>,
 }
 
 impl Setup {
@@ -71,6 +73,7 @@ impl Setup {
             server: Server::new(alloc, PlainRecords::new(alloc), operator)?,
             domain: String::new(alloc),
             rows: Items::new(alloc),
+            limit: None,
         })
     }
 
@@ -187,12 +190,27 @@ impl Setup {
         }
     }
 
+    /// Keeps the limit until all domains are there.
+    fn put_limit(&mut self, units: &str) -> Result<(), NoServer> {
+        self.limit = Some(number_of(units)?);
+        Ok(())
+    }
+
     /// Does what the field says.
     fn step(&mut self, field: &str) -> Result<(), NoServer> {
         match field.split_once(':') {
+            Some(("limit", units)) => self.put_limit(units),
             Some(("domain", name)) => self.begin(name),
             Some((word, text)) if !self.domain.is_empty() => self.put(word, text),
             _ => Err(NoServer::NoAnswer(NoAnswer::Malformed)),
+        }
+    }
+
+    /// The server, with the limit if there is one.
+    fn into_server(self) -> Server<PlainRecords> {
+        match self.limit {
+            Some(units) => self.server.with_limit(units),
+            None => self.server,
         }
     }
 }
@@ -204,5 +222,5 @@ pub fn server_of(alloc: Global, fields: &[&str]) -> Result<Server<PlainRecords>,
         setup.step(field)?;
     }
     setup.end()?;
-    Ok(setup.server)
+    Ok(setup.into_server())
 }

@@ -1,0 +1,194 @@
+//! How much work one message may ask for. One thread answers every domain, and the tenants write the policies and the requests: work is
+//! counted where it is done, and a message that asks for too much is left, so that the others are not kept waiting. Work is counted and
+//! not timed: the same message on the same state is left, or is not, on every machine.
+use std::alloc::AllocError;
+use std::cell::Cell;
+use xa_bag::{Bag, ValueOrBag};
+use xa_func::{BagFunction, FuncId, HigherOrder};
+use xa_value::{DataType, Value};
+
+/// The units of one step: an expression evaluated, a call of a function, a match, a rule, a policy or a set that is looked at.
+pub const STEP: u64 = 32;
+
+/// The units of a look at something that costs less than a step: a value that is compared where it is, or a part of a target or of an
+/// expression that is passed on the way to others.
+pub const LOOK: u64 = STEP / 4;
+
+/// The units of a value that is made, copied or compared, beside the bytes of its text.
+const VALUE: u64 = 16;
+
+/// With how many values of a bag another is compared at most where it is searched for: from that many on they are ordered, and then it is
+/// compared with as many as the logarithm of their number.
+const COMPARISONS: u64 = 32;
+
+/// What is left of the work that a message may ask for, in units: a byte of text or of a value that is made, copied or compared.
+/// No clause speaks of it: a message that asks for too much is answered like one for which memory is wanting.
+#[derive(Drop)]
+pub struct Budget {
+    left: Cell<u64>,
+}
+
+impl Budget {
+    /// A budget of this many units.
+    pub fn new(units: u64) -> Budget {
+        Budget {
+            left: Cell::new(units),
+        }
+    }
+
+    /// Takes the units from what is left. Where they are more than that, nothing is left afterwards, so that no smaller work is done
+    /// after one that was refused.
+    ///
+    /// # Errors
+    ///
+    /// `AllocError` where the units are more than what is left.
+    pub fn spend(&self, units: u64) -> Result<(), AllocError> {
+        match self.left.get().checked_sub(units) {
+            Some(left) => {
+                self.left.set(left);
+                Ok(())
+            }
+            None => {
+                self.left.set(0);
+                Err(AllocError)
+            }
+        }
+    }
+}
+
+/// The units of a value of this many bytes of text.
+fn units_of_bytes(count: usize) -> u64 {
+    VALUE.saturating_add(count as u64)
+}
+
+/// The units of a value that is made, copied or compared: 16, and the bytes of its text or its binary.
+pub fn units_of(value: &Value) -> u64 {
+    match value {
+        Value::String(text) => units_of_bytes(text.as_bytes().len()),
+        Value::AnyUri(text) => units_of_bytes(text.as_bytes().len()),
+        Value::HexBinary(bytes) => units_of_bytes(bytes.as_slice().len()),
+        Value::Base64Binary(bytes) => units_of_bytes(bytes.as_slice().len()),
+        _ => VALUE,
+    }
+}
+
+/// The units of the values, one after another.
+pub fn units_of_values(values: &[Value]) -> u64 {
+    let mut units = 0u64;
+    for value in values {
+        units = units.saturating_add(units_of(value));
+    }
+    units
+}
+
+/// Whether every value of the type is of one size.
+fn is_of_one_size(data_type: DataType) -> bool {
+    !matches!(
+        data_type,
+        DataType::String | DataType::AnyUri | DataType::HexBinary | DataType::Base64Binary
+    )
+}
+
+/// The units of the bag's values. Where these are of one size, nobody looks at them.
+pub fn units_of_bag(bag: &Bag) -> u64 {
+    if is_of_one_size(bag.data_type()) {
+        return VALUE.saturating_mul(bag.len() as u64);
+    }
+    units_of_values(bag.values())
+}
+
+/// The units of a value or of a bag.
+pub fn units_of_given(given: &ValueOrBag) -> u64 {
+    match given {
+        ValueOrBag::Value(value) => units_of(value),
+        ValueOrBag::Bag(bag) => units_of_bag(bag),
+    }
+}
+
+/// The units of the arguments together.
+pub(crate) fn units_of_arguments(arguments: &[ValueOrBag]) -> u64 {
+    let mut units = 0u64;
+    for argument in arguments {
+        units = units.saturating_add(units_of_given(argument));
+    }
+    units
+}
+
+/// The units of what a bag function does with its arguments. The set functions search for the values of one bag in another.
+pub(crate) fn units_of_bag_function(function: BagFunction, arguments: &[ValueOrBag]) -> u64 {
+    units_of_arguments(arguments).saturating_mul(comparisons_in(function, arguments))
+}
+
+/// With how many others each value is compared at most.
+fn comparisons_in(function: BagFunction, arguments: &[ValueOrBag]) -> u64 {
+    match function {
+        BagFunction::Intersection
+        | BagFunction::AtLeastOneMemberOf
+        | BagFunction::Subset
+        | BagFunction::SetEquals => comparisons_of_both(arguments),
+        BagFunction::Union => comparisons_of_all(arguments),
+        BagFunction::OneAndOnly | BagFunction::BagSize | BagFunction::IsIn | BagFunction::Bag => 1,
+    }
+}
+
+/// With how many values another is compared at most that is searched for among this many.
+fn comparisons_among(count: usize) -> u64 {
+    (count as u64).max(1).min(COMPARISONS)
+}
+
+/// With how many others each value is compared at most where the values of one of two bags are searched for in the other: with those of
+/// the shorter one.
+fn comparisons_of_both(arguments: &[ValueOrBag]) -> u64 {
+    match arguments {
+        [first, second] => comparisons_among(first.values().len().min(second.values().len())),
+        _ => 1,
+    }
+}
+
+/// With how many others each value is compared at most where each is searched for among all.
+fn comparisons_of_all(arguments: &[ValueOrBag]) -> u64 {
+    let mut count = 0usize;
+    for argument in arguments {
+        count = count.saturating_add(argument.values().len());
+    }
+    comparisons_among(count)
+}
+
+/// The units of what a higher-order function does beside the calls of its inner function, which are counted one by one. With equality
+/// of the values of two bags it searches, and calls nothing.
+pub(crate) fn units_of_higher_order(
+    function: HigherOrder,
+    inner: FuncId,
+    arguments: &[ValueOrBag],
+) -> u64 {
+    match (function, inner) {
+        (HigherOrder::AnyOfAny | HigherOrder::AllOfAny, FuncId::Equal(_)) => {
+            units_of_arguments(arguments).saturating_mul(comparisons_of_both(arguments))
+        }
+        _ => units_of_choices(arguments),
+    }
+}
+
+/// The units of the choices of arguments that are begun and for which the inner function is not called: where one of the bags is empty,
+/// each choice of the values of those before it. Where none is, those of the arguments alone, for each beginning leads to a call.
+fn units_of_choices(arguments: &[ValueOrBag]) -> u64 {
+    if arguments
+        .iter()
+        .any(|argument| argument.values().is_empty())
+    {
+        units_of_beginnings(arguments)
+    } else {
+        units_of_arguments(arguments)
+    }
+}
+
+/// The units of all beginnings of choices of the arguments: of the values of the first, of those of the second for each of these, and so on.
+fn units_of_beginnings(arguments: &[ValueOrBag]) -> u64 {
+    let mut units = 0u64;
+    let mut choices = 1u64;
+    for argument in arguments {
+        units = units.saturating_add(choices.saturating_mul(units_of_given(argument)));
+        choices = choices.saturating_mul(argument.values().len() as u64);
+    }
+    units
+}
