@@ -139,7 +139,7 @@ class Rows:
     def inner(self, name):
         """A function of values that the higher-order function takes, and the types of its arguments."""
         while True:
-            inner = self.random.choice(list(FUNCTIONS))
+            inner = V1 + self.random.choice(["or", "and", "n-of"]) if self.texts.seldom(0.2) else self.random.choice(list(FUNCTIONS))
             types, gives = self.takes(inner), FUNCTIONS[inner][1]
             if (name == "map" or gives == "boolean") and (len(types) == 2 or types and not name.startswith("all-of-")):
                 return inner, types

@@ -4,6 +4,7 @@ An expression is a pair of its form and what that holds: `value` a value, `desig
 `apply` a function's name and a list of expressions. A kind is a type's name, of a bag with `bag ` before it.
 """
 import collections
+import sys
 
 from functions import (BAG_FUNCTIONS, BAG_SIGNATURES, FUNCTIONS, HIGHER_ORDER, bag_function_named, boolean, by_places, fits, higher_order,
                        takes_so_many)
@@ -11,6 +12,8 @@ from identifiers import STATUS
 from values import Fault
 
 MAX_DEPTH = 24
+# a document of 65,536 bytes has chains of over 800 variables, each naming the one before
+sys.setrecursionlimit(max(sys.getrecursionlimit(), 10_000))
 
 # An attribute designator, and a value of an attribute of a request.
 Designator = collections.namedtuple("Designator", "data_type category attribute_id issuer must_be_present")

@@ -52,6 +52,19 @@ class Commands(DeskTest):
         self.assertEqual(run("check", "@p.json", "--root", "urn:none", files=FILES)[0], 1)
         self.assertEqual(run("check", "@p.json", "--rows", "@rows.json", files={**FILES, "rows.json": "[]"})[0], 1)
 
+    def test_a_long_chain_of_variables(self) -> None:
+        chain = [{"VariableId": "100", "Expression": {"AttributeValue": {"DataType": "boolean", "Value": True}}}]
+        chain += [{"VariableId": str(name), "Expression": {"VariableReference": {"VariableId": str(name - 1)}}} for name in range(101, 947)]
+        condition = {"VariableReference": {"VariableId": "946"}}
+        held = json.dumps({"Policy": {
+            "PolicyId": "p", "Version": "1", "RuleCombiningAlgId": "urn:oasis:names:tc:xacml:3.0:rule-combining-algorithm:deny-overrides",
+            "VariableDefinition": chain, "Rule": [{"RuleId": "", "Effect": "Permit", "Condition": condition}]}}, separators=(",", ":"))
+        for word in ("ask", "explain"):
+            with self.subTest(word):
+                status, written, _ = ask(REQUEST, word=word, **{"p.json": held})
+                self.assertEqual(status, 0)
+                self.assertIn("Permit", written)
+
     def test_a_program_that_says_otherwise(self) -> None:
         files = {**FILES, "cases.json": json.dumps(CASES)}
         for words in (["check", "@p.json", "--rows", "@rows.json"], ["ask", *ASK], ["explain", *ASK], ["test", "@cases.json"],
