@@ -7,7 +7,7 @@ SHELL := bash
 NAME ?= $(word 2,$(MAKECMDGOALS))
 crate = $(or $(NAME),$(error make $@ NAME: the name of a crate is missing, one of $(notdir $(wildcard crates/*))))
 
-.PHONY: help run pdpd try check test edits fmt rows agreement author-test bench
+.PHONY: help run pdpd try check test api memory edits fmt rows agreement author-test bench
 
 help:
 	@awk -F ':.*## ' '/^[a-z-]+:.*## / { printf "  make %-12s %s\n", $$1 ($$1 ~ /^(try|check|edits)$$/ ? " NAME" : ""), $$2 }' Makefile
@@ -39,6 +39,13 @@ check: ## proves a crate, over what earlier checks kept
 test: ## the gate: every proof from nothing, the must-fail edits, the tests and the stored runs; then the real program from outside
 	rt ci
 	tests/program
+	tests/api
+
+api: pdpd ## proves and builds pdpd, and sends it every example of the API reference (docs/API.md, docs/openapi.yaml)
+	tests/api
+
+memory: pdpd ## proves and builds pdpd, and refuses it each of its allocations in turn; compiles a few lines of C with cc
+	tests/memory
 
 edits: ## tries the further wrong bodies in edits/NAME, each of which the prover must reject
 	@edits/run $(crate)
@@ -57,5 +64,5 @@ author-test: ## tests the policy author's desk (author/policy); proves and build
 	author/policy build
 	author/test
 
-bench: pdpd ## proves and builds pdpd, and runs all benchmarks
+bench: pdpd ## proves and builds pdpd, and runs all benchmarks but bench/heads
 	bench/all
