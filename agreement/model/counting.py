@@ -1,6 +1,7 @@
-"""How often a server reads a text and works out a response, by what it keeps of those before: a shelf of texts and a cache of responses.
+"""How often a server reads a text and works out a response, by what it keeps of those before: a shelf of texts, views of domains that are ready, and a cache of
+responses.
 
-Neither changes a reply. A response is kept where it is the same at every moment, for the domain's number, which no other domain ever has, for its epoch,
+None of them changes a reply. A view is kept for the domain's number and its epoch, one for each number. A response is kept where it is the same at every moment, for the domain's number, which no other domain ever has, for its epoch,
 which rises with each change of what decides, and for the very bytes of the request.
 """
 import collections
@@ -13,7 +14,8 @@ from requests import NotProfile, individuals_of, request_of
 from route_bodies import reference_shown, rows_shown
 from routes import owner, route_of
 
-MOST_TEXTS, MOST_RESPONSES, MOST_BYTES = 128, 512, 16_384
+MOST_TEXTS, MOST_VIEWS, MOST_RESPONSES, MOST_BYTES = 128, 128, 512, 16_384
+ROOM_FOR_VIEWS = 268_435_456
 CLOCK_IDS = {name for name, _ in CLOCK}
 
 
@@ -33,6 +35,33 @@ class LastUsed:
         self.held[key] = None
         if len(self.held) > self.most:
             self.held.popitem(last=False)
+
+
+class Views:
+    """The views that are kept ready, the one that was used last at the end: by a domain's number its epoch, and the memory that the view takes by an estimate."""
+
+    def __init__(self):
+        self.most, self.held = MOST_VIEWS, collections.OrderedDict()
+
+    def has(self, number, epoch):
+        return self.held.get(number, (None, 0))[0] == epoch
+
+    def use(self, number):
+        self.held.move_to_end(number)
+
+    def put(self, number, epoch, size):
+        """Keeps a view, where it isn't too large, in the place of the domain's older one, and lets go those for which there is no room."""
+        self.held.pop(number, None)
+        if self.most and 4 * size <= ROOM_FOR_VIEWS:
+            self.held[number] = epoch, size
+        while len(self.held) > self.most or sum(size for _, size in self.held.values()) > ROOM_FOR_VIEWS:
+            self.held.popitem(last=False)
+
+
+def size_of_view(state):
+    """The memory that a view of the domain takes, by the server's estimate."""
+    texts = sum(len(stored.text) for stored in state.documents.values() if stored.is_active)
+    return 16 * texts + 512 * len(state.rows) + 524_288
 
 
 def designators(held):
@@ -74,7 +103,7 @@ class CountingServer(Server):
 
     def __init__(self, operator):
         super().__init__(operator)
-        self.shelf, self.cache = LastUsed(MOST_TEXTS), LastUsed(MOST_RESPONSES)
+        self.shelf, self.views, self.cache = LastUsed(MOST_TEXTS), Views(), LastUsed(MOST_RESPONSES)
         self.readings, self.evaluations, self.unkept = 0, 0, 0
         # the next domain's number, and of each domain that is there its number and its epoch
         self.number, self.gates = 1, {}
@@ -101,12 +130,21 @@ class CountingServer(Server):
         key, is_short, state = (self.gates[name], held), len(held) <= MOST_BYTES, self.states[name]
         if is_short and self.cache.has(key):
             return
-        for document in sorted(state.documents):
-            self.read(state.documents[document])
+        self.see(*self.gates[name], state, made.startswith(b"HTTP/1.1 200 "))
         if made.startswith(b"HTTP/1.1 200 "):
             self.evaluations += 1
             if is_short and len(made.partition(b"\r\n\r\n")[2]) <= MOST_BYTES and is_still(view(state), held):
                 self.cache.put(key)
+
+    def see(self, number, epoch, state, succeeds):
+        """Takes the view that is kept ready, or makes it of the texts; with success it is kept, and this is a use of it."""
+        if not self.views.has(number, epoch):
+            for document in sorted(state.documents):
+                self.read(state.documents[document])
+            if succeeds:
+                self.views.put(number, epoch, size_of_view(state))
+        elif succeeds:
+            self.views.use(number)
 
     def read(self, stored):
         """Takes an active text from the shelf, or reads it."""

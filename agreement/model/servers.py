@@ -9,7 +9,7 @@ from replies import error_reply
 from rows import decoded, encoded
 
 OPERATOR_TOKEN, SETUP_TOKEN = b"operator-token-1", b"setup-token-0"
-SETUP = ("domain", "ask", "admin", "document", "inactive", "root", "row")
+SETUP = ("views", "domain", "ask", "admin", "document", "inactive", "root", "row")
 COUNTS = ("readings", "evaluations", "unkept")
 ROOTS = {"policy": "PolicyIdReference", "set": "PolicySetIdReference"}
 
@@ -75,6 +75,10 @@ class Setup:
 
     def by_domain(self, method, body, *parts):
         self.send(method, path("domains", self.name, *parts), body, SETUP_TOKEN)
+
+    def views(self, text):
+        """Room for so many views at the most."""
+        self.server.views.most = min(int(text), self.server.views.most)
 
     def domain(self, text):
         self.end()

@@ -39,6 +39,8 @@ FAULTY_LINES = [b"Content-Length: 3\r\n", b"Content-Length: \r\n", b"Content-Len
                 b"X: y\r\n" * 65]
 # how many messages a row of a server has
 MESSAGES = 20
+# how many views a server has room for, where a row says that; 128 is as many as any has
+ROOMS = [0, 1, 2, 128]
 
 
 class Exchanges:
@@ -46,6 +48,8 @@ class Exchanges:
 
     def __init__(self, commands):
         self.commands, self.random, self.one_of, self.seldom = commands, commands.random, commands.one_of, commands.seldom
+        # rows of one server with other rooms for views that are still to come
+        self.in_rooms = []
 
     # Messages.
 
@@ -158,6 +162,13 @@ class Exchanges:
         """A row of a stream alone."""
         self.begin()
         return ["stream", *map(encoded, self.pieces(b"".join(self.message() for _ in range(self.one_of([1, 1, 2, 3])))))]
+
+    def rooms(self):
+        """The next row of a server that has room for so many views: the same messages for each of the rooms in turn."""
+        if not self.in_rooms:
+            kind, *fields = self.server()
+            self.in_rooms = [[kind, f"views:{most}", *fields] for most in ROOMS]
+        return self.in_rooms.pop()
 
     def next(self):
         return self.server() if self.seldom(0.8) else self.stream()

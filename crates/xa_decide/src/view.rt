@@ -72,6 +72,25 @@ fn tree_of(
     }
 }
 
+/// How many places the tree has: its policies and policy sets, and the references that lead nowhere. What this costs grows with them, as linking did.
+#[cycle(places)]
+fn places_of(tree: &Linked) -> usize {
+    match tree {
+        Linked::PolicySet(_, children) => places_of_all(children.as_slice()).saturating_add(1),
+        Linked::Policy(_) | Linked::Unresolved => 1,
+    }
+}
+
+/// How many places the trees have.
+#[cycle(places)]
+fn places_of_all(trees: &[Linked]) -> usize {
+    let mut places = 0usize;
+    for tree in trees {
+        places = places.saturating_add(places_of(tree));
+    }
+    places
+}
+
 impl View {
     /// A view of these documents, this root and these rows. The tree is linked and the rows are put in order here, once for all requests. The work of a message
     /// has no limit.
@@ -122,6 +141,15 @@ impl View {
         ensures { result ≡ is_timeless_tree (tree_of self.now.active self.now.root) }
     {
         self.timeless
+    }
+
+    /// How many places the linked tree has: its policies and policy sets, and the references that lead nowhere, of which a set may have many; 0 where there is no
+    /// tree. The memory of a view grows with them beside its documents and rows.
+    pub fn places(&self) -> usize {
+        match &self.tree {
+            Some(Ok(linked)) => places_of(linked),
+            Some(Err(_)) | None => 0,
+        }
     }
 
     /// The rows of the source of attributes.

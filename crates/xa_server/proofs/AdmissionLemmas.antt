@@ -7,7 +7,6 @@ use Rattle.std.specs.Cmp.{eq_by_cmp_equiv}
 use Rattle.std.specs.Cmp.Lexicographic.{nat_list_cmp_total}
 use Rattle.std.proofs.lemmas.Map.Text.{is_eq-slice_cmp}
 use Rattle.xa_notation.specs.declared.token.Role.{Role}
-use Rattle.xa_records.specs.declared.gate.Token.{Token}
 use Rattle.xa_records.specs.DomainState.{compare_bytes}
 use Rattle.xa_records.specs.Readings.{token_of}
 use Rattle.xa_server.specs.Tokens.{role_in}

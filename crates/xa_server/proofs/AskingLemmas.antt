@@ -1,7 +1,7 @@
 -- A decision that is held, and one that is worked out, as the machine tells it.
 use Rattle.std.proofs.Common.{◌≡◌, ℕ, ℤ, List, refl, sym, ap, ◌∙◌, subst, cond, true, false}
 use Rattle.std.specs.Option.{ok_or}
-use Rattle.std.specs.Prelude.{Bool, nat_le, length, Option, Some, None, option_map, option_and_then, Result, Ok, Err, IfSome}
+use Rattle.std.specs.Prelude.{Bool, nat_le, length, Option, Some, None, option_map, Result, Ok, Err, IfSome}
 use Rattle.std.specs.FinMap.{get}
 use Rattle.xa_value.specs.Gives.{◌>>=◌}
 use Rattle.xa_cache.specs.Bodies.{found}
@@ -21,13 +21,13 @@ use Rattle.xa_server.specs.declared.error_code.ErrorCode.{ErrorCode}
 use Rattle.xa_server.specs.declared.error_code.ErrorCode.TheVariants as error
 use Rattle.xa_server.specs.declared.stop.Stop.{Stop}
 use Rattle.xa_server.specs.declared.stop.Stop.TheVariants.{Code, Failed}
-use Rattle.xa_server.specs.Handling.{Answers, IsResponse, Responds, Tells, key_by_gate, reply_told, response_told, view_told, worked_in}
-use Rattle.xa_server.specs.Machine.{by_domain_command, response_to, told}
+use Rattle.xa_server.specs.Handling.{Answers, IsFresh, IsReplied, Tells, key_by_gate, reply_told, response_told, view_told, worked_in}
+use Rattle.xa_server.specs.Machine.{by_domain_command, response_to}
 use Rattle.xa_server.specs.Replies.{decision_reply}
 use Rattle.xa_server.specs.Tally.{Tally}
 use Rattle.xa_server.specs.ValidCache.{AreValid, response_body_at}
 use Rattle.xa_server.specs.View.{view_of}
-use Rattle.xa_server.specs.Work.{body_held, response_of, worked_out}
+use Rattle.xa_server.specs.Work.{body_held, response_of}
 use Rattle.xa_server.proofs.GrowthLemmas.{stays}
 use Rattle.xa_server.proofs.ValidLemmas.{found_right}
 use Rattle.xa_server.proofs.WorkLemmas.{opened}
@@ -50,6 +50,8 @@ response_is view body moment sent is timeless = by_answer (decision.answer view 
       let body_is : r.body ≡ decision.body_of answered = cc in
       rw e (ap (λ b. Some (b, is_timeless_answer view body)) (sym body_is) ∙ ap (λ t. Some (r.body, t)) (sym timeless))
 
+-- ---- what the response comes to
+
 -- the view of a domain that is there is that of its state
 by_view : (state : Option DomainState) (view : Viewed) (body : List ℕ) (moment : ℤ) → view_told state ≡ Ok view
     → response_told body moment state ≡ ok_or (response_of view body moment) (error.Body NotJson)
@@ -57,35 +59,37 @@ by_view None view body moment is = absurd cc
 by_view (Some state) view body moment is =
     let same : view_of state ≡ view = let it : Ok (view_of state) ≡ Ok view = is in cc in ap (λ v. ok_or (response_of v body moment) (error.Body NotJson)) same
 
-pub responds : (old new : Kept) (name body : List ℕ) (moment : ℤ) (view : Viewed) (result : Result Responded Stop) → view_told (state_of name old) ≡ Ok view
-    → IsResponse (response_of view body moment) result → new ≡ old → Responds old new result (response_told body moment (state_of name old))
-responds old new name body moment view (Ok r) is response same =
-    (by_view (state_of name old) view body moment is ∙ ap (λ told. ok_or told (error.Body NotJson)) response, same)
-responds old new name body moment view (Err (Code code)) is (none, no_json) same =
-    (by_view (state_of name old) view body moment is ∙ ap (λ told. ok_or told (error.Body NotJson)) none ∙ ap Err (sym no_json), same)
-responds old new name body moment view (Err (Failed failure)) is response same = same
+-- the reply is that of the domain
+pub replied : (old new : Kept) (name body : List ℕ) (moment : ℤ) (view : Viewed) (result : Result (List ℕ) Stop) → view_told (state_of name old) ≡ Ok view
+    → IsReplied (response_of view body moment) result → new ≡ old → Tells old new result (reply_told body moment (state_of name old))
+replied old new name body moment view result is meant same =
+    subst (λ told. Tells old new result (told >>= (λ response. Ok (decision_reply response.0)))) (sym (by_view (state_of name old) view body moment is))
+    (by_response (response_of view body moment) result meant) where
+      by_response : (response : Option (List ℕ × Bool)) (r : Result (List ℕ) Stop) → IsReplied response r → Tells old new r (ok_or response (error.Body NotJson) >>= (λ pair. Ok (decision_reply pair.0)))
+      by_response (Some pair) (Ok bytes) meant = (let e : decision_reply pair.0 ≡ bytes = cc in ap Ok e, same)
+      by_response None (Ok bytes) meant = absurd cc
+      by_response (Some pair) (Err (Code code)) (none, no_json) = absurd cc
+      by_response None (Err (Code code)) (none, no_json) = (ap Err (sym no_json), same)
+      by_response response (Err (Failed failure)) meant = same
 
--- an absent domain has no response
-pub absent_told : (state : Option DomainState) (body : List ℕ) (moment : ℤ) (code : ErrorCode) → view_told state ≡ Err code → response_told body moment state ≡ Err code
-absent_told None body moment code is = let e : error.Refused Absent ≡ code = cc in ap Err e
-absent_told (Some state) body moment code is = absurd cc
+-- what the view gives is what is worked out in the domain
+worked_by : (state : Option DomainState) (view : Viewed) (body : List ℕ) (moment : ℤ) → view_told state ≡ Ok view → response_of view body moment ≡ worked_in state body moment
+worked_by None view body moment is = absurd cc
+worked_by (Some state) view body moment is =
+    let same : view_of state ≡ view = let it : Ok (view_of state) ≡ Ok view = is in cc in ap (λ v. response_of v body moment) (sym same)
 
--- ---- what the response comes to
+pub works_by : (state : Option DomainState) (view : Viewed) (body : List ℕ) (moment : ℤ) (key : Key) (result : Result (List ℕ) Stop) (old new : Tally) → view_told state ≡ Ok view
+    → IsFresh key (response_of view body moment) result old new → IsFresh key (worked_in state body moment) result old new
+works_by state view body moment key result old new is works = subst (λ worked. IsFresh key worked result old new) (worked_by state view body moment is) works
 
--- where it is told, it was worked out; where an error is told, nothing was there to be worked out
-pub told_worked : (state : Option DomainState) (body : List ℕ) (moment : ℤ) (response : List ℕ × Bool) → response_told body moment state ≡ Ok response → worked_in state body moment ≡ Some response
-told_worked None body moment response is = absurd cc
-told_worked (Some state) body moment response is = by_worked (worked_out state body moment) is where
-  by_worked : (worked : Option (List ℕ × Bool)) → ok_or worked (error.Body NotJson) ≡ Ok response → worked ≡ Some response
-  by_worked None is = absurd cc
-  by_worked (Some pair) is = cc
+-- an absent domain has no reply, and nothing is worked out for it
+pub absent_reply : (state : Option DomainState) (body : List ℕ) (moment : ℤ) (code : ErrorCode) → view_told state ≡ Err code → reply_told body moment state ≡ Err code
+absent_reply None body moment code is = let e : error.Refused Absent ≡ code = cc in ap Err e
+absent_reply (Some state) body moment code is = absurd cc
 
-pub told_nothing : (state : Option DomainState) (body : List ℕ) (moment : ℤ) (code : ErrorCode) → response_told body moment state ≡ Err code → worked_in state body moment ≡ None
-told_nothing None body moment code is = refl
-told_nothing (Some state) body moment code is = by_worked (worked_out state body moment) is where
-  by_worked : (worked : Option (List ℕ × Bool)) → ok_or worked (error.Body NotJson) ≡ Err code → worked ≡ None
-  by_worked None is = refl
-  by_worked (Some pair) is = absurd cc
+pub absent_worked : (state : Option DomainState) (body : List ℕ) (moment : ℤ) (code : ErrorCode) → view_told state ≡ Err code → worked_in state body moment ≡ None
+absent_worked None body moment code is = refl
+absent_worked (Some state) body moment code is = absurd cc
 
 -- the machine tells the same
 machine_tells : (state : Option DomainState) (body : List ℕ) (moment : ℤ) → by_domain_command domain.Decide body moment state ≡ (reply_told body moment state >>= λ bytes. Ok (bytes, state))

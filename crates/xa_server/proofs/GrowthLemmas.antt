@@ -1,9 +1,9 @@
 -- Numbers and epochs go on through every change.
-use Rattle.std.proofs.Common.{◌≡◌, ◌≤◌, ◌+◌, ℕ, List, refl, sym, ap, ◌∙◌, subst, inl, inr, arith}
+use Rattle.std.proofs.Common.{◌≡◌, ◌≤◌, ℕ, List, refl, sym, ap, ◌∙◌, subst, inl, inr, arith}
 use Rattle.std.specs.Prelude.{Option, Some, None, ◌⊎◌, option_map}
 use Rattle.std.specs.FinMap.{get}
 use Rattle.xa_records.specs.DomainState.{DomainState}
-use Rattle.xa_records.specs.Kept.{Becomes, DecidesAlike, Domain, IsChanged, IsNextEpoch, IsNextNumber, Kept, state_of}
+use Rattle.xa_records.specs.Kept.{Becomes, Domain, IsChanged, IsNextEpoch, IsNextNumber, Kept, state_of}
 use Rattle.xa_records.proofs.FinMapLemmas.{different, here_or_elsewhere}
 use Rattle.xa_records.proofs.OrderLemmas.{bytes_exact, bytes_total}
 use Rattle.xa_server.specs.Growth.{GoesOn, Grows}

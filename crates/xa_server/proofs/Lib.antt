@@ -5,7 +5,11 @@ pub mod AuthorizationLemmas
 pub mod GrowthLemmas
 pub mod IsolationLemmas
 pub mod NameLemmas
+pub mod ReadyLemmas
 pub mod ReplyLemmas
 pub mod ServedLemmas
+pub mod StandingLemmas
+pub mod StockLemmas
 pub mod ValidLemmas
+pub mod ViewLemmas
 pub mod WorkLemmas

@@ -1,6 +1,6 @@
 -- What was done for a message to what is held of decisions.
-use Rattle.std.proofs.Common.{◌≡◌, ℕ, ℤ, List, [], ◌∷◌, ◌++◌, refl, sym, ap, ◌∙◌, subst, inl, inr}
-use Rattle.std.specs.Prelude.{Bool, Option, Some, None, option_and_then, option_map, Result, Ok, Err, ◌⊎◌}
+use Rattle.std.proofs.Common.{◌≡◌, ℕ, ℤ, List, [], ◌∷◌, ◌++◌, refl, sym, subst, inl, inr}
+use Rattle.std.specs.Prelude.{Bool, Option, Some, None, Result, Ok, Err}
 use Rattle.std.specs.FinMap.{get}
 use Rattle.xa_cache.specs.declared.key.Key.{Key}
 use Rattle.xa_value.specs.declared.or_memory.OrMemory.{OrMemory}
@@ -13,20 +13,17 @@ use Rattle.xa_http.specs.Routes.{route_of}
 use Rattle.xa_records.specs.declared.gate.Gate.{Gate}
 use Rattle.xa_records.specs.declared.refusal.Failure.{Failure}
 use Rattle.xa_records.specs.declared.refusal.Failure.TheVariants.{Memory}
-use Rattle.xa_records.specs.Kept.{Domain, Kept, state_of}
+use Rattle.xa_records.specs.Kept.{Domain, Kept}
 use Rattle.xa_records.specs.Readings.{gate_of, gate_of_domain}
 use Rattle.xa_server.specs.Alone.{Event}
-use Rattle.xa_server.specs.declared.error_code.ErrorCode.{ErrorCode}
 use Rattle.xa_server.specs.declared.replies.Reply.{Reply}
-use Rattle.xa_server.specs.declared.replies.Reply.TheVariants.{Sent, Refused}
 use Rattle.xa_server.specs.declared.stop.Stop.{Stop}
 use Rattle.xa_server.specs.declared.stop.Stop.TheVariants.{Code, Failed}
-use Rattle.xa_server.specs.ErrorCode.{error_reply}
 use Rattle.xa_server.specs.Handling.{IsAsked, IsFresh, IsReplyOf, WorksMessage, WorksOf, WorksRoute}
 use Rattle.xa_server.specs.Stop.{stop_of_route}
 use Rattle.xa_server.specs.Served.{IsServed}
 use Rattle.xa_server.specs.Tally.{Tally}
-use Rattle.xa_server.specs.Work.{IsAskWork, IsWork, IsWorkOf, IsWorkOfRun, IsWorkedOut, body_held, domain_asked, domain_of_message, key_in, looked_up, worked_out}
+use Rattle.xa_server.specs.Work.{IsAskWork, IsWork, IsWorkOf, IsWorkOfRun, IsWorkedOut, body_held, domain_of_message, key_in, worked_out}
 use Rattle.xa_server.specs.World.{World}
 
 -- ---- a message that failed, or was turned away, before anything was done

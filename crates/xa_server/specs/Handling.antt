@@ -19,6 +19,7 @@ use Rattle.xa_records.specs.Kept.{Domain, Kept, names_of, state_of}
 use Rattle.xa_records.specs.Readings.{gate_of}
 use Rattle.xa_server.specs.declared.error_code.ErrorCode.{ErrorCode}
 use Rattle.xa_server.specs.declared.error_code.ErrorCode.TheVariants as error
+use Rattle.xa_server.specs.declared.ready.Ready.{Ready}
 use Rattle.xa_server.specs.declared.stop.Stop.{Stop}
 use Rattle.xa_server.specs.declared.stop.Stop.TheVariants.{Code, Failed}
 use Rattle.xa_server.specs.declared.replies.Reply.{Reply}
@@ -110,11 +111,17 @@ IsResponse meant (Ok responded) = meant ≡ Some (responded.body, responded.time
 IsResponse meant (Err (Code code)) = (meant ≡ None) × (code ≡ error.Body NotJson)
 IsResponse meant (Err (Failed failure)) = failure ≡ Memory
 
--- it was worked out, or an error answer says why not, or that failed; and nothing has changed
-abbrev pub Responds : Kept → Kept → Result Responded Stop → Result (List ℕ × Bool) ErrorCode → Type 0
-Responds old new (Ok responded) meant = (meant ≡ Ok (responded.body, responded.timeless)) × (new ≡ old)
-Responds old new (Err (Code code)) meant = (meant ≡ Err code) × (new ≡ old)
-Responds old new (Err (Failed failure)) meant = new ≡ old
+-- the reply to what was worked out, or the body is no JSON, or there was no memory
+abbrev pub IsReplied : Option (List ℕ × Bool) → Result (List ℕ) Stop → Type 0
+IsReplied meant (Ok bytes) = option_map (λ response. decision_reply response.0) meant ≡ Some bytes
+IsReplied meant (Err (Code code)) = (meant ≡ None) × (code ≡ error.Body NotJson)
+IsReplied meant (Err (Failed failure)) = failure ≡ Memory
+
+-- what decides was made ready, at that epoch; or an error answer says why not, or that failed; and nothing has changed
+abbrev pub MakesReady : Kept → Kept → ℕ → Result Ready Stop → Result Viewed ErrorCode → Type 0
+MakesReady old new epoch (Ok ready) meant = (meant ≡ Ok ready.view) × (ready.epoch ≡ epoch) × (new ≡ old)
+MakesReady old new epoch (Err (Code code)) meant = (meant ≡ Err code) × (new ≡ old)
+MakesReady old new epoch (Err (Failed failure)) meant = new ≡ old
 
 -- the reply
 abbrev pub reply_told : List ℕ → ℤ → Option DomainState → Result (List ℕ) ErrorCode

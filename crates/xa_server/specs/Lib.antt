@@ -10,8 +10,11 @@ pub mod Tally
 pub mod World
 pub mod Served
 pub mod Isolation
+pub mod Standing
 pub mod ValidCache
 pub mod Work
+pub mod Views
+pub mod Stock
 pub mod Tokens
 pub mod Growth
 pub mod Stop

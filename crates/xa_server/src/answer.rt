@@ -1,5 +1,5 @@
 //! The answer to one message: the questions in their order, and then what the message asks for.
-ghost use Rattle.std.specs.Prelude.{◌≡◌, ℕ, ℤ, IsTrue, List, Some};
+ghost use Rattle.std.specs.Prelude.{◌≡◌, ℕ, ℤ, IsTrue, List, OnErr, Some};
 ghost use Rattle.xa_http.specs.Routes.{named_by};
 ghost use Rattle.xa_http.specs.declared.route.Route.TheVariants as to;
 ghost use Rattle.xa_records.specs.DomainName.{is_domain_name};
@@ -7,7 +7,7 @@ ghost use Rattle.xa_records.specs.Kept.{state_of};
 ghost use Rattle.xa_server.specs.Handling.{Answers, AnswersMessage, AnswersRoute, Counts, WorksCommand, WorksMessage, WorksRoute};
 ghost use Rattle.xa_server.specs.Machine.{by_document_command, by_domain_command, by_operator_command};
 ghost use Rattle.xa_server.specs.Owner.{name_if, owner};
-ghost use Rattle.xa_server.specs.ValidCache.{AreValid};
+ghost use Rattle.xa_server.specs.Stock.{AllStand};
 ghost use Rattle.xa_records.specs.Readings.{gate_of};
 ghost use Rattle.std.specs.Option.{option_and_then};
 
@@ -62,8 +62,10 @@ fn by_domain_command<R: Records>(
     body: &[u8],
     moment: Moment,
 ) -> Result<Items<u8>, Stop>
-    ensures answers { gate_of name.now (R.kept records.old) ≡ Some gate.now → AreValid (R.kept records.old) resources.old.held → R.sound records.new → Answers (R.kept records.old) (R.kept records.new) name.now result (by_domain_command command body.now moment (state_of name.now (R.kept records.old))) }
-    ensures works { R.sound records.new → WorksCommand command gate.now body.now (state_of name.now (R.kept records.old)) moment result resources.old resources.new }
+    ensures answers { gate_of name.now (R.kept records.old) ≡ Some gate.now → AllStand (R.kept records.old) resources.old → R.sound records.new → Answers (R.kept records.old) (R.kept records.new) name.now result (by_domain_command command body.now moment (state_of name.now (R.kept records.old))) }
+    ensures works { gate_of name.now (R.kept records.old) ≡ Some gate.now → AllStand (R.kept records.old) resources.old → R.sound records.new → WorksCommand command gate.now body.now (state_of name.now (R.kept records.old)) moment result resources.old.tally resources.new.tally }
+    ensures stands { gate_of name.now (R.kept records.old) ≡ Some gate.now → AllStand (R.kept records.old) resources.old → R.sound records.new → AllStand (R.kept records.old) resources.new }
+    ensures room { OnErr result (resources.new.room ≡ resources.old.room) }
     ensures sound { R.sound records.new → R.sound records.old }
     ensures counts { Counts (R.faults records.old) (R.faults records.new) result }
 {
@@ -125,8 +127,10 @@ fn domain_route<R: Records>(
     domain: Items<u8>,
     command: DomainCommand,
 ) -> Result<Items<u8>, Stop>
-    ensures answers { (operator : List ℕ) → AreValid (R.kept records.old) resources.old.held → R.sound records.new → AnswersRoute operator (R.kept records.old) (R.kept records.new) (name_if domain) message.now moment (to.Domain domain command) result }
-    ensures works { R.sound records.new → WorksRoute (R.kept records.old) message.now moment (to.Domain domain command) result resources.old resources.new }
+    ensures answers { (operator : List ℕ) → AllStand (R.kept records.old) resources.old → R.sound records.new → AnswersRoute operator (R.kept records.old) (R.kept records.new) (name_if domain) message.now moment (to.Domain domain command) result }
+    ensures works { AllStand (R.kept records.old) resources.old → R.sound records.new → WorksRoute (R.kept records.old) message.now moment (to.Domain domain command) result resources.old.tally resources.new.tally }
+    ensures stands { AllStand (R.kept records.old) resources.old → R.sound records.new → AllStand (R.kept records.old) resources.new }
+    ensures room { OnErr result (resources.new.room ≡ resources.old.room) }
     ensures sound { R.sound records.new → R.sound records.old }
     ensures counts { Counts (R.faults records.old) (R.faults records.new) result }
 {
@@ -173,8 +177,10 @@ fn answer_route<R: Records>(
     moment: Moment,
     route: Route,
 ) -> Result<Items<u8>, Stop>
-    ensures answers { AreValid (R.kept records.old) resources.old.held → R.sound records.new → AnswersRoute operator (R.kept records.old) (R.kept records.new) (option_and_then name_if (named_by route)) message.now moment route result }
-    ensures works { R.sound records.new → WorksRoute (R.kept records.old) message.now moment route result resources.old resources.new }
+    ensures answers { AllStand (R.kept records.old) resources.old → R.sound records.new → AnswersRoute operator (R.kept records.old) (R.kept records.new) (option_and_then name_if (named_by route)) message.now moment route result }
+    ensures works { AllStand (R.kept records.old) resources.old → R.sound records.new → WorksRoute (R.kept records.old) message.now moment route result resources.old.tally resources.new.tally }
+    ensures stands { AllStand (R.kept records.old) resources.old → R.sound records.new → AllStand (R.kept records.old) resources.new }
+    ensures room { OnErr result (resources.new.room ≡ resources.old.room) }
     ensures sound { R.sound records.new → R.sound records.old }
     ensures counts { Counts (R.faults records.old) (R.faults records.new) result }
 {
@@ -207,8 +213,10 @@ pub(crate) fn answer<R: Records>(
     moment: Moment,
     message: &Message,
 ) -> Result<Items<u8>, Stop>
-    ensures answers { AreValid (R.kept records.old) resources.old.held → R.sound records.new → AnswersMessage operator (R.kept records.old) (R.kept records.new) (owner message.now) message.now moment result }
-    ensures works { R.sound records.new → WorksMessage (R.kept records.old) message.now moment result resources.old resources.new }
+    ensures answers { AllStand (R.kept records.old) resources.old → R.sound records.new → AnswersMessage operator (R.kept records.old) (R.kept records.new) (owner message.now) message.now moment result }
+    ensures works { AllStand (R.kept records.old) resources.old → R.sound records.new → WorksMessage (R.kept records.old) message.now moment result resources.old.tally resources.new.tally }
+    ensures stands { AllStand (R.kept records.old) resources.old → R.sound records.new → AllStand (R.kept records.old) resources.new }
+    ensures room { OnErr result (resources.new.room ≡ resources.old.room) }
     ensures sound { R.sound records.new → R.sound records.old }
     ensures counts { Counts (R.faults records.old) (R.faults records.new) result }
 {

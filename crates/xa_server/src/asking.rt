@@ -1,14 +1,17 @@
-//! Asking for a decision. What is held is given again; all else is worked out, counted, and held where it stays the same.
-ghost use Rattle.std.specs.Prelude.{◌≡◌, Some};
+//! Asking for a decision. What is held is given again; all else is worked out by what decides in the domain, which is kept ready for the next, counted, and held
+//! where it stays the same.
+ghost use Rattle.std.specs.Prelude.{◌≡◌, Some, OnErr};
 ghost use Rattle.xa_http.specs.declared.command.DomainCommand.TheVariants as domain;
 ghost use Rattle.xa_records.specs.Kept.{state_of};
 ghost use Rattle.xa_records.specs.Readings.{gate_of};
-ghost use Rattle.xa_server.specs.Handling.{Answers, Counts, IsAsked, IsFresh, IsResponse, Responds, Tells, key_by_gate, reply_told, response_told, view_told, worked_in};
+ghost use Rattle.xa_server.specs.Handling.{Answers, Counts, IsAsked, IsFresh, IsReplied, IsResponse, MakesReady, Tells, key_by_gate, reply_told, view_told, worked_in};
 ghost use Rattle.xa_server.specs.Machine.{by_domain_command};
-ghost use Rattle.xa_server.specs.ValidCache.{AreValid};
+ghost use Rattle.xa_server.specs.Stock.{AllStand};
 ghost use Rattle.xa_server.specs.Work.{body_held, response_of};
 
+use crate::decisions::Decisions;
 use crate::error_code::ErrorCode;
+use crate::ready::{Ready, bytes_of_tree, bytes_of_view};
 use crate::replies::decision_reply;
 use crate::resources::Resources;
 use crate::stop::Stop;
@@ -21,21 +24,31 @@ use xa_records::{Gate, Records, Refusal};
 use xa_shelf::Shelf;
 use xa_value::{Items, Moment, Text};
 
-/// What decides in the domain. What this costs grows with the texts of the active documents, each of which is looked up on the shelf.
-fn view_kept<R: Records>(
+/// What decides in the domain, made from what is kept of it, with the limit of work for a message. What this costs grows with the texts of the active documents, each of which is looked up on the
+/// shelf, and with the rows of attributes, which are put in order.
+fn ready_view<R: Records>(
     alloc: Global,
     shelf: &mut Shelf,
     records: &mut R,
     name: &Text,
-) -> Result<View, Stop>
-    ensures tells { R.sound records.new → Tells (R.kept records.old) (R.kept records.new) result (view_told (state_of name.now (R.kept records.old))) }
+    epoch: u64,
+    limit: u64,
+) -> Result<Ready, Stop>
+    ensures tells { R.sound records.new → MakesReady (R.kept records.old) (R.kept records.new) epoch result (view_told (state_of name.now (R.kept records.old))) }
     ensures sound { R.sound records.new → R.sound records.old }
     ensures counts { Counts (R.faults records.old) (R.faults records.new) result }
 {
     let kept = records
         .view(alloc, name)?
         .ok_or(ErrorCode::Refused(Refusal::Absent))?;
-    Ok(viewed(alloc, shelf, kept)?)
+    let bytes = bytes_of_view(&kept);
+    let view = viewed(alloc, shelf, kept)?;
+    let bytes = bytes.saturating_add(bytes_of_tree(&view));
+    Ok(Ready {
+        epoch,
+        view: view.with_limit(limit),
+        bytes,
+    })
 }
 
 /// The response to the request of the body by what decides.
@@ -48,45 +61,89 @@ fn response_by(alloc: Global, view: &View, body: &[u8], moment: Moment) -> Resul
     }
 }
 
-/// The response to the request of the body by the domain's policies, within the limit of work for a message.
-#[tactic(auto, using(crate::proofs::AskingLemmas::responds, crate::proofs::AskingLemmas::absent_told))]
-fn responded<R: Records>(
+/// The reply by what decides: it is worked out, counted, and held where it stays the same.
+fn reply_by(
+    alloc: Global,
+    decisions: &mut Decisions,
+    key: Key,
+    view: &View,
+    body: &[u8],
+    moment: Moment,
+) -> Result<Items<u8>, Stop>
+    ensures tells { IsReplied (response_of view.now body.now moment) result }
+    ensures works { IsFresh key (response_of view.now body.now moment) result decisions.old decisions.new }
+{
+    let responded = response_by(alloc, view, body, moment)?;
+    let reply = decision_reply(alloc, responded.body.as_slice())?;
+    decisions.note(key, responded);
+    Ok(reply)
+}
+
+/// The reply by what is kept of the domain. What decides there is kept ready once the reply is made; without success it isn't.
+#[tactic(auto, using(crate::proofs::AskingLemmas::replied, crate::proofs::AskingLemmas::works_by, crate::proofs::AskingLemmas::absent_reply, crate::proofs::AskingLemmas::absent_worked))]
+fn reply_by_kept<R: Records>(
     alloc: Global,
     resources: &mut Resources,
     records: &mut R,
     name: &Text,
+    gate: &Gate,
+    key: Key,
     body: &[u8],
     moment: Moment,
-) -> Result<Responded, Stop>
-    ensures tells { R.sound records.new → Responds (R.kept records.old) (R.kept records.new) result (response_told body.now moment (state_of name.now (R.kept records.old))) }
+) -> Result<Items<u8>, Stop>
+    requires { key ≡ key_by_gate gate.now body.now }
+    ensures tells { R.sound records.new → Tells (R.kept records.old) (R.kept records.new) result (reply_told body.now moment (state_of name.now (R.kept records.old))) }
+    ensures works { R.sound records.new → IsFresh key (worked_in (state_of name.now (R.kept records.old)) body.now moment) result resources.old.tally resources.new.tally }
+    ensures stands { gate_of name.now (R.kept records.old) ≡ Some gate.now → AllStand (R.kept records.old) resources.old → R.sound records.new → AllStand (R.kept records.old) resources.new }
+    ensures room { OnErr result (resources.new.room ≡ resources.old.room) }
     ensures sound { R.sound records.new → R.sound records.old }
     ensures counts { Counts (R.faults records.old) (R.faults records.new) result }
-    ensures same { resources.new ≡ resources.old }
 {
-    let view = view_kept(alloc, &mut resources.shelf, records, name)?;
-    response_by(alloc, &view.with_limit(resources.limit()), body, moment)
+    let ready = ready_view(
+        alloc,
+        &mut resources.shelf,
+        records,
+        name,
+        gate.epoch,
+        resources.limit,
+    )?;
+    let reply = reply_by(
+        alloc,
+        &mut resources.decisions,
+        key,
+        &ready.view,
+        body,
+        moment,
+    )?;
+    resources.views.keep(gate.number, ready);
+    Ok(reply)
 }
 
-/// The reply by a decision that is worked out.
-#[tactic(auto, using(crate::proofs::AskingLemmas::told_worked, crate::proofs::AskingLemmas::told_nothing))]
+/// The reply by a decision that is worked out: by the view that is kept ready, where there is one, and no text is asked for; and else by what is kept.
 fn fresh_reply<R: Records>(
     alloc: Global,
     resources: &mut Resources,
     records: &mut R,
     name: &Text,
+    gate: &Gate,
     key: Key,
     body: &[u8],
     moment: Moment,
 ) -> Result<Items<u8>, Stop>
-    ensures tells { R.sound records.new → Tells (R.kept records.old) (R.kept records.new) result (reply_told body.now moment (state_of name.now (R.kept records.old))) }
-    ensures works { R.sound records.new → IsFresh key (worked_in (state_of name.now (R.kept records.old)) body.now moment) result resources.old resources.new }
+    requires { key ≡ key_by_gate gate.now body.now }
+    ensures tells { gate_of name.now (R.kept records.old) ≡ Some gate.now → AllStand (R.kept records.old) resources.old → R.sound records.new → Tells (R.kept records.old) (R.kept records.new) result (reply_told body.now moment (state_of name.now (R.kept records.old))) }
+    ensures works { gate_of name.now (R.kept records.old) ≡ Some gate.now → AllStand (R.kept records.old) resources.old → R.sound records.new → IsFresh key (worked_in (state_of name.now (R.kept records.old)) body.now moment) result resources.old.tally resources.new.tally }
+    ensures stands { gate_of name.now (R.kept records.old) ≡ Some gate.now → AllStand (R.kept records.old) resources.old → R.sound records.new → AllStand (R.kept records.old) resources.new }
+    ensures room { OnErr result (resources.new.room ≡ resources.old.room) }
     ensures sound { R.sound records.new → R.sound records.old }
     ensures counts { Counts (R.faults records.old) (R.faults records.new) result }
 {
-    let responded = responded(alloc, resources, records, name, body, moment)?;
-    let reply = decision_reply(alloc, responded.body.as_slice())?;
-    resources.note(key, responded);
-    Ok(reply)
+    if let Some(view) = resources.views.find(gate.number, gate.epoch) {
+        let reply = reply_by(alloc, &mut resources.decisions, key, view, body, moment)?;
+        resources.views.touch(gate.number);
+        return Ok(reply);
+    }
+    reply_by_kept(alloc, resources, records, name, gate, key, body, moment)
 }
 
 /// The reply to the request of the body by the domain's policies: by the decision that is held, where one is, and else by one that is worked out.
@@ -100,14 +157,16 @@ pub(crate) fn decide<R: Records>(
     body: &[u8],
     moment: Moment,
 ) -> Result<Items<u8>, Stop>
-    ensures answers { gate_of name.now (R.kept records.old) ≡ Some gate.now → AreValid (R.kept records.old) resources.old.held → R.sound records.new → Answers (R.kept records.old) (R.kept records.new) name.now result (by_domain_command domain.Decide body.now moment (state_of name.now (R.kept records.old))) }
-    ensures works { R.sound records.new → IsAsked (key_by_gate gate.now body.now) (body_held (key_by_gate gate.now body.now) body.now resources.old) (worked_in (state_of name.now (R.kept records.old)) body.now moment) result resources.old resources.new }
+    ensures answers { gate_of name.now (R.kept records.old) ≡ Some gate.now → AllStand (R.kept records.old) resources.old → R.sound records.new → Answers (R.kept records.old) (R.kept records.new) name.now result (by_domain_command domain.Decide body.now moment (state_of name.now (R.kept records.old))) }
+    ensures works { gate_of name.now (R.kept records.old) ≡ Some gate.now → AllStand (R.kept records.old) resources.old → R.sound records.new → IsAsked (key_by_gate gate.now body.now) (body_held (key_by_gate gate.now body.now) body.now resources.old.tally) (worked_in (state_of name.now (R.kept records.old)) body.now moment) result resources.old.tally resources.new.tally }
+    ensures stands { gate_of name.now (R.kept records.old) ≡ Some gate.now → AllStand (R.kept records.old) resources.old → R.sound records.new → AllStand (R.kept records.old) resources.new }
+    ensures room { OnErr result (resources.new.room ≡ resources.old.room) }
     ensures sound { R.sound records.new → R.sound records.old }
     ensures counts { Counts (R.faults records.old) (R.faults records.new) result }
 {
     let key = Key::new(alloc, gate.number, gate.epoch, body)?;
-    if let Some(reply) = resources.held_reply(alloc, &key, body)? {
+    if let Some(reply) = resources.decisions.held_reply(alloc, &key, body)? {
         return Ok(reply);
     }
-    fresh_reply(alloc, resources, records, name, key, body, moment)
+    fresh_reply(alloc, resources, records, name, gate, key, body, moment)
 }

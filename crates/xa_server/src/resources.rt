@@ -1,132 +1,86 @@
-//! What a server shares among all domains: the shelf of policies, the cache of decisions with its counts, and the limit of work for a message.
-ghost use Rattle.std.specs.Prelude.{◌≡◌, true, Some, option_map, IfOk};
-ghost use Rattle.xa_server.specs.Handling.{IsLookedUp};
-ghost use Rattle.xa_server.specs.Tally.{nothing_held};
-ghost use Rattle.xa_server.specs.Work.{IsHeld, IsWorkedOut, body_held};
-ghost use Rattle.xa_server.specs.Replies.{decision_reply};
+//! What a server shares among all domains: the shelf of policies, the views that are kept ready, the decisions that are held, and the limit of work for
+//! a message.
+ghost use Rattle.std.specs.Prelude.{◌≡◌, [], min, IfOk};
+ghost use Rattle.xa_server.specs.Stock.{empty_stock};
 
-use crate::replies::decision_reply;
+use crate::decisions::Decisions;
+use crate::views::Views;
 use std::alloc::{AllocError, Global};
 use std::marker::Model;
-use xa_cache::{Cache, Key, fits};
-use xa_decide::Responded;
 use xa_records::Digest;
 use xa_shelf::Shelf;
-use xa_value::Items;
-
-/// The most bytes of a request whose decision is looked up.
-const MAX_HELD_BYTES: usize = 16_384;
 
 /// What a server shares among all domains.
 #[derive(Drop)]
 pub(crate) struct Resources {
     pub(crate) shelf: Shelf,
-    cache: Cache,
-    evaluations: u64,
-    unkept: u64,
-    limit: u64,
+    pub(crate) views: Views,
+    pub(crate) decisions: Decisions,
+    /// The work that a message may ask for, in units. It is a number: what a message spends is taken from a budget of its own, so that no message finds less for
+    /// another's use.
+    pub(crate) limit: u64,
 }
 
 impl Model for Resources {
     ghost use Rattle.std.specs.Coded.{codes};
-    ghost use Rattle.xa_cache.specs.contracts.cache.Cache as bodies;
-    ghost use Rattle.xa_server.specs.Tally.{Tally};
+    ghost use Rattle.xa_server.specs.contracts.decisions.Decisions as held;
+    ghost use Rattle.xa_server.specs.contracts.views.Views as ready;
+    ghost use Rattle.xa_server.specs.Stock.{Stock};
 
-    ghost Value = { Tally };
+    ghost Value = { Stock };
 
-    ghost coded = { Prim.hlevel (codes, bodies.the_row.coded) };
+    ghost coded = { Prim.hlevel (codes, held.the_row.coded, ready.the_row.coded) };
 
-    ghost view = { λ r. record { held = r.cache; evaluations = r.evaluations; unkept = r.unkept } };
+    ghost view = { λ r. record { tally = r.decisions; room = r.views } };
 }
 
 impl Resources {
-    /// Nothing is held yet, and work has no limit. The operator's token, of which tenants know nothing, makes the places of what is held unknown to them.
+    /// Nothing is held yet, and work has no limit.
     pub(crate) fn new(alloc: Global, operator: Digest) -> Result<Resources, AllocError>
-        ensures { IfOk result (λ r. r ≡ nothing_held) }
+        ensures { IfOk result (λ r. r ≡ empty_stock) }
     {
         Ok(Resources {
             shelf: Shelf::new(alloc)?,
-            cache: Cache::new(alloc, operator.as_bytes())?,
-            evaluations: 0,
-            unkept: 0,
+            views: Views::new(alloc)?,
+            decisions: Decisions::new(alloc, operator)?,
             limit: u64::MAX,
         })
     }
 
-    /// The same, with this limit of work for a message.
-    pub(crate) fn with_limit(self, units: u64) -> Resources
-        ensures { result ≡ self }
+    /// With room for at most so many views, of which none is kept yet.
+    pub(crate) fn with_views(self, most: usize) -> Resources
+        ensures { result ≡ record { tally = self.tally; room = record { views = []; most = min most 128 } } }
     {
+        let Resources {
+            shelf,
+            views,
+            decisions,
+            limit,
+        } = self;
         Resources {
-            shelf: self.shelf,
-            cache: self.cache,
-            evaluations: self.evaluations,
-            unkept: self.unkept,
+            shelf,
+            views: views.emptied(most),
+            decisions,
+            limit,
+        }
+    }
+
+    /// With this limit of work for a message. The views that were kept had another; none is kept yet.
+    pub(crate) fn with_limit(self, units: u64) -> Resources
+        ensures { result ≡ record { tally = self.tally; room = record { views = []; most = min self.room.most 128 } } }
+    {
+        let Resources {
+            shelf,
+            views,
+            decisions,
+            limit: _,
+        } = self;
+        let most = views.most();
+        Resources {
+            shelf,
+            views: views.emptied(most),
+            decisions,
             limit: units,
-        }
-    }
-
-    /// The work that a message may ask for, in units. It is a number: what a message spends is taken from a budget of its own, so that no
-    /// message finds less for another's use.
-    pub(crate) fn limit(&self) -> u64 {
-        self.limit
-    }
-
-    /// How many decisions were worked out.
-    pub(crate) fn evaluations(&self) -> u64
-        ensures { result ≡ self.now.evaluations }
-    {
-        self.evaluations
-    }
-
-    /// How many decisions were to be held, and weren't for want of memory.
-    pub(crate) fn unkept(&self) -> u64
-        ensures { result ≡ self.now.unkept }
-    {
-        self.unkept
-    }
-
-    /// How many texts of policies were read that weren't on the shelf.
-    pub(crate) fn readings(&self) -> u64 {
-        self.shelf.readings()
-    }
-
-    /// The reply by the decision that is held under the key, which is its newest use then.
-    pub(crate) fn held_reply(
-        &mut self,
-        alloc: Global,
-        key: &Key,
-        body: &[u8],
-    ) -> Result<Option<Items<u8>>, AllocError>
-        ensures found { IfOk result (λ reply. reply ≡ option_map decision_reply (body_held key.now body.now self.old)) }
-        ensures moves { IsLookedUp (body_held key.now body.now self.old) key.now self.old self.new }
-    {
-        if body.len() > MAX_HELD_BYTES {
-            return Ok(None);
-        }
-        match self.cache.look(key) {
-            Some(body) => Ok(Some(decision_reply(alloc, body)?)),
-            None => Ok(None),
-        }
-    }
-
-    /// Holds a decision, or counts that it couldn't.
-    fn hold(&mut self, key: Key, body: Items<u8>)
-        ensures held { IsHeld true key body self.old self.new }
-        ensures evaluations { self.new.evaluations ≡ self.old.evaluations }
-    {
-        if !self.cache.keep(key, body) {
-            self.unkept = self.unkept.saturating_add(1);
-        }
-    }
-
-    /// Counts a decision that was worked out, and holds it where it is the same at every moment and neither body is too large.
-    pub(crate) fn note(&mut self, key: Key, responded: Responded)
-        ensures { IsWorkedOut key (Some (responded.body, responded.timeless)) self.old self.new }
-    {
-        self.evaluations = self.evaluations.saturating_add(1);
-        if responded.timeless && fits(&key, &responded.body) {
-            self.hold(key, responded.body);
         }
     }
 }

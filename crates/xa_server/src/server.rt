@@ -25,7 +25,7 @@ pub struct Server<R: Records> {
 
 impl<R: Records> Model for Server<R> {
     ghost use Rattle.std.specs.Coded.{codes};
-    ghost use Rattle.xa_server.specs.ValidCache.{AreValid};
+    ghost use Rattle.xa_server.specs.Stock.{AllStand};
     ghost use Rattle.xa_server.specs.World.{Serving};
     ghost use Rattle.xa_server.specs.contracts.resources.Resources as shared;
 
@@ -33,9 +33,9 @@ impl<R: Records> Model for Server<R> {
 
     ghost coded = { Prim.hlevel (codes, R.code, shared.the_row.coded) };
 
-    ghost view = { λ s. record { operator = s.operator; records = s.records; tally = s.resources } };
+    ghost view = { λ s. record { operator = s.operator; records = s.records; tally = s.resources.tally } };
 
-    ghost invariant = { λ s. R.sound s.records → AreValid (R.kept s.records) s.resources.held };
+    ghost invariant = { λ s. R.sound s.records → AllStand (R.kept s.records) s.resources };
 }
 
 /// What goes back for a message that was answered, or wasn't.
@@ -87,12 +87,39 @@ impl<R: Records> Server<R> {
     pub fn with_limit(self, units: u64) -> Server<R>
         ensures { result ≡ self }
     {
+        let Server {
+            alloc,
+            routes,
+            operator,
+            records,
+            resources,
+        } = self;
         Server {
-            alloc: self.alloc,
-            routes: self.routes,
-            operator: self.operator,
-            records: self.records,
-            resources: self.resources.with_limit(units),
+            alloc,
+            routes,
+            operator,
+            records,
+            resources: resources.with_limit(units),
+        }
+    }
+
+    /// The same server with room for at most so many views that are kept ready, or for 128, whichever is less; none is kept yet. What it answers doesn't depend on them.
+    pub fn with_views(self, most: usize) -> Server<R>
+        ensures { result ≡ self }
+    {
+        let Server {
+            alloc,
+            routes,
+            operator,
+            records,
+            resources,
+        } = self;
+        Server {
+            alloc,
+            routes,
+            operator,
+            records,
+            resources: resources.with_views(most),
         }
     }
 
@@ -100,19 +127,19 @@ impl<R: Records> Server<R> {
     pub fn evaluations(&self) -> u64
         ensures { result ≡ self.now.tally.evaluations }
     {
-        self.resources.evaluations()
+        self.resources.decisions.evaluations()
     }
 
     /// How many decisions were to be held, and weren't for want of memory; at the greatest number it stays.
     pub fn unkept(&self) -> u64
         ensures { result ≡ self.now.tally.unkept }
     {
-        self.resources.unkept()
+        self.resources.decisions.unkept()
     }
 
     /// How many texts of policies were read that weren't on the shelf; at the greatest number it stays.
     pub fn readings(&self) -> u64 {
-        self.resources.readings()
+        self.resources.shelf.readings()
     }
 
     /// Answers one message: by the machine of the domain that its path names, and no other domain's state moves; after a refusal none has moved.

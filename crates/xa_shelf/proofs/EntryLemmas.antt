@@ -6,13 +6,13 @@ use Rattle.std.specs.Option.{option_map_or}
 use Rattle.lru.specs.LruCache.{LruCache, promoted, put_entries}
 
 module _ {K V : Type 0} (P : K × V → Type 0) where
-  all_taken : (n : ℕ) (es : List (K × V)) → AllByRecursion P es → AllByRecursion P (take n es)
+  pub all_taken : (n : ℕ) (es : List (K × V)) → AllByRecursion P es → AllByRecursion P (take n es)
   all_taken zero es all = tt
   all_taken (suc n) [] all = tt
   all_taken (suc n) (e ∷ es) all = (all.0, all_taken n es all.1)
 
   module _ (test : K → Bool) where
-    all_removed : (es : List (K × V)) → AllByRecursion P es → AllByRecursion P (remove_entry test es)
+    pub all_removed : (es : List (K × V)) → AllByRecursion P es → AllByRecursion P (remove_entry test es)
     all_removed [] all = tt
     all_removed (f ∷ es) all = (elim (test f.0) as (λ y. test f.0 ≡ y → AllByRecursion P (remove_entry test (f ∷ es))) [
       | true ↦ λ t. rw t all.1

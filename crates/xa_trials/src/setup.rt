@@ -1,4 +1,5 @@
-//! The domains of a row's server, made by messages to one that has none: fields `domain:NAME`, after each of which stand its tokens,
+//! The domains of a row's server, made by messages to one that has none. A first field `views:COUNT` says for how many views it has room, where that isn't 128. Then
+//! come fields `domain:NAME`, after each of which stand its tokens,
 //! `ask:TOKEN` and `admin:TOKEN`, its documents, `document:TEXT`, or `inactive:TEXT` where one isn't active, its root, `root:REFERENCE`, and the
 //! rows of its source of attributes, `row:CATEGORY|ENTITY|ID|TYPE=TEXT`. A field `limit:UNITS` limits the work for each message of the row's events.
 use crate::decisions::moment_of;
@@ -65,16 +66,15 @@ struct Setup {
 }
 
 impl Setup {
-    /// A server without domains.
-    fn new(alloc: Global) -> Result<Setup, NoServer> {
-        let operator = Digest::of(OPERATOR_TOKEN.as_bytes());
-        Ok(Setup {
+    /// The server, which has no domains.
+    fn new(alloc: Global, server: Server<PlainRecords>) -> Setup {
+        Setup {
             alloc,
-            server: Server::new(alloc, PlainRecords::new(alloc), operator)?,
+            server,
             domain: String::new(alloc),
             rows: Items::new(alloc),
             limit: None,
-        })
+        }
     }
 
     /// Sends a message, which has to succeed.
@@ -215,10 +215,24 @@ impl Setup {
     }
 }
 
+/// A server without domains, with the room for views that is given.
+fn empty_server(alloc: Global, views: Option<&str>) -> Result<Server<PlainRecords>, NoServer> {
+    let operator = Digest::of(OPERATOR_TOKEN.as_bytes());
+    let server = Server::new(alloc, PlainRecords::new(alloc), operator)?;
+    match views {
+        Some(count) => Ok(server.with_views(number_of(count)?)),
+        None => Ok(server),
+    }
+}
+
 /// The server with the domains of the fields.
 pub fn server_of(alloc: Global, fields: &[&str]) -> Result<Server<PlainRecords>, NoServer> {
-    let mut setup = Setup::new(alloc)?;
-    for field in fields {
+    let views = fields
+        .first()
+        .and_then(|field| field.strip_prefix("views:"));
+    let mut setup = Setup::new(alloc, empty_server(alloc, views)?);
+    let domains = if views.is_some() { 1 } else { 0 };
+    for field in fields.get(domains..).unwrap_or(&[]) {
         setup.step(field)?;
     }
     setup.end()?;

@@ -9,22 +9,22 @@ use Rattle.xa_server.proofs.WorkLemmas.{asked_work, unasked_work}
 use Rattle.xa_server.proofs.answer.answer.Goals as goal
 
 pub returns-in_err-route-clause-answers : goal.returns-in_err-route-clause-answers
-returns-in_err-route-clause-answers g c = λ valid sound.
+returns-in_err-route-clause-answers g c = λ stand sound.
     let stopped : c.from_residual.result ≡ Err (stop_of_route c.in_err-route.field-0.0) = search rules in
     rw stopped (unasked _ _ (owner c.args.message.now) _ _ c.in_err-route.field-0.0 c.in_err-route.ensures.route)
 
 pub returns-in_err-route-clause-works : goal.returns-in_err-route-clause-works
-returns-in_err-route-clause-works g c = λ sound.
+returns-in_err-route-clause-works g c = λ stand sound.
     let stopped : c.from_residual.result ≡ Err (stop_of_route c.in_err-route.field-0.0) = search rules in
-    rw stopped (unasked_work (g.R.Records.kept c.args.records.now) c.args.message.now c.args.moment c.in_err-route.field-0.0 c.args.resources.now c.in_err-route.ensures.route)
+    rw stopped (unasked_work (g.R.Records.kept c.args.records.now) c.args.message.now c.args.moment c.in_err-route.field-0.0 c.args.resources.now.tally c.in_err-route.ensures.route)
 
 pub returns-clause-answers : goal.returns-clause-answers
 unfolding owner
-returns-clause-answers g c = λ valid sound.
+returns-clause-answers g c = λ stand sound.
     let owns : option_and_then name_if (named_by c.in_ok-route.route) ≡ owner c.args.message.now = ap (option_and_then name_if) c.in_ok-route.ensures.named in
     subst (λ named. AnswersMessage c.args.operator (g.R.Records.kept c.args.records.now) (g.R.Records.kept c.answer_route.new.records) named c.args.message.now c.args.moment c.answer_route.result) owns
-    (asked _ _ _ _ _ _ c.in_ok-route.route _ c.in_ok-route.ensures.route (c.answer_route.ensures.answers valid sound))
+    (asked _ _ _ _ _ _ c.in_ok-route.route _ c.in_ok-route.ensures.route (c.answer_route.ensures.answers stand sound))
 
 pub returns-clause-works : goal.returns-clause-works
-returns-clause-works g c = λ sound.
-    asked_work (g.R.Records.kept c.args.records.now) c.args.message.now c.args.moment c.in_ok-route.route c.answer_route.result c.args.resources.now c.answer_route.new.resources c.in_ok-route.ensures.route (c.answer_route.ensures.works sound)
+returns-clause-works g c = λ stand sound.
+    asked_work (g.R.Records.kept c.args.records.now) c.args.message.now c.args.moment c.in_ok-route.route c.answer_route.result c.args.resources.now.tally c.answer_route.new.resources.tally c.in_ok-route.ensures.route (c.answer_route.ensures.works stand sound)

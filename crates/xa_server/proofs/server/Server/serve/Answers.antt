@@ -2,27 +2,26 @@ use Rattle.std.proofs.Common.{refl}
 use Rattle.xa_server.specs.Owner.{owner}
 use Rattle.xa_server.proofs.AnswerLemmas.{grown}
 use Rattle.xa_server.proofs.ServedLemmas.{counted, served}
-use Rattle.xa_server.proofs.ValidLemmas.{valid_after}
+use Rattle.xa_server.proofs.ValidLemmas.{all_grown}
 use Rattle.xa_server.proofs.WorkLemmas.{work_of}
 use Rattle.xa_server.proofs.server.Server.serve.Goals as goal
 
 pub returns-clause-served : goal.returns-clause-served
 returns-clause-served g c = λ sound.
-    let valid = c.self.invariant (c.answer-answered.ensures.sound sound) in
-    rw (← c.self.view_is) (served _ _ c.args.message.now _ c.answer-answered.result _ (c.answer-answered.ensures.answers valid sound) c.reply_of.ensures refl)
+    let stand = c.self.invariant (c.answer-answered.ensures.sound sound) in
+    rw (← c.self.view_is) (served _ _ c.args.message.now _ c.answer-answered.result _ (c.answer-answered.ensures.answers stand sound) c.reply_of.ensures refl)
 
 pub returns-clause-counts : goal.returns-clause-counts
 returns-clause-counts g c = rw (← c.self.view_is) (counted _ _ c.answer-answered.result _ c.answer-answered.ensures.counts c.reply_of.ensures)
 
 pub returns-clause-work : goal.returns-clause-work
 returns-clause-work g c = λ sound.
-    rw (← c.self.view_is) (work_of _ c.args.message.now.body _ c.answer-answered.result _ _ _ (c.answer-answered.ensures.works sound) c.reply_of.ensures)
+    let stand = c.self.invariant (c.answer-answered.ensures.sound sound) in
+    rw (← c.self.view_is) (work_of _ c.args.message.now.body _ c.answer-answered.result _ _ _ (c.answer-answered.ensures.works stand sound) c.reply_of.ensures)
 
 pub invariant_of-self : goal.invariant_of-self
 invariant_of-self g c = λ sound.
-    let before = c.answer-answered.ensures.sound sound in
-    let valid = c.self.invariant before in
-    valid_after (g.R.Records.kept c.self.inside.records) (g.R.Records.kept c.answer-answered.new.records) c.args.message.now c.args.moment c.answer-answered.result
-    c.self.inside.resources c.answer-answered.new.resources (g.met.R.Records.numbered c.self.inside.records before)
-    (grown _ _ _ (owner c.args.message.now) c.args.message.now c.args.moment c.answer-answered.result (c.answer-answered.ensures.answers valid sound))
-    (c.answer-answered.ensures.works sound) valid
+    let stand = c.self.invariant (c.answer-answered.ensures.sound sound) in
+    all_grown (g.R.Records.kept c.self.inside.records) (g.R.Records.kept c.answer-answered.new.records) c.answer-answered.new.resources
+    (grown _ _ _ (owner c.args.message.now) c.args.message.now c.args.moment c.answer-answered.result (c.answer-answered.ensures.answers stand sound))
+    (c.answer-answered.ensures.stands stand sound)

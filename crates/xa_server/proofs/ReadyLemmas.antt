@@ -1,0 +1,93 @@
+-- Views that are kept ready decide as what is kept does.
+use Rattle.std.proofs.Common.{◌≡◌, ℕ, Bool, true, false, nat_eq, List, refl, sym, ap, ◌∙◌, subst, cond}
+use Rattle.std.specs.Prelude.{Option, Some, None, Ok}
+use Rattle.std.specs.FinMap.{get}
+use Rattle.std.specs.Map.{lookup}
+use Rattle.std.proofs.lemmas.Bool.{eqb-true}
+use Rattle.xa_decide.specs.Decision.{Viewed}
+use Rattle.xa_records.specs.declared.gate.Gate.{Gate}
+use Rattle.xa_records.specs.DomainState.{DomainState}
+use Rattle.xa_records.specs.Kept.{DecidesAlike, Domain, IsNumbered, Kept, state_of}
+use Rattle.xa_records.specs.Readings.{gate_of, gate_of_domain}
+use Rattle.xa_shelf.proofs.EntryLemmas.{all_promoted, all_removed, all_taken, value_found}
+use Rattle.xa_server.specs.declared.ready.Ready.{Ready}
+use Rattle.xa_server.specs.Growth.{Grows}
+use Rattle.xa_server.specs.Handling.{view_told}
+use Rattle.xa_server.specs.Standing.{Stands}
+use Rattle.xa_server.specs.Stock.{AreReady, IsReady}
+use Rattle.xa_server.specs.View.{view_of}
+use Rattle.xa_server.specs.Views.{Room, fitting, in_front, touched, view_ready, with_view, without}
+use Rattle.xa_server.proofs.StandingLemmas.{all_implied, made_stands, stands_on}
+use Rattle.xa_server.proofs.WorkLemmas.{opened}
+
+-- that a view is that of a state
+abbrev IsViewOf : Viewed → DomainState → Type 0
+IsViewOf view state = view_of state ≡ view
+
+-- states that decide alike have one view
+alike_viewed : (view : Viewed) (a b : DomainState) → DecidesAlike a b → IsViewOf view a → IsViewOf view b
+alike_viewed view a b alike is = let same : view_of b ≡ view_of a = rw (alike.documents, alike.root, alike.source) refl in same ∙ is
+
+-- as domains go on
+pub ready_grown : (old new : Kept) → Grows old new → (views : List (ℕ × Ready)) → AreReady old views → AreReady new views
+ready_grown old new grows views ready =
+    all_implied (IsReady old) (IsReady new) (λ entry. stands_on (IsViewOf entry.1.view) (alike_viewed entry.1.view) old new grows entry.0 entry.1.epoch) views ready
+
+-- ---- a view that is found
+
+-- it stands under its number, and is of its epoch
+found_entry : (kept : Kept) (views : List (ℕ × Ready)) (number epoch : ℕ) (view : Viewed) → AreReady kept views → view_ready number epoch views ≡ Some view
+    → Stands kept number epoch (IsViewOf view)
+found_entry kept views number epoch view ready found = by_lookup (lookup (nat_eq number) views) refl where
+  one_view : (a b : Viewed) → Some a ≡ Some b → a ≡ b
+  one_view a b e = cc
+
+  by_epoch : (entry : Ready) (same : Bool) → nat_eq entry.epoch epoch ≡ same → IsReady kept (number, entry) → cond same (Some entry.view) None ≡ Some view → Stands kept number epoch (IsViewOf view)
+  by_epoch entry false e stands is = absurd cc
+  by_epoch entry true e stands is =
+      subst (λ at. Stands kept number at (IsViewOf view)) (eqb-true entry.epoch epoch e)
+      (subst (λ v. Stands kept number entry.epoch (IsViewOf v)) (one_view entry.view view is) stands)
+
+  by_lookup : (there : Option Ready) → lookup (nat_eq number) views ≡ there → Stands kept number epoch (IsViewOf view)
+  by_lookup None e = let none : None ≡ Some view = rw e at found in absurd cc
+  by_lookup (Some entry) e =
+      let on = value_found (IsReady kept) (nat_eq number) views entry ready e in
+      by_epoch entry (nat_eq entry.epoch epoch) refl (subst (λ n. IsReady kept (n, entry)) (sym (eqb-true number on.0 on.2)) on.1) (rw e at found)
+
+-- it is what decides in the domain of that gate
+pub ready_found : (kept : Kept) (name : List ℕ) (gate : Gate) (views : List (ℕ × Ready)) (view : Viewed) → gate_of name kept ≡ Some gate → AreReady kept views
+    → view_ready gate.number gate.epoch views ≡ Some view → view_told (state_of name kept) ≡ Ok view
+ready_found kept name gate views view opens ready found = by_gate (opened kept name gate opens) where
+  by_gate : ((d : Domain) × (get kept.domains name ≡ Some d) × (gate_of_domain d ≡ gate)) → view_told (state_of name kept) ≡ Ok view
+  by_gate (d, there, is) =
+      let stands = found_entry kept views gate.number gate.epoch view ready found in
+      let holds : view_of d.state ≡ view = (stands.1 name d there (ap (λ g. g.number) is)).1 (sym (ap (λ g. g.epoch) is)) in
+      rw there (ap Ok holds)
+
+-- ---- a view that was made
+
+told_view : (state : DomainState) (view : Viewed) → view_told (Some state) ≡ Ok view → view_of state ≡ view
+told_view state view told = cc
+
+pub made_ready : (kept : Kept) (name : List ℕ) (gate : Gate) (ready : Ready) → IsNumbered kept → gate_of name kept ≡ Some gate → view_told (state_of name kept) ≡ Ok ready.view
+    → ready.epoch ≡ gate.epoch → IsReady kept (gate.number, ready)
+made_ready kept name gate ready numbered opens told epoch = by_gate (opened kept name gate opens) where
+  by_gate : ((d : Domain) × (get kept.domains name ≡ Some d) × (gate_of_domain d ≡ gate)) → IsReady kept (gate.number, ready)
+  by_gate (d, there, is) =
+      let holds = told_view d.state ready.view (rw there at told) in
+      let stands = made_stands (IsViewOf ready.view) kept name d numbered there holds in
+      subst (λ n. Stands kept n ready.epoch (IsViewOf ready.view)) (ap (λ g. g.number) is)
+      (subst (λ e. Stands kept d.number e (IsViewOf ready.view)) (ap (λ g. g.epoch) is ∙ sym epoch) stands)
+
+-- ---- what is kept after a use, and after a view was kept
+
+pub ready_touched : (kept : Kept) (number : ℕ) (room : Room) → AreReady kept room.views → AreReady kept (touched number room).views
+ready_touched kept number room ready = all_promoted (IsReady kept) (nat_eq number) room.views ready
+
+pub ready_without : (kept : Kept) (number : ℕ) (room : Room) → AreReady kept room.views → AreReady kept (without number room).views
+ready_without kept number room ready = all_removed (IsReady kept) (nat_eq number) room.views ready
+
+pub ready_with : (kept : Kept) (number : ℕ) (view : Ready) (room : Room) → IsReady kept (number, view) → AreReady kept room.views → AreReady kept (with_view number view room).views
+ready_with kept number view room this ready =
+    let all = in_front number view room.views in
+    all_taken (IsReady kept) (fitting room.most 268_435_456 all) all (this, all_removed (IsReady kept) (nat_eq number) room.views ready)

@@ -1,0 +1,11 @@
+use Rattle.std.proofs.Common.{◌≡◌, ◌≤◌, ◌-◌, ◌+◌}
+use Rattle.xa_server.specs.Views.{fitting}
+use Rattle.xa_server.proofs.views.fitting.Given as goal
+
+-- those so far, and then those of the rest that find room
+abbrev pub invariant-loop-ready : goal.invariant-loop-ready
+invariant-loop-ready l =
+    (goal.iterator-loop-ready).can_next l.ready-iterator ×
+    (goal.iterator-loop-ready).is_finite l.ready-iterator ×
+    (l.count ≤ l.most) ×
+    (l.count + fitting (l.most - l.count) l.bytes l.ready-iterator ≡ fitting l.most 268_435_456 l.views.entries)

@@ -1,0 +1,62 @@
+-- Views that are kept ready, each under its domain's number, the one that was used last first: words that only private functions and the server's invariant cite.
+use Rattle.std.specs.Prelude.{◌+◌, ◌*◌, ◌-◌, ◌&&◌, ℕ, List, [], ◌∷◌, Option, Some, None, length, min, nat_eq, nat_le, nat_lt, option_and_then, take, ◌^◌, if◌then◌else◌}
+use Rattle.std.specs.List.{fold}
+use Rattle.std.specs.Map.{lookup, remove_entry}
+use Rattle.lru.specs.LruCache.{promoted}
+use Rattle.xa_decide.specs.Decision.{Viewed}
+use Rattle.xa_records.specs.declared.kept_view.KeptView.{KeptView}
+use Rattle.xa_server.specs.declared.ready.Ready.{Ready}
+
+-- the views, and how many of them there may be
+pub record Room : Type 0 where
+  pub views : List (ℕ × Ready)
+  pub most : ℕ
+
+-- the view, if it is of that epoch
+abbrev pub view_if : ℕ → Ready → Option Viewed
+view_if epoch ready = if nat_eq ready.epoch epoch then Some ready.view else None
+
+-- the view under that number, if it is of that epoch
+abbrev pub view_ready : ℕ → ℕ → List (ℕ × Ready) → Option Viewed
+view_ready number epoch views = option_and_then (view_if epoch) (lookup (nat_eq number) views)
+
+-- after a use of the view under that number
+abbrev pub touched : ℕ → Room → Room
+touched number room = record room { views = promoted (nat_eq number) room.views }
+
+-- with nothing under that number
+abbrev pub without : ℕ → Room → Room
+without number room = record room { views = remove_entry (nat_eq number) room.views }
+
+-- how many of the first find room, where there is room for so many views of so many bytes
+abbrev pub fitting : ℕ → ℕ → List (ℕ × Ready) → ℕ
+fitting most bytes [] = 0
+fitting most bytes (entry ∷ entries) =
+    if nat_lt 0 most && nat_le entry.1.bytes bytes then fitting (most - 1) (bytes - entry.1.bytes) entries + 1 else 0
+
+-- that view first, and nothing else under its number
+abbrev pub in_front : ℕ → Ready → List (ℕ × Ready) → List (ℕ × Ready)
+in_front number ready views = (number, ready) ∷ remove_entry (nat_eq number) views
+
+-- the first, as many as find room in 268,435,456 bytes
+abbrev pub shortened : ℕ → List (ℕ × Ready) → List (ℕ × Ready)
+shortened most views = take (fitting most 268_435_456 views) views
+
+-- with that view under that number
+abbrev pub with_view : ℕ → Ready → Room → Room
+with_view number ready room = record room { views = shortened room.most (in_front number ready room.views) }
+
+-- a sum, as far as numbers of 64 bits go
+abbrev pub added : ℕ → ℕ → ℕ
+added a b = min (a + b) (2 ^ 64 - 1)
+
+abbrev pub times : ℕ → ℕ → ℕ
+times a b = min (a * b) (2 ^ 64 - 1)
+
+-- the bytes of the texts
+abbrev pub bytes_of_texts : List (List ℕ) → ℕ
+bytes_of_texts texts = fold (λ bytes text. added bytes (length text)) 0 texts
+
+-- by how much memory a view is counted before its tree is linked: 16 bytes for each byte of a text, 512 for each row, and 524,288 for the rest
+abbrev pub bytes_of_view : KeptView → ℕ
+bytes_of_view kept = added (added (times (bytes_of_texts kept.texts) 16) (times (length kept.source) 512)) 524_288

@@ -1,0 +1,103 @@
+//! The decisions that are held, with their counts.
+ghost use Rattle.std.specs.Prelude.{◌≡◌, true, Some, option_map, IfOk};
+ghost use Rattle.xa_server.specs.Handling.{IsLookedUp};
+ghost use Rattle.xa_server.specs.Tally.{nothing_held};
+ghost use Rattle.xa_server.specs.Work.{IsHeld, IsWorkedOut, body_held};
+ghost use Rattle.xa_server.specs.Replies.{decision_reply};
+
+use crate::replies::decision_reply;
+use std::alloc::{AllocError, Global};
+use std::marker::Model;
+use xa_cache::{Cache, Key, fits};
+use xa_decide::Responded;
+use xa_records::Digest;
+use xa_value::Items;
+
+/// The most bytes of a request whose decision is looked up.
+const MAX_HELD_BYTES: usize = 16_384;
+
+/// The cache of decisions, and what was counted of them.
+#[derive(Drop)]
+pub(crate) struct Decisions {
+    cache: Cache,
+    evaluations: u64,
+    unkept: u64,
+}
+
+impl Model for Decisions {
+    ghost use Rattle.std.specs.Coded.{codes};
+    ghost use Rattle.xa_cache.specs.contracts.cache.Cache as bodies;
+    ghost use Rattle.xa_server.specs.Tally.{Tally};
+
+    ghost Value = { Tally };
+
+    ghost coded = { Prim.hlevel (codes, bodies.the_row.coded) };
+
+    ghost view = { λ d. record { held = d.cache; evaluations = d.evaluations; unkept = d.unkept } };
+}
+
+impl Decisions {
+    /// Nothing is held yet. The operator's token, of which tenants know nothing, makes the places of what is held unknown to them.
+    pub(crate) fn new(alloc: Global, operator: Digest) -> Result<Decisions, AllocError>
+        ensures { IfOk result (λ d. d ≡ nothing_held) }
+    {
+        Ok(Decisions {
+            cache: Cache::new(alloc, operator.as_bytes())?,
+            evaluations: 0,
+            unkept: 0,
+        })
+    }
+
+    /// How many decisions were worked out.
+    pub(crate) fn evaluations(&self) -> u64
+        ensures { result ≡ self.now.evaluations }
+    {
+        self.evaluations
+    }
+
+    /// How many decisions were to be held, and weren't for want of memory.
+    pub(crate) fn unkept(&self) -> u64
+        ensures { result ≡ self.now.unkept }
+    {
+        self.unkept
+    }
+
+    /// The reply by the decision that is held under the key, which is its newest use then.
+    pub(crate) fn held_reply(
+        &mut self,
+        alloc: Global,
+        key: &Key,
+        body: &[u8],
+    ) -> Result<Option<Items<u8>>, AllocError>
+        ensures found { IfOk result (λ reply. reply ≡ option_map decision_reply (body_held key.now body.now self.old)) }
+        ensures moves { IsLookedUp (body_held key.now body.now self.old) key.now self.old self.new }
+    {
+        if body.len() > MAX_HELD_BYTES {
+            return Ok(None);
+        }
+        match self.cache.look(key) {
+            Some(body) => Ok(Some(decision_reply(alloc, body)?)),
+            None => Ok(None),
+        }
+    }
+
+    /// Holds a decision, or counts that it couldn't.
+    fn hold(&mut self, key: Key, body: Items<u8>)
+        ensures held { IsHeld true key body self.old self.new }
+        ensures evaluations { self.new.evaluations ≡ self.old.evaluations }
+    {
+        if !self.cache.keep(key, body) {
+            self.unkept = self.unkept.saturating_add(1);
+        }
+    }
+
+    /// Counts a decision that was worked out, and holds it where it is the same at every moment and neither body is too large.
+    pub(crate) fn note(&mut self, key: Key, responded: Responded)
+        ensures { IsWorkedOut key (Some (responded.body, responded.timeless)) self.old self.new }
+    {
+        self.evaluations = self.evaluations.saturating_add(1);
+        if responded.timeless && fits(&key, &responded.body) {
+            self.hold(key, responded.body);
+        }
+    }
+}

@@ -1,0 +1,151 @@
+//! The views that are kept ready: of each domain at most one, under its number.
+ghost use Rattle.std.specs.Prelude.{◌≡◌, ◌≤◌, ◌-◌, ◌^◌, true, false, [], take, min, nat_eq, nat_le, option_map, IfOk};
+ghost use Rattle.std.specs.Map.{remove_entry};
+ghost use Rattle.xa_server.specs.Views.{fitting, in_front, shortened, touched, view_ready, with_view, without};
+
+use crate::ready::Ready;
+use lru::LruCache;
+use std::alloc::{AllocError, Global};
+use std::cmp;
+use std::marker::Model;
+use xa_decide::View;
+
+/// The most views that are kept.
+const MAX_VIEWS: usize = 128;
+
+/// The most bytes that they take together, by their estimates: 256 MiB.
+const MAX_BYTES: usize = 268_435_456;
+
+/// The most bytes that one of them takes: a quarter of all.
+const MAX_VIEW_BYTES: usize = 67_108_864;
+
+/// Views that are kept ready, each under its domain's number. The map would hold any number of them: how many stay is said here.
+#[derive(Drop)]
+pub(crate) struct Views {
+    ready: LruCache<u64, Ready>,
+    most: usize,
+}
+
+impl Model for Views {
+    ghost use Rattle.std.specs.Prelude.{◌≡◌, ◌-◌, ◌^◌};
+    ghost use Rattle.std.specs.Coded.{codes};
+    ghost use Rattle.xa_server.specs.contracts.ready.Ready as entry;
+    ghost use Rattle.xa_server.specs.Views.{Room};
+
+    ghost Value = { Room };
+
+    ghost coded = { Prim.hlevel (codes, entry.the_row.coded) };
+
+    ghost view = { λ v. record { views = v.ready.entries; most = v.most } };
+
+    ghost invariant = { λ v. v.ready.cap ≡ 2 ^ 64 - 1 };
+}
+
+impl Views {
+    /// No views, and room for 128.
+    pub(crate) fn new(alloc: Global) -> Result<Views, AllocError>
+        ensures { IfOk result (λ views. views ≡ record { views = []; most = 128 }) }
+    {
+        Ok(Views {
+            ready: LruCache::unbounded(alloc)?,
+            most: MAX_VIEWS,
+        })
+    }
+
+    /// No views, and room for so many, or for 128, whichever is less.
+    pub(crate) fn emptied(self, most: usize) -> Views
+        ensures { result ≡ record { views = []; most = min most 128 } }
+    {
+        let Views { mut ready, most: _ } = self;
+        ready.clear();
+        Views {
+            ready,
+            most: cmp::min(most, MAX_VIEWS),
+        }
+    }
+
+    /// For how many views there is room.
+    pub(crate) fn most(&self) -> usize
+        ensures { result ≡ self.now.most }
+    {
+        self.most
+    }
+
+    /// The view under that number, if it is of that epoch: one look-up.
+    pub(crate) fn find(&self, number: u64, epoch: u64) -> Option<&View>
+        ensures { option_map (λ view. view.now) result ≡ view_ready number epoch self.now.views }
+    {
+        match self.ready.peek(&number) {
+            Some(ready) if ready.epoch == epoch => Some(&ready.view),
+            _ => None,
+        }
+    }
+
+    /// Makes the view under that number the one that was used last: one look-up.
+    pub(crate) fn touch(&mut self, number: u64)
+        ensures { self.new ≡ touched number self.old }
+    {
+        self.ready.promote(&number);
+    }
+
+    /// Keeps the view under that number, in the place of any that was there, as the one that was used last, and answers whether it was kept: not where it is too
+    /// large, nor where there is no memory for it. The one that was not used for longest goes, until there is room for all. What this costs grows with the views
+    /// that are kept, of which each is looked at once, and with those that go.
+    pub(crate) fn keep(&mut self, number: u64, ready: Ready) -> bool
+        ensures kept { result ≡ true → self.new ≡ with_view number ready self.old }
+        ensures left { result ≡ false → self.new ≡ without number self.old }
+        ensures too_large { nat_le ready.bytes 67_108_864 ≡ false → result ≡ false }
+    {
+        if self.most == 0 || ready.bytes > MAX_VIEW_BYTES {
+            self.ready.pop(&number);
+            return false;
+        }
+        if !put(&mut self.ready, number, ready) {
+            self.ready.pop(&number);
+            return false;
+        }
+        shorten(&mut self.ready, self.most);
+        true
+    }
+}
+
+/// Puts the view first, where there is memory.
+fn put(views: &mut LruCache<u64, Ready>, number: u64, ready: Ready) -> bool
+    requires { views.old.cap ≡ 2 ^ 64 - 1 }
+    ensures cap { views.new.cap ≡ 2 ^ 64 - 1 }
+    ensures put { result ≡ true → views.new.entries ≡ in_front number ready views.old.entries }
+    ensures left { result ≡ false → views.new ≡ views.old }
+{
+    let _length = views.len();
+    match views.put(number, ready) {
+        Ok(_) => true,
+        Err(_) => false,
+    }
+}
+
+/// How many of the views that were used last find room.
+fn fitting(views: &LruCache<u64, Ready>, most: usize) -> usize
+    ensures { result ≡ fitting most 268_435_456 views.now.entries }
+{
+    let mut count = 0usize;
+    let mut bytes = MAX_BYTES;
+    for (_, ready) in views.iter() {
+        if count >= most || ready.bytes > bytes {
+            return count;
+        }
+        bytes -= ready.bytes;
+        count += 1;
+    }
+    count
+}
+
+/// Lets the views go that find no room.
+fn shorten(views: &mut LruCache<u64, Ready>, most: usize)
+    ensures cap { views.new.cap ≡ views.old.cap }
+    ensures entries { views.new.entries ≡ shortened most views.old.entries }
+{
+    let count = fitting(views, most);
+    while views.len() > count {
+        views.pop_lru();
+    }
+}
