@@ -10,6 +10,7 @@ from contexts import CLOCK, ENVIRONMENT
 from expressions import Designator
 from linking import TooLarge, linked
 from machines import Server, view
+from policies import LEAF
 from requests import NotProfile, individuals_of, request_of
 from route_bodies import reference_shown, rows_shown
 from routes import owner, route_of
@@ -58,10 +59,25 @@ class Views:
             self.held.popitem(last=False)
 
 
+def places_of(tree):
+    """The policies, sets and references of a tree that have no document."""
+    return 1 if tree == LEAF else 1 + sum(map(places_of, tree.children))
+
+
+def places(deciders):
+    """The places of the tree that decides; none where there is no root, or its tree is too large."""
+    if deciders.root is None:
+        return 0
+    try:
+        return places_of(linked(deciders.active, deciders.root))
+    except TooLarge:
+        return 0
+
+
 def size_of_view(state):
     """The memory that a view of the domain takes, by the server's estimate."""
     texts = sum(len(stored.text) for stored in state.documents.values() if stored.is_active)
-    return 16 * texts + 512 * len(state.rows) + 524_288
+    return 16 * texts + 512 * len(state.rows) + 96 * places(view(state)) + 524_288
 
 
 def designators(held):

@@ -122,7 +122,8 @@ class Exchanges:
         for name in self.random.sample(NAMES, self.one_of([0, 1, 1, 2, 2, 3])):
             tokens = self.random.sample(TOKENS, self.random.randint(1, 3))
             fields += ["domain:" + name] + [self.one_of(["ask:", "admin:"]) + encoded(token) for token in tokens] + self.view()
-        return fields + [self.one_of(["domain:acme", "domain:Acme", "domain:", "ask:short"])] * self.seldom(0.03)
+        slips = ["domain:acme", "domain:Acme", "domain:"] + ["ask:short"] * bool(fields)
+        return fields + [self.one_of(slips)] * self.seldom(0.03)
 
     def begin(self):
         """Another server, and the fields that make it."""

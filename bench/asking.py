@@ -1,0 +1,33 @@
+"""A domain of one policy of ten rules, and asks for its decisions."""
+import json
+
+from transcripts import OPERATOR, TOKEN, message
+
+RULES = "urn:oasis:names:tc:xacml:3.0:rule-combining-algorithm:deny-overrides"
+IDS = "urn:oasis:names:tc:xacml:1.0:"
+
+
+def rule(number):
+    match = {"MatchId": IDS + "function:string-equal", "AttributeValue": {"DataType": "string", "Value": f"read-{number}"},
+             "AttributeDesignator": {"Category": "Action", "AttributeId": IDS + "action:action-id", "DataType": "string", "MustBePresent": False}}
+    return {"RuleId": str(number), "Effect": "Permit", "Target": {"AnyOf": [{"AllOf": [{"Match": [match]}]}]}}
+
+
+def policy(**members):
+    return json.dumps({"Policy": {"PolicyId": "urn:p", "Version": "1.0", "RuleCombiningAlgId": RULES, "Rule": [rule(number) for number in range(10)], **members}})
+
+
+def domain(name, text):
+    """The messages that make a domain with that policy."""
+    at = f"/domains/{name}/pap"
+    return [message("PUT", f"/operator/domains/{name}", OPERATOR),
+            message("POST", f"/operator/domains/{name}/tokens", OPERATOR, json.dumps({"Role": "admin", "Token": TOKEN})),
+            message("POST", f"{at}/policies", TOKEN, text), message("PUT", f"{at}/policy/urn:p/1.0/active", TOKEN),
+            message("PUT", f"{at}/root", TOKEN, json.dumps({"PolicyIdReference": {"Id": "urn:p"}}))]
+
+
+def ask(name, number, token=TOKEN):
+    """An ask with three attributes, whose subject has the number."""
+    found = [("AccessSubject", "subject:subject-id", f"person-{number:06}"), ("Resource", "resource:resource-id", "a-document"), ("Action", "action:action-id", "read-9")]
+    request = {category: {"Attribute": [{"AttributeId": IDS + name, "Value": value}]} for category, name, value in found}
+    return message("POST", f"/domains/{name}/pdp", token, json.dumps({"Request": request}, separators=(",", ":")))
