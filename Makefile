@@ -12,8 +12,8 @@ crate = $(or $(NAME),$(error make $@ NAME: the name of a crate is missing, one o
 help:
 	@awk -F ':.*## ' '/^[a-z-]+:.*## / { printf "  make %-12s %s\n", $$1 ($$1 ~ /^(try|check|edits)$$/ ? " NAME" : ""), $$2 }' Makefile
 
-run: ## answers six stored messages, from a new domain to a decision; compiles without proving, in about a minute
-	@echo '# Compiled without proving, in about 40 s (rt try); `make test` proves it.'
+run: ## answers six stored messages, from a new domain to a decision; compiles without proving, in two minutes
+	@echo '# Compiled without proving, in two minutes (rt try); `make test` proves it.'
 	@echo '# The messages, each an entry of a transcript: a line with connection, moment and length, then the bytes.'
 	@cat crates/pdpd/stdin
 	@echo '# The replies: each a line with connection and length, then the bytes.'
