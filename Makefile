@@ -12,13 +12,9 @@ crate = $(or $(NAME),$(error make $@ NAME: the name of a crate is missing, one o
 help:
 	@awk -F ':.*## ' '/^[a-z-]+:.*## / { printf "  make %-12s %s\n", $$1 ($$1 ~ /^(try|check|edits)$$/ ? " NAME" : ""), $$2 }' Makefile
 
-run: ## answers six stored messages, from a new domain to a decision; compiles without proving, in two minutes
-	@echo '# Compiled without proving, in two minutes (rt try); `make test` proves it.'
-	@echo '# The messages, each an entry of a transcript: a line with connection, moment and length, then the bytes.'
-	@cat crates/pdpd/stdin
-	@echo '# The replies: each a line with connection and length, then the bytes.'
-	@cd crates/pdpd; log=$$(mktemp); trap 'rm -f "$$log"' EXIT; \
-	rt try -- $$(cat args) < stdin 2> "$$log" || { cat "$$log" >&2; exit 1; }
+run: ## serves the ward's example over a file and asks it by curl, stops, and asks once more; compiles without proving where nothing is built
+	@if [ -x crates/pdpd/out/pdpd ]; then examples/ward/walk; else \
+	echo '# Compiled without proving (rt try), in five minutes; `make test` proves it, and then `make run` takes what it built.'; examples/ward/walk rt try --; fi
 
 # the word after `try`, `check` or `edits` is a crate's name, and no target
 ifneq (,$(filter try check edits,$(firstword $(MAKECMDGOALS))))
@@ -40,6 +36,8 @@ test: ## the gate: every proof from nothing, the must-fail edits, the tests and 
 	rt ci
 	tests/program
 	tests/api
+	tests/serve
+	tests/tables
 
 api: pdpd ## proves and builds pdpd, and sends it every example of the API reference (docs/API.md, docs/openapi.yaml)
 	tests/api

@@ -13,19 +13,17 @@ use Rattle.xa_http.specs.Messages.{Cuts, IsNext}
 use Rattle.xa_http.specs.Stream.{Stream}
 use Rattle.xa_http.proofs.LawLemmas.{takes_on}
 use Rattle.xa_server.specs.Alone.{Event}
+use Rattle.xa_server.specs.Connection.{HasMessages, messages_of}
 use Rattle.xa_server.specs.ErrorCode.{code_of_session_fault, error_reply}
 use Rattle.xa_server.specs.declared.replies.Reply.{Reply}
 use Rattle.xa_server.specs.Replies.{bytes_of}
 use Rattle.xa_server.specs.Served.{IsRun}
 use Rattle.xa_server.specs.World.{World}
+use Rattle.xa_server.proofs.ConnectionLemmas.{appends_none, appends_trans, cuts_trans, has_after, run_trans}
 use Rattle.pdpd.specs.declared.answers.Stop.{Stop}
 use Rattle.pdpd.specs.declared.answers.Stop.TheVariants as stop
 use Rattle.pdpd.specs.Batch.{AreAnswered, HasTaken, IsBatch}
-use Rattle.pdpd.specs.Entry.{HasMessages, IsEntryAnswered, events_at, reply_entries, reply_entry}
-
--- the messages of events
-abbrev pub messages_of : List Event → List Message
-messages_of events = map (λ (event : Event). event.1) events
+use Rattle.pdpd.specs.Entry.{IsEntryAnswered, events_at, reply_entries, reply_entry}
 
 -- these messages, each at the moment, were taken off the stream
 unfoldable pub TakenSoFar : ℤ → Stream → Stream → List Event → Type 0
@@ -80,12 +78,6 @@ pub taken_full : (moment : ℤ) (first now : Stream) (events : List Event) → T
 unfolding TakenSoFar
 taken_full moment first now events taken = taken.1
 
-appends_trans : (a b c : Option (List ℕ)) (bs cs : List ℕ) → Appends a b bs → Appends b c cs → Appends a c (bs ++ cs)
-appends_trans None b c bs cs p q = tt
-appends_trans (Some x) None c bs cs p q = absurd p
-appends_trans (Some x) (Some y) None bs cs p q = absurd q
-appends_trans (Some x) (Some y) (Some z) bs cs p q = q ∙ ap (λ (l : List ℕ). l ++ cs) p ∙ append_assoc x bs cs
-
 pub wrote_more : (connection : ℕ) (replies : List Reply) (i : ℕ) (d : Reply) (a b c : Option (List ℕ)) → i < length replies
     → Appends a b (flat_map (reply_entry connection) (map bytes_of (take i replies)))
     → Appends b c (reply_entry connection (bytes_of (get_or replies i d)))
@@ -99,25 +91,6 @@ wrote_more connection replies i d a b c within before here =
     ∙ flat_map-append entry (map bytes_of (take i replies)) (bytes_of (get_or replies i d) ∷ [])
     ∙ ap (λ (bs : List ℕ). flat_map entry (map bytes_of (take i replies)) ++ bs) one in
     subst (λ (bs : List ℕ). Appends a c bs) (sym all) (appends_trans a b c _ _ before here)
-
-appends_none : (a : Option (List ℕ)) → Appends a a []
-appends_none None = tt
-appends_none (Some x) = sym (append-nil x)
-
--- messages that are taken after others
-cuts_trans : (a b c : Stream) (ms ns : List Message) → Cuts a ms b → Cuts b ns c → Cuts a (ms ++ ns) c
-cuts_trans a b c [] ns same later = subst (λ (s : Stream). Cuts s ns c) (sym same) later
-cuts_trans a b c (m ∷ ms) ns first later = (first.0, first.1, cuts_trans first.0 b c ms ns first.2 later)
-
-has_after : (a b c : Stream) (ms ns : List Message) (fault : Option SessionFault) → Cuts a ms b → HasMessages b ns fault c → HasMessages a (ms ++ ns) fault c
-has_after a b c ms ns fault cut has = (has.0, cuts_trans a b has.0 ms ns cut has.1, has.2)
-
--- a run after another
-run_trans : (a b c : World) (es fs : List Event) (rs qs : List Reply) → IsRun a es rs b → IsRun b fs qs c → IsRun a (es ++ fs) (rs ++ qs) c
-run_trans a b c [] fs [] qs same later = subst (λ (w : World). IsRun w fs qs c) same later
-run_trans a b c (e ∷ es) fs (r ∷ rs) qs first later = (first.0, first.1, run_trans first.0 b c es fs rs qs first.2 later)
-run_trans a b c [] fs (r ∷ rs) qs none later = absurd none
-run_trans a b c (e ∷ es) fs [] qs none later = absurd none
 
 -- what was answered after other messages
 answers_after : (connection : ℕ) (moment : ℤ) (a b c : World) (ms ns : List Message) (x y z : Option (List ℕ))
@@ -176,7 +149,7 @@ answered_without_fault connection moment bytes old new stream first after before
     run = is.2.run;
     has_messages = subst (λ (s : Stream). HasMessages s is.0 None after) feeds is.1;
     is_run = is.2.is_run;
-    all_replies = sym (append-nil (map bytes_of is.2.run));
+    are_all = sym (append-nil (map bytes_of is.2.run));
   },
   is.2.written,
 )
@@ -200,7 +173,7 @@ answered_with_fault connection moment bytes old new stream first after before no
         run = is.2.run;
         has_messages = subst (λ (s : Stream). HasMessages s is.0 (Some fault) after) feeds is.1;
         is_run = is.2.is_run;
-        all_replies = ap (λ (r : List ℕ). run ++ r ∷ []) same;
+        are_all = ap (λ (r : List ℕ). run ++ r ∷ []) same;
       },
       subst (λ (bs : List ℕ). Appends before last bs) (sym all) (appends_trans before now last _ _ is.2.written wrote),
     )

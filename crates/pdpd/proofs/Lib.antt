@@ -1,2 +1,4 @@
 pub mod EntryLemmas
 pub mod PartLemmas
+pub mod ServingLemmas
+pub mod TokenLemmas

@@ -10,7 +10,8 @@ use Rattle.xa_server.specs.Served.{IsRun}
 use Rattle.xa_server.specs.World.{World}
 use Rattle.pdpd.specs.declared.answers.Stop.{Stop}
 use Rattle.pdpd.specs.declared.answers.Stop.TheVariants as stop
-use Rattle.pdpd.specs.Entry.{HasMessages, events_at, reply_entries}
+use Rattle.xa_server.specs.Connection.{HasMessages}
+use Rattle.pdpd.specs.Entry.{events_at, reply_entries}
 
 -- these messages were taken off the stream, and no more of them for that reason
 abbrev pub HasTaken : Stream → List Message → Stop → Stream → Type 0

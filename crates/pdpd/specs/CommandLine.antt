@@ -1,7 +1,34 @@
--- The command line: `pdpd replay OPERATOR-TOKEN`.
-use Rattle.std.specs.Prelude.{ℕ, List, [], ◌∷◌, Option, Some, None, if◌then◌else◌, bytes_eq, codes}
+-- The command line, and the variable PDPD_WORK of the environment.
+use Rattle.std.specs.Prelude.{ℕ, ◌==◌, ◌^◌, ◌-◌, List, [], ◌∷◌, Option, Some, None, if◌then◌else◌, bytes_eq, codes, option_map}
+use Rattle.std.specs.Option.{option_and_then}
+use Rattle.xa_value.specs.Digits.{number_up_to}
+use Rattle.pdpd.specs.declared.command_line.Command.{Command}
+use Rattle.pdpd.specs.declared.command_line.Command.TheVariants.{Help, Version, Replay, Serve}
 
--- the operator's token, where the words after the program's name are `replay` and that token, and no others
-abbrev pub operator_token : List (List ℕ) → Option (List ℕ)
-operator_token (program ∷ command ∷ token ∷ []) = if bytes_eq command (codes "replay") then Some token else None
-operator_token _ = None
+-- the number of connections that plain digits write, from 1 to 1,000,000
+unfoldable pub connections_of : List ℕ → Option ℕ
+connections_of text = option_and_then (λ n. if n == 0 then None else Some n) (number_up_to 1_000_000 text)
+
+-- what the one word after the program's name asks for
+unfoldable pub option_of : List ℕ → Option Command
+option_of word =
+    if bytes_eq word (codes "--help") then Some Help
+    else (if bytes_eq word (codes "--version") then Some Version else None)
+
+-- what the four words after `serve` ask for
+unfoldable pub serving_of : List ℕ → List ℕ → List ℕ → List ℕ → Option Command
+serving_of database address token_file connections =
+    option_map (λ n. Serve (record { database = database; address = address; token_file = token_file; connections = n })) (connections_of connections)
+
+-- what the words ask for, of which the first is the program's name
+abbrev pub command_of : List (List ℕ) → Option Command
+command_of (program ∷ word ∷ []) = option_of word
+command_of (program ∷ word ∷ token ∷ []) = if bytes_eq word (codes "replay") then Some (Replay token) else None
+command_of (program ∷ word ∷ database ∷ address ∷ token_file ∷ connections ∷ []) =
+    if bytes_eq word (codes "serve") then serving_of database address token_file connections else None
+command_of _ = None
+
+-- the limit of work for one message, by what PDPD_WORK is set to, if it is: a number; 0 for none
+abbrev pub work_of : Option (List ℕ) → Option ℕ
+work_of None = Some 1_500_000_000
+work_of (Some text) = number_up_to 18_446_744_073_709_551_615 text

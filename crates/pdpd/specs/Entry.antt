@@ -1,36 +1,19 @@
 -- What the bytes of an entry are answered, and what is written of the replies.
-use Rattle.std.specs.Prelude.{◌≡◌, ℕ, ℤ, List, [], ◌∷◌, ◌++◌, ◌⊎◌, length, map, Option, Some, None, codes, decimal}
+use Rattle.std.specs.Prelude.{◌≡◌, ℕ, ℤ, List, ◌++◌, length, map, Option, codes, decimal}
 use Rattle.std.specs.Io.KnownBytes.{Appends}
 use Rattle.std.specs.List.{flat_map}
 use Rattle.xa_http.specs.declared.message.Message.{Message}
-use Rattle.xa_http.specs.declared.session.Next.TheVariants as next
 use Rattle.xa_http.specs.declared.fault.SessionFault.{SessionFault}
-use Rattle.xa_http.specs.Messages.{Cuts, IsNext}
 use Rattle.xa_http.specs.Stream.{Stream, fed}
 use Rattle.xa_server.specs.declared.replies.Reply.{Reply}
 use Rattle.xa_server.specs.Alone.{Event}
-use Rattle.xa_server.specs.ErrorCode.{code_of_session_fault, error_reply}
-use Rattle.xa_server.specs.Replies.{bytes_of}
+use Rattle.xa_server.specs.Connection.{HasMessages, all_replies}
 use Rattle.xa_server.specs.Served.{IsRun}
 use Rattle.xa_server.specs.World.{World}
-
--- what a session answers after the last whole message: the fault by which it ends, or that it wants more bytes, or that it has ended with that message
-abbrev pub StopsBy : Option SessionFault → Stream → Stream → Type 0
-StopsBy (Some fault) last new = IsNext last (next.Fault fault) new
-StopsBy None last new = IsNext last next.More new ⊎ IsNext last next.Ended new
-
--- these are the whole messages that a stream holds, and so it stops after them
-abbrev pub HasMessages : Stream → List Message → Option SessionFault → Stream → Type 0
-HasMessages old messages fault new = (last : Stream) × Cuts old messages last × StopsBy fault last new
 
 -- the messages, each at that moment
 abbrev pub events_at : ℤ → List Message → List Event
 events_at moment messages = map (λ message. (moment, message)) messages
-
--- the reply to the fault, if there is one
-abbrev pub fault_replies : Option SessionFault → List (List ℕ)
-fault_replies None = []
-fault_replies (Some fault) = error_reply (code_of_session_fault fault) ∷ []
 
 -- what is written of a reply: a line of its connection and the count of its bytes, the bytes, and a line feed
 abbrev pub reply_entry : ℕ → List ℕ → List ℕ
@@ -48,7 +31,7 @@ pub record IsAnswered (moment : ℤ) (old new : World) (stream after : Stream) (
   pub run : List Reply
   pub has_messages : HasMessages stream messages fault after
   pub is_run : IsRun old (events_at moment messages) run new
-  pub all_replies : replies ≡ map bytes_of run ++ fault_replies fault
+  pub are_all : replies ≡ all_replies run fault
 
 -- a stream took the bytes, and then what it holds was answered, and the replies were written to the connection
 abbrev pub IsEntryAnswered : ℕ → ℤ → List ℕ → World → World → Stream → Stream → Option (List ℕ) → Option (List ℕ) → Type 0

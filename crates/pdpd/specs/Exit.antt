@@ -1,9 +1,9 @@
 -- How the program ends.
-use Rattle.std.specs.Prelude.{ℕ, Bool, true, false}
+use Rattle.std.specs.Prelude.{ℕ, Bool, true, false, Result, Ok, Err}
 use Rattle.std.specs.declared.io.ErrorKind.{ErrorKind}
 use Rattle.std.specs.declared.io.ErrorKind.TheVariants.{OutOfMemory}
 use Rattle.pdpd.specs.declared.exit.Exit.{Exit}
-use Rattle.pdpd.specs.declared.exit.Exit.TheVariants.{Done, Failed, Usage, Malformed, Memory}
+use Rattle.pdpd.specs.declared.exit.Exit.TheVariants.{Done, Failed, Usage, Malformed, Store, Socket, Memory}
 
 -- the status with which it ends
 abbrev pub status_of : Exit → ℕ
@@ -11,6 +11,8 @@ status_of Done = 0
 status_of Failed = 1
 status_of Usage = 2
 status_of Malformed = 3
+status_of Store = 4
+status_of Socket = 5
 status_of Memory = 6
 
 -- how it ends where standard input or output fails with that kind of error
@@ -20,6 +22,7 @@ exit_of _ = Failed
 
 -- the exits in the middle of a transcript
 abbrev pub breaks_off : Exit → Bool
-breaks_off Done = false
-breaks_off Usage = false
-breaks_off _ = true
+breaks_off Failed = true
+breaks_off Malformed = true
+breaks_off Memory = true
+breaks_off _ = false

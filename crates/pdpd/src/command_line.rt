@@ -1,16 +1,117 @@
-//! The command line: `pdpd replay OPERATOR-TOKEN`.
-ghost use Rattle.std.specs.Prelude.{◌≡◌, Some, None, map, string_bytes, MatchOption};
+//! The command line, and the variable PDPD_WORK of the environment.
+ghost use Rattle.std.specs.Prelude.{◌≡◌, map, option_map, string_bytes};
 ghost use Rattle.pdpd.specs.CommandLine as spec;
 
 use std::alloc::Allocator;
+use xa_value::{TextRef, number_up_to};
 
-/// The operator's token on a command line, whose first word is the program's name.
-pub fn operator_token<A: Allocator>(words: &[String<A>]) -> Option<&str>
-    ensures { let given = spec.operator_token (map string_bytes words.now) in
-        MatchOption result (given ≡ None) (λ token. given ≡ Some token.now) }
+/// At most this many connections are served.
+const MAX_CONNECTIONS: usize = 1_000_000;
+
+/// The limit of work for one message where PDPD_WORK isn't set: some two seconds of work.
+const WORK: usize = 1_500_000_000;
+
+/// What `pdpd serve` is asked to do.
+#[derive(Debug, Drop)]
+pub struct Serving<'a> {
+    /// The path of the store.
+    pub database: TextRef<'a>,
+    /// The address at which connections are taken.
+    pub address: TextRef<'a>,
+    /// The path of the file whose first line is the operator's token.
+    pub token_file: TextRef<'a>,
+    /// How many connections are served.
+    pub connections: usize,
+}
+
+/// What the command line asks for.
+#[derive(Debug, Drop)]
+pub enum Command<'a> {
+    /// How the program is called.
+    Help,
+    /// Its version.
+    Version,
+    /// A transcript to be replayed, with that operator's token.
+    Replay(TextRef<'a>),
+    /// Connections to be served.
+    Serve(Serving<'a>),
+}
+
+/// The number of connections that a word of the command line writes.
+#[tactic(auto, unfolding(crate::specs::CommandLine::connections_of))]
+fn connections_of(text: &str) -> Option<usize>
+    ensures { result ≡ spec.connections_of text.now }
+{
+    match number_up_to(MAX_CONNECTIONS, text.as_bytes())? {
+        0 => None,
+        connections => Some(connections),
+    }
+}
+
+/// What one word asks for.
+#[tactic(auto, unfolding(crate::specs::CommandLine::option_of))]
+fn option_of(word: &str) -> Option<Command<'_>>
+    ensures { result ≡ spec.option_of word.now }
+{
+    match word {
+        "--help" => Some(Command::Help),
+        "--version" => Some(Command::Version),
+        _ => None,
+    }
+}
+
+/// What the four words after `serve` ask for.
+#[tactic(auto, unfolding(crate::specs::CommandLine::serving_of))]
+fn serving_of<'a>(
+    database: &'a str,
+    address: &'a str,
+    token_file: &'a str,
+    connections: &str,
+) -> Option<Command<'a>>
+    ensures { result ≡ spec.serving_of database.now address.now token_file.now connections.now }
+{
+    Some(Command::Serve(Serving {
+        database: TextRef::new(database),
+        address: TextRef::new(address),
+        token_file: TextRef::new(token_file),
+        connections: connections_of(connections)?,
+    }))
+}
+
+/// What the words of a command line ask for, of which the first is the program's name.
+pub fn command_of<A: Allocator>(words: &[String<A>]) -> Option<Command<'_>>
+    ensures { result ≡ spec.command_of (map string_bytes words.now) }
 {
     match words {
-        [_program, command, token] if command.as_str() == "replay" => Some(token.as_str()),
+        [_program, word] => option_of(word.as_str()),
+        [_program, command, token] if command.as_str() == "replay" => {
+            Some(Command::Replay(TextRef::new(token.as_str())))
+        }
+        [
+            _program,
+            command,
+            database,
+            address,
+            token_file,
+            connections,
+        ] if command.as_str() == "serve" => {
+            serving_of(
+                database.as_str(),
+                address.as_str(),
+                token_file.as_str(),
+                connections.as_str(),
+            )
+        }
         _ => None,
+    }
+}
+
+/// The limit of work for one message, by what PDPD_WORK is set to; 0 for none.
+pub fn work_of(set: Option<&str>) -> Option<usize>
+    ensures { result ≡ spec.work_of (option_map (λ text. text.now) set.entry) }
+{
+    match set {
+        None => Some(WORK),
+        Some(text) => number_up_to(usize::MAX, text.as_bytes()),
     }
 }

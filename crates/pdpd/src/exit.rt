@@ -15,10 +15,14 @@ pub enum Exit {
     Done,
     /// Standard input or output failed.
     Failed,
-    /// The command line isn't `pdpd replay OPERATOR-TOKEN`, or the token is malformed.
+    /// The command line asks for nothing that is done, or the token is malformed or can't be read.
     Usage,
     /// The transcript is malformed or cut. The replies of the entries before are written.
     Malformed,
+    /// The store can't be opened.
+    Store,
+    /// The socket or the clock failed.
+    Socket,
     /// There was no memory for it.
     Memory,
 }
@@ -33,6 +37,8 @@ impl Exit {
             Exit::Failed => 1,
             Exit::Usage => 2,
             Exit::Malformed => 3,
+            Exit::Store => 4,
+            Exit::Socket => 5,
             Exit::Memory => 6,
         })
     }
@@ -44,8 +50,10 @@ impl fmt::Display for Exit {
             Exit::Done => "pdpd: done",
             Exit::Failed => "pdpd: standard input or output failed",
             Exit::Usage =>
-                "usage: pdpd replay OPERATOR-TOKEN (the token: 8 to 64 visible ASCII characters)",
+                "usage: pdpd serve DATABASE ADDRESS TOKEN-FILE CONNECTIONS, or pdpd replay OPERATOR-TOKEN (8 to 64 visible ASCII characters); pdpd --help says more",
             Exit::Malformed => "pdpd: the transcript is malformed or cut",
+            Exit::Store => "pdpd: the store failed",
+            Exit::Socket => "pdpd: the socket or the clock failed",
             Exit::Memory => "pdpd: out of memory",
         };
         f.write_str(text)

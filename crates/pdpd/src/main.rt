@@ -1,20 +1,30 @@
-//! `pdpd replay OPERATOR-TOKEN`: answers the messages of a transcript.
+//! `pdpd serve DATABASE ADDRESS TOKEN-FILE CONNECTIONS`: answers the messages of connections, over a store in a file; and
+//! `pdpd replay OPERATOR-TOKEN`: answers those of a transcript.
 #![tactic(auto)]
+
+ghost use Rattle.std.specs.Prelude.{◌≡◌};
 
 mod answers;
 mod command_line;
 mod connection;
 mod exit;
+mod fault;
 mod heading;
+mod help;
 mod open_stream;
 mod replay;
+mod serve;
+mod store;
 #[cfg(test)]
 mod tests;
+mod token;
 mod transcript;
+mod wall_clock;
 mod writing;
 
-use command_line::operator_token;
+use command_line::{Command, Serving, command_of};
 use exit::Exit;
+use fault::FaultLine;
 use std::env;
 use std::io::ErrorKind;
 use std::process::ExitCode;
@@ -28,22 +38,56 @@ fn words(rt: &HostRuntime) -> Result<Vec<String>, Exit> {
     }
 }
 
-/// Replays standard input, where the command line asks for it.
+/// The exit, of which a line on standard error tells, unless all is done.
+fn told(rt: &HostRuntime, exit: Exit) -> Exit
+    ensures { result ≡ exit }
+{
+    if exit != Exit::Done {
+        let _ = rt.eprintln(exit);
+    }
+    exit
+}
+
+/// Prints a text.
+fn tell(rt: &HostRuntime, text: &str) -> Exit {
+    match rt.println(text) {
+        Ok(()) => Exit::Done,
+        Err(_) => told(rt, Exit::Failed),
+    }
+}
+
+/// Serves connections. A line on standard error tells of a fault.
+fn served(rt: &HostRuntime, serving: &Serving<'_>) -> Exit {
+    match serve::serve(rt, serving) {
+        Ok(()) => Exit::Done,
+        Err(fault) => {
+            let _ = rt.eprintln(FaultLine { serving, fault });
+            fault.exit()
+        }
+    }
+}
+
+/// Replays the transcript on standard input.
+fn replayed(rt: &HostRuntime, token: &str) -> Exit {
+    let exit = replay::replay(rt.alloc(), &mut rt.stdin(), &mut rt.stdout(), token);
+    told(rt, exit)
+}
+
+/// Does what the command line asks for.
 fn run(rt: &HostRuntime) -> Exit {
     let words = match words(rt) {
         Ok(words) => words,
-        Err(exit) => return exit,
+        Err(exit) => return told(rt, exit),
     };
-    match operator_token(&words) {
-        Some(token) => replay::replay(rt.alloc(), &mut rt.stdin(), &mut rt.stdout(), token),
-        None => Exit::Usage,
+    match command_of(&words) {
+        Some(Command::Help) => tell(rt, help::HELP),
+        Some(Command::Version) => tell(rt, help::VERSION),
+        Some(Command::Replay(token)) => replayed(rt, token.as_str()),
+        Some(Command::Serve(serving)) => served(rt, &serving),
+        None => told(rt, Exit::Usage),
     }
 }
 
 fn main(rt: HostRuntime) -> ExitCode {
-    let exit = run(&rt);
-    if exit != Exit::Done {
-        let _ = rt.eprintln(exit);
-    }
-    exit.status()
+    run(&rt).status()
 }

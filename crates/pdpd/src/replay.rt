@@ -2,7 +2,6 @@
 ghost use Rattle.std.specs.Prelude.{◌≡◌, ◌≢◌, ◌↔◌, Ok, false, IsTrue, IsFalse, IfOk, IfErr, [], ◌∷◌, slice_index_or, slice_set, replicate};
 ghost use Rattle.sha2.specs.Sha256.{sha256};
 ghost use Rattle.xa_notation.specs.Tokens.{is_token};
-ghost use Rattle.xa_records.specs.Kept.{nothing_kept};
 ghost use Rattle.pdpd.specs.Exit.{breaks_off};
 ghost use Rattle.pdpd.specs.declared.exit.Exit.TheVariants.{Memory, Usage};
 ghost use Rattle.pdpd.specs.declared.connection.Connection.TheVariants.{Closed, Ended};
@@ -12,13 +11,14 @@ use crate::connection::{Connection, closed_connections};
 use crate::exit::Exit;
 use crate::heading::Heading;
 use crate::open_stream::OpenStream;
+use crate::store::records_in_memory;
 use crate::transcript::Transcript;
 use std::alloc::Global;
 use std::io::{BufWriter, Read, Write};
 use std::mem;
 use xa_http::Session;
 use xa_notation::is_token;
-use xa_records::{Digest, PlainRecords, Records};
+use xa_records::{Digest, Records};
 use xa_server::Server;
 
 /// How many bytes of replies are held before they are written.
@@ -33,26 +33,23 @@ struct Replayer<R: Records + Drop, W: Write + Drop> {
     writer: BufWriter<W>,
 }
 
-impl<W: Write + Drop> Replayer<PlainRecords, W> {
-    /// Over no domains, with all connections closed.
-    fn new(alloc: Global, writer: W, token: &str) -> Result<Replayer<PlainRecords, W>, Exit>
+impl<R: Records + Drop, W: Write + Drop> Replayer<R, W> {
+    /// Over what a keeper keeps, with all connections closed.
+    fn new(alloc: Global, records: R, writer: W, token: &str) -> Result<Replayer<R, W>, Exit>
         ensures operator { IfOk result (λ replayer. replayer.server.operator ≡ sha256 token.now) }
-        ensures kept { IfOk result (λ replayer. ⟦<PlainRecords as Records>⟧.kept replayer.server.records ≡ nothing_kept) }
-        ensures sound { IfOk result (λ replayer. ⟦<PlainRecords as Records>⟧.sound replayer.server.records) }
+        ensures records { IfOk result (λ replayer. replayer.server.records ≡ records) }
         ensures closed { IfOk result (λ replayer. replayer.connections.items ≡ replicate 64 Closed) }
         ensures err { IfErr result (λ exit. exit ≡ Memory) }
     {
         let operator = Digest::of(token.as_bytes());
         Ok(Replayer {
             alloc,
-            server: Server::new(alloc, PlainRecords::new(alloc), operator)?,
+            server: Server::new(alloc, records, operator)?,
             connections: closed_connections(alloc)?,
             writer: BufWriter::with_capacity(alloc, BUFFER_BYTES, writer)?,
         })
     }
-}
 
-impl<R: Records + Drop, W: Write + Drop> Replayer<R, W> {
     /// Hands the bytes of an entry to its connection, and writes the replies to them.
     fn entry(&mut self, heading: Heading, bytes: &[u8]) -> Result<(), Exit>
         ensures sound { R.sound self.new.server.records → R.sound self.old.server.records }
@@ -151,8 +148,32 @@ fn answer_all<I: Read, R: Records + Drop, W: Write + Drop>(
     Ok(())
 }
 
-/// Answers the messages of a transcript, each at the moment of the entry that makes it whole, and writes the replies.
-/// `token` is the operator's. What was answered is written, however it ends.
+/// Answers the messages of a transcript over a keeper, each at the moment of the entry that makes it whole, and writes the
+/// replies. `token` is the operator's. What was answered is written, however it ends.
+fn replay_over<R: Records + Drop, I: Read, W: Write + Drop>(
+    alloc: Global,
+    records: R,
+    reader: &mut I,
+    writer: W,
+    token: &str,
+) -> Exit
+    ensures { result ≢ Usage }
+{
+    let mut replayer = match Replayer::new(alloc, records, writer, token) {
+        Ok(replayer) => replayer,
+        Err(exit) => return exit,
+    };
+    let exit = match answer_all(alloc, reader, &mut replayer) {
+        Ok(()) => Exit::Done,
+        Err(exit) => exit,
+    };
+    match replayer.writer.flush() {
+        Ok(()) => exit,
+        Err(error) => Exit::from(error),
+    }
+}
+
+/// Answers the messages of a transcript, over a store in memory that keeps no domains yet.
 pub fn replay<I: Read, W: Write + Drop>(
     alloc: Global,
     reader: &mut I,
@@ -164,16 +185,8 @@ pub fn replay<I: Read, W: Write + Drop>(
     if !is_token(token.as_bytes()) {
         return Exit::Usage;
     }
-    let mut replayer = match Replayer::new(alloc, writer, token) {
-        Ok(replayer) => replayer,
-        Err(exit) => return exit,
-    };
-    let exit = match answer_all(alloc, reader, &mut replayer) {
-        Ok(()) => Exit::Done,
+    match records_in_memory(alloc) {
+        Ok(records) => replay_over(alloc, records, reader, writer, token),
         Err(exit) => exit,
-    };
-    match replayer.writer.flush() {
-        Ok(()) => exit,
-        Err(error) => Exit::from(error),
     }
 }

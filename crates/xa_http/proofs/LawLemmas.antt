@@ -12,7 +12,7 @@ use Rattle.xa_http.specs.declared.session.Next.TheVariants as next
 use Rattle.xa_http.specs.Length.{body_length}
 use Rattle.xa_http.specs.Stream.{Stream, fed}
 use Rattle.xa_http.specs.Messages.{Cuts, IsFirst, window, message_of, fields_of, BeginsWithHead, BeginsWithMessage, IsUnfinished, IsOpeningFaulty, IsFaulty}
-use Rattle.xa_http.specs.Laws.{KeepsMessages, KeepsFaults, AnswersMessages, FeedsOn, TakesOn, HasOneCut, feeds, answers, GoesThrough, bytes_fed, messages_answered, StopsAt, AnswersFirstMessages}
+use Rattle.xa_http.specs.Laws.{KeepsMessages, KeepsFaults, FaultsAreFinal, AnswersMessages, FeedsOn, TakesOn, HasOneCut, feeds, answers, GoesThrough, bytes_fed, messages_answered, StopsAt, AnswersFirstMessages}
 
 -- the front of more bytes begins with the front of those
 front_of_more : (n : ℕ) (held more : List ℕ) → (rest : List ℕ) × (take n (held ++ more) ≡ take n held ++ rest)
@@ -122,6 +122,9 @@ whole_not_faulty held m r fault x (inr head) =
     let s = same_head held x.0 head.0 (m.body ++ r) head.1 x.1 head.2 in
     let both : Ok (length m.body) ≡ Err fault = sym x.2 ∙ ap (λ (h : RequestHead). body_length (fields_of h)) s.0 ∙ head.3 in
     cc
+
+pub faults_are_final : FaultsAreFinal
+faults_are_final held more fault message rest faulty begins = whole_not_faulty (held ++ more) message rest fault begins (keeps_faults held more fault faulty)
 
 pub answers_messages : AnswersMessages
 answers_messages old message rest (next.Message other) new first is =

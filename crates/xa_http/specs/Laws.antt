@@ -17,6 +17,12 @@ KeepsMessages =
 abbrev pub KeepsFaults : Type 0
 KeepsFaults = (held more : List ℕ) (fault : SessionFault) → IsFaulty held fault → IsFaulty (held ++ more) fault
 
+-- and so no bytes that follow make a message of it
+abbrev pub FaultsAreFinal : Type 0
+FaultsAreFinal =
+    (held more : List ℕ) (fault : SessionFault) (message : Message) (rest : List ℕ)
+    → IsFaulty held fault → ¬ (BeginsWithMessage (held ++ more) message rest)
+
 -- where a stream has a first message, it is the only answer, and the stream goes on after it
 abbrev pub AnswersMessages : Type 0
 AnswersMessages =

@@ -1,11 +1,14 @@
 //! The law of a stream: however it is cut into pieces, its messages are the same.
-ghost use Rattle.xa_http.specs.Laws.{KeepsMessages, KeepsFaults, AnswersMessages, FeedsOn, TakesOn, HasOneCut, AnswersFirstMessages};
+ghost use Rattle.xa_http.specs.Laws.{KeepsMessages, KeepsFaults, FaultsAreFinal, AnswersMessages, FeedsOn, TakesOn, HasOneCut, AnswersFirstMessages};
 
 /// Law: however a stream is cut into pieces, its messages are the same.
 pub fn pieces_make_no_difference()
     // Bytes that follow leave a message at the front, and a fault there, as they were.
     ensures messages { KeepsMessages }
     ensures faults { KeepsFaults }
+
+    // So a fault is answered only where no continuation is a message.
+    ensures for_good { FaultsAreFinal }
 
     // Where a message stands at the front, a session answers that message and nothing else.
     ensures answers { AnswersMessages }

@@ -154,6 +154,7 @@ fn compact(buffer: &mut Vec<u8>, start: &mut usize)
     requires { start.old ≤ length buffer.old.items }
     ensures held { drop start.new buffer.new.items ≡ drop start.old buffer.old.items }
     ensures within { start.new ≤ length buffer.new.items }
+    ensures short { start.new ≤ length (drop start.new buffer.new.items) }
 {
     let held = buffer.len() - *start;
     if *start > held {

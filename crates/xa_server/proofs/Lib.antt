@@ -2,6 +2,8 @@ pub mod AdmissionLemmas
 pub mod AnswerLemmas
 pub mod AskingLemmas
 pub mod AuthorizationLemmas
+pub mod ConnectionLemmas
+pub mod DrivingLemmas
 pub mod GrowthLemmas
 pub mod IsolationLemmas
 pub mod NameLemmas

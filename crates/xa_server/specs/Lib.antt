@@ -19,3 +19,6 @@ pub mod Tokens
 pub mod Growth
 pub mod Stop
 pub mod Handling
+pub mod Connection
+pub mod Driven
+pub mod Driving

@@ -1,0 +1,153 @@
+//! Why `pdpd serve` ends before its connections are served, as one line that says what to do.
+ghost use Rattle.std.specs.Prelude.{◌≡◌};
+ghost use Rattle.pdpd.specs.Fault.{exit_of_fault};
+
+use crate::command_line::Serving;
+use crate::exit::Exit;
+use std::alloc::{AllocError, AllocFailed};
+use std::fmt;
+
+/// Why a store can't be opened.
+#[derive(Clone, Copy, Debug, PartialEq, Eq)]
+pub enum StoreFault {
+    /// The file isn't there and can't be made, or can't be opened.
+    Unopened,
+    /// Another program has it open.
+    Busy,
+    /// The file is no database that can be read.
+    NoDatabase,
+    /// The file's pages are damaged.
+    Corrupt,
+    /// It has other tables.
+    Schema,
+    /// A row is damaged.
+    Row,
+    /// The disk is full.
+    Full,
+    /// The disk failed.
+    Disk,
+}
+
+impl StoreFault {
+    fn advice(self) -> &'static str {
+        match self {
+            StoreFault::Unopened =>
+                "can't be opened; its folder has to be there, and this user has to be allowed to write in it",
+            StoreFault::Busy => "another program has it open; stop that one first",
+            StoreFault::NoDatabase =>
+                "not a database of SQLite that can be read; name another file",
+            StoreFault::Corrupt => "the file is damaged; put back a backup",
+            StoreFault::Schema => "not a store of this program (schema)",
+            StoreFault::Row => "a row of the store is damaged; put back a backup",
+            StoreFault::Full => "the disk is full; make room on it",
+            StoreFault::Disk => "the disk failed; look after it, or put back a backup",
+        }
+    }
+}
+
+/// Why connections aren't served, or no more of them.
+#[derive(Clone, Copy, Debug, PartialEq, Eq)]
+pub enum Fault {
+    /// The address is no IP address with a port.
+    Address,
+    /// PDPD_WORK is no number.
+    Work,
+    /// The token file can't be read.
+    TokenUnread,
+    /// Its first line is no token.
+    TokenBad,
+    /// The store can't be opened.
+    Store(StoreFault),
+    /// No connections can be taken at the address.
+    Socket,
+    /// Taking a connection failed.
+    Connection,
+    /// The clock can't be read.
+    Clock,
+    /// Standard output failed.
+    Output,
+    /// There was no memory.
+    Memory,
+}
+
+impl Fault {
+    /// How the program ends.
+    pub fn exit(self) -> Exit
+        ensures { result ≡ exit_of_fault self }
+    {
+        match self {
+            Fault::Address | Fault::Work | Fault::TokenUnread | Fault::TokenBad => Exit::Usage,
+            Fault::Store(_) => Exit::Store,
+            Fault::Socket | Fault::Connection | Fault::Clock => Exit::Socket,
+            Fault::Output => Exit::Failed,
+            Fault::Memory => Exit::Memory,
+        }
+    }
+
+    /// What to do about it.
+    fn advice(self) -> &'static str {
+        match self {
+            Fault::Address => "not an IP address, `:` and a port, such as 127.0.0.1:8080",
+            Fault::Work => "PDPD_WORK is to be a number of units of work, or 0 for no limit",
+            Fault::TokenUnread =>
+                "can't be read; its first line is to be the operator's token (8 to 64 visible ASCII characters)",
+            Fault::TokenBad => "its first line is no token (8 to 64 visible ASCII characters)",
+            Fault::Store(fault) => fault.advice(),
+            Fault::Socket =>
+                "no connections can be taken there; another program may have the port, or this machine another address",
+            Fault::Connection => "taking a connection failed; start the program again",
+            Fault::Clock => "the clock can't be read, or is not in the years 1970 to 9999; set it",
+            Fault::Output => "standard output failed",
+            Fault::Memory => "out of memory",
+        }
+    }
+
+    /// What it is about: a path or an address of the command line.
+    fn subject<'a>(self, serving: &'a Serving<'_>) -> Option<&'a str> {
+        match self {
+            Fault::TokenUnread | Fault::TokenBad => Some(serving.token_file.as_str()),
+            Fault::Store(_) => Some(serving.database.as_str()),
+            Fault::Address | Fault::Socket | Fault::Connection => Some(serving.address.as_str()),
+            Fault::Work | Fault::Clock | Fault::Output | Fault::Memory => None,
+        }
+    }
+}
+
+/// The line that tells a fault.
+#[derive(Drop)]
+pub struct FaultLine<'a> {
+    pub serving: &'a Serving<'a>,
+    pub fault: Fault,
+}
+
+impl fmt::Display for FaultLine<'_> {
+    fn fmt<W: fmt::Write>(&self, f: &mut fmt::Formatter<W>) -> fmt::Result {
+        let advice = self.fault.advice();
+        match self.fault.subject(self.serving) {
+            Some(subject) => write!(f, "pdpd serve: {subject}: {advice}"),
+            None => write!(f, "pdpd serve: {advice}"),
+        }
+    }
+}
+
+impl From<AllocError> for Fault {
+    ghost use Rattle.std.specs.Prelude.{◌≡◌};
+    ghost use Rattle.pdpd.specs.declared.fault.Fault.TheVariants.{Memory};
+
+    ghost from_gives = { λ _ fault. fault ≡ Memory };
+
+    fn from(_: AllocError) -> Fault {
+        Fault::Memory
+    }
+}
+
+impl<T: Drop> From<AllocFailed<T>> for Fault {
+    ghost use Rattle.std.specs.Prelude.{◌≡◌};
+    ghost use Rattle.pdpd.specs.declared.fault.Fault.TheVariants.{Memory};
+
+    ghost from_gives = { λ _ fault. fault ≡ Memory };
+
+    fn from(_: AllocFailed<T>) -> Fault {
+        Fault::Memory
+    }
+}

@@ -1,0 +1,64 @@
+//! The store of `pdpd serve`, and that of `pdpd replay`.
+
+ghost use Rattle.std.specs.Prelude.{◌≢◌, IfErr};
+ghost use Rattle.pdpd.specs.declared.exit.Exit.TheVariants.{Store, Usage};
+ghost use Rattle.pdpd.specs.Fault.{EndsBy};
+
+use crate::exit::Exit;
+use crate::fault::{Fault, StoreFault};
+use sqlite::{Connection, Error, ErrorCode, File, FileStore, MemStore};
+use std::alloc::Global;
+use xa_store::{OpenError, SqlRecords};
+
+/// Why the file can't be opened.
+fn fault_of_file(error: Error) -> Fault
+    ensures { EndsBy Store result }
+{
+    match error {
+        Error::SqliteFailure(ErrorCode::OutOfMemory) => Fault::Memory,
+        Error::SqliteFailure(ErrorCode::DatabaseBusy) => Fault::Store(StoreFault::Busy),
+        Error::SqliteFailure(ErrorCode::NotADatabase) => Fault::Store(StoreFault::NoDatabase),
+        Error::SqliteFailure(ErrorCode::DatabaseCorrupt) => Fault::Store(StoreFault::Corrupt),
+        Error::SqliteFailure(ErrorCode::DiskFull) => Fault::Store(StoreFault::Full),
+        Error::SqliteFailure(ErrorCode::SystemIoFailure) => Fault::Store(StoreFault::Disk),
+        _ => Fault::Store(StoreFault::Unopened),
+    }
+}
+
+/// Why its tables can't be opened.
+fn fault_of_tables(error: OpenError) -> Fault
+    ensures { EndsBy Store result }
+{
+    match error {
+        OpenError::NotThisSchema => Fault::Store(StoreFault::Schema),
+        OpenError::Damaged => Fault::Store(StoreFault::Row),
+        OpenError::Store => Fault::Store(StoreFault::Disk),
+        OpenError::Memory => Fault::Memory,
+    }
+}
+
+/// The keeper over the file, which is made where it isn't there.
+pub fn records_in_file(rt: &HostRuntime, path: &str) -> Result<SqlRecords<FileStore<File>>, Fault>
+    ensures { IfErr result (EndsBy Store) }
+{
+    let conn = match Connection::open(rt, path) {
+        Ok(conn) => conn,
+        Err(error) => return Err(fault_of_file(error)),
+    };
+    match SqlRecords::open(rt.alloc(), conn) {
+        Ok(records) => Ok(records),
+        Err((error, _)) => Err(fault_of_tables(error)),
+    }
+}
+
+/// A keeper in memory, which keeps no domains yet.
+pub fn records_in_memory(alloc: Global) -> Result<SqlRecords<MemStore>, Exit>
+    ensures { IfErr result (λ exit. exit ≢ Usage) }
+{
+    let conn = Connection::open_in_memory(alloc)?;
+    match SqlRecords::open(alloc, conn) {
+        Ok(records) => Ok(records),
+        Err((OpenError::Memory, _)) => Err(Exit::Memory),
+        Err(_) => Err(Exit::Store),
+    }
+}

@@ -1,0 +1,63 @@
+//! The operator's token in a file.
+ghost use Rattle.std.specs.Prelude.{◌≡◌, IfErr, IsFalse, IsTrue, MatchResult};
+ghost use Rattle.sha2.specs.Sha256.{sha256};
+ghost use Rattle.xa_notation.specs.Tokens.{is_token};
+ghost use Rattle.pdpd.specs.declared.exit.Exit.TheVariants.{Usage};
+ghost use Rattle.pdpd.specs.declared.fault.Fault.TheVariants.{TokenBad};
+ghost use Rattle.pdpd.specs.Fault.{EndsBy};
+ghost use Rattle.pdpd.specs.Token.{first_line};
+
+use crate::fault::Fault;
+use std::fs::{File, Files};
+use std::io::{self, ErrorKind, Read};
+use xa_notation::is_token;
+use xa_records::Digest;
+
+/// At most this many bytes of the file are read: a token is shorter.
+const MAX_BYTES: u64 = 128;
+
+/// A text up to its first line feed, or to its end.
+#[tactic(auto, using(crate::proofs::TokenLemmas::no_feed_more))]
+fn first_line(text: &[u8]) -> &[u8]
+    ensures { result.now ≡ first_line text.now }
+{
+    for (i, byte) in text.iter().enumerate() {
+        if *byte == b'\n' {
+            return &text[..i];
+        }
+    }
+    text
+}
+
+/// The digest of the token in the first line of a text.
+fn operator_in(text: &[u8]) -> Result<Digest, Fault>
+    ensures { let line = first_line text.now in
+        MatchResult result (λ operator. (operator ≡ sha256 line) × IsTrue (is_token line)) (λ fault. (fault ≡ TokenBad) × IsFalse (is_token line)) }
+{
+    let token = first_line(text);
+    if is_token(token) {
+        Ok(Digest::of(token))
+    } else {
+        Err(Fault::TokenBad)
+    }
+}
+
+/// The beginning of the file.
+fn beginning_of(rt: &(impl Files + AllocGlobal), path: &str) -> io::Result<Vec<u8>> {
+    let mut bytes = Vec::new(rt.alloc());
+    File::open(rt, path)?
+        .take(MAX_BYTES)
+        .read_to_end(&mut bytes)?;
+    Ok(bytes)
+}
+
+/// The digest of the operator's token, which is the first line of the file.
+pub fn operator_of_file(rt: &(impl Files + AllocGlobal), path: &str) -> Result<Digest, Fault>
+    ensures { IfErr result (EndsBy Usage) }
+{
+    match beginning_of(rt, path) {
+        Ok(bytes) => operator_in(&bytes),
+        Err(error) if error.kind() == ErrorKind::OutOfMemory => Err(Fault::Memory),
+        Err(_) => Err(Fault::TokenUnread),
+    }
+}

@@ -1,0 +1,15 @@
+use Rattle.std.proofs.Common.{[]}
+use Rattle.xa_server.specs.Driven.{stream_of}
+use Rattle.xa_server.specs.Driving.{HasRead}
+use Rattle.xa_server.specs.World.{world}
+use Rattle.xa_server.proofs.course.drive.Given as goal
+
+-- bytes were read, and all messages of them were answered
+abbrev pub invariant-loop : goal.invariant-loop
+invariant-loop g l = record {
+  sound : g.R.Records.sound l.server.records → g.R.Records.sound l.fn.server.records;
+  read : g.R.Records.sound l.server.records →
+      HasRead (world g.R.Records.kept l.fn.server) (world g.R.Records.kept l.server) (stream_of []) l.session
+      (g.I.Read.remaining l.fn.reader) (g.I.Read.remaining l.reader)
+      (g.C.Clock.told l.fn.clock) (g.C.Clock.told l.clock) (g.W.Write.contents l.fn.writer) (g.W.Write.contents l.writer);
+}

@@ -1,0 +1,91 @@
+-- The rows of a sound table are those that a keeper writes: for any table, and for domains and tokens.
+use Rattle.std.proofs.Common.{◌≡◌, ℕ, ℤ, Bool, true, false, List, [], ◌∷◌, map, drop, int_eq, refl, subst, ◌∙◌, arith}
+use Rattle.std.specs.List.{AllByRecursion}
+use Rattle.std.proofs.lemmas.Int.{ints}
+use Rattle.sqlite.specs.Order.{Row, column}
+use Rattle.sqlite.specs.Table.{Table}
+use Rattle.sqlite.specs.Tree.{Trees}
+use Rattle.sqlite.specs.declared.types.Value.TheVariants.{Int}
+use Rattle.sqlite_catalog.specs.Listing.{IsSound}
+use Rattle.sqlite_keyed.specs.Keyed.{IsKeyedBy}
+use Rattle.sqlite_keyed.specs.Rules.{AreApart}
+use Rattle.sqlite_keyed.proofs.ListLemmas.{all_both, all_from_test, all_of, all_unmap, all_weaker}
+use Rattle.sqlite_keyed.proofs.RuleLemmas.{first_of_both, second_of_both}
+use Rattle.sqlite_schema.specs.declared.schema.Constraint.TheVariants.{Datatype, Unique}
+use Rattle.sqlite_schema.specs.Rules.{agree, are_typed, clashes, passes}
+use Rattle.sqlite_sql.specs.declared.ops.CompareOp.TheVariants.{Eq}
+use Rattle.sqlite_typed.proofs.TestLemmas.{at_ints, at_texts, at_blobs, then_term, last_term}
+use Rattle.sqlite_value.specs.Keys.{first_key}
+use Rattle.xa_store.specs.declared.opening.kind.Kind.{Kind}
+use Rattle.xa_store.specs.declared.opening.kind.Kind.TheVariants.{Domains, Tokens}
+use Rattle.xa_store.specs.Opened.{as_read, is_sound_table, is_whole_row, row_number, tree_of}
+use Rattle.xa_store.specs.Rows.{DomainRow, TokenRow, domain_in, domain_row, token_in, token_row}
+use Rattle.xa_store.specs.Sound.{AreRows, same_name, same_token}
+use Rattle.xa_store.specs.Tables.{domains, our_schema, rising, tokens}
+use Rattle.xa_store.proofs.ShapedLemmas.{apart_from, domain_back, free_of, keyed_from, rows_ascend, token_back, written_from}
+
+-- ---- any table
+
+module _ (kind : Kind) (next : ℤ) (db : Trees) (sound : is_sound_table db next kind ≡ true) where
+  abbrev pub IsWhole : Row → Type 0
+  IsWhole r = is_whole_row kind next (as_read kind r) ≡ true
+
+  pub whole : AllByRecursion IsWhole (db (tree_of kind))
+  whole =
+      all_unmap (λ r. is_whole_row kind next r ≡ true) (as_read kind) (db (tree_of kind))
+      (all_from_test (is_whole_row kind next) (map (as_read kind) (db (tree_of kind))) (first_of_both _ _ sound))
+
+  module _ {X : Type 0} (write : X → Row) (reads : Row → X) (rowid_of : X → ℤ) (same : X → X → Bool) (numbered : (r : Row) → rowid_of (reads r) ≡ row_number r) where
+    rise : IsKeyedBy rowid_of (map reads (db (tree_of kind)))
+    rise = keyed_from rowid_of reads numbered (db (tree_of kind)) (rows_ascend kind (db (tree_of kind)) (second_of_both _ _ sound))
+
+    module _ (table : Table) (back : (r : Row) → are_typed table.key 0 table.columns (drop 1 r) ≡ true → IsWhole r → r ≡ write (reads r))
+        (typed : AllByRecursion (λ r. passes Datatype our_schema db table r ≡ true) (db (tree_of kind))) where
+      written : db (tree_of kind) ≡ map write (map reads (db (tree_of kind)))
+      written =
+          written_from write reads (db (tree_of kind))
+          (all_both (λ r. passes Datatype our_schema db table r ≡ true) IsWhole (λ r. r ≡ write (reads r)) (λ r t w. back r (first_of_both _ _ t) w) (db (tree_of kind)) typed whole)
+
+      -- no key is asked for but the row's own
+      pub rows_alone : ((a b : X) → same a b ≡ false) → AreRows write reads rowid_of same (db (tree_of kind))
+      rows_alone never = record { written = written; rise = rise; apart = alone (map reads (db (tree_of kind))) }
+        where
+          alone : (xs : List X) → AreApart same xs
+          alone [] = tt
+          alone (x ∷ xs) = (all_of (λ y. same x y ≡ false) (never x) xs, alone xs)
+
+      -- no two rows agree at the places of a key
+      pub rows_apart : ((x : X) → column (write x) 0 ≡ Int (rowid_of x)) → (at : List ℕ) → ((a b : X) → same a b ≡ true → agree rising at (write a) at (write b) ≡ true)
+          → AllByRecursion (λ r. clashes rising at (db (tree_of kind)) r ≡ false) (db (tree_of kind)) → AreRows write reads rowid_of same (db (tree_of kind))
+      rows_apart begins at agrees free = record {
+        written = written;
+        rise = rise;
+        apart = apart_from write rowid_of begins same at agrees (map reads (db (tree_of kind))) rise
+            (subst (λ l. AllByRecursion (λ r. clashes rising at l r ≡ false) l) written free);
+      }
+
+-- ---- domains, and tokens
+
+pub eq_self : (n : ℤ) → int_eq n n ≡ true
+eq_self n = grind (arith, ints)
+
+names_agree : (a b : DomainRow) → same_name a b ≡ true → agree rising (2 ∷ []) (domain_row a) (2 ∷ []) (domain_row b) ≡ true
+unfolding first_key
+names_agree a b is = last_term (at_texts false Eq a.name b.name ∙ is)
+
+digests_agree : (a b : TokenRow) → same_token a b ≡ true → agree rising (1 ∷ 2 ∷ []) (token_row a) (1 ∷ 2 ∷ []) (token_row b) ≡ true
+unfolding first_key
+digests_agree a b is = then_term (at_ints false Eq a.number b.number ∙ first_of_both _ _ is) (last_term (at_blobs false Eq a.digest b.digest ∙ second_of_both _ _ is))
+
+module _ (db : Trees) (next : ℤ) (sound : IsSound our_schema db) where
+  pub domains_are : is_sound_table db next Domains ≡ true → AreRows domain_row domain_in (λ d. d.number) same_name (db 1)
+  domains_are h =
+      let unique = (sound.obeys.rules Unique).1.0 in
+      let free = all_weaker (λ r. passes Unique our_schema db domains r ≡ true) (λ r. clashes rising (2 ∷ []) (db 1) r ≡ false) (λ r u. free_of _ (first_of_both _ _ u)) (db 1) unique in
+      rows_apart Domains next db h domain_row domain_in (λ (d : DomainRow). d.number) same_name (λ r. refl) domains (domain_back next) (sound.obeys.rules Datatype).1.0 (λ d. refl) (2 ∷ []) names_agree free
+
+  pub tokens_are : is_sound_table db next Tokens ≡ true → AreRows token_row token_in (λ t. t.rowid) same_token (db 3)
+  tokens_are h =
+      let unique = (sound.obeys.rules Unique).1.1.0 in
+      let free = all_weaker (λ r. passes Unique our_schema db tokens r ≡ true) (λ r. clashes rising (1 ∷ 2 ∷ []) (db 3) r ≡ false) (λ r u. free_of _ (first_of_both _ _ u)) (db 3) unique in
+      rows_apart Tokens next db h token_row token_in (λ (t : TokenRow). t.rowid) same_token (λ r. refl) tokens (token_back next) (sound.obeys.rules Datatype).1.1.0 (λ t. refl) (1 ∷ 2 ∷ []) digests_agree free

@@ -1,0 +1,128 @@
+-- What a query of the tables leaves where a store is opened, and which errors none has.
+use Rattle.std.proofs.Common.{◌≡◌, ◌⊎◌, inl, inr, ℕ, List, None, Some, Bool, true, false, Option, Ok, Err, Result, IsTrue, OnOk, IfOk, IfErr, refl, sym, ap, subst, ◌∙◌, true≢false, arith}
+use Rattle.sqlite.specs.Effect.{Database, RefusesToRead}
+use Rattle.sqlite.specs.Command.{Command}
+use Rattle.sqlite.specs.Command.TheVariants.{Select, Rows}
+use Rattle.sqlite.specs.Given.{IsPlain}
+use Rattle.sqlite.specs.Listing.{understood}
+use Rattle.sqlite.specs.Order.{Row}
+use Rattle.sqlite.specs.State.{State, HasCleanDisk, Shown, FailsToQuery, FailsToShow, IsNotRun, Survives, CommitsShowing, store_error}
+use Rattle.sqlite.specs.Tree.{Trees}
+use Rattle.sqlite.specs.declared.error.Error.{Error}
+use Rattle.sqlite.specs.declared.error.Error.TheVariants.{SqliteFailure, SqlInputError}
+use Rattle.sqlite.specs.declared.error.ErrorCode.TheVariants.{NameTaken, OutOfMemory as NoMemory}
+use Rattle.sqlite.proofs.Callers.{never_commits}
+use Rattle.sqlite.proofs.StateLemmas.{survives_weaker, survives_then}
+use Rattle.sqlite_trees.specs.declared.error.StoreError.{StoreError}
+use Rattle.sqlite_trees.specs.declared.error.StoreError.TheVariants.{OutOfMemory, Io, Corrupt, Full, Broken, Unstorable}
+use Rattle.xa_store.specs.declared.open_error.OpenError.{OpenError}
+use Rattle.xa_store.specs.declared.open_error.OpenError.TheVariants.{NotThisSchema, Damaged}
+use Rattle.xa_store.specs.Judging.{Asks, is_misfit, refused_as}
+use Rattle.xa_store.specs.Opening.{IsFailure}
+use Rattle.xa_store.specs.Sound.{Rests, SameNow}
+use Rattle.xa_store.specs.Tables.{our_schema}
+use Rattle.xa_store.proofs.AskLemmas.{shown_open, shown_same, failed_same, plain_at}
+use Rattle.xa_store.proofs.QuietLemmas.{rests_after}
+
+-- ---- errors
+
+fit : (e other : Error) → e ≡ other → is_misfit other ≡ false → is_misfit e ≡ false
+fit e other is fits = ap is_misfit is ∙ fits
+
+store_fits : (cause : StoreError) → is_misfit (store_error cause) ≡ false
+store_fits OutOfMemory = refl
+store_fits Io = refl
+store_fits Corrupt = refl
+store_fits Full = refl
+store_fits Broken = refl
+store_fits Unstorable = refl
+
+refuses_fits : (limit : Option ℕ) (command : Command) (db : Database) (params : Row) (e : Error) → RefusesToRead limit command db params e → is_misfit e ≡ false
+refuses_fits limit (Select q names) db params e (inl h) = fit e _ h.0 refl
+refuses_fits limit (Select q names) db params e (inr (inl h)) = fit e _ h.0 refl
+refuses_fits limit (Select q names) db params e (inr (inr h)) = fit e _ h.0 refl
+refuses_fits limit (Rows values width names) db params e h = fit e _ h.0 refl
+refuses_fits limit _ db params e h = fit e _ h refl
+
+-- a plain query of our tables is understood
+pub failed_fits : (sql : List ℕ) (params : Row) (old new : State) (e : Error) → Rests old → IsPlain (understood our_schema sql) → FailsToQuery sql params old new e → is_misfit e ≡ false
+unfolding FailsToQuery IsNotRun
+failed_fits sql params old new e rests plain (inl (inl (inl h, same))) = absurd (subst IsPlain (ap (λ s. understood s sql) (sym rests.schema) ∙ h.1) plain)
+failed_fits sql params old new e rests plain (inl (inl (inr (c, is, inl h), same))) = fit e _ h.1 refl
+failed_fits sql params old new e rests plain (inl (inl (inr (c, is, inr (inl h)), same))) = fit e _ h.1 refl
+failed_fits sql params old new e rests plain (inl (inl (inr (c, is, inr (inr h)), same))) = fit e _ h.1 refl
+failed_fits sql params old new e rests plain (inl (inr h)) = fit e _ h.1 (store_fits h.0)
+failed_fits sql params old new e rests plain (inr h) =
+    let shows = subst (FailsToShow old new sql h.0 _ e) (plain_at sql old h.0 rests plain h.1.is) h.2 in refuses_fits old.step_limit h.0.command shows.0 _ e shows.2
+
+pub a_failure : (e : Error) → is_misfit e ≡ false → IsFailure (refused_as e)
+a_failure (SqlInputError fault) fits = absurd (true≢false fits)
+a_failure (SqliteFailure NameTaken) fits = absurd (true≢false fits)
+a_failure (SqliteFailure NoMemory) fits = inr refl
+a_failure _ fits = inl refl
+
+abbrev is_damage : OpenError → Bool
+is_damage Damaged = true
+is_damage _ = false
+
+no_damage : (e : Error) → is_damage (refused_as e) ≡ false
+no_damage (SqlInputError fault) = refl
+no_damage (SqliteFailure NameTaken) = refl
+no_damage (SqliteFailure NoMemory) = refl
+no_damage _ = refl
+
+pub never_damaged : (e : Error) → ¬ (Damaged ≡ refused_as e)
+never_damaged e is = true≢false (ap is_damage is ∙ no_damage e)
+
+fails_otherwise : ¬ IsFailure NotThisSchema
+fails_otherwise (inl e) = absurd cc
+fails_otherwise (inr e) = absurd cc
+
+pub never_refused : (e : Error) → is_misfit e ≡ false → ¬ (NotThisSchema ≡ refused_as e)
+never_refused e fits is = fails_otherwise (subst IsFailure (sym is) (a_failure e fits))
+
+-- ---- one query
+
+module _ (sql : List ℕ) (params : Row) (old new : State) (plain : IsPlain (understood our_schema sql)) (survived : Survives old new (CommitsShowing sql params old)) where
+  pub survives_asked : Survives old new (λ db. ¬ Rests old)
+  survives_asked = survives_weaker old new _ _ (λ _ db commits rests. never_commits sql params old db (subst (λ s. IsPlain (understood s sql)) (sym rests.schema) plain) commits) survived
+
+  pub asked : {X : Type 0} (x : X) (rows : List Row) → (HasCleanDisk new → Shown sql params old new rows) → Asks old new (Ok x)
+  asked x rows shown = record {
+    survives = survives_asked;
+    same = λ clean rests up. shown_same sql params old new rows rests plain (shown clean);
+    opens = λ clean. (shown_open sql params old new rows (shown clean)).1;
+  }
+
+  pub not_asked : {X : Type 0} (e : Error) (o : OpenError) → (HasCleanDisk new → FailsToQuery sql params old new e) → Asks {X = X} old new (Err o)
+  not_asked e o failed = record { survives = survives_asked; same = λ clean rests up. failed_same sql params old new e rests plain (failed clean) up; opens = λ clean. tt }
+
+-- ---- one after another
+
+pub same_then : (a b c : State) → SameNow a b → SameNow b c → SameNow a c
+same_then a b c p q = record { now = q.now ∙ p.now; committed = q.committed ∙ p.committed; idle = q.idle }
+
+-- what was asked first, of a connection that is still open
+module _ (a b c : State) {X : Type 0} (x : X) (first : Asks a b (Ok x)) where
+  pub same_before : HasCleanDisk b → Rests a → SameNow a b
+  same_before clean rests = first.same clean rests (first.opens clean)
+
+  pub rests_before : HasCleanDisk b → Rests a → Rests b
+  rests_before clean rests = rests_after a b rests (same_before clean rests)
+
+  pub asks_then : {Y : Type 0} (r : Result Y OpenError) → Asks b c r → Asks a c r
+  asks_then r second = record {
+    survives = survives_then a b c _ _ (λ db. ¬ Rests a) (λ _ db h. h) (λ clean db h rests. h (rests_before (omega (arith, second.survives.clean)) rests)) first.survives second.survives;
+    same = λ clean rests up.
+        let middle : HasCleanDisk b = omega (arith, second.survives.clean) in
+        let here = same_before middle rests in
+        same_then a b c here (second.same clean (rests_after a b rests here) up);
+    opens = second.opens;
+  }
+
+pub as_failed : {X Y : Type 0} (old new : State) (e : OpenError) → Asks {X = X} old new (Err e) → Asks {X = Y} old new (Err e)
+as_failed old new e h = record { survives = h.survives; same = h.same; opens = λ clean. tt }
+
+pub as_answered : {X Y : Type 0} (old new : State) (x : X) (r : Result Y OpenError) → Asks old new (Ok x) → Asks old new r
+as_answered old new x (Ok y) h = record { survives = h.survives; same = h.same; opens = h.opens }
+as_answered old new x (Err e) h = record { survives = h.survives; same = h.same; opens = λ clean. tt }

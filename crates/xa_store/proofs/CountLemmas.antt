@@ -1,0 +1,26 @@
+-- One more row among those that show the places of the rows of sources.
+use Rattle.std.proofs.Common.{◌≡◌, ℕ, suc, ◌+◌, ◌<◌, Bool, true, false, ◌&&◌, List, ◌∷◌, length, get_or, drop, unwrap_or, Option, Some, None, sym, ap, ◌∙◌, add-one, drop-cons}
+use Rattle.sqlite.specs.Order.{Row}
+use Rattle.xa_store.specs.Judging.{counts, is_next, place_told}
+use Rattle.xa_store.specs.Opened.{Place, counts_on}
+
+module _ (last : Place) (rows : List Row) (i : ℕ) (row : Row) (lt : i < length rows) (is : row ≡ get_or rows i row) where
+  abbrev as_told : Option Place → Bool
+  as_told told = is_next last told && counts (unwrap_or told last) (drop (i + 1) rows)
+
+  counts_from : counts last (drop i rows) ≡ as_told (place_told row)
+  counts_from =
+      let first : drop i rows ≡ row ∷ drop (i + 1) rows = rw (add-one, drop-cons rows i row lt) (ap (λ r. r ∷ drop (suc i) rows) (sym is)) in
+      ap (counts last) first
+
+  pub none_told : place_told row ≡ None → counts last (drop i rows) ≡ false
+  none_told told = counts_from ∙ ap as_told told
+
+  some_told : (place : Place) → place_told row ≡ Some place → counts last (drop i rows) ≡ (counts_on last place && counts place (drop (i + 1) rows))
+  some_told place told = counts_from ∙ ap as_told told
+
+  pub goes_on : (place : Place) → place_told row ≡ Some place → counts_on last place ≡ true → counts place (drop (i + 1) rows) ≡ counts last (drop i rows)
+  goes_on place told on = sym (some_told place told ∙ ap (λ b. b && counts place (drop (i + 1) rows)) on)
+
+  pub stops : (place : Place) → place_told row ≡ Some place → counts_on last place ≡ false → counts last (drop i rows) ≡ false
+  stops place told off = some_told place told ∙ ap (λ b. b && counts place (drop (i + 1) rows)) off

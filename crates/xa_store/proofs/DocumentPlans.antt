@@ -1,0 +1,307 @@
+-- The plans of changes of documents.
+use Rattle.std.proofs.Common.{◌≡◌, ◌≢◌, inl, inr, ℕ, ◌+◌, ◌<◌, ◌^◌, ℤ, List, [], ◌∷◌, ◌++◌, map, filter, find, Bool, true, false, ◌&&◌, cond, nat_lt, bytes_eq, Option, Some, None, option_map, is_some, Result, Ok, Err, refl, sym, ap, subst, ◌∙◌, arith, int_eq}
+use Rattle.std.specs.Ordering.{eq_by_cmp}
+use Rattle.std.specs.FinMap.{FinMap, get, insert, remove, len}
+use Rattle.std.proofs.lemmas.Int.{ints}
+use Rattle.sqlite_keyed.specs.Keyed.{IsKeyedBy, next_key}
+use Rattle.sqlite_keyed.specs.Lists.{update_where, delete_where}
+use Rattle.sqlite_keyed.proofs.KeyedLemmas.{int_eq_apart, same_int}
+use Rattle.xa_value.specs.Gives.{◌>>=◌}
+use Rattle.xa_policy.specs.declared.document_key.DocumentKey.{DocumentKey}
+use Rattle.xa_policy.specs.DocumentKey.{compare_keys}
+use Rattle.xa_records.specs.declared.refusal.Refusal.{Refusal}
+use Rattle.xa_records.specs.declared.refusal.Refusal.TheVariants.{Absent, Quota, SameVersionOtherText, StillActive}
+use Rattle.xa_records.specs.declared.upload.Upload.TheVariants.{New, Same}
+use Rattle.xa_records.specs.Changes.{activity_set, deleted, or_absent, upload_of, uploaded, uploaded_over, with_document, with_documents, within}
+use Rattle.xa_records.specs.DomainState.{DomainState, StoredDocument}
+use Rattle.xa_records.specs.Kept.{DecidesAlike, IsNextEpoch, state_of}
+use Rattle.xa_records.proofs.FinMapLemmas.{get_put, get_taken, put_again}
+use Rattle.xa_records.proofs.OrderLemmas.{keys_exact, keys_total}
+use Rattle.xa_store.specs.declared.document_found.DocumentFound.{DocumentFound}
+use Rattle.xa_store.specs.declared.domain_found.DomainFound.{DomainFound}
+use Rattle.xa_store.specs.Found.{FindsDocument, IsDomain}
+use Rattle.xa_store.specs.Planning.{IsUploadPlanned, RaisesTo}
+use Rattle.xa_store.specs.declared.step.Step.TheVariants.{AddDocument, SetActive, DropDocument, SetEpoch}
+use Rattle.xa_store.specs.Rows.{DomainRow, DocumentRow, nat_of}
+use Rattle.xa_store.specs.Sound.{AreNumbered}
+use Rattle.xa_store.specs.Steps.{KeyReads, is_document, is_named, with_epoch}
+use Rattle.xa_store.specs.Turns.{Plans}
+use Rattle.xa_store.specs.World.{Rows, library_of, state_at, documents_at, domain_of, kept_of}
+use Rattle.xa_store.proofs.ChangeLemmas.{IsOnly, Rewrote, number_of, kept_one}
+use Rattle.xa_store.proofs.EntryLemmas as entry
+use Rattle.xa_store.proofs.FilterLemmas.{filter_both, filter_delete, filter_delete_apart, filter_push, filter_push_apart, filter_update, filter_update_apart, find_none, find_one}
+use Rattle.xa_store.proofs.PlanLemmas.{changed, its_state, numbered_after}
+use Rattle.xa_store.proofs.TurnLemmas.{still}
+
+own_number : (n : ℤ) → int_eq n n ≡ true
+own_number n = grind (arith, ints)
+
+abbrev key_of : DocumentRow → DocumentKey
+key_of d = d.key
+
+abbrev stored : DocumentRow → StoredDocument
+stored d = record { text = d.text; active = d.active }
+
+module _ (rows : Rows) (name : List ℕ) (d : DomainRow) (one : IsOnly name d rows) (up : IsKeyedBy number_of rows.domains) (are : AreNumbered rows) (key : DocumentKey) (reads : KeyReads key) where
+  abbrev n : ℤ
+  n = d.number
+
+  abbrev ours : DocumentRow → Bool
+  ours x = int_eq x.number n
+
+  abbrev has_key : DocumentRow → Bool
+  has_key x = eq_by_cmp compare_keys key x.key
+
+  abbrev xs : List DocumentRow
+  xs = documents_at rows.documents n
+
+  abbrev state : DomainState
+  state = state_at rows n
+
+  among : filter (is_document n key) rows.documents ≡ filter has_key xs
+  among = filter_both ours has_key rows.documents
+
+  apart_from : (m : ℤ) → m ≢ n → (x : DocumentRow) → ours x ≡ true → int_eq x.number m ≡ false
+  apart_from m apart x here = int_eq_apart x.number m (λ same. apart (sym same ∙ same_int x.number n here))
+
+  got : (o : Option DocumentRow) → find has_key xs ≡ o → get state.documents key ≡ option_map stored o
+  got o is = entry.got keys_total keys_exact key_of stored key xs ∙ ap (option_map stored) is
+
+  -- nothing becomes of it
+  pub unchanged : (target : DomainState) → state ≡ target → (change : DomainState → Result DomainState Refusal) → change state ≡ Ok target → Plans [] (within change) name rows
+  unchanged target same change is = record {
+    allows = tt;
+    made = (
+      Some target,
+      ap (within change) (its_state rows name d one) ∙ ap (λ r. r >>= (λ next. Ok (Some next))) is,
+      subst (λ s. Rattle.xa_records.specs.Kept.IsChanged (kept_of rows) (kept_of rows) name (Some s)) same (still (kept_of rows) name (domain_of rows d) (kept_one rows name d one)),
+    );
+    numbered = are;
+  }
+
+  module _ (epoch : ℤ) (rises : nat_of epoch ≡ nat_of d.epoch + 1) (fits : nat_of epoch < 2 ^ 63) where
+    abbrev with_rows : List DocumentRow → Rows
+    with_rows documents = record rows { documents = documents; domains = with_epoch n epoch rows.domains }
+
+    module _ (documents : List DocumentRow) (target : FinMap compare_keys StoredDocument) (here : library_of (documents_at documents n) ≡ target)
+        (others : (m : ℤ) → m ≢ n → documents_at documents m ≡ documents_at rows.documents m) (differs : state.documents ≢ target) where
+      rewrote : Rewrote rows (with_rows documents) d epoch (with_documents target state)
+      rewrote = record {
+        next = refl;
+        domains = refl;
+        state = λ i. with_documents (here i) state;
+        others = λ m apart. λ i. with_documents (library_of (others m apart i)) (state_at rows m);
+      }
+
+      next_epoch : IsNextEpoch state (with_documents target state) (nat_of d.epoch) (nat_of epoch)
+      next_epoch = inr (λ alike. differs alike.documents, (rises, fits))
+
+      numbers : AreNumbered (with_rows documents)
+      numbers = numbered_after rows name d one (with_rows documents) epoch (with_documents target state) up rewrote next_epoch are
+
+      turned : Rattle.xa_records.specs.Kept.IsChanged (kept_of rows) (kept_of (with_rows documents)) name (Some (with_documents target state))
+      turned = changed rows name d one (with_rows documents) epoch (with_documents target state) up rewrote next_epoch
+
+    -- ---- a document that is there
+
+    module _ (x : DocumentRow) (there : filter (is_document n key) rows.documents ≡ x ∷ []) where
+      found : find has_key xs ≡ Some x
+      found = find_one has_key xs x [] (sym among ∙ there)
+
+      present : get state.documents key ≡ Some (stored x)
+      present = got (Some x) found
+
+      pub activity_planned : (active : Bool) → x.active ≢ active → Plans (SetActive n key active ∷ SetEpoch n epoch ∷ []) (within (activity_set key active)) name rows
+      activity_planned active other =
+          let f : DocumentRow → DocumentRow = λ x. record x { active = active } in
+          let documents = update_where (is_document n key) f rows.documents in
+          let put : StoredDocument = record { text = x.text; active = active } in
+          let target = insert state.documents key put in
+          let here : library_of (documents_at documents n) ≡ target = ap library_of (filter_update ours has_key f (λ x. refl) rows.documents) ∙ entry.updated keys_total keys_exact key_of stored key f (λ x. refl) xs x found in
+          let others = λ (m : ℤ) (apart : m ≢ n). filter_update_apart ours has_key (λ x. int_eq x.number m) (apart_from m apart) f (λ x. refl) rows.documents in
+          let differs : state.documents ≢ target = λ same. other (let both : ◌≡◌ {A = Option StoredDocument} (Some (stored x)) (Some put) = sym present ∙ ap (λ m. get m key) same ∙ get_put keys_total state.documents key put in
+          let it : stored x ≡ put = cc in ap (λ (s : StoredDocument). s.active) it) in
+          record {
+            allows = (reads, (tt, tt));
+            made = (
+              Some (with_documents target state),
+              ap (within (activity_set key active)) (its_state rows name d one)
+                  ∙ ap (λ o. (or_absent o >>= (λ document. Ok (with_document key document.text active state))) >>= (λ next. Ok (Some next))) present,
+              turned documents target here others differs,
+            );
+            numbered = numbers documents target here others differs;
+          }
+
+      pub drop_planned : x.active ≡ false → Plans (DropDocument n key ∷ SetEpoch n epoch ∷ []) (within (deleted key)) name rows
+      drop_planned idle =
+          let documents = delete_where (is_document n key) rows.documents in
+          let target = remove state.documents key in
+          let here : library_of (documents_at documents n) ≡ target = ap library_of (filter_delete ours has_key rows.documents) ∙ entry.deleted keys_total keys_exact key_of stored key xs in
+          let others = λ (m : ℤ) (apart : m ≢ n). filter_delete_apart ours has_key (λ x. int_eq x.number m) (apart_from m apart) rows.documents in
+          let differs : state.documents ≢ target = λ same. let both : ◌≡◌ {A = Option StoredDocument} (Some (stored x)) None = sym present ∙ ap (λ m. get m key) same ∙ get_taken keys_total state.documents key in cc in
+          record {
+            allows = (reads, (tt, tt));
+            made = (
+              Some (with_documents target state),
+              ap (within (deleted key)) (its_state rows name d one)
+                  ∙ ap (λ o. (or_absent o >>= (λ document. cond document.active (Err StillActive) (Ok (with_documents target state)))) >>= (λ next. Ok (Some next))) present
+                  ∙ ap (λ b. cond b (Err StillActive) (Ok (with_documents target state)) >>= (λ next. Ok (Some next))) idle,
+              turned documents target here others differs,
+            );
+            numbered = numbers documents target here others differs;
+          }
+
+    -- ---- a document that isn't there
+
+    module _ (none : filter (is_document n key) rows.documents ≡ []) where
+      missing : get state.documents key ≡ None
+      missing = got None (find_none has_key xs (sym among ∙ none))
+
+      pub upload_planned : (body : List ℕ) → nat_lt (len state.documents) 256 ≡ true → Plans (AddDocument n key body ∷ SetEpoch n epoch ∷ []) (within (uploaded key body)) name rows
+      upload_planned body room =
+          let new : DocumentRow = record { rowid = next_key (λ x. x.rowid) rows.documents; number = n; key = key; text = body; active = false } in
+          let documents = rows.documents ++ new ∷ [] in
+          let put : StoredDocument = record { text = body; active = false } in
+          let target = insert state.documents key put in
+          let here : library_of (documents_at documents n) ≡ target =
+          ap library_of (filter_push ours rows.documents new (own_number n)) ∙ entry.pushed keys_total keys_exact key_of stored xs new (find_none has_key xs (sym among ∙ none)) in
+          let others = λ (m : ℤ) (apart : m ≢ n). filter_push_apart (λ x. int_eq x.number m) rows.documents new (int_eq_apart n m (λ same. apart (sym same))) in
+          let differs : state.documents ≢ target = λ same. let both : ◌≡◌ {A = Option StoredDocument} None (Some put) = sym missing ∙ ap (λ m. get m key) same ∙ get_put keys_total state.documents key put in cc in
+          record {
+            allows = ((none, reads), (tt, tt));
+            made = (
+              Some (with_documents target state),
+              ap (within (uploaded key body)) (its_state rows name d one)
+                  ∙ ap (λ o. uploaded_over key body state o >>= (λ next. Ok (Some next))) missing
+                  ∙ ap (λ b. cond b (Ok (with_document key body false state)) (Err Quota) >>= (λ next. Ok (Some next))) room,
+              turned documents target here others differs,
+            );
+            numbered = numbers documents target here others differs;
+          }
+
+  -- ---- where nothing is done
+
+  module _ (x : DocumentRow) (there : filter (is_document n key) rows.documents ≡ x ∷ []) where
+    in_place : get state.documents key ≡ Some (stored x)
+    in_place = got (Some x) (find_one has_key xs x [] (sym among ∙ there))
+
+    pub activity_kept : (active : Bool) → x.active ≡ active → Plans [] (within (activity_set key active)) name rows
+    activity_kept active same =
+        let target = with_document key x.text active state in
+        let put : insert state.documents key (record { text = x.text; active = active }) ≡ state.documents =
+        put_again keys_total keys_exact state.documents key (record { text = x.text; active = active }) (in_place ∙ ap (λ b. let s : StoredDocument = record { text = x.text; active = b } in Some s) same) in
+        unchanged target (λ i. with_documents (sym put i) state) (activity_set key active) (ap (λ o. or_absent o >>= (λ document. Ok (with_document key document.text active state))) in_place)
+
+    pub upload_kept : (body : List ℕ) → bytes_eq x.text body ≡ true → Plans [] (within (uploaded key body)) name rows
+    upload_kept body same = unchanged state refl (uploaded key body) (ap (uploaded_over key body state) in_place ∙ ap (λ b. cond b (Ok state) (Err SameVersionOtherText)) same)
+
+    pub upload_other : (body : List ℕ) → bytes_eq x.text body ≡ false → within (uploaded key body) (state_of name (kept_of rows)) ≡ Err SameVersionOtherText
+    upload_other body other =
+        ap (within (uploaded key body)) (its_state rows name d one) ∙ ap (λ o. uploaded_over key body state o >>= (λ next. Ok (Some next))) in_place
+        ∙ ap (λ b. cond b (Ok state) (Err SameVersionOtherText) >>= (λ next. Ok (Some next))) other
+
+    pub drop_active : x.active ≡ true → within (deleted key) (state_of name (kept_of rows)) ≡ Err StillActive
+    drop_active busy =
+        ap (within (deleted key)) (its_state rows name d one)
+        ∙ ap (λ o. (or_absent o >>= (λ document. cond document.active (Err StillActive) (Ok (with_documents (remove state.documents key) state)))) >>= (λ next. Ok (Some next))) in_place
+        ∙ ap (λ b. cond b (Err StillActive) (Ok (with_documents (remove state.documents key) state)) >>= (λ next. Ok (Some next))) busy
+
+  module _ (none : filter (is_document n key) rows.documents ≡ []) where
+    nowhere : get state.documents key ≡ None
+    nowhere = got None (find_none has_key xs (sym among ∙ none))
+
+    pub activity_absent : (active : Bool) → within (activity_set key active) (state_of name (kept_of rows)) ≡ Err Absent
+    activity_absent active =
+        ap (within (activity_set key active)) (its_state rows name d one)
+        ∙ ap (λ o. (or_absent o >>= (λ document. Ok (with_document key document.text active state))) >>= (λ next. Ok (Some next))) nowhere
+
+    pub drop_absent : within (deleted key) (state_of name (kept_of rows)) ≡ Err Absent
+    drop_absent =
+        ap (within (deleted key)) (its_state rows name d one)
+        ∙ ap (λ o. (or_absent o >>= (λ document. cond document.active (Err StillActive) (Ok (with_documents (remove state.documents key) state)))) >>= (λ next. Ok (Some next))) nowhere
+
+    pub upload_full : (body : List ℕ) → nat_lt (len state.documents) 256 ≡ false → within (uploaded key body) (state_of name (kept_of rows)) ≡ Err Quota
+    upload_full body full =
+        ap (within (uploaded key body)) (its_state rows name d one) ∙ ap (λ o. uploaded_over key body state o >>= (λ next. Ok (Some next))) nowhere
+        ∙ ap (λ b. cond b (Ok (with_document key body false state)) (Err Quota) >>= (λ next. Ok (Some next))) full
+
+-- ---- of a domain that was found
+
+module _ (rows : Rows) (name : List ℕ) (found : DomainFound) (are : AreNumbered rows) (up : IsKeyedBy number_of rows.domains) (is : IsDomain name rows found) (key : DocumentKey) (reads : KeyReads key) where
+  finds_own : (o : Option DocumentFound) → FindsDocument found.number key rows o → FindsDocument is.row.number key rows o
+  finds_own o = subst (λ n. FindsDocument n key rows o) is.number
+
+  module _ (next : ℤ) (raises : RaisesTo found.epoch (Ok next)) where
+    raise : (next ≡ Rattle.std.specs.Prelude.pos (nat_of is.row.epoch + 1)) × (nat_of is.row.epoch + 1 < 2 ^ 63)
+    raise = raises (nat_of is.row.epoch) (is.epoch ∙ is.has_epoch)
+
+    one_more : nat_of next ≡ nat_of is.row.epoch + 1
+    one_more = ap nat_of raise.0
+
+    still_fits : nat_of next < 2 ^ 63
+    still_fits = subst (λ k. k < 2 ^ 63) (sym one_more) raise.1
+
+    pub plan_activity : (there : DocumentFound) → FindsDocument found.number key rows (Some there) → (active : Bool) → (there.active ≡ active → ⊥)
+        → Plans (SetActive found.number key active ∷ SetEpoch found.number next ∷ []) (within (activity_set key active)) name rows
+    plan_activity there finds active other =
+        let own = finds_own (Some there) finds in
+        let same : own.0.active ≡ there.active = ap (λ (f : DocumentFound). f.active) own.2 in
+        subst (λ n. Plans (SetActive n key active ∷ SetEpoch n next ∷ []) (within (activity_set key active)) name rows) (sym is.number)
+        (activity_planned rows name is.row is.only up are key reads next one_more still_fits own.0 own.1 active (λ e. other (sym same ∙ e)))
+
+    pub plan_drop : (there : DocumentFound) → FindsDocument found.number key rows (Some there) → there.active ≡ false → Plans (DropDocument found.number key ∷ SetEpoch found.number next ∷ []) (within (deleted key)) name rows
+    plan_drop there finds idle =
+        let own = finds_own (Some there) finds in
+        let same : own.0.active ≡ there.active = ap (λ (f : DocumentFound). f.active) own.2 in
+        subst (λ n. Plans (DropDocument n key ∷ SetEpoch n next ∷ []) (within (deleted key)) name rows) (sym is.number)
+        (drop_planned rows name is.row is.only up are key reads next one_more still_fits own.0 own.1 (same ∙ idle))
+
+    pub plan_upload : (body : List ℕ) (count : ℕ) → count ≡ len (state_at rows found.number).documents → FindsDocument found.number key rows None → nat_lt count 256 ≡ true
+        → IsUploadPlanned key body name rows (Ok (AddDocument found.number key body ∷ SetEpoch found.number next ∷ []))
+    plan_upload body count all finds room =
+        let own = finds_own None finds in
+        let own_count : count ≡ len (state_at rows is.row.number).documents = all ∙ ap (λ n. len (state_at rows n).documents) is.number in (
+          subst (λ n. Plans (AddDocument n key body ∷ SetEpoch n next ∷ []) (within (uploaded key body)) name rows) (sym is.number)
+              (upload_planned rows name is.row is.only up are key reads next one_more still_fits own body (subst (λ k. nat_lt k 256 ≡ true) own_count room)),
+          sym (ap (upload_of key) (its_state rows name is.row is.only) ∙ ap (λ o. cond (is_some o) Same New) (nowhere rows name is.row is.only up are key reads own)),
+        )
+
+  pub plan_still : (there : DocumentFound) → FindsDocument found.number key rows (Some there) → (active : Bool) → there.active ≡ active → Plans [] (within (activity_set key active)) name rows
+  plan_still there finds active e =
+      let own = finds_own (Some there) finds in
+      let same : own.0.active ≡ there.active = ap (λ (f : DocumentFound). f.active) own.2 in
+      activity_kept rows name is.row is.only up are key reads own.0 own.1 active (same ∙ e)
+
+  pub plan_no_activity : (active : Bool) → FindsDocument found.number key rows None → within (activity_set key active) (state_of name (kept_of rows)) ≡ Err Absent
+  plan_no_activity active finds = activity_absent rows name is.row is.only up are key reads (finds_own None finds) active
+
+  pub plan_busy : (there : DocumentFound) → FindsDocument found.number key rows (Some there) → there.active ≡ true → within (deleted key) (state_of name (kept_of rows)) ≡ Err StillActive
+  plan_busy there finds busy =
+      let own = finds_own (Some there) finds in
+      let same : own.0.active ≡ there.active = ap (λ (f : DocumentFound). f.active) own.2 in
+      drop_active rows name is.row is.only up are key reads own.0 own.1 (same ∙ busy)
+
+  pub plan_no_drop : FindsDocument found.number key rows None → within (deleted key) (state_of name (kept_of rows)) ≡ Err Absent
+  plan_no_drop finds = drop_absent rows name is.row is.only up are key reads (finds_own None finds)
+
+  module _ (there : DocumentFound) (finds : FindsDocument found.number key rows (Some there)) (body : List ℕ) where
+    own_text : (finds_own (Some there) finds).0.text ≡ there.text
+    own_text = ap (λ (f : DocumentFound). f.text) (finds_own (Some there) finds).2
+
+    pub plan_again : bytes_eq there.text body ≡ true → IsUploadPlanned key body name rows (Ok [])
+    plan_again e =
+        let own = finds_own (Some there) finds in (
+          upload_kept rows name is.row is.only up are key reads own.0 own.1 body (ap (λ t. bytes_eq t body) own_text ∙ e),
+          sym (ap (upload_of key) (its_state rows name is.row is.only) ∙ ap (λ o. cond (is_some o) Same New) (in_place rows name is.row is.only up are key reads own.0 own.1)),
+        )
+
+    pub plan_other : bytes_eq there.text body ≡ false → within (uploaded key body) (state_of name (kept_of rows)) ≡ Err SameVersionOtherText
+    plan_other e =
+        let own = finds_own (Some there) finds in
+        upload_other rows name is.row is.only up are key reads own.0 own.1 body (ap (λ t. bytes_eq t body) own_text ∙ e)
+
+  pub plan_full : (body : List ℕ) (count : ℕ) → count ≡ len (state_at rows found.number).documents → FindsDocument found.number key rows None → nat_lt count 256 ≡ false
+      → within (uploaded key body) (state_of name (kept_of rows)) ≡ Err Quota
+  plan_full body count all finds full =
+      let own_count : count ≡ len (state_at rows is.row.number).documents = all ∙ ap (λ n. len (state_at rows n).documents) is.number in
+      upload_full rows name is.row is.only up are key reads (finds_own None finds) body (subst (λ k. nat_lt k 256 ≡ false) own_count full)

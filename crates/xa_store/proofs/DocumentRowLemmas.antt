@@ -1,0 +1,106 @@
+-- Sound rows of the table of documents are rows that the keeper writes.
+use Rattle.std.proofs.Common.{◌≡◌, ◌≤◌, inl, inr, ℕ, ℤ, true, false, List, [], ◌∷◌, length, drop, unwrap_or, int_eq, bytes_eq, None, Result, Ok, Err, refl, sym, ap, subst, ◌∙◌, true≢false, arith}
+use Rattle.std.specs.Ordering.{eq_by_cmp}
+use Rattle.sqlite.specs.Order.{Row, column}
+use Rattle.sqlite.specs.Tree.{Trees}
+use Rattle.sqlite.specs.declared.types.Value.{Value}
+use Rattle.sqlite.specs.declared.types.Value.TheVariants.{Int, Text}
+use Rattle.sqlite_catalog.specs.Listing.{IsSound}
+use Rattle.sqlite_keyed.proofs.KeyedLemmas.{same_int}
+use Rattle.sqlite_keyed.proofs.ListLemmas.{all_weaker}
+use Rattle.sqlite_keyed.proofs.RuleLemmas.{first_of_both, second_of_both}
+use Rattle.sqlite_schema.specs.declared.schema.Constraint.TheVariants.{Datatype, Unique}
+use Rattle.sqlite_schema.specs.Rules.{agree, are_typed, clashes, passes}
+use Rattle.sqlite_sql.specs.declared.ops.CompareOp.TheVariants.{Eq}
+use Rattle.sqlite_typed.specs.Columns.{int_of, bytes_of}
+use Rattle.sqlite_typed.proofs.TestLemmas.{at_ints, at_texts, then_term, last_term, bytes_eq_refl}
+use Rattle.sqlite_value.specs.Keys.{first_key}
+use Rattle.xa_policy.specs.declared.document_key.DocumentKey.{DocumentKey}
+use Rattle.xa_policy.specs.declared.reference.DocumentKind.{DocumentKind}
+use Rattle.xa_policy.specs.declared.reference.DocumentKind.TheVariants.{Policy, PolicySet}
+use Rattle.xa_policy.specs.DocumentKey.{compare_keys}
+use Rattle.xa_policy.specs.Version.{read_version, version_text}
+use Rattle.xa_notation.specs.declared.document.Parsed.{Parsed}
+use Rattle.xa_notation.specs.declared.notation_error.NotationError.{NotationError}
+use Rattle.xa_notation.specs.Document.{document_of}
+use Rattle.xa_records.proofs.FinMapLemmas.{here_or_elsewhere}
+use Rattle.xa_records.proofs.OrderLemmas.{keys_exact}
+use Rattle.xa_store.specs.declared.opening.kind.Kind.TheVariants.{Documents}
+use Rattle.xa_store.specs.Opened.{as_read, holds_key, is_bit, is_given, is_sound_table, is_whole_row}
+use Rattle.xa_store.specs.Rows.{DocumentRow, document_in, document_row, given, kind_in, kind_number, version_in}
+use Rattle.xa_store.specs.Sound.{AreRows, same_document}
+use Rattle.xa_store.specs.Tables.{our_schema, policies, rising}
+use Rattle.xa_store.proofs.AreRowsLemmas.{eq_self, rows_apart}
+use Rattle.xa_store.proofs.ReadLemmas.{int_back}
+use Rattle.xa_store.proofs.RootRowLemmas.{truth_from_bit}
+use Rattle.xa_store.proofs.ShapeLemmas.{blob_held, by_columns, int_held, never_int, row_long, row_short, text_held}
+use Rattle.xa_store.proofs.ShapedLemmas.{free_of, same_text}
+use Rattle.xa_store.proofs.VersionLemmas.{document_version}
+
+-- ---- the key that columns hold
+
+kind_back : (kind : DocumentKind) → kind_number kind ≡ kind_number (kind_in (kind_number kind))
+kind_back Policy = refl
+kind_back PolicySet = refl
+
+kind_held : (kind : DocumentKind) (n : ℤ) → int_eq (kind_number kind) n ≡ true → n ≡ kind_number (kind_in n)
+kind_held kind n h = subst (λ m. m ≡ kind_number (kind_in m)) (same_int (kind_number kind) n h) (kind_back kind)
+
+version_held : (version text : List ℕ) → read_version (version_text version) ≡ Ok version → bytes_eq (version_text version) text ≡ true → text ≡ version_text (version_in text)
+unfolding version_in
+version_held version text reads h =
+    subst (λ t. t ≡ version_text (unwrap_or (given (read_version t)) [])) (same_text (version_text version) text h) (ap (λ r. version_text (unwrap_or (given r) [])) (sym reads))
+
+abbrev IsKey : Value → Value → Value → Type 0
+IsKey kind id version = (kind ≡ Int (kind_number (kind_in (int_of kind)))) × (id ≡ Text (bytes_of id)) × (version ≡ Text (version_text (version_in (bytes_of version))))
+
+key_held : (kind id version : Value) (body : List ℕ) (r : Result Parsed NotationError) → document_of body ≡ r → holds_key kind id version r ≡ true → IsKey kind id version
+key_held kind id version body (Ok parsed) is h =
+    let k = int_held (int_eq (kind_number parsed.kind)) kind (first_of_both _ _ (first_of_both _ _ h)) in
+    let i = text_held (bytes_eq parsed.id) id (second_of_both _ _ (first_of_both _ _ h)) in
+    let v = text_held (bytes_eq (version_text parsed.version)) version (second_of_both _ _ h) in
+    (k.0 ∙ ap Int (kind_held parsed.kind (int_of kind) k.1), i.0, v.0 ∙ ap Text (version_held parsed.version (bytes_of version) (document_version body parsed is) v.1))
+key_held kind id version body (Err e) is h = absurd (true≢false (sym h))
+
+-- ---- a row
+
+document_back : (next : ℤ) (row : Row) → are_typed None 0 policies.columns (drop 1 row) ≡ true → is_whole_row Documents next (as_read Documents row) ≡ true → row ≡ document_row (document_in row)
+document_back next row typed whole =
+    let rest = second_of_both _ _ whole in
+    let number = int_held (is_given next) (column row 1) (first_of_both _ _ (first_of_both _ _ rest)) in
+    let active = int_held is_bit (column row 6) (second_of_both _ _ (first_of_both _ _ rest)) in
+    let text = blob_held (λ body. holds_key (column row 2) (column row 3) (column row 4) (document_of body)) (column row 5) (second_of_both _ _ rest) in
+    let key = key_held (column row 2) (column row 3) (column row 4) (bytes_of (column row 5)) (document_of (bytes_of (column row 5))) refl text.1 in
+    let rowid = int_back (column row 0) (first_of_both _ _ whole) in
+    let less : length row ≤ 7 = row_short None policies.columns row typed in
+    let more = row_long row 6 (never_int (column row 6) _ active.0) in
+    by_columns 7 row (omega (arith, less, more))
+    ∙ (λ i. rowid i ∷ number.0 i ∷ key.0 i ∷ key.1 i ∷ key.2 i ∷ text.0 i ∷ (active.0 ∙ ap Int (truth_from_bit _ active.1)) i ∷ [])
+
+-- ---- no two rows have one key
+
+same_key : (a b : DocumentKey) → eq_by_cmp compare_keys a b ≡ true → a ≡ b
+same_key a b h = elim (here_or_elsewhere keys_exact a b) [ inl same ↦ same | inr apart ↦ absurd (true≢false (sym h ∙ apart)) ]
+
+-- where a row has this number and this key
+abbrev with_key : DocumentRow → ℤ × DocumentKey → DocumentRow
+with_key d p = record d { number = p.0; key = p.1 }
+
+key_agrees : (a b : DocumentRow) → agree rising (1 ∷ 2 ∷ 3 ∷ 4 ∷ []) (document_row a) (1 ∷ 2 ∷ 3 ∷ 4 ∷ []) (document_row (with_key b (a.number, a.key))) ≡ true
+unfolding first_key
+key_agrees a b =
+    then_term (at_ints false Eq a.number a.number ∙ eq_self a.number)
+    (then_term (at_ints false Eq (kind_number a.key.kind) (kind_number a.key.kind) ∙ eq_self (kind_number a.key.kind))
+    (then_term (at_texts false Eq a.key.id a.key.id ∙ bytes_eq_refl a.key.id) (last_term (at_texts false Eq (version_text a.key.version) (version_text a.key.version) ∙ bytes_eq_refl (version_text a.key.version)))))
+
+keys_agree : (a b : DocumentRow) → same_document a b ≡ true → agree rising (1 ∷ 2 ∷ 3 ∷ 4 ∷ []) (document_row a) (1 ∷ 2 ∷ 3 ∷ 4 ∷ []) (document_row b) ≡ true
+keys_agree a b h =
+    let number = same_int a.number b.number (first_of_both _ _ h) in
+    let key = same_key a.key b.key (second_of_both _ _ h) in
+    subst (λ (p : ℤ × DocumentKey). agree rising (1 ∷ 2 ∷ 3 ∷ 4 ∷ []) (document_row a) (1 ∷ 2 ∷ 3 ∷ 4 ∷ []) (document_row (with_key b p)) ≡ true) (λ i. (number i, key i)) (key_agrees a b)
+
+pub documents_are : (db : Trees) (next : ℤ) → IsSound our_schema db → is_sound_table db next Documents ≡ true → AreRows document_row document_in (λ d. d.rowid) same_document (db 5)
+documents_are db next sound h =
+    let unique = (sound.obeys.rules Unique).1.1.1.0 in
+    let free = all_weaker (λ r. passes Unique our_schema db policies r ≡ true) (λ r. clashes rising (1 ∷ 2 ∷ 3 ∷ 4 ∷ []) (db 5) r ≡ false) (λ r u. free_of _ (first_of_both _ _ u)) (db 5) unique in
+    rows_apart Documents next db h document_row document_in (λ (d : DocumentRow). d.rowid) same_document (λ r. refl) policies (document_back next) (sound.obeys.rules Datatype).1.1.1.0 (λ d. refl) (1 ∷ 2 ∷ 3 ∷ 4 ∷ []) keys_agree free

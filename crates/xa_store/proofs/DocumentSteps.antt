@@ -1,0 +1,182 @@
+-- What the statements on documents make of the rows.
+use Rattle.std.proofs.Common.{◌≡◌, ℕ, ℤ, pos, List, [], ◌∷◌, ◌++◌, map, filter, Bool, true, false, ◌&&◌, refl, sym, ap, subst, ◌∙◌, arith, int_eq, to_z, of_z, w64, Ok}
+use Rattle.std.specs.List.{AllByRecursion}
+use Rattle.std.specs.Ordering.{eq_by_cmp}
+use Rattle.std.specs.Cmp.{IsTotalOrder, eq_by_cmp_equiv}
+use Rattle.std.specs.FinMap.{IsAntisymmetric}
+use Rattle.std.proofs.lemmas.Bool.{and_parts, and_from}
+use Rattle.std.proofs.lemmas.Int.{ints}
+use Rattle.sqlite.specs.Order.{Row}
+use Rattle.sqlite.specs.Rowids.TheVariants.{Chosen}
+use Rattle.sqlite.specs.State.{State, Executes}
+use Rattle.sqlite.specs.Term.{col}
+use Rattle.sqlite.specs.Tree.{Trees}
+use Rattle.sqlite.specs.declared.types.Value.TheVariants.{Null, Int, Text, Blob}
+use Rattle.sqlite_schema.specs.Names.{same_name}
+use Rattle.sqlite_schema.specs.declared.schema.Keys.TheVariants.{Enforced}
+use Rattle.sqlite_value.specs.Keys.{joined}
+use Rattle.sqlite_rules.specs.Action.{works}
+use Rattle.sqlite_rules.specs.Cast.{cast_row}
+use Rattle.sqlite_rules.specs.Edit.{with_rowid, next_rowid}
+use Rattle.sqlite_keyed.specs.Keyed.{next_key}
+use Rattle.sqlite_keyed.specs.Lists.{update_where, delete_where}
+use Rattle.sqlite_keyed.proofs.ListLemmas.{all_weaker, all-filter, all_map, all_both}
+use Rattle.sqlite_keyed.proofs.KeyedLemmas.{same_int, IsKeyedBy-delete_where, IsKeyedBy-update_where}
+use Rattle.sqlite_keyed.proofs.RuleLemmas.{apart_update, apart_delete}
+use Rattle.xa_policy.specs.declared.document_key.DocumentKey.{DocumentKey}
+use Rattle.xa_policy.specs.DocumentKey.{compare_keys}
+use Rattle.xa_policy.specs.Version.{version_text}
+use Rattle.xa_records.proofs.FinMapLemmas.{here_or_elsewhere}
+use Rattle.xa_records.proofs.OrderLemmas.{keys_exact, keys_total}
+use Rattle.xa_store.specs.declared.step.Step.TheVariants.{AddDocument, SetActive, DropDocument}
+use Rattle.xa_store.specs.Rows.{DocumentRow, kind_number, bit, is_set, document_row, document_in, version_in}
+use Rattle.xa_store.specs.Sound.{AreTables, same_document}
+use Rattle.xa_store.specs.Steps.{KeyReads, is_document}
+use Rattle.xa_store.specs.Tables.{our_schema, policies}
+use Rattle.xa_store.specs.Texts as text
+use Rattle.xa_store.specs.World.{rows_of}
+use Rattle.xa_store.proofs.ChangeLemmas.{none_pass}
+use Rattle.xa_store.proofs.HitLemmas.{document_hit}
+use Rattle.xa_store.proofs.HoldLemmas.{Back, Hold, documents_now, written_back}
+use Rattle.xa_store.proofs.LastLemmas.{apart_few, stands_last, keyed_last, all_last, apart_last}
+use Rattle.xa_store.proofs.SqlLemmas.{answered, hits}
+use Rattle.xa_store.proofs.StepLemmas.{Stepped, cast_int, cast_null, kind_back}
+use Rattle.xa_store.proofs.TableLemmas.{updates, deletes, inserts}
+use Rattle.xa_store.proofs.TextLemmas.{is, activity_set_is, activity_set_query, document_added_given, document_added_is, document_dropped_is, document_dropped_query}
+use Rattle.xa_store.proofs.WriteLemmas.{Wrote, next_rowid_is, row_added, row_updated, rows_removed}
+
+bit_back : (b : Bool) → is_set (bit b) ≡ b
+bit_back true = refl
+bit_back false = refl
+
+pub bit_held : (b : Bool) → to_z w64 (of_z w64 (bit b)) ≡ bit b
+bit_held true = refl
+bit_held false = refl
+
+document_back : (d : DocumentRow) → KeyReads d.key → document_in (document_row d) ≡ d
+document_back d reads = λ i. record { rowid = d.rowid; number = d.number; key = record { kind = kind_back d.key.kind i; id = d.key.id; version = reads i }; text = d.text; active = bit_back d.active i }
+
+key_of_back : (d : DocumentRow) → document_in (document_row d) ≡ d → KeyReads d.key
+key_of_back d back = ap (λ (x : DocumentRow). x.key.version) back
+
+document_cast : (d : DocumentRow) → cast_row policies (document_row d) ≡ document_row d
+document_cast d = λ i. cast_int d.rowid i ∷ cast_int d.number i ∷ cast_int (kind_number d.key.kind) i ∷ Text d.key.id ∷ Text (version_text d.key.version) ∷ Blob d.text ∷ cast_int (bit d.active) i ∷ []
+
+works_of_nothing : works our_schema Enforced 0 5 [] [] ≡ []
+unfolding same_name joined
+works_of_nothing = refl
+
+works_of_document : (olds : List Row) (new : Row) → works our_schema Enforced 0 5 olds (new ∷ []) ≡ []
+unfolding same_name joined
+works_of_document olds new = refl
+
+works_of_no_document : (olds : List Row) → works our_schema Enforced 0 5 olds [] ≡ []
+unfolding same_name joined
+works_of_no_document olds = refl
+
+own_number : (n : ℤ) → int_eq n n ≡ true
+own_number n = grind (arith, ints)
+
+same_key : (a b : DocumentKey) → eq_by_cmp compare_keys a b ≡ true → a ≡ b
+same_key a b tie = elim (here_or_elsewhere keys_exact a b) [
+  | Rattle.std.proofs.Common.inl same ↦ same
+  | Rattle.std.proofs.Common.inr apart ↦ absurd (let no = sym tie ∙ apart in cc)
+]
+
+documents_alike : (n : ℤ) (key : DocumentKey) (a b : DocumentRow) → is_document n key a ≡ true → is_document n key b ≡ true → same_document a b ≡ true
+documents_alike n key a b here there =
+    let p = and_parts _ _ here in
+    let q = and_parts _ _ there in
+    let number : a.number ≡ b.number = same_int a.number n p.0 ∙ sym (same_int b.number n q.0) in
+    let keys : a.key ≡ b.key = sym (same_key key a.key p.1) ∙ same_key key b.key q.1 in
+    and_from _ _ (ap (λ k. int_eq k b.number) number ∙ own_number b.number) (ap (λ k. eq_by_cmp compare_keys k b.key) keys ∙ (eq_by_cmp_equiv keys_total).refl b.key)
+
+module _ (old new : State) (has : old.now.schema ≡ our_schema) (count : ℕ) (was : AreTables old.now.trees) (n : ℤ) (key : DocumentKey) (reads : KeyReads key) where
+  abbrev db : Trees
+  db = old.now.trees
+
+  abbrev next : Trees
+  next = new.now.trees
+
+  abbrev ds : List DocumentRow
+  ds = map document_in (db 5)
+
+  abbrev rowid_of : DocumentRow → ℤ
+  rowid_of d = d.rowid
+
+  backs : AllByRecursion (Back document_row document_in) ds
+  backs = written_back document_row document_in (db 5) was.documents.written
+
+  abbrev params : Row
+  params = Int n ∷ Int (kind_number key.kind) ∷ Text key.id ∷ Text (version_text key.version) ∷ []
+
+  all_hit : AllByRecursion (λ d. hits 5 (is 1 0 ∷ is 2 1 ∷ is 3 2 ∷ is 4 3 ∷ []) (col 1 5 ∷ col 1 6 ∷ []) [] db refl params (document_row d) ≡ is_document n key d) ds
+  all_hit = all_weaker (Back document_row document_in) (λ d. hits 5 (is 1 0 ∷ is 2 1 ∷ is 3 2 ∷ is 4 3 ∷ []) (col 1 5 ∷ col 1 6 ∷ []) [] db refl params (document_row d) ≡ is_document n key d)
+      (λ d back. document_hit n key db d reads (key_of_back d back)) ds backs
+
+  -- a document comes
+  pub document_added_stepped : (body : List ℕ) → filter (is_document n key) ds ≡ [] → Executes text.document_added (Int n ∷ Int (kind_number key.kind) ∷ Text key.id ∷ Text (version_text key.version) ∷ Blob body ∷ []) old new (Ok count)
+      → Stepped old new (AddDocument n key body)
+  document_added_stepped body none h =
+      let given = Int n ∷ Int (kind_number key.kind) ∷ Text key.id ∷ Text (version_text key.version) ∷ Blob body ∷ [] in
+      let document : DocumentRow = record { rowid = next_key rowid_of ds; number = n; key = key; text = body; active = false } in
+      let row = Null ∷ Int n ∷ Int (kind_number key.kind) ∷ Text key.id ∷ Text (version_text key.version) ∷ Blob body ∷ Int (pos 0) ∷ [] in
+      let adds = inserts text.document_added given old new has 3 policies refl count document_added_given 7 refl refl document_added_is h in
+      let bare : cast_row policies row ≡ row = λ i. cast_null i ∷ cast_int n i ∷ cast_int (kind_number key.kind) i ∷ Text key.id ∷ Text (version_text key.version) ∷ Blob body ∷ cast_int (pos 0) i ∷ [] in
+      let id : next_rowid (db 5) ≡ next_key rowid_of ds = ap next_rowid was.documents.written ∙ next_rowid_is document_row rowid_of (λ _. refl) ds in
+      let put : with_rowid Chosen (db 5) (cast_row policies row) ≡ document_row document =
+      ap (with_rowid Chosen (db 5)) bare ∙ ap (λ k. Int k ∷ Int n ∷ Int (kind_number key.kind) ∷ Text key.id ∷ Text (version_text key.version) ∷ Blob body ∷ Int (pos 0) ∷ []) id in
+      let wrote = row_added document_row rowid_of (λ _. refl) policies db next ds was.documents.written was.documents.rise document row put (works_of_document [] (document_row document)) adds.edited in
+      let fresh = all_weaker (λ d. is_document n key d ≡ false) (λ d. same_document d document ≡ false)
+      (λ d differs. ap (λ b. int_eq d.number n && b) ((eq_by_cmp_equiv keys_total).symm d.key key) ∙ differs) ds (none_pass (is_document n key) ds none) in
+      let last = stands_last rowid_of same_document (Back document_row document_in) ds document was.documents.rise refl in
+      record {
+        schema = adds.schema;
+        tables =
+            documents_now db next was (ds ++ document ∷ []) (subst (λ l. Wrote db next 5 (map document_row l)) last wrote)
+            (all_last rowid_of same_document (Back document_row document_in) ds document was.documents.rise refl backs (document_back document reads))
+            (keyed_last rowid_of same_document (Back document_row document_in) ds document was.documents.rise refl)
+            (apart_last rowid_of same_document (Back document_row document_in) ds document was.documents.rise refl was.documents.apart fresh);
+      }
+
+  -- whether references may resolve to a document
+  pub activity_stepped : (active : Bool) → Executes text.activity_set (Int n ∷ Int (kind_number key.kind) ∷ Text key.id ∷ Text (version_text key.version) ∷ Int (bit active) ∷ []) old new (Ok count)
+      → Stepped old new (SetActive n key active)
+  activity_stepped active h =
+      let given = Int n ∷ Int (kind_number key.kind) ∷ Text key.id ∷ Text (version_text key.version) ∷ Int (bit active) ∷ [] in
+      let tests = is 1 0 ∷ is 2 1 ∷ is 3 2 ∷ is 4 3 ∷ [] in
+      let shown = col 1 0 ∷ col 1 0 ∷ col 1 1 ∷ col 1 2 ∷ col 1 3 ∷ col 1 4 ∷ col 1 5 ∷ col 0 4 ∷ [] in
+      let p = is_document n key in
+      let f : DocumentRow → DocumentRow = λ d. record d { active = active } in
+      let edits = updates text.activity_set given old new has 3 policies refl count activity_set_query activity_set_is h in
+      let answer = answered 5 tests shown [] db refl given edits.rows edits.answer.answer in
+      let few = apart_few same_document p (documents_alike n key) ds was.documents.apart in
+      let wrote = row_updated document_row rowid_of (λ _. refl) policies db next ds was.documents.written was.documents.rise tests shown refl given p all_hit
+      f (λ d. Int d.rowid ∷ Int d.number ∷ Int (kind_number d.key.kind) ∷ Text d.key.id ∷ Text (version_text d.key.version) ∷ Blob d.text ∷ Int (bit active) ∷ [])
+      (λ _. refl) (λ d. document_cast (f d)) (λ _. refl) works_of_nothing works_of_document few edits.rows answer edits.edited in
+      let turned = λ (d : DocumentRow). Rattle.std.proofs.Common.cond (p d) (f d) d in
+      let still = all_map (Back document_row document_in) turned ds
+      (all_weaker (Back document_row document_in) (λ d. Back document_row document_in (turned d)) (λ d back. document_back (turned d)
+      (Rattle.std.proofs.lemmas.Bool.cond_both (p d) (f d) d (λ x. KeyReads x.key) (λ _. key_of_back d back) (λ _. key_of_back d back))) ds backs) in
+      record {
+        schema = edits.schema;
+        tables =
+            documents_now db next was (update_where p f ds) wrote still
+            (IsKeyedBy-update_where rowid_of p f (λ _. refl) ds was.documents.rise) (apart_update same_document p f (λ a b. refl) (λ a b. refl) ds was.documents.apart);
+      }
+
+  -- a document goes
+  pub document_dropped_stepped : Executes text.document_dropped params old new (Ok count) → Stepped old new (DropDocument n key)
+  document_dropped_stepped h =
+      let tests = is 1 0 ∷ is 2 1 ∷ is 3 2 ∷ is 4 3 ∷ [] in
+      let p = is_document n key in
+      let edits = deletes text.document_dropped params old new has 3 policies refl count document_dropped_query document_dropped_is h in
+      let answer = answered 5 tests (col 1 0 ∷ []) [] db refl params edits.rows edits.answer.answer in
+      let wrote = rows_removed document_row rowid_of (λ _. refl) policies db next ds was.documents.written was.documents.rise tests (col 1 0 ∷ []) refl params p all_hit
+      (λ _. refl) works_of_no_document edits.rows answer edits.edited in
+      record {
+        schema = edits.schema;
+        tables =
+            documents_now db next was (delete_where p ds) wrote (all-filter (Back document_row document_in) (λ d. Rattle.std.proofs.Common.not (p d)) ds backs)
+            (IsKeyedBy-delete_where rowid_of p ds was.documents.rise) (apart_delete same_document p ds was.documents.apart);
+      }

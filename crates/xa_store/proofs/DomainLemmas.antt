@@ -1,0 +1,83 @@
+-- What the look for a domain by its name finds.
+use Rattle.std.proofs.Common.{◌≡◌, ℕ, ℤ, pos, negsuc, ◌≤ℤ◌, List, [], ◌∷◌, map, filter, Option, Some, None, Result, Ok, Err, IfOk, refl, sym, ap, ◌∙◌, arith}
+use Rattle.std.specs.List.{AllByRecursion}
+use Rattle.std.proofs.lemmas.Int.{ints}
+use Rattle.sqlite.specs.Order.{Row, column}
+use Rattle.sqlite.specs.State.{State, Shown}
+use Rattle.sqlite.specs.Tree.{Trees}
+use Rattle.sqlite.specs.declared.types.Value.{Value}
+use Rattle.sqlite.specs.declared.types.Value.TheVariants.{Int, Text}
+use Rattle.sqlite.specs.Given.{IsPlain}
+use Rattle.sqlite.specs.Listing.{understood}
+use Rattle.sqlite.specs.Term.{col}
+use Rattle.sqlite.proofs.Callers.{reads_as}
+use Rattle.sqlite_keyed.proofs.ListLemmas.{all_of}
+use Rattle.xa_records.specs.declared.refusal.Failure.{Failure}
+use Rattle.xa_store.specs.declared.domain_found.DomainFound.{DomainFound}
+use Rattle.xa_store.specs.Found.{FindsDomain, TellDomain}
+use Rattle.xa_store.specs.Rows.{DomainRow, nat_of, domain_row, domain_in}
+use Rattle.xa_store.specs.Sound.{Ours}
+use Rattle.xa_store.specs.Steps.{is_named}
+use Rattle.xa_store.specs.Tables.{our_schema}
+use Rattle.xa_store.specs.Texts.{domain_shown}
+use Rattle.xa_store.specs.World.{rows_of}
+use Rattle.xa_store.proofs.FoundLemmas.{found_one, found_none}
+use Rattle.xa_store.proofs.HitLemmas.{name_hit}
+use Rattle.xa_store.proofs.SqlLemmas.{Answered, answered, hits}
+use Rattle.xa_store.proofs.TextLemmas.{is, domain_shown_is}
+
+pub domain_plain : IsPlain (understood our_schema domain_shown)
+domain_plain = domain_shown_is.2
+
+pub same_int_value : (a b : ℤ) → ◌≡◌ {A = Value} (Int a) (Int b) → a ≡ b
+same_int_value a b e = cc
+
+pub never_negative : (n : ℤ) → pos 0 ≤ℤ n → n ≡ pos (nat_of n)
+never_negative (pos n) h = refl
+never_negative (negsuc n) h = absurd (omega (arith, ints))
+
+module _ (old new : State) (name : List ℕ) (ours : Ours old) (rows : List Row) (shown : Shown domain_shown (Text name ∷ []) old new rows) where
+  abbrev db : Trees
+  db = old.now.trees
+
+  answer : Answered 1 (is 2 0 ∷ []) (col 1 0 ∷ col 1 3 ∷ []) [] db refl (Text name ∷ []) rows
+  answer =
+      answered 1 (is 2 0 ∷ []) (col 1 0 ∷ col 1 3 ∷ []) [] db refl (Text name ∷ []) rows
+      (reads_as domain_shown (Text name ∷ []) old new our_schema ours.rests.schema _ domain_shown_is.0 domain_shown_is.2 domain_shown_is.1 rows shown).answer
+
+  all_hit : AllByRecursion (λ x. hits 1 (is 2 0 ∷ []) (col 1 0 ∷ col 1 3 ∷ []) [] db refl (Text name ∷ []) (domain_row x) ≡ is_named name x) (map domain_in (db 1))
+  all_hit = all_of _ (name_hit name db) (map domain_in (db 1))
+
+  pub domain_there : (row : Row) → rows ≡ row ∷ [] → (d : DomainRow) × (filter (is_named name) (rows_of db).domains ≡ d ∷ []) × (row ≡ Int d.number ∷ Int d.epoch ∷ [])
+  domain_there row one =
+      found_one 1 (is 2 0 ∷ []) (col 1 0 ∷ col 1 3 ∷ []) [] db refl (Text name ∷ []) domain_row domain_in ours.tables.domains.written (is_named name) all_hit rows row one answer
+
+  pub domain_absent : rows ≡ [] → filter (is_named name) (rows_of db).domains ≡ []
+  domain_absent none =
+      found_none 1 (is 2 0 ∷ []) (col 1 0 ∷ col 1 3 ∷ []) [] db refl (Text name ∷ []) domain_row domain_in ours.tables.domains.written (is_named name) all_hit rows none answer
+
+domain_finds : (old new : State) (name : List ℕ) → Ours old → (rows : List Row) → Shown domain_shown (Text name ∷ []) old new rows → (found : Option DomainFound) → TellDomain rows found
+    → FindsDomain name (rows_of old.now.trees) found
+domain_finds old new name ours [] shown None tell = domain_absent old new name ours [] shown refl
+domain_finds old new name ours [] shown (Some found) tell = absurd tell
+domain_finds old new name ours (row ∷ []) shown None tell = absurd tell
+domain_finds old new name ours (row ∷ []) shown (Some found) tell =
+    let there = domain_there old new name ours (row ∷ []) shown row refl in
+    let d = there.0 in
+    let number : found.number ≡ d.number = same_int_value found.number d.number (sym tell.0 ∙ ap (λ r. column r 0) there.2) in
+    let epoch : found.epoch ≡ d.epoch = same_int_value found.epoch d.epoch (sym tell.1 ∙ ap (λ r. column r 1) there.2) in
+    record {
+      row = d;
+      only = there.1;
+      number = number;
+      epoch = epoch;
+      has_number = rw number at (never_negative found.number tell.2);
+      has_epoch = rw epoch at (never_negative found.epoch tell.3);
+    }
+domain_finds old new name ours (row ∷ other ∷ more) shown None tell = absurd tell
+domain_finds old new name ours (row ∷ other ∷ more) shown (Some found) tell = absurd tell
+
+pub domain_finds_in : (old new : State) (name : List ℕ) → Ours old → (rows : List Row) → Shown domain_shown (Text name ∷ []) old new rows → (r : Result (Option DomainFound) Failure) → IfOk r (TellDomain rows)
+    → IfOk r (FindsDomain name (rows_of old.now.trees))
+domain_finds_in old new name ours rows shown (Ok found) tell = domain_finds old new name ours rows shown found tell
+domain_finds_in old new name ours rows shown (Err e) tell = tt

@@ -1,0 +1,69 @@
+-- What the statement that adds a domain makes of the rows.
+use Rattle.std.proofs.Common.{◌≡◌, ℕ, ℤ, pos, List, [], ◌∷◌, map, filter, Bool, true, false, not, ◌&&◌, refl, sym, ap, subst, ◌∙◌, int_eq, Ok}
+use Rattle.std.specs.List.{AllByRecursion, list_any}
+use Rattle.std.specs.Ordering.{eq_by_cmp}
+use Rattle.std.proofs.lemmas.Cmp.{nat_list_cmp_total}
+use Rattle.sqlite.specs.Order.{Row}
+use Rattle.sqlite.specs.Rowids.TheVariants.{Chosen}
+use Rattle.sqlite.specs.State.{State, Executes}
+use Rattle.sqlite.specs.Tree.{Trees}
+use Rattle.sqlite.specs.declared.types.Value.TheVariants.{Null, Int, Text}
+use Rattle.sqlite_rules.specs.Cast.{cast_row}
+use Rattle.sqlite_rules.specs.Edit.{with_rowid}
+use Rattle.sqlite_keyed.specs.Keyed.{insert_by}
+use Rattle.sqlite_keyed.specs.Rules.{is_apart}
+use Rattle.sqlite_keyed.proofs.ListLemmas.{all_of, all_weaker, any_from_none}
+use Rattle.sqlite_keyed.proofs.KeyedLemmas.{IsKeyedBy-insert_by}
+use Rattle.sqlite_keyed.proofs.RuleLemmas.{apart_insert}
+use Rattle.sqlite_typed.proofs.TestLemmas.{turn_eq}
+use Rattle.xa_records.specs.DomainState.{compare_bytes}
+use Rattle.xa_store.specs.declared.step.Step.TheVariants.{AddDomain}
+use Rattle.xa_store.specs.Rows.{DomainRow, domain_row, domain_in}
+use Rattle.xa_store.specs.Sound.{AreTables, same_name}
+use Rattle.xa_store.specs.Steps.{is_named}
+use Rattle.xa_store.specs.Tables.{our_schema, domains}
+use Rattle.xa_store.specs.Texts as text
+use Rattle.xa_store.specs.World.{rows_of}
+use Rattle.xa_store.proofs.ChangeLemmas.{none_pass}
+use Rattle.xa_store.proofs.HoldLemmas.{Back, domains_now}
+use Rattle.xa_store.proofs.StepLemmas.{Stepped, cast_int, cast_null, works_of_domain}
+use Rattle.xa_store.proofs.TableLemmas.{inserts}
+use Rattle.xa_store.proofs.TextLemmas.{domain_added_given, domain_added_is}
+use Rattle.xa_store.proofs.WriteLemmas.{row_added}
+
+pub turn_bytes : (a b : List ℕ) → eq_by_cmp compare_bytes a b ≡ eq_by_cmp compare_bytes b a
+turn_bytes = turn_eq compare_bytes nat_list_cmp_total
+
+never_both : (b : Bool) → (b && false) ≡ false
+never_both true = refl
+never_both false = refl
+
+module _ (old new : State) (has : old.now.schema ≡ our_schema) (count : ℕ) (was : AreTables old.now.trees) where
+  abbrev db : Trees
+  db = old.now.trees
+
+  abbrev ds : List DomainRow
+  ds = map domain_in (db 1)
+
+  abbrev number_of : DomainRow → ℤ
+  number_of d = d.number
+
+  pub domain_added_stepped : (n : ℤ) (name : List ℕ) → filter (is_named name) ds ≡ [] → Executes text.domain_added (Int n ∷ Text name ∷ []) old new (Ok count) → Stepped old new (AddDomain n name)
+  domain_added_stepped n name none h =
+      let params = Int n ∷ Text name ∷ [] in
+      let domain : DomainRow = record { number = n; name = name; epoch = pos 0 } in
+      let row = Int n ∷ Null ∷ Text name ∷ Int (pos 0) ∷ [] in
+      let adds = inserts text.domain_added params old new has 1 domains refl count domain_added_given 4 refl refl domain_added_is h in
+      let bare : cast_row domains row ≡ row = λ i. cast_int n i ∷ cast_null i ∷ Text name ∷ cast_int (pos 0) i ∷ [] in
+      let put : with_rowid Chosen (db 1) (cast_row domains row) ≡ domain_row domain = ap (with_rowid Chosen (db 1)) bare in
+      let wrote = row_added domain_row number_of (λ _. refl) domains db new.now.trees ds was.domains.written was.domains.rise domain row put (works_of_domain [] (domain_row domain)) adds.edited in
+      let apart = all_weaker (λ d. is_named name d ≡ false) (λ d. (not (int_eq d.number n) && same_name d domain) ≡ false)
+      (λ d differs. ap (λ b. not (int_eq d.number n) && b) (turn_bytes d.name name ∙ differs) ∙ never_both (not (int_eq d.number n))) ds (none_pass (is_named name) ds none) in
+      let alone : is_apart number_of same_name ds domain ≡ true = ap not (any_from_none (λ d. not (int_eq d.number n) && same_name d domain) ds apart) in
+      record {
+        schema = adds.schema;
+        tables =
+            domains_now db new.now.trees was (insert_by number_of ds domain) wrote (all_of (Back domain_row domain_in) (λ _. refl) (insert_by number_of ds domain))
+            (IsKeyedBy-insert_by number_of ds domain was.domains.rise)
+            (apart_insert same_name number_of (λ a b. turn_bytes a.name b.name) ds domain was.domains.rise alone was.domains.apart);
+      }

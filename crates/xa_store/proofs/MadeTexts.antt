@@ -1,0 +1,60 @@
+-- The texts that make the tables.
+use Rattle.std.proofs.Common.{◌≡◌, ℕ, pos, List, [], ◌∷◌, ◌++◌, Ok, refl}
+use Rattle.std.specs.Fmt.{digits}
+use Rattle.sqlite.specs.Schema.{Schema}
+use Rattle.sqlite.specs.Table.{Table}
+use Rattle.sqlite.specs.Compile.{table_defined_by}
+use Rattle.sqlite.specs.Command.TheVariants.{CreateTable, Insert}
+use Rattle.sqlite.specs.Listing.{understood}
+use Rattle.sqlite.specs.Change.{created}
+use Rattle.sqlite.specs.Source.TheVariants.{Values}
+use Rattle.sqlite.specs.Term.{Term, lit}
+use Rattle.sqlite.specs.declared.types.Value.TheVariants.{Null, Int}
+use Rattle.sqlite.proofs.Callers.{IsPlain, command_of, statement_of}
+use Rattle.sqlite_tied.specs.Compute.{everything}
+use Rattle.xa_store.specs.Making.{first, second, third, fourth, fifth}
+use Rattle.xa_store.specs.Opening.{no_tables}
+use Rattle.xa_store.specs.Tables.{our_schema, meta, domains, tokens, policies, roots, attributes}
+use Rattle.xa_store.specs.Texts.{meta_made, domains_made, tokens_made, policies_made, roots_made, attributes_made, meta_begun}
+use Rattle.xa_store.proofs.TextLemmas.{IsChange}
+
+-- under the schema the text is the statement that makes the table
+pub record IsMaking (schema : Schema) (sql : List ℕ) (table : Table) : Type 0 where
+  pub command : command_of (understood schema sql) ≡ CreateTable
+  pub plain : IsPlain (understood schema sql)
+  pub defined : table_defined_by (statement_of sql (understood schema sql)) ≡ Ok (record table { tree = 0 })
+
+pub all_made : created fifth attributes ≡ our_schema
+unfolding digits
+all_made = refl
+
+pub meta_is : IsMaking no_tables meta_made meta
+unfolding understood everything
+meta_is = record { command = refl; plain = (refl, refl); defined = refl }
+
+pub domains_is : IsMaking first domains_made domains
+unfolding understood everything
+domains_is = record { command = refl; plain = (refl, refl); defined = refl }
+
+pub tokens_is : IsMaking second tokens_made tokens
+unfolding understood everything
+tokens_is = record { command = refl; plain = (refl, refl); defined = refl }
+
+pub policies_is : IsMaking third policies_made policies
+unfolding understood everything
+policies_is = record { command = refl; plain = (refl, refl); defined = refl }
+
+pub roots_is : IsMaking fourth roots_made roots
+unfolding understood everything
+roots_is = record { command = refl; plain = (refl, refl); defined = refl }
+
+pub attributes_is : IsMaking fifth attributes_made attributes
+unfolding understood everything
+attributes_is = record { command = refl; plain = (refl, refl); defined = refl }
+
+abbrev pub first_row : List Term
+first_row = lit (Int (pos 1)) ∷ lit Null ∷ lit (Int (pos 1)) ∷ lit (Int (pos 1)) ∷ []
+
+pub first_row_is : IsChange meta_begun (Insert 0 (Values first_row 4))
+unfolding understood everything
+first_row_is = (refl, (refl, refl))

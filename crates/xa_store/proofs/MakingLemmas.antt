@@ -1,0 +1,130 @@
+-- What the statements make by which the tables are made.
+use Rattle.std.proofs.Common.{◌≡◌, ◌≢◌, ◌⊎◌, inl, inr, ℕ, ℤ, pos, Bool, true, false, MatchBool, List, [], ◌∷◌, ◌++◌, map, Ok, Err, Result, IsTrue, OnOk, refl, sym, ap, subst, subst₂, ◌∙◌, arith}
+use Rattle.std.specs.List.{AllByRecursion}
+use Rattle.sqlite.specs.Change.{created, next_tree}
+use Rattle.sqlite.specs.Does.{Tally, Does, MakesSequence, MakesTable, lacks_sequence, sequence_text}
+use Rattle.sqlite.specs.Effect.{Database}
+use Rattle.sqlite.specs.Listing.{understood}
+use Rattle.sqlite.specs.Order.{Row}
+use Rattle.sqlite.specs.Rows.{Gives}
+use Rattle.sqlite.specs.Rowids.TheVariants.{Chosen}
+use Rattle.sqlite.specs.Schema.{Schema}
+use Rattle.sqlite.specs.State.{State, Executes, mode_of}
+use Rattle.sqlite.specs.Table.{Table}
+use Rattle.sqlite.specs.Tree.{Trees}
+use Rattle.sqlite.specs.Command.TheVariants.{CreateTable}
+use Rattle.sqlite.specs.declared.types.Value.TheVariants.{Null, Int}
+use Rattle.sqlite.proofs.Callers.{statement_of, runs_as}
+use Rattle.sqlite_catalog.specs.Change.{KeepsRows}
+use Rattle.sqlite_schema.specs.Names.{same_name}
+use Rattle.sqlite_schema.specs.declared.schema.Keys.TheVariants.{Enforced}
+use Rattle.sqlite_value.specs.Keys.{joined}
+use Rattle.sqlite_rules.specs.Action.{works}
+use Rattle.sqlite_rules.specs.Cast.{cast_row}
+use Rattle.sqlite_rules.specs.Edit.{IsNoIndex, with_rowid}
+use Rattle.sqlite_keyed.proofs.ListLemmas.{all-append}
+use Rattle.std.specs.Fmt.{digits}
+use Rattle.xa_store.specs.declared.opening.making.Part.{Part}
+use Rattle.xa_store.specs.declared.opening.making.Part.TheVariants as parts
+use Rattle.xa_store.specs.declared.opening.kind.Kind.{Kind}
+use Rattle.xa_store.specs.declared.opening.kind.Kind.TheVariants.{Domains, Tokens, Documents, Roots, Attributes}
+use Rattle.xa_store.specs.Making.{text_of, first, second, third, fourth, fifth, AreEmpty, AreMade, IsBefore, IsAfter}
+use Rattle.xa_store.specs.Opened.{tree_of}
+use Rattle.xa_store.specs.Opening.{no_tables, IsMade}
+use Rattle.xa_store.specs.Rows.{meta_row}
+use Rattle.xa_store.specs.Tables.{our_schema, meta, domains, tokens, policies, roots, attributes}
+use Rattle.xa_store.specs.Texts as texts
+use Rattle.xa_store.proofs.MadeTexts.{IsMaking, all_made, meta_is, domains_is, tokens_is, policies_is, roots_is, attributes_is, first_row, first_row_is}
+use Rattle.xa_store.proofs.StepLemmas.{cast_int, cast_null, works_of_meta}
+use Rattle.xa_store.proofs.TableLemmas.{went, same_value, inserts}
+use Rattle.xa_store.proofs.WriteLemmas.{row_added}
+
+-- these trees have no rows
+abbrev pub Bare : Trees → List Table → Type 0
+Bare db tables = AllByRecursion (λ t. db t ≡ []) (map (λ (t : Table). t.tree) tables)
+
+still_bare : (tables : List Table) (old new : Trees) → KeepsRows tables old new → Bare old tables → Bare new tables
+still_bare [] old new kept bare = tt
+still_bare (t ∷ tables) old new kept bare = (kept.0 ∙ bare.0, still_bare tables old new kept.1 bare.1)
+
+-- no table of sequences is made beside it
+only_made : (db after : Database) → lacks_sequence db.schema ≡ false → MakesSequence db (Ok after) → after ≡ db
+only_made db after uncounted h = same_value (subst (λ b. MatchBool b (MakesTable sequence_text db (Ok after)) (Gives db (Ok after))) uncounted h)
+
+module _ (schema : Schema) (sql : List ℕ) (table : Table) (is : IsMaking schema sql table) (uncounted : lacks_sequence (created schema table) ≡ false) (old new : State) (has : old.now.schema ≡ schema) (count : ℕ)
+    (h : Executes sql [] old new (Ok count)) where
+  abbrev text : List ℕ
+  text = statement_of sql (understood schema sql)
+
+  pub record Came : Type 0 where
+    pub schema_is : new.now.schema ≡ created schema table
+    pub empty : new.now.trees (next_tree schema) ≡ []
+    pub others : KeepsRows schema.tables old.now.trees new.now.trees
+
+  pub came : Came
+  came =
+      let w = runs_as sql [] old new schema has CreateTable is.command is.plain count h in
+      let all = subst (λ s. Does old.step_limit (mode_of old) [] (record old.now { schema = s }) text Rattle.std.proofs.Common.None CreateTable (Ok (w.tally, new.now))) has w.changed in
+      let done = went all in
+      let made = went done.1 in
+      let table_is : made.1.table ≡ record table { tree = 0 } = same_value (sym made.1.defined ∙ is.defined) in
+      let after : (made.0).schema ≡ created schema table = made.1.is ∙ ap (created schema) table_is in
+      let same : done.0 ≡ made.0 = only_made made.0 done.0 (ap lacks_sequence after ∙ uncounted) made.2 in
+      let now : new.now ≡ done.0 = ap (λ (p : Tally × Database). p.1) (same_value done.2) in
+      let whole : new.now ≡ made.0 = now ∙ same in
+      record {
+        schema_is = ap (λ (d : Database). d.schema) whole ∙ after;
+        empty = ap (λ (d : Database). d.trees (next_tree schema)) whole ∙ made.1.empty;
+        others = subst (λ (d : Database). KeepsRows schema.tables old.now.trees d.trees) (sym whole) made.1.others;
+      }
+
+  pub bare_after : Bare old.now.trees schema.tables → AllByRecursion (λ t. new.now.trees t ≡ []) (map (λ (t : Table). t.tree) schema.tables ++ next_tree schema ∷ [])
+  bare_after bare =
+      let it = came in
+      all-append (λ t. new.now.trees t ≡ []) (map (λ (t : Table). t.tree) schema.tables) (next_tree schema ∷ []) (still_bare schema.tables old.now.trees new.now.trees it.others bare) (it.empty, tt)
+
+-- a part that was made is there, and those before it still are
+pub taken : (part : Part) (old new : State) (count : ℕ) → IsBefore part old.now → Executes (text_of part) [] old new (Ok count) → IsAfter part new.now
+taken parts.Meta old new count before h = record {
+  schema = (came no_tables texts.meta_made meta meta_is refl old new before.schema count h).schema_is;
+  empty = bare_after no_tables texts.meta_made meta meta_is refl old new before.schema count h before.empty;
+}
+taken parts.Domains old new count before h = record {
+  schema = (came first texts.domains_made domains domains_is refl old new before.schema count h).schema_is;
+  empty = bare_after first texts.domains_made domains domains_is refl old new before.schema count h before.empty;
+}
+taken parts.Tokens old new count before h = record {
+  schema = (came second texts.tokens_made tokens tokens_is refl old new before.schema count h).schema_is;
+  empty = bare_after second texts.tokens_made tokens tokens_is refl old new before.schema count h before.empty;
+}
+taken parts.Policies old new count before h = record {
+  schema = (came third texts.policies_made policies policies_is refl old new before.schema count h).schema_is;
+  empty = bare_after third texts.policies_made policies policies_is refl old new before.schema count h before.empty;
+}
+taken parts.Roots old new count before h = record {
+  schema = (came fourth texts.roots_made roots roots_is refl old new before.schema count h).schema_is;
+  empty = bare_after fourth texts.roots_made roots roots_is refl old new before.schema count h before.empty;
+}
+taken parts.Attributes old new count before h = record {
+  schema = (came fifth texts.attributes_made attributes attributes_is refl old new before.schema count h).schema_is ∙ all_made;
+  empty = bare_after fifth texts.attributes_made attributes attributes_is refl old new before.schema count h before.empty;
+}
+taken parts.FirstRow old new count before h =
+    let adds = inserts texts.meta_begun [] old new before.schema 0 meta refl count first_row 4 refl refl first_row_is h in
+    let row = Int (pos 1) ∷ Null ∷ Int (pos 1) ∷ Int (pos 1) ∷ [] in
+    let cast : cast_row meta row ≡ meta_row (pos 1) = λ i. cast_int (pos 1) i ∷ cast_null i ∷ cast_int (pos 1) i ∷ cast_int (pos 1) i ∷ [] in
+    let put : with_rowid Chosen (old.now.trees 0) (cast_row meta row) ≡ meta_row (pos 1) = ap (with_rowid Chosen (old.now.trees 0)) cast in
+    let wrote = row_added meta_row (λ _. pos 1) (λ _. refl) meta old.now.trees new.now.trees [] before.empty.0 tt (pos 1) row put (works_of_meta [] (meta_row (pos 1))) adds.edited in
+    let empty = before.empty in
+    record { schema = adds.schema; made = record { meta = wrote.rows; empty = still (wrote.others) empty } }
+  where
+    still : ((t : ℕ) → t ≢ 0 → IsNoIndex our_schema t → new.now.trees t ≡ old.now.trees t) → AllByRecursion (λ t. old.now.trees t ≡ []) (0 ∷ 1 ∷ 3 ∷ 5 ∷ 7 ∷ 8 ∷ []) → (kind : Kind) → new.now.trees (tree_of kind) ≡ []
+    still others empty Domains = others 1 (omega arith) (omega arith, (omega arith, (omega arith, (omega arith, tt)))) ∙ empty.1.0
+    still others empty Tokens = others 3 (omega arith) (omega arith, (omega arith, (omega arith, (omega arith, tt)))) ∙ empty.1.1.0
+    still others empty Documents = others 5 (omega arith) (omega arith, (omega arith, (omega arith, (omega arith, tt)))) ∙ empty.1.1.1.0
+    still others empty Roots = others 7 (omega arith) (omega arith, (omega arith, (omega arith, (omega arith, tt)))) ∙ empty.1.1.1.1.0
+    still others empty Attributes = others 8 (omega arith) (omega arith, (omega arith, (omega arith, (omega arith, tt)))) ∙ empty.1.1.1.1.1.0
+
+pub on_ok : {X E P Q : Type 0} (r : Result X E) → OnOk r P → (P → Q) → OnOk r Q
+on_ok (Ok x) p f = f p
+on_ok (Err e) p f = tt

@@ -1,0 +1,70 @@
+-- What the query for the names of domains finds.
+use Rattle.std.proofs.Common.{◌≡◌, ℕ, List, [], ◌∷◌, map, filter, Bool, true, false, Ordering, is_eq, refl, sym, ap, subst, ◌∙◌}
+use Rattle.sqlite.specs.Order.{Row}
+use Rattle.sqlite.specs.State.{State, Shown}
+use Rattle.sqlite.specs.Tree.{Trees}
+use Rattle.sqlite.specs.declared.types.Value.TheVariants.{Text}
+use Rattle.sqlite.specs.Given.{IsPlain}
+use Rattle.sqlite.specs.Listing.{understood}
+use Rattle.sqlite.specs.Term.{col}
+use Rattle.sqlite.proofs.Callers.{reads_as}
+use Rattle.sqlite_keyed.specs.Lists.{sort_by}
+use Rattle.sqlite_keyed.proofs.ListLemmas.{all_of, filter_all, map-map}
+use Rattle.sqlite_trees.specs.Tree.{IsAscending}
+use Rattle.sqlite_typed.proofs.TestLemmas.{last_key}
+use Rattle.sqlite_value.proofs.OrderLemmas.{value_cmp-Text}
+use Rattle.xa_records.specs.DomainState.{compare_bytes}
+use Rattle.xa_records.specs.Kept.{Domain, names_of}
+use Rattle.xa_records.proofs.OrderLemmas.{bytes_total}
+use Rattle.xa_store.specs.Rows.{DomainRow, domain_row, domain_in}
+use Rattle.xa_store.specs.Shown.{name_told}
+use Rattle.xa_store.specs.Sound.{Ours}
+use Rattle.xa_store.specs.Tables.{our_schema}
+use Rattle.xa_store.specs.Texts.{names_shown}
+use Rattle.xa_store.specs.World.{rows_of, domain_of, domain_entry, world_of}
+use Rattle.xa_store.proofs.FoundLemmas.{found_sorted}
+use Rattle.xa_store.proofs.OrderedLemmas.{entries_sorted}
+use Rattle.xa_store.proofs.SqlLemmas.{Answered, answered}
+use Rattle.xa_store.proofs.TextLemmas.{names_shown_is}
+
+pub names_plain : IsPlain (understood our_schema names_shown)
+names_plain = names_shown_is.2
+
+module _ (old new : State) (ours : Ours old) (rows : List Row) (shown : Shown names_shown [] old new rows) where
+  abbrev db : Trees
+  db = old.now.trees
+
+  abbrev all : List DomainRow
+  all = map domain_in (db 1)
+
+  abbrev always : DomainRow → Bool
+  always d = true
+
+  every : filter always all ≡ all
+  every = filter_all always all (all_of _ (λ d. refl) all)
+
+  abbrev by_name : DomainRow → DomainRow → Ordering
+  by_name a b = compare_bytes a.name b.name
+
+  untied : IsAscending (λ a b. is_eq (by_name a b) ≡ false) all
+  untied = ours.tables.domains.apart
+
+  answer : Answered 1 [] (col 1 2 ∷ []) (2 ∷ []) db refl [] rows
+  answer =
+      answered 1 [] (col 1 2 ∷ []) (2 ∷ []) db refl [] rows
+      (reads_as names_shown [] old new our_schema ours.rests.schema _ names_shown_is.0 names_shown_is.2 names_shown_is.1 rows shown).answer
+
+  abbrev show_name : DomainRow → Row
+  show_name d = Text d.name ∷ []
+
+  ordered : rows ≡ map show_name (sort_by by_name all)
+  ordered =
+      found_sorted 1 [] (col 1 2 ∷ []) (2 ∷ []) db refl [] domain_row domain_in ours.tables.domains.written always (all_of _ (λ d. refl) all) by_name (λ a b. last_key (value_cmp-Text a.name b.name))
+      (subst (IsAscending (λ a b. is_eq (by_name a b) ≡ false)) (sym every) untied) rows answer
+      ∙ ap (λ ds. map show_name (sort_by by_name ds)) every
+
+  pub names_read : map name_told rows ≡ names_of (world_of db)
+  names_read =
+      ap (map name_told) ordered ∙ map-map name_told show_name (sort_by by_name all)
+      ∙ sym (ap (map (λ (e : List ℕ × Domain). e.0)) (entries_sorted bytes_total (λ (d : DomainRow). d.name) (domain_of (rows_of db)) all untied)
+      ∙ map-map (λ (e : List ℕ × Domain). e.0) (domain_entry (rows_of db)) (sort_by by_name all))

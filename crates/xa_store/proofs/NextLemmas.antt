@@ -1,0 +1,55 @@
+-- What the look for the next number finds.
+use Rattle.std.proofs.Common.{◌≡◌, ℤ, pos, List, [], ◌∷◌, filter, false, true, cond, Result, Ok, Err, IfOk, refl, sym, ap, subst, ◌∙◌}
+use Rattle.sqlite.specs.Order.{Row, column}
+use Rattle.sqlite.specs.State.{State, Shown}
+use Rattle.sqlite.specs.Tree.{Trees}
+use Rattle.sqlite.specs.declared.types.Value.TheVariants.{Int}
+use Rattle.sqlite.specs.Given.{IsPlain}
+use Rattle.sqlite.specs.Listing.{understood}
+use Rattle.sqlite.specs.Term.{col}
+use Rattle.sqlite.proofs.Callers.{reads_as}
+use Rattle.sqlite_sql.specs.declared.ops.CompareOp.TheVariants.{Eq}
+use Rattle.sqlite_typed.proofs.TestLemmas.{at_ints, last_term}
+use Rattle.xa_records.specs.declared.refusal.Failure.{Failure}
+use Rattle.xa_store.specs.Found.{IsNext, TellNext}
+use Rattle.xa_store.specs.Rows.{meta_row, next_in}
+use Rattle.xa_store.specs.Sound.{Ours}
+use Rattle.xa_store.specs.Tables.{our_schema}
+use Rattle.xa_store.specs.Texts.{next_shown}
+use Rattle.xa_store.specs.World.{rows_of}
+use Rattle.xa_store.proofs.DomainLemmas.{never_negative, same_int_value}
+use Rattle.xa_store.proofs.SqlLemmas.{Answered, answered, hits, one_hit}
+use Rattle.xa_store.proofs.TextLemmas.{is_one, next_shown_is}
+
+pub next_plain : IsPlain (understood our_schema next_shown)
+next_plain = next_shown_is.2
+
+module _ (old new : State) (ours : Ours old) (rows : List Row) (shown : Shown next_shown [] old new rows) where
+  abbrev db : Trees
+  db = old.now.trees
+
+  abbrev next : ℤ
+  next = next_in (db 0)
+
+  answer : Answered 0 (is_one 0 ∷ []) (col 1 3 ∷ []) [] db refl [] rows
+  answer =
+      answered 0 (is_one 0 ∷ []) (col 1 3 ∷ []) [] db refl [] rows
+      (reads_as next_shown [] old new our_schema ours.rests.schema _ next_shown_is.0 next_shown_is.2 next_shown_is.1 rows shown).answer
+
+  hit : hits 0 (is_one 0 ∷ []) (col 1 3 ∷ []) [] db refl [] (meta_row next) ≡ true
+  hit = last_term (at_ints false Eq (pos 1) (pos 1))
+
+  meta_hit : filter (hits 0 (is_one 0 ∷ []) (col 1 3 ∷ []) [] db refl []) (db 0) ≡ meta_row next ∷ []
+  meta_hit = ap (filter (hits 0 (is_one 0 ∷ []) (col 1 3 ∷ []) [] db refl [])) ours.tables.meta ∙ ap (λ b. cond b (meta_row next ∷ []) []) hit
+
+  next_there : rows ≡ (Int next ∷ []) ∷ []
+  next_there = one_hit 0 (is_one 0 ∷ []) (col 1 3 ∷ []) [] db refl [] rows (meta_row next) meta_hit answer
+
+  next_finds : (number : ℤ) → TellNext rows number → IsNext (rows_of db) number
+  next_finds number tell =
+      let told = subst (λ l. TellNext l number) next_there tell in
+      record { same = sym (same_int_value next number told.0); has_number = never_negative number told.1 }
+
+  pub next_finds_in : (r : Result ℤ Failure) → IfOk r (TellNext rows) → IfOk r (IsNext (rows_of db))
+  next_finds_in (Ok number) tell = next_finds number tell
+  next_finds_in (Err e) tell = tt

@@ -1,0 +1,207 @@
+-- Tables that opening finds sound are those of a keeper, and tables as they are made are sound.
+use Rattle.std.proofs.Common.{◌≡◌, ℕ, ℤ, pos, Bool, true, false, ◌&&◌, cond, [], ◌∷◌, map, Option, Some, None, Result, Ok, Err, refl, sym, ap, subst, ◌∙◌}
+use Rattle.std.specs.FinMap.{from_entries}
+use Rattle.std.specs.List.{AllByRecursion, list_all}
+use Rattle.sqlite.specs.Effect.{IsDatabase}
+use Rattle.sqlite.specs.Order.{Row, column}
+use Rattle.sqlite.specs.State.{State}
+use Rattle.sqlite.specs.Tree.{Trees}
+use Rattle.sqlite_catalog.specs.Listing.{IsSound}
+use Rattle.sqlite_keyed.proofs.ListLemmas.{all_map, all_weaker}
+use Rattle.sqlite_keyed.proofs.RuleLemmas.{first_of_both, second_of_both}
+use Rattle.sqlite_keyed.specs.Lists.{sort_by}
+use Rattle.sqlite_typed.specs.Columns.{int_of}
+use Rattle.xa_records.specs.Kept.{nothing_kept}
+use Rattle.xa_store.specs.declared.open_error.OpenError.{OpenError}
+use Rattle.xa_store.specs.declared.open_error.OpenError.TheVariants.{Damaged}
+use Rattle.xa_store.specs.declared.opening.kind.Kind.{Kind}
+use Rattle.xa_store.specs.declared.opening.kind.Kind.TheVariants.{Domains, Tokens, Documents, Roots, Attributes}
+use Rattle.xa_store.specs.Opened.{are_sound_rows, as_read, count_on, holds_int, is_count, is_given, is_sound, is_sound_table, is_whole_row, judged, known_next, no_place, opened, place_cmp, place_in, read_meta, tree_of}
+use Rattle.xa_store.specs.Opening.{IsMade}
+use Rattle.xa_store.specs.Rows.{AttributeRow, DocumentRow, DomainRow, RootRow, TokenRow, attribute_in, attribute_row, document_in, document_row, domain_in, domain_row, meta_row, nat_of, next_in, root_in, root_row, token_in, token_row}
+use Rattle.xa_store.specs.Sound.{AreNumbered, AreRows, AreTables, Ours, Rests, same_document, same_name, same_place, same_token}
+use Rattle.xa_store.specs.Tables.{our_schema}
+use Rattle.xa_store.specs.World.{domain_entry, rows_of, world_of}
+use Rattle.xa_store.proofs.AreRowsLemmas.{domains_are, tokens_are, whole}
+use Rattle.xa_store.proofs.DocumentRowLemmas.{documents_are}
+use Rattle.xa_store.proofs.NumberedLemmas.{AreGiven, numbers_are}
+use Rattle.xa_store.proofs.RootRowLemmas.{meta_is, roots_are}
+use Rattle.xa_store.proofs.ShapeLemmas.{int_held}
+use Rattle.xa_store.proofs.ShapedLemmas.{attributes_are}
+
+-- ---- what opening has found
+
+abbrev Finds : Trees → Type 0
+Finds db = (next : ℤ) × (known_next (map read_meta (db 0)) ≡ Some next) × (is_sound db next ≡ true)
+
+found : (db : Trees) → opened db ≡ Ok tt → Finds db
+found db h = go (known_next (map read_meta (db 0))) refl h
+  where
+    sound : (next : ℤ) → known_next (map read_meta (db 0)) ≡ Some next → (b : Bool) → is_sound db next ≡ b → ◌≡◌ {A = Result (Unit {0}) OpenError} (cond b (Ok tt) (Err Damaged)) (Ok tt) → Finds db
+    sound next known true is h = (next, known, is)
+    sound next known false is h = absurd cc
+
+    go : (o : Option ℤ) → known_next (map read_meta (db 0)) ≡ o → judged db o ≡ Ok tt → Finds db
+    go None known h = absurd cc
+    go (Some next) known h = sound next known (is_sound db next) refl h
+
+-- ---- of each table
+
+module _ (db : Trees) (next : ℤ) (live : IsSound our_schema db) (known : known_next (map read_meta (db 0)) ≡ Some next) (sound : is_sound db next ≡ true) where
+  abbrev test : Kind → Bool
+  test = is_sound_table db next
+
+  all : list_all test (Domains ∷ Tokens ∷ Documents ∷ Roots ∷ Attributes ∷ []) ≡ true
+  all = second_of_both (is_count next) _ (first_of_both _ _ sound)
+
+  in_domains : test Domains ≡ true
+  in_domains = first_of_both (test Domains) _ all
+
+  after_domains : list_all test (Tokens ∷ Documents ∷ Roots ∷ Attributes ∷ []) ≡ true
+  after_domains = second_of_both (test Domains) _ all
+
+  in_tokens : test Tokens ≡ true
+  in_tokens = first_of_both (test Tokens) _ after_domains
+
+  after_tokens : list_all test (Documents ∷ Roots ∷ Attributes ∷ []) ≡ true
+  after_tokens = second_of_both (test Tokens) _ after_domains
+
+  in_documents : test Documents ≡ true
+  in_documents = first_of_both (test Documents) _ after_tokens
+
+  after_documents : list_all test (Roots ∷ Attributes ∷ []) ≡ true
+  after_documents = second_of_both (test Documents) _ after_tokens
+
+  in_roots : test Roots ≡ true
+  in_roots = first_of_both (test Roots) _ after_documents
+
+  in_attributes : test Attributes ≡ true
+  in_attributes = first_of_both (test Attributes) true (second_of_both (test Roots) _ after_documents)
+
+  meta : db 0 ≡ meta_row next ∷ []
+  meta = meta_is db next live known
+
+  next_is : next ≡ next_in (db 0)
+  next_is = sym (ap next_in meta)
+
+  tables : AreTables db
+  tables = record {
+    meta = subst (λ n. db 0 ≡ meta_row n ∷ []) next_is meta;
+    domains = domains_are db next live in_domains;
+    tokens = tokens_are db next live in_tokens;
+    documents = documents_are db next live in_documents;
+    roots = roots_are db next live in_roots;
+    attributes = attributes_are db next live in_attributes;
+  }
+
+  -- ---- numbers
+
+  -- the number in a column was given
+  number_given : (row : Row) (at : ℕ) → holds_int (is_given next) (column row at) ≡ true → is_given next (int_of (column row at)) ≡ true
+  number_given row at h = (int_held (is_given next) (column row at) h).1
+
+  abbrev IsWhole : Kind → Row → Type 0
+  IsWhole kind row = is_whole_row kind next (as_read kind row) ≡ true
+
+  abbrev IsOfDomain : Row → Type 0
+  IsOfDomain row = (is_given next (domain_in row).number ≡ true) × (is_count (domain_in row).epoch ≡ true)
+
+  domain_given : (row : Row) → IsWhole Domains row → IsOfDomain row
+  domain_given row h =
+      let rest = second_of_both _ _ h in
+      (number_given row 0 (first_of_both _ _ (first_of_both _ _ rest)), (int_held is_count (column row 3) (second_of_both _ _ rest)).1)
+
+  token_given : (row : Row) → IsWhole Tokens row → is_given next (token_in row).number ≡ true
+  token_given row h = number_given row 1 (first_of_both _ _ (first_of_both _ _ (second_of_both _ _ h)))
+
+  document_given : (row : Row) → IsWhole Documents row → is_given next (document_in row).number ≡ true
+  document_given row h = number_given row 1 (first_of_both _ _ (first_of_both _ _ (second_of_both _ _ h)))
+
+  root_given : (row : Row) → IsWhole Roots row → is_given next (root_in row).number ≡ true
+  root_given row h = number_given row 0 (first_of_both _ _ (first_of_both _ _ (first_of_both _ _ (first_of_both _ _ (first_of_both _ _ (second_of_both _ _ h))))))
+
+  attribute_given : (row : Row) → IsWhole Attributes row → is_given next (attribute_in row).number ≡ true
+  attribute_given row h = number_given row 1 (first_of_both _ _ (first_of_both _ _ (first_of_both _ _ (first_of_both _ _ (second_of_both _ _ h)))))
+
+  module _ {X : Type 0} (kind : Kind) (here : test kind ≡ true) (reads : Row → X) (Is : X → Type 0) (of : (row : Row) → IsWhole kind row → Is (reads row)) where
+    each : AllByRecursion Is (map reads (db (tree_of kind)))
+    each = all_map Is reads (db (tree_of kind)) (all_weaker (IsWhole kind) (λ row. Is (reads row)) of (db (tree_of kind)) (whole kind next db here))
+
+  given : AreGiven (record (rows_of db) { next = next })
+  given = record {
+    next = first_of_both (is_count next) _ (first_of_both _ _ sound);
+    domains = each Domains in_domains domain_in (λ d. (is_given next d.number ≡ true) × (is_count d.epoch ≡ true)) domain_given;
+    tokens = each Tokens in_tokens token_in (λ t. is_given next t.number ≡ true) token_given;
+    documents = each Documents in_documents document_in (λ d. is_given next d.number ≡ true) document_given;
+    roots = each Roots in_roots root_in (λ r. is_given next r.number ≡ true) root_given;
+    attributes = each Attributes in_attributes attribute_in (λ a. is_given next a.number ≡ true) attribute_given;
+  }
+
+  numbers : AreNumbered (rows_of db)
+  numbers = numbers_are (rows_of db) (subst (λ n. AreGiven (record (rows_of db) { next = n })) next_is given) tables.domains.rise
+
+pub opened_ours : (s : State) → Rests s → IsDatabase s.now → opened s.now.trees ≡ Ok tt → Ours s
+opened_ours s rests live h =
+    let is = found s.now.trees h in
+    let sound : IsSound our_schema s.now.trees = subst (λ schema. IsSound schema s.now.trees) rests.schema live in
+    record { rests = rests; tables = tables s.now.trees is.0 sound is.1 is.2; domains = numbers s.now.trees is.0 sound is.1 is.2 }
+
+-- ---- tables as they are made
+
+module _ (db : Trees) (made : IsMade db) where
+  empty_sound : (kind : Kind) → is_sound_table db (pos 1) kind ≡ true
+  empty_sound Domains = ap (λ rows. are_sound_rows Domains (pos 1) (map (as_read Domains) rows)) (made.empty Domains)
+  empty_sound Tokens = ap (λ rows. are_sound_rows Tokens (pos 1) (map (as_read Tokens) rows)) (made.empty Tokens)
+  empty_sound Documents = ap (λ rows. are_sound_rows Documents (pos 1) (map (as_read Documents) rows)) (made.empty Documents)
+  empty_sound Roots = ap (λ rows. are_sound_rows Roots (pos 1) (map (as_read Roots) rows)) (made.empty Roots)
+  empty_sound Attributes = ap (λ rows. are_sound_rows Attributes (pos 1) (map (as_read Attributes) rows)) (made.empty Attributes)
+
+  places_count : count_on no_place (sort_by place_cmp (map place_in (db 8))) ≡ true
+  places_count = ap (λ rows. count_on no_place (sort_by place_cmp (map place_in rows))) (made.empty Attributes)
+
+  all_sound : is_sound db (pos 1) ≡ true
+  all_sound = λ i.
+      (is_count (pos 1) && (empty_sound Domains i && (empty_sound Tokens i && (empty_sound Documents i && (empty_sound Roots i && (empty_sound Attributes i && true)))))) && places_count i
+
+  pub made_opened : opened db ≡ Ok tt
+  made_opened = ap (λ rows. judged db (known_next (map read_meta rows))) made.meta ∙ ap (λ b. cond b (Ok tt) (Err Damaged)) all_sound
+
+  pub made_nothing : world_of db ≡ nothing_kept
+  made_nothing = λ i. record {
+    domains = from_entries (map (domain_entry (rows_of db)) (map domain_in (made.empty Domains i)));
+    next = nat_of (next_in (made.meta i));
+  }
+
+  -- ---- and they are those of a keeper
+
+  no_rows : {X : Type 0} (write : X → Row) (reads : Row → X) (rowid_of : X → ℤ) (same : X → X → Bool) (kind : Kind) → AreRows write reads rowid_of same (db (tree_of kind))
+  no_rows write reads rowid_of same kind = subst (AreRows write reads rowid_of same) (sym (made.empty kind)) (record { written = refl; rise = tt; apart = tt })
+
+  none_of : {X : Type 0} (Is : X → Type 0) (reads : Row → X) (kind : Kind) → AllByRecursion Is (map reads (db (tree_of kind)))
+  none_of Is reads kind = subst (λ rows. AllByRecursion Is (map reads rows)) (sym (made.empty kind)) tt
+
+  made_tables : AreTables db
+  made_tables = record {
+    meta = made.meta ∙ ap (λ n. meta_row n ∷ []) (sym (ap next_in made.meta));
+    domains = no_rows domain_row domain_in (λ (d : DomainRow). d.number) same_name Domains;
+    tokens = no_rows token_row token_in (λ (t : TokenRow). t.rowid) same_token Tokens;
+    documents = no_rows document_row document_in (λ (d : DocumentRow). d.rowid) same_document Documents;
+    roots = no_rows root_row root_in (λ (r : RootRow). r.number) (λ a b. false) Roots;
+    attributes = no_rows attribute_row attribute_in (λ (a : AttributeRow). a.rowid) same_place Attributes;
+  }
+
+  made_given : AreGiven (rows_of db)
+  made_given = record {
+    next = ap (λ rows. is_count (next_in rows)) made.meta;
+    domains = none_of (λ (d : DomainRow). (is_given (next_in (db 0)) d.number ≡ true) × (is_count d.epoch ≡ true)) domain_in Domains;
+    tokens = none_of (λ (t : TokenRow). is_given (next_in (db 0)) t.number ≡ true) token_in Tokens;
+    documents = none_of (λ (d : DocumentRow). is_given (next_in (db 0)) d.number ≡ true) document_in Documents;
+    roots = none_of (λ (r : RootRow). is_given (next_in (db 0)) r.number ≡ true) root_in Roots;
+    attributes = none_of (λ (a : AttributeRow). is_given (next_in (db 0)) a.number ≡ true) attribute_in Attributes;
+  }
+
+  made_numbers : AreNumbered (rows_of db)
+  made_numbers = numbers_are (rows_of db) made_given made_tables.domains.rise
+
+pub made_ours : (s : State) → Rests s → IsMade s.now.trees → Ours s
+made_ours s rests made = record { rests = rests; tables = made_tables s.now.trees made; domains = made_numbers s.now.trees made }

@@ -1,0 +1,85 @@
+-- What the query for a root finds.
+use Rattle.std.proofs.Common.{◌≡◌, ℕ, zero, suc, ℤ, List, [], ◌∷◌, map, Bool, int_eq, Option, option_and_then, refl, sym}
+use Rattle.sqlite.specs.Order.{Row, column}
+use Rattle.sqlite.specs.State.{State, Shown}
+use Rattle.sqlite.specs.Tree.{Trees}
+use Rattle.sqlite.specs.declared.types.Value.TheVariants.{Int, Text}
+use Rattle.sqlite.specs.Given.{IsPlain}
+use Rattle.sqlite.specs.Listing.{understood}
+use Rattle.sqlite.specs.Term.{Term, col}
+use Rattle.sqlite.proofs.Callers.{reads_as}
+use Rattle.sqlite_keyed.proofs.ListLemmas.{all_of}
+use Rattle.sqlite_typed.specs.Columns.{bytes_of, or_null, unless_null}
+use Rattle.sqlite_typed.proofs.TestLemmas.{null_back}
+use Rattle.xa_policy.specs.declared.reference.DocumentKind.{DocumentKind}
+use Rattle.xa_policy.specs.declared.reference.DocumentKind.TheVariants.{Policy, PolicySet}
+use Rattle.xa_policy.specs.declared.reference.Reference.{Reference}
+use Rattle.xa_policy.specs.Pattern.{read_pattern}
+use Rattle.xa_policy.specs.Version.{read_version}
+use Rattle.xa_store.specs.Found.{FindsOne}
+use Rattle.xa_store.specs.Rows.{RootRow, root_row, root_in, given, kind_in, kind_number, reference_of, text_at}
+use Rattle.xa_store.specs.Shown.{TellsOne, root_told}
+use Rattle.xa_store.specs.Sound.{Ours}
+use Rattle.xa_store.specs.Tables.{our_schema}
+use Rattle.xa_store.specs.Texts.{root_shown}
+use Rattle.xa_store.specs.World.{rows_of, state_at}
+use Rattle.xa_store.proofs.FoundLemmas.{finds_one, found_is}
+use Rattle.xa_store.proofs.HitLemmas.{root_hit}
+use Rattle.xa_store.proofs.SqlLemmas.{Answered, answered}
+use Rattle.xa_store.proofs.TextLemmas.{is, root_shown_is}
+
+pub root_plain : IsPlain (understood our_schema root_shown)
+root_plain = root_shown_is.2
+
+kind_back : (kind : DocumentKind) → kind_in (kind_number kind) ≡ kind
+kind_back Policy = refl
+kind_back PolicySet = refl
+
+text_back : (text : Option (List ℕ)) → unless_null bytes_of (or_null Text text) ≡ text
+text_back = null_back Text bytes_of (λ a. refl) (λ a. refl)
+
+-- a text is shown as it is kept, and none where the row lacks the column
+text_shown : (texts : List (Option (List ℕ))) (at : ℕ) → unless_null bytes_of (column (map (or_null Text) texts) at) ≡ text_at texts at
+text_shown [] at = refl
+text_shown (text ∷ texts) zero = text_back text
+text_shown (text ∷ texts) (suc at) = text_shown texts at
+
+abbrev show_root : RootRow → Row
+show_root r =
+    Int (kind_number r.kind) ∷ Text r.id ∷ column (map (or_null Text) r.texts) 0 ∷ column (map (or_null Text) r.texts) 1 ∷ column (map (or_null Text) r.texts) 2 ∷ []
+
+abbrev made_of : DocumentKind → List ℕ → Option (List ℕ) → Option (List ℕ) → Option (List ℕ) → Reference
+made_of kind id pattern earliest latest = record {
+  kind = kind;
+  id = id;
+  version = option_and_then (λ text. given (read_pattern text)) pattern;
+  earliest = option_and_then (λ text. given (read_version text)) earliest;
+  latest = option_and_then (λ text. given (read_version text)) latest;
+}
+
+root_back : (r : RootRow) → root_told (show_root r) ≡ reference_of r
+unfolding reference_of
+root_back r = λ i. made_of (kind_back r.kind i) r.id (text_shown r.texts 0 i) (text_shown r.texts 1 i) (text_shown r.texts 2 i)
+
+module _ (old new : State) (number : ℤ) (ours : Ours old) (rows : List Row) (shown : Shown root_shown (Int number ∷ []) old new rows) where
+  abbrev db : Trees
+  db = old.now.trees
+
+  abbrev columns : List Term
+  columns = col 1 2 ∷ col 1 3 ∷ col 1 4 ∷ col 1 5 ∷ col 1 6 ∷ []
+
+  abbrev of_number : RootRow → Bool
+  of_number r = int_eq r.number number
+
+  answer : Answered 7 (is 0 0 ∷ []) columns [] db refl (Int number ∷ []) rows
+  answer =
+      answered 7 (is 0 0 ∷ []) columns [] db refl (Int number ∷ []) rows
+      (reads_as root_shown (Int number ∷ []) old new our_schema ours.rests.schema _ root_shown_is.0 root_shown_is.2 root_shown_is.1 rows shown).answer
+
+  pub root_found : (o : Option Reference) → TellsOne root_told rows o → FindsOne of_number reference_of (rows_of db).roots o
+  root_found =
+      finds_one 7 (is 0 0 ∷ []) columns [] db refl (Int number ∷ []) root_row root_in ours.tables.roots.written of_number (all_of _ (root_hit number db) (map root_in (db 7))) root_told reference_of
+      (all_of _ root_back _) rows answer
+
+  pub root_read : (o : Option Reference) → TellsOne root_told rows o → o ≡ (state_at (rows_of db) number).root
+  root_read o tell = sym (found_is of_number reference_of (rows_of db).roots o (root_found o tell))

@@ -1,0 +1,138 @@
+-- The plan of a root that is set.
+use Rattle.std.proofs.Common.{◌≡◌, ◌≢◌, inl, inr, ◌+◌, ◌<◌, ◌^◌, ℕ, ℤ, List, [], ◌∷◌, Bool, true, false, cond, Option, Some, None, option_map, option_and_then, Ok, refl, sym, ap, subst, ◌∙◌, arith, int_eq}
+use Rattle.sqlite_keyed.specs.Keyed.{IsKeyedBy, get_by, insert_by}
+use Rattle.sqlite_keyed.specs.Lists.{without_key}
+use Rattle.sqlite_keyed.proofs.KeyedLemmas.{int_eq_apart}
+use Rattle.std.proofs.lemmas.Int.{ints}
+use Rattle.xa_policy.specs.declared.reference.Reference.{Reference}
+use Rattle.xa_policy.specs.Pattern.{pattern_text, read_pattern}
+use Rattle.xa_policy.specs.Version.{read_version, version_text}
+use Rattle.xa_records.specs.Changes.{within, root_set}
+use Rattle.xa_records.specs.DomainState.{DomainState}
+use Rattle.xa_records.specs.Kept.{DecidesAlike, IsMade, IsNextEpoch, state_of}
+use Rattle.xa_store.specs.declared.domain_found.DomainFound.{DomainFound}
+use Rattle.xa_store.specs.Found.{IsDomain}
+use Rattle.xa_store.specs.Planning.{RaisesTo, RootReads, root_steps}
+use Rattle.xa_store.specs.Rows.{DomainRow, RootRow, given, nat_of, root_of, reference_of}
+use Rattle.xa_store.specs.Sound.{AreNumbered}
+use Rattle.xa_store.specs.Steps.{after_all, AllowsAll}
+use Rattle.xa_store.specs.Turns.{Plans}
+use Rattle.xa_store.specs.World.{Rows, root_at, state_at, domain_of, kept_of}
+use Rattle.xa_store.proofs.ChangeLemmas.{IsOnly, Rewrote, kept_one, number_of}
+use Rattle.xa_store.proofs.KeyLemmas.{get_by-insert_by, get_by-without_key}
+use Rattle.xa_store.proofs.PlanLemmas.{changed, its_state, numbered_after}
+use Rattle.xa_store.proofs.TurnLemmas.{still}
+
+abbrev root_key : RootRow → ℤ
+root_key r = r.number
+
+own_number : (n : ℤ) → int_eq n n ≡ true
+own_number n = grind (arith, ints)
+
+taken_out : (rs : List RootRow) (gone m : ℤ) → root_at (without_key root_key rs gone) m ≡ cond (int_eq gone m) None (root_at rs m)
+taken_out rs gone m = ap (option_map reference_of) (get_by-without_key root_key gone m rs) ∙ none_or (int_eq gone m) (get_by root_key rs m)
+  where
+    none_or : (b : Bool) (o : Option RootRow) → option_map reference_of (cond b None o) ≡ cond b None (option_map reference_of o)
+    none_or true o = refl
+    none_or false o = refl
+
+put_in : (rs : List RootRow) (r : RootRow) (m : ℤ) → root_at (insert_by root_key rs r) m ≡ cond (int_eq r.number m) (Some (reference_of r)) (root_at rs m)
+put_in rs r m = ap (option_map reference_of) (get_by-insert_by root_key r m rs) ∙ some_or (int_eq r.number m) (get_by root_key rs m)
+  where
+    some_or : (b : Bool) (o : Option RootRow) → option_map reference_of (cond b (Some r) o) ≡ cond b (Some (reference_of r)) (option_map reference_of o)
+    some_or true o = refl
+    some_or false o = refl
+
+its_number : (n : ℤ) (root : Reference) → (root_of n root).number ≡ n
+unfolding root_of
+its_number n root = refl
+
+-- the roots after the steps
+pub roots_after : (rows : Rows) (n e : ℤ) (root : Option Reference) → RootReads n root → (m : ℤ) → root_at (after_all (root_steps n e root) rows).roots m ≡ cond (int_eq n m) root (root_at rows.roots m)
+roots_after rows n e None reads m = taken_out rows.roots n m
+roots_after rows n e (Some root) reads m =
+    put_in (without_key root_key rows.roots n) (root_of n root) m
+    ∙ ap (λ k. cond (int_eq k m) (Some (reference_of (root_of n root))) (root_at (without_key root_key rows.roots n) m)) (its_number n root) ∙ ap (λ x. cond (int_eq n m) (Some x) (root_at (without_key root_key rows.roots n) m)) reads
+    ∙ ap (cond (int_eq n m) (Some root)) (taken_out rows.roots n m) ∙ over (int_eq n m)
+  where
+    over : (b : Bool) → cond b (Some root) (cond b None (root_at rows.roots m)) ≡ cond b (Some root) (root_at rows.roots m)
+    over true = refl
+    over false = refl
+
+abbrev with_root : Option Reference → DomainState → DomainState
+with_root root state = record { tokens = state.tokens; documents = state.documents; root = root; source = state.source }
+
+allowed : (rows : Rows) (n e : ℤ) (root : Option Reference) → AllowsAll (root_steps n e root) rows
+allowed rows n e None = (tt, (tt, tt))
+allowed rows n e (Some root) = (tt, (tt, (tt, tt)))
+
+module _ (rows : Rows) (name : List ℕ) (d : DomainRow) (one : IsOnly name d rows) (up : IsKeyedBy number_of rows.domains) (are : AreNumbered rows) (epoch : ℤ) (root : Option Reference) where
+  abbrev target : DomainState
+  target = with_root root (state_at rows d.number)
+
+  rewrote : RootReads d.number root → Rewrote rows (after_all (root_steps d.number epoch root) rows) d epoch target
+  rewrote reads =
+      let at = roots_after rows d.number epoch root reads in
+      go root at
+    where
+      go : (root : Option Reference) → ((m : ℤ) → root_at (after_all (root_steps d.number epoch root) rows).roots m ≡ cond (int_eq d.number m) root (root_at rows.roots m))
+          → Rewrote rows (after_all (root_steps d.number epoch root) rows) d epoch (with_root root (state_at rows d.number))
+      go None at = record {
+        next = refl;
+        domains = refl;
+        state = λ i. with_root ((at d.number ∙ ap (λ b. cond b None (root_at rows.roots d.number)) (own_number d.number)) i) (state_at rows d.number);
+        others = λ n apart. λ i. with_root ((at n ∙ ap (λ b. cond b None (root_at rows.roots n)) (int_eq_apart d.number n (λ same. apart (sym same)))) i) (state_at rows n);
+      }
+      go (Some r) at = record {
+        next = refl;
+        domains = refl;
+        state = λ i. with_root ((at d.number ∙ ap (λ b. cond b (Some r) (root_at rows.roots d.number)) (own_number d.number)) i) (state_at rows d.number);
+        others = λ n apart. λ i. with_root ((at n ∙ ap (λ b. cond b (Some r) (root_at rows.roots n)) (int_eq_apart d.number n (λ same. apart (sym same)))) i) (state_at rows n);
+      }
+
+  -- another root: the steps set it and raise the epoch
+  pub root_planned : RootReads d.number root → root_at rows.roots d.number ≢ root → nat_of epoch ≡ nat_of d.epoch + 1 → nat_of epoch < 2 ^ 63 → Plans (root_steps d.number epoch root) (within (root_set root)) name rows
+  root_planned reads differs rises fits =
+      let next_epoch : IsNextEpoch (state_at rows d.number) target (nat_of d.epoch) (nat_of epoch) = inr (λ alike. differs alike.root, (rises, fits)) in
+      record {
+        allows = allowed rows d.number epoch root;
+        made = (Some target, ap (within (root_set root)) (its_state rows name d one), changed rows name d one (after_all (root_steps d.number epoch root) rows) epoch target up (rewrote reads) next_epoch);
+        numbered = numbered_after rows name d one (after_all (root_steps d.number epoch root) rows) epoch target up (rewrote reads) next_epoch are;
+      }
+
+  -- the root that is there: nothing is done
+  pub root_kept : root_at rows.roots d.number ≡ root → Plans [] (within (root_set root)) name rows
+  root_kept same =
+      let state : state_at rows d.number ≡ target = λ i. with_root (same i) (state_at rows d.number) in
+      record {
+        allows = tt;
+        made = (Some target, ap (within (root_set root)) (its_state rows name d one), subst (λ s. Rattle.xa_records.specs.Kept.IsChanged (kept_of rows) (kept_of rows) name (Some s)) state (still (kept_of rows) name (domain_of rows d) (kept_one rows name d one)));
+        numbered = are;
+      }
+
+-- there is no such domain
+pub root_absent : (rows : Rows) (name : List ℕ) (root : Option Reference) → state_of name (kept_of rows) ≡ None → within (root_set root) (state_of name (kept_of rows)) ≡ Rattle.std.specs.Prelude.Err Rattle.xa_records.specs.declared.refusal.Refusal.TheVariants.Absent
+root_absent rows name root none = ap (within (root_set root)) none
+
+-- of a domain that was found
+module _ (rows : Rows) (name : List ℕ) (found : DomainFound) (there root : Option Reference) (are : AreNumbered rows) (up : IsKeyedBy number_of rows.domains) (is : IsDomain name rows found)
+    (at : there ≡ root_at rows.roots found.number) where
+  its_root : there ≡ root_at rows.roots is.row.number
+  its_root = at ∙ ap (root_at rows.roots) is.number
+
+  pub plan_same : there ≡ root → Plans [] (within (root_set root)) name rows
+  plan_same same = root_kept rows name is.row is.only up are is.row.epoch root (sym its_root ∙ same)
+
+  pub plan_new : (there ≡ root → ⊥) → ((number : ℤ) → RootReads number root) → (next : ℤ) → RaisesTo found.epoch (Ok next) → Plans (root_steps found.number next root) (within (root_set root)) name rows
+  plan_new differs reads next raises =
+      let r = raises (nat_of is.row.epoch) (is.epoch ∙ is.has_epoch) in
+      let rises : nat_of next ≡ nat_of is.row.epoch + 1 = ap nat_of r.0 in
+      subst (λ n. Plans (root_steps n next root) (within (root_set root)) name rows) (sym is.number)
+      (root_planned rows name is.row is.only up are next root (reads is.row.number) (λ same. differs (its_root ∙ same)) rises (subst (λ k. k < 2 ^ 63) (sym rises) r.1))
+
+-- a reference reads back from its row, if its parts do
+pub reference_back : (number : ℤ) (r : Reference) → option_and_then (λ text. given (read_pattern text)) (option_map pattern_text r.version) ≡ r.version
+    → option_and_then (λ text. given (read_version text)) (option_map version_text r.earliest) ≡ r.earliest → option_and_then (λ text. given (read_version text)) (option_map version_text r.latest) ≡ r.latest
+    → reference_of (root_of number r) ≡ r
+unfolding reference_of root_of
+reference_back number r version earliest latest = λ i. record { kind = r.kind; id = r.id; version = version i; earliest = earliest i; latest = latest i }

@@ -1,0 +1,118 @@
+-- Sound rows of the table of roots, and of the first table, are rows that the keeper writes.
+use Rattle.std.proofs.Common.{◌≡◌, ◌≤◌, zero, suc, ℤ, pos, negsuc, Bool, true, false, ◌&&◌, cond, codes, List, [], ◌∷◌, map, length, drop, int_eq, Some, None, refl, sym, ap, ◌∙◌, arith}
+use Rattle.std.specs.List.{AllByRecursion}
+use Rattle.std.specs.Str.{is_utf8}
+use Rattle.sqlite.specs.Kind.TheVariants as kinds
+use Rattle.sqlite.specs.Order.{Row, column}
+use Rattle.sqlite.specs.Tree.{Trees}
+use Rattle.sqlite.specs.declared.types.Value.{Value}
+use Rattle.sqlite.specs.declared.types.Value.TheVariants.{Null, Int, Real, Text, Blob}
+use Rattle.sqlite_catalog.specs.Listing.{IsSound}
+use Rattle.sqlite_keyed.proofs.KeyedLemmas.{same_int}
+use Rattle.sqlite_keyed.proofs.ListLemmas.{all_weaker}
+use Rattle.sqlite_keyed.proofs.RuleLemmas.{first_of_both, second_of_both}
+use Rattle.sqlite_schema.specs.declared.schema.Constraint.TheVariants.{Datatype}
+use Rattle.sqlite_schema.specs.Rules.{are_typed, passes}
+use Rattle.sqlite_typed.specs.Columns.{int_of, bytes_of, or_null, unless_null}
+use Rattle.xa_store.specs.declared.opening.kind.Kind.TheVariants.{Roots}
+use Rattle.xa_store.specs.Opened.{as_read, holds_int, int_in, is_bit, is_given, is_pattern, is_version, is_sound_table, is_whole_row, known_next, next_of, read_meta}
+use Rattle.xa_store.specs.Rows.{RootRow, bit, is_set, kind_in, kind_number, meta_row, root_in, root_row}
+use Rattle.xa_store.specs.Sound.{AreRows}
+use Rattle.xa_store.specs.Tables.{meta, needed, our_schema, own_key, roots, text_if_any}
+use Rattle.xa_store.proofs.AreRowsLemmas.{rows_alone}
+use Rattle.xa_store.proofs.ShapeLemmas.{by_columns, int_held, key_null, never_int, never_text, row_long, row_short, text_held, text_if_any_held}
+use Rattle.xa_store.proofs.ShapedLemmas.{below, beyond}
+
+-- ---- what a bit stands for
+
+pub kind_from_bit : (n : ℤ) → is_bit n ≡ true → n ≡ kind_number (kind_in n)
+kind_from_bit (pos zero) h = refl
+kind_from_bit (pos (suc zero)) h = refl
+kind_from_bit (pos (suc (suc n))) h = absurd (beyond n h)
+kind_from_bit (negsuc n) h = absurd (below n h)
+
+pub truth_from_bit : (n : ℤ) → is_bit n ≡ true → n ≡ bit (is_set n)
+truth_from_bit (pos zero) h = refl
+truth_from_bit (pos (suc zero)) h = refl
+truth_from_bit (pos (suc (suc n))) h = absurd (beyond n h)
+truth_from_bit (negsuc n) h = absurd (below n h)
+
+-- ---- a row of a table of roots, which may lack its last columns
+
+abbrev IsText : Value → Type 0
+IsText v = v ≡ or_null Text (unless_null bytes_of v)
+
+root_cells : (row : Row) → 4 ≤ length row → length row ≤ 7 → IsText (column row 4) → IsText (column row 5) → IsText (column row 6)
+    → row ≡ column row 0 ∷ column row 1 ∷ column row 2 ∷ column row 3 ∷ map (or_null Text) (map (unless_null bytes_of) (drop 4 row))
+root_cells [] more less p q r = absurd (omega (arith, more))
+root_cells (a ∷ []) more less p q r = absurd (omega (arith, more))
+root_cells (a ∷ b ∷ []) more less p q r = absurd (omega (arith, more))
+root_cells (a ∷ b ∷ c ∷ []) more less p q r = absurd (omega (arith, more))
+root_cells (a ∷ b ∷ c ∷ d ∷ []) more less p q r = refl
+root_cells (a ∷ b ∷ c ∷ d ∷ e ∷ []) more less p q r = λ i. a ∷ b ∷ c ∷ d ∷ p i ∷ []
+root_cells (a ∷ b ∷ c ∷ d ∷ e ∷ f ∷ []) more less p q r = λ i. a ∷ b ∷ c ∷ d ∷ p i ∷ q i ∷ []
+root_cells (a ∷ b ∷ c ∷ d ∷ e ∷ f ∷ g ∷ []) more less p q r = λ i. a ∷ b ∷ c ∷ d ∷ p i ∷ q i ∷ r i ∷ []
+root_cells (a ∷ b ∷ c ∷ d ∷ e ∷ f ∷ g ∷ h ∷ more_cells) more less p q r = absurd (omega (arith, less))
+
+root_back : (next : ℤ) (row : Row) → are_typed (Some 0) 0 roots.columns (drop 1 row) ≡ true → is_whole_row Roots next (as_read Roots row) ≡ true → row ≡ root_row (root_in row)
+root_back next row typed whole =
+    let first6 = second_of_both _ _ whole in
+    let first5 = first_of_both _ _ first6 in
+    let first4 = first_of_both _ _ first5 in
+    let first3 = first_of_both _ _ first4 in
+    let first2 = first_of_both _ _ first3 in
+    let number = int_held (is_given next) (column row 0) (first_of_both _ _ first2) in
+    let kind = int_held is_bit (column row 2) (second_of_both _ _ first2) in
+    let id = text_held is_utf8 (column row 3) (second_of_both _ _ first3) in
+    let pattern = text_if_any_held is_pattern (column row 4) (second_of_both _ _ first4) in
+    let earliest = text_if_any_held is_version (column row 5) (second_of_both _ _ first5) in
+    let latest = text_if_any_held is_version (column row 6) (second_of_both _ _ first6) in
+    let less : length row ≤ 7 = row_short (Some 0) roots.columns row typed in
+    let more : 4 ≤ length row = row_long row 3 (never_text (column row 3) _ id.0) in
+    let null = key_null (own_key (codes "number")) (needed (codes "kind") kinds.Integer ∷ needed (codes "id") kinds.Text ∷ text_if_any (codes "pattern") ∷ text_if_any (codes "earliest") ∷ text_if_any (codes "latest") ∷ []) row typed in
+    root_cells row more less pattern earliest latest
+    ∙ (λ i. number.0 i ∷ null i ∷ (kind.0 ∙ ap Int (kind_from_bit _ kind.1)) i ∷ id.0 i ∷ map (or_null Text) (map (unless_null bytes_of) (drop 4 row)))
+
+pub roots_are : (db : Trees) (next : ℤ) → IsSound our_schema db → is_sound_table db next Roots ≡ true → AreRows root_row root_in (λ r. r.number) (λ a b. false) (db 7)
+roots_are db next sound h =
+    rows_alone Roots next db h root_row root_in (λ (r : RootRow). r.number) (λ a b. false) (λ r. refl) roots (root_back next) (sound.obeys.rules Datatype).1.1.1.1.0 (λ a b. refl)
+
+-- ---- the one row of the first table
+
+int_is : (v : Value) (n : ℤ) → int_in v ≡ Some n → v ≡ Int n
+int_is Null n h = absurd cc
+int_is (Int m) n h = let same : m ≡ n = cc in ap Int same
+int_is (Real x) n h = absurd cc
+int_is (Text t) n h = absurd cc
+int_is (Blob b) n h = absurd cc
+
+one_is : (v : Value) → holds_int (int_eq (pos 1)) v ≡ true → v ≡ Int (pos 1)
+one_is v h = let held = int_held (int_eq (pos 1)) v h in held.0 ∙ ap Int (sym (same_int (pos 1) (int_of v) held.1))
+
+abbrev IsMetaRow : ℤ → Row → Type 0
+IsMetaRow next row = (column row 0 ≡ Int (pos 1)) × (column row 2 ≡ Int (pos 1)) × (column row 3 ≡ Int next)
+
+meta_columns : (next : ℤ) (row : Row) → next_of (read_meta row) ≡ Some next → IsMetaRow next row
+meta_columns next row h = go (holds_int (int_eq (pos 1)) (column row 0)) refl (holds_int (int_eq (pos 1)) (column row 2)) refl h
+  where
+    go : (a : Bool) → holds_int (int_eq (pos 1)) (column row 0) ≡ a → (b : Bool) → holds_int (int_eq (pos 1)) (column row 2) ≡ b → cond (a && b) (int_in (column row 3)) None ≡ Some next → IsMetaRow next row
+    go true id true schema is = (one_is (column row 0) id, one_is (column row 2) schema, int_is (column row 3) next is)
+    go true id false schema is = absurd cc
+    go false id b schema is = absurd cc
+
+meta_back : (next : ℤ) (row : Row) → are_typed (Some 0) 0 meta.columns (drop 1 row) ≡ true → next_of (read_meta row) ≡ Some next → row ≡ meta_row next
+meta_back next row typed known =
+    let held = meta_columns next row known in
+    let less : length row ≤ 4 = row_short (Some 0) meta.columns row typed in
+    let more = row_long row 3 (never_int (column row 3) _ held.2) in
+    let null = key_null (own_key (codes "id")) (needed (codes "schema_no") kinds.Integer ∷ needed (codes "next_number") kinds.Integer ∷ []) row typed in
+    by_columns 4 row (omega (arith, less, more)) ∙ (λ i. held.0 i ∷ null i ∷ held.1 i ∷ held.2 i ∷ [])
+
+meta_rows : (next : ℤ) (rows : List Row) → AllByRecursion (λ r. are_typed (Some 0) 0 meta.columns (drop 1 r) ≡ true) rows → known_next (map read_meta rows) ≡ Some next → rows ≡ meta_row next ∷ []
+meta_rows next [] typed known = absurd cc
+meta_rows next (row ∷ []) typed known = ap (λ r. r ∷ []) (meta_back next row typed.0 known)
+meta_rows next (row ∷ other ∷ rows) typed known = absurd cc
+
+pub meta_is : (db : Trees) (next : ℤ) → IsSound our_schema db → known_next (map read_meta (db 0)) ≡ Some next → db 0 ≡ meta_row next ∷ []
+meta_is db next sound known =
+    meta_rows next (db 0) (all_weaker (λ r. passes Datatype our_schema db meta r ≡ true) (λ r. are_typed (Some 0) 0 meta.columns (drop 1 r) ≡ true) (λ r t. first_of_both _ _ t) (db 0) (sound.obeys.rules Datatype).0) known

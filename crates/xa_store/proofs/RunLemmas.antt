@@ -1,0 +1,83 @@
+-- A change in its transaction: from the steps to the commit.
+use Rattle.std.proofs.Common.{◌≡◌, ◌⊎◌, inl, inr, ℕ, List, [], true, false, Result, Ok, Err, IsTrue, refl, sym, ap, subst, ◌∙◌, arith}
+use Rattle.std.proofs.lemmas.Bool.{both_ways}
+use Rattle.sqlite.specs.Effect.{Database}
+use Rattle.sqlite.specs.Held.{Held, state}
+use Rattle.sqlite.specs.State.{State, HasCleanDisk, KeepsCommit, KeepsCounts, Shows, Survives}
+use Rattle.sqlite.specs.Steps.{FailsToCommit}
+use Rattle.sqlite.specs.Store.{Ghosts}
+use Rattle.sqlite.specs.Tree.{Trees}
+use Rattle.sqlite.specs.declared.error.Error.{Error}
+use Rattle.xa_records.specs.declared.refusal.Failure.{Failure}
+use Rattle.xa_store.specs.declared.step.Step.{Step}
+use Rattle.xa_store.specs.Sound.{AreTables, Ours, Rests, SameNow}
+use Rattle.xa_store.specs.Steps.{AllowsAll}
+use Rattle.xa_store.specs.Taking.{IsInside, Took, Holds, Made, Runs}
+use Rattle.xa_store.specs.World.{rows_of}
+
+module _ {S : Type 0} (g : Ghosts S) (old mid last : Held S) (steps : List Step) where
+  abbrev begun : State
+  begun = state g (record old { in_transaction = true })
+
+  module _ (survived : Survives begun (state g mid) (λ _. ⊥)) (kept : HasCleanDisk (state g mid) → IsTrue begun.in_transaction → KeepsCommit begun (state g mid))
+      (took : HasCleanDisk (state g mid) → IsInside begun → AllowsAll steps (rows_of begun.now.trees) → Took steps begun (state g mid))
+      (commits : Survives (state g mid) (state g last) (λ db. db ≡ (state g mid).now.trees)) where
+    clean_before : HasCleanDisk (state g last) → HasCleanDisk (state g mid)
+    clean_before clean = omega (arith, commits.clean)
+
+    clean_first : HasCleanDisk (state g last) → HasCleanDisk (state g old)
+    clean_first clean = omega (arith, survived.clean, commits.clean)
+
+    inside : Ours (state g old) → IsInside begun
+    inside ours = record { inside = refl; schema = ours.rests.schema; tables = ours.tables }
+
+    all_taken : HasCleanDisk (state g last) → Ours (state g old) → AllowsAll steps (rows_of (state g old).now.trees) → Took steps begun (state g mid)
+    all_taken clean ours allows = took (clean_before clean) (inside ours) allows
+
+    left : HasCleanDisk (state g last) → Ours (state g old) → AllowsAll steps (rows_of (state g old).now.trees) → (db : Trees) → (state g last).may_leave db → (state g old).may_leave db ⊎ Holds steps (rows_of (state g old).now.trees) db
+    left clean ours allows db may = elim (commits.crash clean db may) [
+      | inl earlier ↦ elim (survived.crash (clean_before clean) db earlier) [ inl first ↦ inl first | inr none ↦ absurd none ]
+      | inr is ↦
+          let all = all_taken clean ours allows in
+          inr (record { tables = subst AreTables (sym is) all.within.tables; rows = ap rows_of is ∙ all.rows })
+    ]
+
+    pub ran : {X : Type 0} (x : X)
+        → (HasCleanDisk (state g last) → IsTrue (state g mid).in_transaction × Shows (state g mid) (state g last) (state g mid).now (state g mid).now false × KeepsCounts (state g mid) (state g last) × ((state g last).marks ≡ []))
+        → Runs steps (state g old) (state g last) (Ok x)
+    ran x shown = record {
+      was_open = λ clean up. (kept (clean_before clean) refl).was_open (shown clean).1.was_open;
+      clean = clean_first;
+      made = λ clean up ours allows.
+          let shows = (shown clean).1 in
+          let all = all_taken clean ours allows in
+          let trees = ap (λ (d : Database). d.trees) shows.now_is in
+          record {
+            is_open = shows.is_open;
+            rests = record { schema = ap (λ (d : Database). d.schema) shows.now_is ∙ all.within.schema; settled = shows.now_is ∙ sym shows.committed_is; idle = shows.mode };
+            holds = record { tables = subst AreTables (sym trees) all.within.tables; rows = ap rows_of trees ∙ all.rows };
+          };
+      same = λ clean rests up. tt;
+      crash = λ clean up ours allows. left clean ours allows;
+    }
+
+    pub not_committed : {X : Type 0} (f : Failure) (e : Error) → (HasCleanDisk (state g mid) → IsTrue (state g mid).in_transaction) → (state g last).in_transaction ≡ false
+        → (HasCleanDisk (state g last) → FailsToCommit (state g mid) (state g last) e) → Runs {X = X} steps (state g old) (state g last) (Err f)
+    not_committed f e goes_on ended failed = record {
+      was_open = λ clean up. (kept (clean_before clean) refl).was_open (open_before clean up (failed clean));
+      clean = clean_first;
+      made = λ clean up ours allows. tt;
+      same = λ clean rests up. undone clean rests up (failed clean);
+      crash = λ clean up ours allows. left clean ours allows;
+    }
+      where
+        open_before : HasCleanDisk (state g last) → IsTrue (state g last).is_open → FailsToCommit (state g mid) (state g last) e → IsTrue (state g mid).is_open
+        open_before clean up (inl h) = h.3.was_open up
+        open_before clean up (inr h) = h.2.0.was_open
+
+        undone : HasCleanDisk (state g last) → Rests (state g old) → IsTrue (state g last).is_open → FailsToCommit (state g mid) (state g last) e → SameNow (state g old) (state g last)
+        undone clean rests up (inl h) =
+            let back = h.3.undone up in
+            let committed = (kept (clean_before clean) refl).committed (h.3.was_open up) in
+            record { now = back.0 ∙ committed ∙ sym rests.settled; committed = back.1 ∙ committed; idle = ended }
+        undone clean rests up (inr h) = absurd (both_ways _ h.1 (goes_on (clean_before clean)))

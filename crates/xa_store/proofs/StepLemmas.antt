@@ -1,0 +1,204 @@
+-- What the statements on domains, on roots and on the next number make of the rows.
+use Rattle.std.proofs.Common.{◌≡◌, ℕ, ◌≤◌, ℤ, pos, List, [], ◌∷◌, map, filter, length, Bool, true, false, cond, Option, Some, None, Ok, refl, sym, ap, subst, ◌∙◌, arith, int_eq, to_z, of_z, w64}
+use Rattle.std.specs.List.{AllByRecursion}
+use Rattle.sqlite.specs.Cast.{cast}
+use Rattle.sqlite.specs.Kind.TheVariants.{Integer, Text as TextKind}
+use Rattle.sqlite.specs.Ops.{unary}
+use Rattle.sqlite.specs.Order.{Row}
+use Rattle.sqlite.specs.Rowids.TheVariants.{Chosen}
+use Rattle.sqlite.specs.State.{State, Executes}
+use Rattle.sqlite.specs.Term.{col, lit}
+use Rattle.sqlite.specs.declared.types.Value.{Value}
+use Rattle.sqlite.specs.declared.types.Value.TheVariants.{Null, Int, Text}
+use Rattle.sqlite_schema.specs.Names.{same_name}
+use Rattle.sqlite_schema.specs.declared.schema.Keys.TheVariants.{Enforced}
+use Rattle.sqlite_sql.specs.declared.ops.CompareOp.TheVariants.{Eq}
+use Rattle.sqlite_value.specs.Keys.{joined}
+use Rattle.sqlite_rules.specs.Action.{works}
+use Rattle.sqlite_rules.specs.Cast.{cast_row}
+use Rattle.sqlite_rules.specs.Edit.{with_rowid}
+use Rattle.sqlite_keyed.specs.Keyed.{IsKeyedBy, insert_by}
+use Rattle.sqlite_keyed.specs.Lists.{update_where, delete_where}
+use Rattle.sqlite_keyed.specs.Rules.{AreApart}
+use Rattle.sqlite_keyed.proofs.ListLemmas.{all_of, all-filter, all_map}
+use Rattle.sqlite_keyed.proofs.KeyedLemmas.{all-insert_by, IsKeyedBy-insert_by, IsKeyedBy-delete_where, IsKeyedBy-update_where}
+use Rattle.sqlite_keyed.proofs.RuleLemmas.{at_most_one, apart_update}
+use Rattle.sqlite_typed.specs.Columns.{bytes_of, or_null, unless_null}
+use Rattle.sqlite_typed.proofs.TestLemmas.{at_ints, last_term, null_back}
+use Rattle.xa_policy.specs.declared.reference.DocumentKind.{DocumentKind}
+use Rattle.xa_policy.specs.declared.reference.DocumentKind.TheVariants.{Policy, PolicySet}
+use Rattle.xa_policy.specs.declared.reference.Reference.{Reference}
+use Rattle.xa_store.specs.declared.step.Step.{Step}
+use Rattle.xa_store.specs.declared.step.Step.TheVariants.{SetNext, SetEpoch, AddRoot, DropRoot}
+use Rattle.xa_store.specs.Rows.{DomainRow, RootRow, meta_row, next_in, domain_row, domain_in, root_row, root_in, root_of, kind_number, kind_in}
+use Rattle.xa_store.specs.Sound.{AreTables, same_name as same_domain}
+use Rattle.xa_store.specs.Steps.{after}
+use Rattle.xa_store.specs.Tables.{our_schema, meta, domains, roots}
+use Rattle.xa_store.specs.Texts as text
+use Rattle.xa_store.specs.World.{Rows, rows_of}
+use Rattle.xa_store.proofs.HoldLemmas.{Back, Hold, written_back, meta_now, domains_now, roots_now}
+use Rattle.xa_store.proofs.SqlLemmas.{answered}
+use Rattle.xa_store.proofs.TableLemmas.{updates, deletes, inserts}
+use Rattle.xa_store.proofs.TextLemmas.{is, is_one, epoch_set_is, epoch_set_query, next_set_is, next_set_query, root_added_given, root_added_is, root_dropped_is, root_dropped_query}
+use Rattle.xa_store.proofs.WriteLemmas.{Wrote, row_added, row_updated, rows_removed}
+
+-- ---- columns
+
+either : (b : Bool) (x : Value) → cond b x x ≡ x
+either true x = refl
+either false x = refl
+
+pub cast_int : (n : ℤ) → cast Integer (Int n) ≡ Int n
+unfolding unary
+cast_int n = either _ (Int n)
+
+pub cast_null : cast Integer Null ≡ Null
+unfolding unary
+cast_null = either _ Null
+
+cast_text : (o : Option (List ℕ)) → cast TextKind (or_null Text o) ≡ or_null Text o
+cast_text None = refl
+cast_text (Some t) = refl
+
+-- ---- no key acts where no row of the domains goes
+
+pub works_of_nothing : works our_schema Enforced 0 1 [] [] ≡ []
+unfolding same_name joined
+works_of_nothing = refl
+
+pub works_of_domain : (olds : List Row) (new : Row) → works our_schema Enforced 0 1 olds (new ∷ []) ≡ []
+unfolding same_name joined
+works_of_domain olds new = refl
+
+works_of_no_meta : works our_schema Enforced 0 0 [] [] ≡ []
+unfolding same_name joined
+works_of_no_meta = refl
+
+pub works_of_meta : (olds : List Row) (new : Row) → works our_schema Enforced 0 0 olds (new ∷ []) ≡ []
+unfolding same_name joined
+works_of_meta olds new = refl
+
+works_of_root : (olds : List Row) (new : Row) → works our_schema Enforced 0 7 olds (new ∷ []) ≡ []
+unfolding same_name joined
+works_of_root olds new = refl
+
+works_of_no_root : (olds : List Row) → works our_schema Enforced 0 7 olds [] ≡ []
+unfolding same_name joined
+works_of_no_root olds = refl
+
+-- ---- rows read back
+
+pub kind_back : (kind : DocumentKind) → kind_in (kind_number kind) ≡ kind
+kind_back Policy = refl
+kind_back PolicySet = refl
+
+-- a kind's number fits a column
+pub kind_held : (kind : DocumentKind) → to_z w64 (of_z w64 (kind_number kind)) ≡ kind_number kind
+kind_held Policy = refl
+kind_held PolicySet = refl
+
+text_back : (o : Option (List ℕ)) → unless_null bytes_of (or_null Text o) ≡ o
+text_back = null_back Text bytes_of (λ _. refl) (λ _. refl)
+
+texts_back : (texts : List (Option (List ℕ))) → map (unless_null bytes_of) (map (or_null Text) texts) ≡ texts
+texts_back [] = refl
+texts_back (text ∷ texts) = λ i. text_back text i ∷ texts_back texts i
+
+pub root_back : (r : RootRow) → root_in (root_row r) ≡ r
+root_back r = λ i. record { number = r.number; kind = kind_back r.kind i; id = r.id; texts = texts_back r.texts i }
+
+abbrev full_root : ℤ → DocumentKind → List ℕ → Option (List ℕ) → Option (List ℕ) → Option (List ℕ) → Row
+full_root number kind id pattern earliest latest = Int number ∷ Null ∷ Int (kind_number kind) ∷ Text id ∷ or_null Text pattern ∷ or_null Text earliest ∷ or_null Text latest ∷ []
+
+root_cast : (number : ℤ) (kind : DocumentKind) (id : List ℕ) (p e l : Option (List ℕ)) → cast_row roots (full_root number kind id p e l) ≡ full_root number kind id p e l
+root_cast number kind id p e l = λ i. cast_int number i ∷ cast_null i ∷ cast_int (kind_number kind) i ∷ Text id ∷ cast_text p i ∷ cast_text e i ∷ cast_text l i ∷ []
+
+domain_cast : (d : DomainRow) (e : ℤ) → cast_row domains (Int d.number ∷ Null ∷ Text d.name ∷ Int e ∷ []) ≡ domain_row (record d { epoch = e })
+domain_cast d e = λ i. cast_int d.number i ∷ cast_null i ∷ Text d.name ∷ cast_int e i ∷ []
+
+meta_cast : (next : ℤ) → cast_row meta (Int (pos 1) ∷ Null ∷ Int (pos 1) ∷ Int next ∷ []) ≡ meta_row next
+meta_cast next = λ i. cast_int (pos 1) i ∷ cast_null i ∷ cast_int (pos 1) i ∷ cast_int next i ∷ []
+
+roots_apart : (rs : List RootRow) → AreApart (λ a b. false) rs
+roots_apart [] = tt
+roots_apart (r ∷ rs) = (all_of (λ (_ : RootRow). false ≡ false) (λ _. refl) rs, roots_apart rs)
+
+-- ---- the steps
+
+-- the step was taken
+pub record Stepped (old new : State) (step : Step) : Type 0 where
+  pub schema : new.now.schema ≡ our_schema
+  pub tables : Hold new.now.trees (after step (rows_of old.now.trees))
+
+module _ (old new : State) (has : old.now.schema ≡ our_schema) (count : ℕ) (was : AreTables old.now.trees) where
+  abbrev db : Rattle.sqlite.specs.Tree.Trees
+  db = old.now.trees
+
+  abbrev next : Rattle.sqlite.specs.Tree.Trees
+  next = new.now.trees
+
+  -- the domain's epoch
+  pub epoch_stepped : (n e : ℤ) → Executes text.epoch_set (Int n ∷ Int e ∷ []) old new (Ok count) → Stepped old new (SetEpoch n e)
+  epoch_stepped n e h =
+      let ds = map domain_in (db 1) in
+      let params = Int n ∷ Int e ∷ [] in
+      let shown = col 1 0 ∷ col 1 0 ∷ lit Null ∷ col 1 2 ∷ col 0 1 ∷ [] in
+      let f : DomainRow → DomainRow = λ d. record d { epoch = e } in
+      let edits = updates text.epoch_set params old new has 1 domains refl count epoch_set_query epoch_set_is h in
+      let answer = answered 1 (is 0 0 ∷ []) shown [] db refl params edits.rows edits.answer.answer in
+      let hit = all_of _ (λ (d : DomainRow). last_term (at_ints false Eq d.number n)) ds in
+      let few = at_most_one (λ (d : DomainRow). d.number) n (λ d. int_eq d.number n) (λ d h. h) ds was.domains.rise in
+      let wrote = row_updated domain_row (λ d. d.number) (λ _. refl) domains db next ds was.domains.written was.domains.rise (is 0 0 ∷ []) shown refl params (λ d. int_eq d.number n) hit
+      f (λ d. Int d.number ∷ Null ∷ Text d.name ∷ Int e ∷ []) (λ _. refl) (λ d. domain_cast d e) (λ _. refl) works_of_nothing works_of_domain few edits.rows answer edits.edited in
+      record {
+        schema = edits.schema;
+        tables =
+            domains_now db next was (update_where (λ d. int_eq d.number n) f ds) wrote (all_of (Back domain_row domain_in) (λ _. refl) (update_where (λ d. int_eq d.number n) f ds))
+            (IsKeyedBy-update_where (λ d. d.number) (λ d. int_eq d.number n) f (λ _. refl) ds was.domains.rise)
+            (apart_update same_domain (λ d. int_eq d.number n) f (λ a b. refl) (λ a b. refl) ds was.domains.apart);
+      }
+
+  -- the number of the next domain
+  pub next_stepped : (n : ℤ) → Executes text.next_set (Int n ∷ []) old new (Ok count) → Stepped old new (SetNext n)
+  next_stepped n h =
+      let params = Int n ∷ [] in
+      let shown = col 1 0 ∷ col 1 0 ∷ lit Null ∷ col 1 2 ∷ col 0 0 ∷ [] in
+      let edits = updates text.next_set params old new has 0 meta refl count next_set_query next_set_is h in
+      let answer = answered 0 (is_one 0 ∷ []) shown [] db refl params edits.rows edits.answer.answer in
+      let hit : AllByRecursion (λ (m : ℤ). Rattle.xa_store.proofs.SqlLemmas.hits 0 (is_one 0 ∷ []) shown [] db refl params (meta_row m) ≡ true) (next_in (db 0) ∷ []) = (last_term (at_ints false Eq (pos 1) (pos 1)), tt) in
+      let wrote = row_updated meta_row (λ _. pos 1) (λ _. refl) meta db next (next_in (db 0) ∷ []) was.meta (tt, tt) (is_one 0 ∷ []) shown refl params (λ _. true) hit
+      (λ _. n) (λ _. Int (pos 1) ∷ Null ∷ Int (pos 1) ∷ Int n ∷ []) (λ _. refl) (λ _. meta_cast n) (λ _. refl) works_of_no_meta works_of_meta (omega arith) edits.rows answer edits.edited in
+      record { schema = edits.schema; tables = meta_now db next was n wrote }
+
+  -- the root goes
+  pub root_dropped_stepped : (n : ℤ) → Executes text.root_dropped (Int n ∷ []) old new (Ok count) → Stepped old new (DropRoot n)
+  root_dropped_stepped n h =
+      let rs = map root_in (db 7) in
+      let p : RootRow → Bool = λ r. int_eq r.number n in
+      let params = Int n ∷ [] in
+      let edits = deletes text.root_dropped params old new has 4 roots refl count root_dropped_query root_dropped_is h in
+      let answer = answered 7 (is 0 0 ∷ []) (col 1 0 ∷ []) [] db refl params edits.rows edits.answer.answer in
+      let hit = all_of _ (λ (r : RootRow). last_term (at_ints false Eq r.number n)) rs in
+      let wrote = rows_removed root_row (λ r. r.number) (λ _. refl) roots db next rs was.roots.written was.roots.rise (is 0 0 ∷ []) (col 1 0 ∷ []) refl params p hit
+      (λ _. refl) works_of_no_root edits.rows answer edits.edited in
+      record {
+        schema = edits.schema;
+        tables = roots_now db next was (delete_where p rs) wrote (all_of (Back root_row root_in) root_back (delete_where p rs)) (IsKeyedBy-delete_where (λ r. r.number) p rs was.roots.rise) (roots_apart (delete_where p rs));
+      }
+
+  -- the root comes
+  pub root_added_stepped : (n : ℤ) (reference : Reference) (r : RootRow) (p e l : Option (List ℕ)) → r ≡ root_of n reference → r.texts ≡ p ∷ e ∷ l ∷ []
+      → Executes text.root_added (Int n ∷ Int (kind_number r.kind) ∷ Text r.id ∷ or_null Text p ∷ or_null Text e ∷ or_null Text l ∷ []) old new (Ok count)
+      → r.number ≡ n → Stepped old new (AddRoot n reference)
+  root_added_stepped n reference r p e l is texts h own =
+      let rs = map root_in (db 7) in
+      let params = Int n ∷ Int (kind_number r.kind) ∷ Text r.id ∷ or_null Text p ∷ or_null Text e ∷ or_null Text l ∷ [] in
+      let adds = inserts text.root_added params old new has 4 roots refl count root_added_given 7 refl refl root_added_is h in
+      let row = full_root n r.kind r.id p e l in
+      let put : with_rowid Chosen (db 7) (cast_row roots row) ≡ root_row r =
+      ap (with_rowid Chosen (db 7)) (root_cast n r.kind r.id p e l) ∙ ap (λ k. with_rowid Chosen (db 7) (full_root k r.kind r.id p e l)) (sym own)
+      ∙ (λ i. Int r.number ∷ Null ∷ Int (kind_number r.kind) ∷ Text r.id ∷ map (or_null Text) (sym texts i)) in
+      let wrote = row_added root_row (λ r. r.number) (λ _. refl) roots db next rs was.roots.written was.roots.rise r row put (works_of_root [] (root_row r)) adds.edited in
+      let held = roots_now db next was (insert_by (λ r. r.number) rs r) wrote (all_of (Back root_row root_in) root_back (insert_by (λ r. r.number) rs r))
+      (IsKeyedBy-insert_by (λ r. r.number) rs r was.roots.rise) (roots_apart (insert_by (λ r. r.number) rs r)) in
+      record { schema = adds.schema; tables = subst (λ x. Hold next (record (rows_of db) { roots = insert_by (λ r. r.number) rs x })) is held }

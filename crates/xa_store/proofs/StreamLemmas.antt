@@ -1,0 +1,158 @@
+-- A table that is read row by row, from one row to the next.
+use Rattle.std.proofs.Common.{◌≡◌, ◌⊎◌, inl, inr, ℕ, ℤ, w64, Bool, true, false, List, [], ◌∷◌, ◌++◌, Option, Some, None, Result, Ok, Err, IsTrue, OnOk, refl, sym, ap, subst, ◌∙◌, arith}
+use Rattle.std.specs.Prelude.{FitsSigned}
+use Rattle.sqlite.specs.Effect.{Database}
+use Rattle.sqlite.specs.Given.{HasGiven, GivesOn, HasBegun, IsPlain}
+use Rattle.sqlite.specs.Held.{Held, state}
+use Rattle.sqlite.specs.Listing.{understood}
+use Rattle.sqlite.specs.Order.{Row}
+use Rattle.sqlite.specs.State.{State, HasCleanDisk, IsUnchanged, IsRolledBack, Shown, Survives, FailsToQuery, Fails, CommitsShowing}
+use Rattle.sqlite.specs.Store.{Ghosts}
+use Rattle.sqlite.specs.Tree.{Trees}
+use Rattle.sqlite.specs.declared.error.Error.{Error}
+use Rattle.sqlite.proofs.Callers.{given_begin, begins_as, begun_plain, unchanged_then}
+use Rattle.sqlite.proofs.StateLemmas.{survives_then}
+use Rattle.xa_store.specs.declared.open_error.OpenError.{OpenError}
+use Rattle.xa_store.specs.declared.open_error.OpenError.TheVariants.{NotThisSchema, Damaged, Store, Memory}
+use Rattle.xa_store.specs.declared.opening.kind.Kind.{Kind}
+use Rattle.xa_store.specs.Judging.{text_of, AreHeld, Asks, IsRead, Moves, refused_as, TellsNext, Walked, Walks, checks, fits}
+use Rattle.xa_store.specs.Opened.{row_number}
+use Rattle.xa_store.specs.Opening.{IsFailure}
+use Rattle.xa_store.specs.Sound.{Rests, SameNow}
+use Rattle.xa_store.specs.Tables.{our_schema}
+use Rattle.xa_store.proofs.AskLemmas.{shown_open, shown_same, unchanged_same, rolled_same}
+use Rattle.xa_store.proofs.AskedLemmas.{failed_fits, never_damaged, never_refused, same_then, survives_asked}
+use Rattle.xa_store.proofs.JudgedTexts.{judged_is}
+use Rattle.xa_store.proofs.QuietLemmas.{rests_after}
+use Rattle.xa_store.proofs.ReadLemmas.{bare, is_read, shown_read}
+use Rattle.xa_store.proofs.SqlLemmas.{answered}
+use Rattle.xa_store.proofs.WalkLemmas.{Leads, leads_on, leads_to, fails_on}
+
+pub judged_plain : (kind : Kind) → IsPlain (understood our_schema (text_of kind))
+judged_plain kind = (judged_is kind).2
+
+module _ {S : Type 0} (g : Ghosts S) (kind : Kind) (next : ℤ) (last : Option ℤ) (old new : Held S) (sql : List ℕ) (given : List Row) where
+  pub moved_ok : (o : Option Row) (r : Result (Option ℤ) OpenError) → TellsNext kind next last o r → GivesOn g sql [] old new given o → Moves g kind next last old new sql given r
+  moved_ok (Some row) (Ok (Some number)) tells on = (row, on, tells.1, ap Some tells.0)
+  moved_ok (Some row) (Ok None) tells on = absurd tells
+  moved_ok (Some row) (Err Damaged) tells on = (row, on, tells)
+  moved_ok (Some row) (Err NotThisSchema) tells on = absurd tells
+  moved_ok (Some row) (Err Store) tells on = tt
+  moved_ok (Some row) (Err Memory) tells on = tt
+  moved_ok None (Ok (Some number)) tells on = absurd tells
+  moved_ok None (Ok None) tells on = on
+  moved_ok None (Err Damaged) (inl e) on = absurd cc
+  moved_ok None (Err Damaged) (inr e) on = absurd cc
+  moved_ok None (Err NotThisSchema) (inl e) on = absurd cc
+  moved_ok None (Err NotThisSchema) (inr e) on = absurd cc
+  moved_ok None (Err Store) tells on = tt
+  moved_ok None (Err Memory) tells on = tt
+
+  pub moved_err : (e : Error) (o : OpenError) → o ≡ refused_as e → FailsToQuery sql [] (state g old) (state g new) e → Moves g kind next last old new sql given (Err o)
+  moved_err e Damaged is failed = absurd (never_damaged e is)
+  moved_err e NotThisSchema is failed = λ plain rests. never_refused e (failed_fits sql [] (state g old) (state g new) e rests plain failed) is
+  moved_err e Store is failed = tt
+  moved_err e Memory is failed = tt
+
+pub same_weaker : {X P : Type 0} (r : Result X OpenError) → P → OnOk r P
+same_weaker (Ok x) p = p
+same_weaker (Err e) p = tt
+
+pub kept_failed : (old new : State) (e : Error) → Fails old new ⊥ e ⊎ IsUnchanged old new → IsUnchanged old new ⊎ IsRolledBack old new
+kept_failed old new e (inl h) = inr h.3
+kept_failed old new e (inr h) = inl h
+
+held_on : (given : List Row) (row : Row) → AreHeld given → FitsSigned w64 (row_number row) → AreHeld (given ++ row ∷ [])
+held_on [] row all fits = (fits, tt)
+held_on (r ∷ given) row all fits = (all.0, held_on given row all.1 fits)
+
+-- where a walk stands: the rows that were given, of which the last is known
+abbrev pub Stands : {S : Type 0} → Ghosts S → Kind → ℤ → State → Held S → Option ℤ → Type 0
+Stands g kind next first h last = HasCleanDisk (state g h) → Rests first → (given : List Row) × HasGiven g (text_of kind) [] h given × IsUnchanged first (state g h) × Leads kind next given last × AreHeld given
+
+module _ {S : Type 0} (g : Ghosts S) (kind : Kind) (next : ℤ) (first : Held S) where
+  abbrev start : State
+  start = state g first
+
+  pub stands_begun : (new : Held S) → (HasCleanDisk (state g new) → HasBegun g (text_of kind) [] first new) → Stands g kind next start new None
+  stands_begun new begun clean rests =
+      let plain = subst (λ s. IsPlain (understood s (text_of kind))) (sym rests.schema) (judged_plain kind) in
+      let it = begun_plain g (text_of kind) [] first new plain (begun clean) in
+      ([], it.0, it.1, λ tail. refl, tt)
+
+  module _ (mid new : Held S) (last : Option ℤ) (survived : Survives start (state g mid) (λ db. ¬ Rests start)) (stands : Stands g kind next start mid last)
+      (kept : HasCleanDisk (state g new) → IsUnchanged (state g mid) (state g new) ⊎ IsRolledBack (state g mid) (state g new)) (on : Survives (state g mid) (state g new) (λ _. ⊥)) where
+    before : HasCleanDisk (state g new) → HasCleanDisk (state g mid)
+    before clean = omega (arith, on.clean)
+
+    pub survived_on : Survives start (state g new) (λ db. ¬ Rests start)
+    survived_on = survives_then start (state g mid) (state g new) (λ db. ¬ Rests start) (λ _. ⊥) (λ db. ¬ Rests start) (λ _ db h. h) (λ _ db h. absurd h) survived on
+
+    same_mid : HasCleanDisk (state g new) → Rests start → SameNow start (state g mid)
+    same_mid clean rests = unchanged_same start (state g mid) rests (stands (before clean) rests).2
+
+    same_on : HasCleanDisk (state g new) → Rests start → IsTrue (state g new).is_open → SameNow start (state g new)
+    same_on clean rests up =
+        let here = same_mid clean rests in
+        let there = rests_after start (state g mid) rests here in
+        same_then start (state g mid) (state g new) here (elim (kept clean) [ inl h ↦ unchanged_same (state g mid) (state g new) there h | inr h ↦ rolled_same (state g mid) (state g new) there h up ])
+
+    -- of a row that doesn't fit
+    unfit : HasCleanDisk (state g new) → Rests start → (given : List Row) → Leads kind next given last → (row : Row) → HasGiven g (text_of kind) [] new (given ++ row ∷ []) → fits kind next last row ≡ false
+        → Walks kind next start.now.trees (Err Damaged)
+    unfolding HasGiven
+    unfit clean rests given leads row has fails =
+        let same = same_on clean rests has.0.is_open in
+        let there = rests_after start (state g new) rests same in
+        let begins = given_begin g (text_of kind) [] new (given ++ row ∷ []) has in
+        let read = begins_as (text_of kind) [] (state g new) (state g new) our_schema there.schema _ (judged_is kind).0 (judged_is kind).2 (judged_is kind).1 (given ++ row ∷ []) begins in
+        let all = (given ++ row ∷ []) ++ read.1.0 in
+        let is = is_read kind (state g new).now.trees all (answered _ [] _ (0 ∷ []) (state g new).now.trees (bare kind (state g new).now.trees) [] all read.1.1) in
+        (all, subst (λ (d : Database). IsRead kind d.trees all) same.now is, fails_on kind next given last leads row fails read.1.0)
+
+    abbrev Moved : Result (Option ℤ) OpenError → Type 0
+    Moved r = HasCleanDisk (state g new) → (sql : List ℕ) (given : List Row) → HasGiven g sql [] mid given → Moves g kind next last mid new sql given r
+
+    found : (e : OpenError) → Moved (Err e) → HasCleanDisk (state g new) → Rests start → Walks kind next start.now.trees (Err e)
+    found Damaged moved clean rests =
+        let it = stands (before clean) rests in
+        let row = moved clean (text_of kind) it.0 it.1 in
+        unfit clean rests it.0 it.3 row.0 row.1 row.2
+    found NotThisSchema moved clean rests =
+        let it = stands (before clean) rests in
+        moved clean (text_of kind) it.0 it.1 (judged_plain kind) (rests_after start (state g mid) rests (same_mid clean rests))
+    found Store moved clean rests = tt
+    found Memory moved clean rests = tt
+
+    pub walk_stopped : (e : OpenError) → Moved (Err e) → Walked kind next start (state g new) (Err e)
+    walk_stopped e moved = record { asks = record { survives = survived_on; same = same_on; opens = λ clean. tt }; finds = found e moved }
+
+    pub walk_ended : Moved (Ok None) → (HasCleanDisk (state g new) → IsUnchanged (state g mid) (state g new)) → Walked kind next start (state g new) (Ok tt)
+    walk_ended moved same = record {
+      asks = record { survives = survived_on; same = same_on; opens = λ clean. (same clean).0.is_open };
+      finds = λ clean rests.
+          let it = stands (before clean) rests in
+          let here = same_mid clean rests in
+          let shown = moved clean (text_of kind) it.0 it.1 in
+          let is = shown_read kind (state g mid) (state g new) (rests_after start (state g mid) rests here) it.0 shown in
+          (it.0, subst (λ (d : Database). IsRead kind d.trees it.0) here.now is, leads_to kind next it.0 last it.3, it.4);
+    }
+
+    pub walk_goes_on : (number : ℤ) → FitsSigned w64 number → Moved (Ok (Some number)) → (HasCleanDisk (state g new) → IsUnchanged (state g mid) (state g new)) → Stands g kind next start new (Some number)
+    walk_goes_on number fits moved same clean rests =
+        let it = stands (before clean) rests in
+        let row = moved clean (text_of kind) it.0 it.1 in
+        let is : number ≡ row_number row.0 = (let e = row.3 in cc) in (
+          it.0 ++ row.0 ∷ [],
+          row.1,
+          unchanged_then start (state g mid) (state g new) it.2 (same clean),
+          subst (Leads kind next (it.0 ++ row.0 ∷ [])) (sym row.3) (leads_on kind next it.0 last it.3 row.0 row.2),
+          held_on it.0 row.0 it.4 (subst (FitsSigned w64) is fits),
+        )
+
+  -- no more rows are read
+  pub walk_left : (mid : Held S) (last : Option ℤ) → Survives start (state g mid) (λ db. ¬ Rests start) → Stands g kind next start mid last → Walked kind next start (state g mid) (Err Store)
+  walk_left mid last survived stands = record {
+    asks = record { survives = survived; same = λ clean rests up. unchanged_same start (state g mid) rests (stands clean rests).2; opens = λ clean. tt };
+    finds = λ clean rests. tt;
+  }

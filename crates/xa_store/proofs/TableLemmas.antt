@@ -1,0 +1,139 @@
+-- What a statement on one table writes, as the records of its rows.
+use Rattle.std.proofs.Common.{◌≡◌, ◌≢◌, ◌⊎◌, inl, inr, ◌≤◌, ℕ, ℤ, pos, ◌+ℤ◌, ◌/◌, List, [], ◌∷◌, ◌++◌, map, filter, fold, drop, length, slice_get, Bool, MatchBool, is_lt, int_cmp, true, false, cond, Some, None, Ok, Err, Result, Option, refl, sym, ap, subst, subst₂, ◌∙◌, arith}
+use Rattle.std.specs.List.Sorted.{IsPermutation}
+use Rattle.sqlite.specs.Cast.{cast}
+use Rattle.sqlite.specs.Command.{Command}
+use Rattle.sqlite.specs.Command.TheVariants.{Insert, Update, Delete}
+use Rattle.sqlite.specs.Does.{Tally, Does, OnRows, WritesRows}
+use Rattle.sqlite.specs.declared.run.Mode.{Mode}
+use Rattle.sqlite.specs.Edit.{edit_of}
+use Rattle.sqlite.specs.Effect.{Database, Answers, IsSource, value_rows}
+use Rattle.sqlite.specs.Kind.TheVariants.{Integer, Text as TextKind}
+use Rattle.sqlite.specs.Listing.{understood}
+use Rattle.sqlite.specs.Ops.{unary}
+use Rattle.sqlite.specs.Order.{Row, column}
+use Rattle.sqlite.specs.Query.{Query}
+use Rattle.sqlite.specs.Rowids.TheVariants.{Chosen, Above, Given}
+use Rattle.sqlite.specs.Rows.{Written, Edited, Task, Inserts, Counts, CountsIn, Gives, sequence, stamped, count_of}
+use Rattle.sqlite.specs.Source.TheVariants.{Values}
+use Rattle.sqlite.specs.Term.{Term}
+use Rattle.sqlite.specs.State.{State, mode_of, Executes}
+use Rattle.sqlite.specs.Table.{Table}
+use Rattle.sqlite.specs.Tree.{Trees}
+use Rattle.sqlite.specs.declared.types.Value.{Value}
+use Rattle.sqlite.specs.declared.types.Value.TheVariants.{Null, Int, Text}
+use Rattle.sqlite.proofs.Callers.{statement_of, runs_as}
+use Rattle.sqlite_schema.specs.declared.program.Program.{Program}
+use Rattle.sqlite_schema.specs.declared.schema.Keys.TheVariants.{Enforced}
+use Rattle.sqlite_rules.specs.Calls.{ids_of}
+use Rattle.xa_store.specs.Tables.{our_schema}
+use Rattle.xa_store.proofs.TextLemmas.{IsChange, update, delete}
+
+-- ---- from a statement that ran to its edit
+
+-- a part that gave a value did not stop on the way
+pub went : {B E R : Type 0} {b : B} {Stops : E → Type 0} → ((stop : E) × Stops stop × (Ok b ≡ Err stop)) ⊎ R → R
+went (inl stopped) = absurd (let e = stopped.2 in cc)
+went (inr on) = on
+
+pub same_value : {B E : Type 0} {a b : B} → ◌≡◌ {A = Result B E} (Ok a) (Ok b) → a ≡ b
+same_value e = cc
+
+-- ---- of an insertion
+
+module _ (task : Task) where
+  pub wrote_rows : (mode : Mode) (command : Command) (db : Trees) (tally : Tally) (after : Database) → OnRows task mode None command db (Ok (tally, after))
+      → (w : Written) × WritesRows task db command (Ok w) × (after ≡ record { schema = task.schema; trees = w.trees })
+  wrote_rows mode command db tally after h = let done = went h in (done.0, done.1, ap (λ (p : Tally × Database). p.1) (same_value (went (went done.2).2).2))
+
+  uncounted_stays : (mid next : Trees) (counter : Option Row) (top : ℤ) → task.table.is_counted ≡ false → Counts task mid counter top (Ok next) → next ≡ mid
+  uncounted_stays mid next counter top uncounted h =
+      same_value (subst (λ b. MatchBool (cond b (is_lt (int_cmp (count_of counter) top)) false) (CountsIn task mid counter top (sequence task.schema) (Ok next)) (Gives {A = Trees} mid (Ok next))) uncounted h)
+
+  module _ (given : List Term) (width : ℕ) (db : Trees) where
+    abbrev pub values : List Row
+    values = value_rows task.params width (length given / width) given
+
+    pub inserted : (w : Written) → task.table.is_counted ≡ false → stamped task.table task.params ≡ task.params → Inserts task (Values given width) db (Ok w)
+        → Edited task.schema task.keys db (edit_of db task.table [] Chosen 0 values) (Ok w.trees)
+    inserted w uncounted bare h =
+        let from = went h in
+        let counter = went from.2 in
+        let wrote = went counter.2 in
+        let counts = went wrote.2 in
+        let rows : from.0 ≡ values = from.1.1 ∙ ap (λ p. value_rows p width (length given / width) given) bare in
+        let edit = subst (λ b. Edited task.schema task.keys db (edit_of db task.table [] (cond b (Above (count_of counter.0)) Chosen) 0 from.0) (Ok wrote.0)) uncounted wrote.1 in
+        let kept : counts.0 ≡ wrote.0 = uncounted_stays wrote.0 counts.0 counter.0 _ uncounted counts.1 in
+        let trees : w.trees ≡ counts.0 = ap (λ (it : Written). it.trees) (same_value counts.2) in
+        subst₂ (λ r t. Edited task.schema task.keys db (edit_of db task.table [] Chosen 0 r) (Ok t)) rows (sym (trees ∙ kept)) edit
+
+module _ (sql : List ℕ) (params : Row) (old new : State) (has : old.now.schema ≡ our_schema) (at : ℕ) (table : Table) (listed : slice_get our_schema.tables at ≡ Some table) (count : ℕ) where
+  abbrev db : Trees
+  db = old.now.trees
+
+  abbrev whole : Database
+  whole = record { schema = our_schema; trees = old.now.trees }
+
+  -- the rows that the query of an update or a deletion gave, and the edit
+  pub record Edits (query : Query) (edit : List Row → Rattle.sqlite.specs.Edit.Edit) : Type 0 where
+    pub rows : List Row
+    pub answer : Answers whole (record { lets = []; body = query }) params rows
+    pub edited : Edited our_schema Enforced db (edit rows) (Ok new.now.trees)
+    pub schema : new.now.schema ≡ our_schema
+
+  pub updates : (query : Query) → IsChange sql (update at query) → Executes sql params old new (Ok count) → Edits query (λ rows. edit_of db table (ids_of rows) Given 1 rows)
+  updates query is h =
+      let w = runs_as sql params old new our_schema has (update at query) is.0 is.1 count h in
+      let text = statement_of sql (understood our_schema sql) in
+      let all = rw listed at (subst (λ s. Does old.step_limit (mode_of old) params (record old.now { schema = s }) text None (update at query) (Ok (w.tally, new.now))) has w.changed) in
+      let done = went all in
+      let now : new.now ≡ record { schema = our_schema; trees = done.0.trees } = ap (λ (p : Tally × Database). p.1) (same_value (went (went done.2).2).2) in
+      let given = went done.1 in
+      let ed = went given.2 in
+      let trees : done.0.trees ≡ ed.0 = ap (λ (it : Written). it.trees) (same_value ed.2) in
+      let full = ap (λ (d : Database). d.trees) now ∙ trees in
+      record {
+        rows = given.0;
+        answer = given.1;
+        edited = subst (λ t. Edited our_schema Enforced db (edit_of db table (ids_of given.0) Given 1 given.0) (Ok t)) (sym full) ed.1;
+        schema = ap (λ (d : Database). d.schema) now;
+      }
+
+  pub deletes : (query : Query) → IsChange sql (delete at query) → Executes sql params old new (Ok count) → Edits query (λ rows. edit_of db table (ids_of rows) Given 0 [])
+  deletes query is h =
+      let w = runs_as sql params old new our_schema has (delete at query) is.0 is.1 count h in
+      let text = statement_of sql (understood our_schema sql) in
+      let all = rw listed at (subst (λ s. Does old.step_limit (mode_of old) params (record old.now { schema = s }) text None (delete at query) (Ok (w.tally, new.now))) has w.changed) in
+      let done = went all in
+      let now : new.now ≡ record { schema = our_schema; trees = done.0.trees } = ap (λ (p : Tally × Database). p.1) (same_value (went (went done.2).2).2) in
+      let given = went done.1 in
+      let ed = went given.2 in
+      let trees : done.0.trees ≡ ed.0 = ap (λ (it : Written). it.trees) (same_value ed.2) in
+      let full = ap (λ (d : Database). d.trees) now ∙ trees in
+      record {
+        rows = given.0;
+        answer = given.1;
+        edited = subst (λ t. Edited our_schema Enforced db (edit_of db table (ids_of given.0) Given 0 []) (Ok t)) (sym full) ed.1;
+        schema = ap (λ (d : Database). d.schema) now;
+      }
+
+  -- the edit of an insertion of these rows
+  pub record Adds (rows : List Row) : Type 0 where
+    pub edited : Edited our_schema Enforced db (edit_of db table [] Chosen 0 rows) (Ok new.now.trees)
+    pub schema : new.now.schema ≡ our_schema
+
+  abbrev its_task : Task
+  its_task = record { limit = old.step_limit; keys = Enforced; schema = our_schema; table = table; params = params }
+
+  pub inserts : (given : List Term) (width : ℕ) → table.is_counted ≡ false → stamped table params ≡ params → IsChange sql (Insert at (Values given width)) → Executes sql params old new (Ok count)
+      → Adds (value_rows params width (length given / width) given)
+  inserts given width uncounted bare is h =
+      let w = runs_as sql params old new our_schema has (Insert at (Values given width)) is.0 is.1 count h in
+      let text = statement_of sql (understood our_schema sql) in
+      let all = rw listed at (subst (λ s. Does old.step_limit (mode_of old) params (record old.now { schema = s }) text None (Insert at (Values given width)) (Ok (w.tally, new.now))) has w.changed) in
+      let done = wrote_rows its_task (mode_of old) (Insert at (Values given width)) db w.tally new.now all in
+      let edit = inserted its_task given width db done.0 uncounted bare done.1 in
+      record {
+        edited = subst (λ t. Edited our_schema Enforced db (edit_of db table [] Chosen 0 (value_rows params width (length given / width) given)) (Ok t)) (sym (ap (λ (d : Database). d.trees) done.2)) edit;
+        schema = ap (λ (d : Database). d.schema) done.2;
+      }

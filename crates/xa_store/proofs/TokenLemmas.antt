@@ -1,0 +1,114 @@
+-- What the queries on tokens find.
+use Rattle.std.proofs.Common.{◌≡◌, ℕ, ℤ, List, [], ◌∷◌, map, length, false, Ordering, is_eq, int_eq, Option, option_map, refl, sym, ap, ◌∙◌}
+use Rattle.std.specs.FinMap.{get, entries, len, len-entries}
+use Rattle.std.proofs.lemmas.List.{length-map}
+use Rattle.sqlite.specs.Order.{Row}
+use Rattle.sqlite.specs.State.{State, Shown}
+use Rattle.sqlite.specs.Tree.{Trees}
+use Rattle.sqlite.specs.declared.types.Value.TheVariants.{Int, Blob}
+use Rattle.sqlite.specs.Given.{IsPlain}
+use Rattle.sqlite.specs.Listing.{understood}
+use Rattle.sqlite.specs.Term.{col}
+use Rattle.sqlite.proofs.Callers.{reads_as}
+use Rattle.sqlite_keyed.specs.Lists.{sort_by}
+use Rattle.sqlite_keyed.proofs.ListLemmas.{all_of, map-map, map_same}
+use Rattle.sqlite_trees.specs.Tree.{IsAscending}
+use Rattle.sqlite_typed.proofs.TestLemmas.{last_key}
+use Rattle.sqlite_value.proofs.OrderLemmas.{value_cmp-Blob}
+use Rattle.xa_notation.specs.declared.token.Role.{Role}
+use Rattle.xa_notation.specs.declared.token.Role.TheVariants.{Ask, Admin}
+use Rattle.xa_records.specs.declared.gate.Token.{Token}
+use Rattle.xa_records.specs.DomainState.{compare_bytes}
+use Rattle.xa_records.specs.Readings.{token_of}
+use Rattle.xa_records.proofs.OrderLemmas.{bytes_total, bytes_exact}
+use Rattle.xa_store.specs.Found.{FindsRole}
+use Rattle.xa_store.specs.Rows.{TokenRow, token_row, token_in, role_in, role_number}
+use Rattle.xa_store.specs.Shown.{TellsOne, role_told, token_told}
+use Rattle.xa_store.specs.Sound.{Ours, same_token}
+use Rattle.xa_store.specs.Steps.{is_token}
+use Rattle.xa_store.specs.Tables.{our_schema}
+use Rattle.xa_store.specs.Texts.{role_shown, tokens_shown}
+use Rattle.xa_store.specs.World.{Rows, rows_of, state_at, tokens_at, token_entry}
+use Rattle.xa_store.proofs.EntryLemmas.{got, has}
+use Rattle.xa_store.proofs.FoundLemmas.{finds_one, found_is, found_sorted, find_both}
+use Rattle.xa_store.proofs.HitLemmas.{token_hit, tokens_hit}
+use Rattle.xa_store.proofs.OrderedLemmas.{apart_among, apart_then, entries_sorted}
+use Rattle.xa_store.proofs.SqlLemmas.{Answered, answered}
+use Rattle.xa_store.proofs.TextLemmas.{is, role_shown_is, tokens_shown_is}
+
+pub role_plain : IsPlain (understood our_schema role_shown)
+role_plain = role_shown_is.2
+
+pub tokens_plain : IsPlain (understood our_schema tokens_shown)
+tokens_plain = tokens_shown_is.2
+
+role_back : (role : Role) → role_in (role_number role) ≡ role
+role_back Ask = refl
+role_back Admin = refl
+
+-- ---- the role of one
+
+module _ (old new : State) (number : ℤ) (digest : List ℕ) (ours : Ours old) (rows : List Row) (shown : Shown role_shown (Int number ∷ Blob digest ∷ []) old new rows) where
+  abbrev db : Trees
+  db = old.now.trees
+
+  abbrev given : Row
+  given = Int number ∷ Blob digest ∷ []
+
+  answer : Answered 3 (is 1 0 ∷ is 2 1 ∷ []) (col 1 3 ∷ []) [] db refl given rows
+  answer =
+      answered 3 (is 1 0 ∷ is 2 1 ∷ []) (col 1 3 ∷ []) [] db refl given rows
+      (reads_as role_shown given old new our_schema ours.rests.schema _ role_shown_is.0 role_shown_is.2 role_shown_is.1 rows shown).answer
+
+  pub role_found : (o : Option Role) → TellsOne role_told rows o → FindsRole number digest (rows_of db) o
+  role_found =
+      finds_one 3 (is 1 0 ∷ is 2 1 ∷ []) (col 1 3 ∷ []) [] db refl given token_row token_in ours.tables.tokens.written (is_token number digest)
+      (all_of _ (token_hit number digest db) (map token_in (db 3))) role_told (λ t. t.role) (all_of _ (λ t. role_back t.role) _) rows answer
+
+-- the role that was found is that of the domain's state
+pub role_is : (rows : Rows) (number : ℤ) (digest : List ℕ) (o : Option Role) → FindsRole number digest rows o → get (state_at rows number).tokens digest ≡ o
+role_is rows number digest o finds =
+    got bytes_total bytes_exact (λ (t : TokenRow). t.digest) (λ t. t.role) digest (tokens_at rows.tokens number)
+    ∙ ap (option_map (λ (t : TokenRow). t.role)) (find_both (λ (t : TokenRow). int_eq t.number number) (has bytes_total bytes_exact (λ (t : TokenRow). t.digest) (λ t. t.role) digest) rows.tokens)
+    ∙ found_is (is_token number digest) (λ t. t.role) rows.tokens o finds
+
+-- ---- all of a domain
+
+module _ (old new : State) (number : ℤ) (ours : Ours old) (rows : List Row) (shown : Shown tokens_shown (Int number ∷ []) old new rows) where
+  abbrev trees : Trees
+  trees = old.now.trees
+
+  abbrev listed : List TokenRow
+  listed = tokens_at (rows_of trees).tokens number
+
+  abbrev by_digest : TokenRow → TokenRow → Ordering
+  by_digest a b = compare_bytes a.digest b.digest
+
+  untied : IsAscending (λ a b. is_eq (by_digest a b) ≡ false) listed
+  untied =
+      apart_among (λ (t : TokenRow). int_eq t.number number) (λ a b. same_token a b ≡ false) (λ a b. is_eq (by_digest a b) ≡ false)
+      (λ a b p q h. apart_then a.number b.number number (is_eq (by_digest a b)) p q h) (map token_in (trees 3)) ours.tables.tokens.apart
+
+  all : Answered 3 (is 1 0 ∷ []) (col 1 2 ∷ col 1 3 ∷ []) (2 ∷ []) trees refl (Int number ∷ []) rows
+  all =
+      answered 3 (is 1 0 ∷ []) (col 1 2 ∷ col 1 3 ∷ []) (2 ∷ []) trees refl (Int number ∷ []) rows
+      (reads_as tokens_shown (Int number ∷ []) old new our_schema ours.rests.schema _ tokens_shown_is.0 tokens_shown_is.2 tokens_shown_is.1 rows shown).answer
+
+  abbrev show_token : TokenRow → Row
+  show_token t = Blob t.digest ∷ Int (role_number t.role) ∷ []
+
+  ordered : rows ≡ map show_token (sort_by by_digest listed)
+  ordered =
+      found_sorted 3 (is 1 0 ∷ []) (col 1 2 ∷ col 1 3 ∷ []) (2 ∷ []) trees refl (Int number ∷ []) token_row token_in ours.tables.tokens.written (λ t. int_eq t.number number)
+      (all_of _ (tokens_hit number trees) (map token_in (trees 3))) by_digest (λ a b. last_key (value_cmp-Blob a.digest b.digest)) untied rows all
+
+  pub tokens_read : map token_told rows ≡ map token_of (entries (state_at (rows_of trees) number).tokens)
+  tokens_read =
+      ap (map token_told) ordered ∙ map-map token_told show_token (sort_by by_digest listed)
+      ∙ map_same _ _ (λ (t : TokenRow). ap (λ role. let token : Token = record { digest = t.digest; role = role } in token) (role_back t.role)) (sort_by by_digest listed)
+      ∙ sym (map-map token_of token_entry (sort_by by_digest listed)) ∙ ap (map token_of) (sym (entries_sorted bytes_total (λ (t : TokenRow). t.digest) (λ t. t.role) listed untied))
+
+  pub tokens_counted : length rows ≡ len (state_at (rows_of trees) number).tokens
+  tokens_counted =
+      ap length ordered ∙ length-map (sort_by by_digest listed) show_token
+      ∙ sym (len-entries (state_at (rows_of trees) number).tokens ∙ ap length (entries_sorted bytes_total (λ (t : TokenRow). t.digest) (λ t. t.role) listed untied) ∙ length-map (sort_by by_digest listed) token_entry)

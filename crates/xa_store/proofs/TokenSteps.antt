@@ -1,0 +1,154 @@
+-- What the statements on tokens make of the rows.
+use Rattle.std.proofs.Common.{◌≡◌, ℕ, ◌≤◌, ℤ, pos, List, [], ◌∷◌, ◌++◌, map, filter, length, Bool, true, false, ◌&&◌, cond, Ok, refl, sym, ap, ap₂, subst, ◌∙◌, arith, int_eq, to_z, of_z, w64}
+use Rattle.std.specs.Ordering.{eq_by_cmp}
+use Rattle.std.proofs.lemmas.Bool.{and_parts, and_from}
+use Rattle.std.proofs.lemmas.Int.{ints}
+use Rattle.std.proofs.lemmas.Cmp.{nat_list_cmp_total}
+use Rattle.sqlite.specs.Order.{Row}
+use Rattle.sqlite.specs.Rowids.TheVariants.{Chosen}
+use Rattle.sqlite.specs.State.{State, Executes}
+use Rattle.sqlite.specs.Term.{col}
+use Rattle.sqlite.specs.Tree.{Trees}
+use Rattle.sqlite.specs.declared.types.Value.TheVariants.{Null, Int, Blob}
+use Rattle.sqlite_schema.specs.Names.{same_name}
+use Rattle.sqlite_schema.specs.declared.schema.Keys.TheVariants.{Enforced}
+use Rattle.sqlite_sql.specs.declared.ops.CompareOp.TheVariants.{Eq}
+use Rattle.sqlite_value.specs.Keys.{joined}
+use Rattle.sqlite_rules.specs.Action.{works}
+use Rattle.sqlite_rules.specs.Cast.{cast_row}
+use Rattle.sqlite_rules.specs.Edit.{with_rowid, next_rowid}
+use Rattle.sqlite_keyed.specs.Keyed.{next_key}
+use Rattle.sqlite_keyed.specs.Lists.{update_where, delete_where}
+use Rattle.sqlite_keyed.proofs.ListLemmas.{all_of, all_weaker}
+use Rattle.sqlite_keyed.proofs.KeyedLemmas.{same_int, IsKeyedBy-delete_where, IsKeyedBy-update_where}
+use Rattle.sqlite_keyed.proofs.RuleLemmas.{apart_update, apart_delete}
+use Rattle.sqlite_typed.proofs.TestLemmas.{at_ints, at_blobs, then_term, last_term, turn_eq, same_bytes, bytes_eq_refl}
+use Rattle.xa_notation.specs.declared.token.Role.{Role}
+use Rattle.xa_notation.specs.declared.token.Role.TheVariants.{Ask, Admin}
+use Rattle.xa_records.specs.DomainState.{compare_bytes}
+use Rattle.xa_store.specs.declared.step.Step.TheVariants.{AddToken, SetRole, DropToken}
+use Rattle.xa_store.specs.Rows.{TokenRow, role_number, role_in, token_row, token_in}
+use Rattle.xa_store.specs.Sound.{AreTables, same_token}
+use Rattle.xa_store.specs.Steps.{is_token}
+use Rattle.xa_store.specs.Tables.{our_schema, tokens}
+use Rattle.xa_store.specs.Texts as text
+use Rattle.xa_store.specs.World.{rows_of}
+use Rattle.xa_store.proofs.ChangeLemmas.{none_pass}
+use Rattle.xa_store.proofs.HoldLemmas.{Back, Hold, tokens_now}
+use Rattle.xa_store.proofs.LastLemmas.{apart_few, stands_last, keyed_last, apart_last}
+use Rattle.xa_store.proofs.SqlLemmas.{answered}
+use Rattle.xa_store.proofs.StepLemmas.{Stepped, cast_int, cast_null}
+use Rattle.xa_store.proofs.TableLemmas.{updates, deletes, inserts}
+use Rattle.xa_store.proofs.TextLemmas.{is, role_set_is, role_set_query, token_added_given, token_added_is, token_dropped_is, token_dropped_query}
+use Rattle.xa_store.proofs.WriteLemmas.{next_rowid_is, row_added, row_updated, rows_removed}
+
+-- ---- tokens
+
+role_back : (role : Role) → role_in (role_number role) ≡ role
+role_back Ask = refl
+role_back Admin = refl
+
+pub role_held : (role : Role) → to_z w64 (of_z w64 (role_number role)) ≡ role_number role
+role_held Ask = refl
+role_held Admin = refl
+
+token_back : (t : TokenRow) → token_in (token_row t) ≡ t
+token_back t = λ i. record { rowid = t.rowid; number = t.number; digest = t.digest; role = role_back t.role i }
+
+token_cast : (t : TokenRow) → cast_row tokens (token_row t) ≡ token_row t
+token_cast t = λ i. cast_int t.rowid i ∷ cast_int t.number i ∷ Blob t.digest ∷ cast_int (role_number t.role) i ∷ []
+
+works_of_nothing : works our_schema Enforced 0 3 [] [] ≡ []
+unfolding same_name joined
+works_of_nothing = refl
+
+works_of_token : (olds : List Row) (new : Row) → works our_schema Enforced 0 3 olds (new ∷ []) ≡ []
+unfolding same_name joined
+works_of_token olds new = refl
+
+works_of_no_token : (olds : List Row) → works our_schema Enforced 0 3 olds [] ≡ []
+unfolding same_name joined
+works_of_no_token olds = refl
+
+turn_bytes : (a b : List ℕ) → eq_by_cmp compare_bytes a b ≡ eq_by_cmp compare_bytes b a
+turn_bytes = turn_eq compare_bytes nat_list_cmp_total
+
+own_number : (n : ℤ) → int_eq n n ≡ true
+own_number n = grind (arith, ints)
+
+tokens_alike : (n : ℤ) (g : List ℕ) (a b : TokenRow) → is_token n g a ≡ true → is_token n g b ≡ true → same_token a b ≡ true
+tokens_alike n g a b here there =
+    let p = and_parts _ _ here in
+    let q = and_parts _ _ there in
+    let number : a.number ≡ b.number = same_int a.number n p.0 ∙ sym (same_int b.number n q.0) in
+    let digest : a.digest ≡ b.digest = sym (same_bytes g a.digest p.1) ∙ same_bytes g b.digest q.1 in
+    and_from _ _ (ap (λ k. int_eq k b.number) number ∙ own_number b.number) (ap (λ d. eq_by_cmp compare_bytes d b.digest) digest ∙ bytes_eq_refl b.digest)
+
+module _ (old new : State) (has : old.now.schema ≡ our_schema) (count : ℕ) (was : AreTables old.now.trees) (n : ℤ) (g : List ℕ) where
+  abbrev db : Trees
+  db = old.now.trees
+
+  abbrev next : Trees
+  next = new.now.trees
+
+  abbrev ts : List TokenRow
+  ts = map token_in (db 3)
+
+  abbrev rowid_of : TokenRow → ℤ
+  rowid_of t = t.rowid
+
+  -- a token comes
+  pub token_added_stepped : (role : Role) → filter (is_token n g) ts ≡ [] → Executes text.token_added (Int n ∷ Blob g ∷ Int (role_number role) ∷ []) old new (Ok count) → Stepped old new (AddToken n g role)
+  token_added_stepped role none h =
+      let params = Int n ∷ Blob g ∷ Int (role_number role) ∷ [] in
+      let token : TokenRow = record { rowid = next_key rowid_of ts; number = n; digest = g; role = role } in
+      let row = Null ∷ Int n ∷ Blob g ∷ Int (role_number role) ∷ [] in
+      let adds = inserts text.token_added params old new has 2 tokens refl count token_added_given 4 refl refl token_added_is h in
+      let bare : cast_row tokens row ≡ row = λ i. cast_null i ∷ cast_int n i ∷ Blob g ∷ cast_int (role_number role) i ∷ [] in
+      let id : next_rowid (db 3) ≡ next_key rowid_of ts = ap next_rowid was.tokens.written ∙ next_rowid_is token_row rowid_of (λ _. refl) ts in
+      let put : with_rowid Chosen (db 3) (cast_row tokens row) ≡ token_row token = ap (with_rowid Chosen (db 3)) bare ∙ ap (λ k. Int k ∷ Int n ∷ Blob g ∷ Int (role_number role) ∷ []) id in
+      let wrote = row_added token_row rowid_of (λ _. refl) tokens db next ts was.tokens.written was.tokens.rise token row put (works_of_token [] (token_row token)) adds.edited in
+      let fresh = all_weaker (λ t. is_token n g t ≡ false) (λ t. same_token t token ≡ false) (λ t differs. ap (λ b. int_eq t.number n && b) (turn_bytes t.digest g) ∙ differs) ts (none_pass (is_token n g) ts none) in
+      let last = stands_last rowid_of same_token (Back token_row token_in) ts token was.tokens.rise refl in
+      record {
+        schema = adds.schema;
+        tables =
+            tokens_now db next was (ts ++ token ∷ []) (subst (λ l. Rattle.xa_store.proofs.WriteLemmas.Wrote db next 3 (map token_row l)) last wrote)
+            (all_of (Back token_row token_in) token_back (ts ++ token ∷ [])) (keyed_last rowid_of same_token (Back token_row token_in) ts token was.tokens.rise refl)
+            (apart_last rowid_of same_token (Back token_row token_in) ts token was.tokens.rise refl was.tokens.apart fresh);
+      }
+
+  -- the role of a token
+  pub role_set_stepped : (role : Role) → Executes text.role_set (Int n ∷ Blob g ∷ Int (role_number role) ∷ []) old new (Ok count) → Stepped old new (SetRole n g role)
+  role_set_stepped role h =
+      let params = Int n ∷ Blob g ∷ Int (role_number role) ∷ [] in
+      let shown = col 1 0 ∷ col 1 0 ∷ col 1 1 ∷ col 1 2 ∷ col 0 2 ∷ [] in
+      let f : TokenRow → TokenRow = λ t. record t { role = role } in
+      let edits = updates text.role_set params old new has 2 tokens refl count role_set_query role_set_is h in
+      let answer = answered 3 (is 1 0 ∷ is 2 1 ∷ []) shown [] db refl params edits.rows edits.answer.answer in
+      let hit = all_of _ (λ (t : TokenRow). then_term (at_ints false Eq t.number n) (last_term (at_blobs false Eq t.digest g) ∙ turn_bytes t.digest g)) ts in
+      let few = apart_few same_token (is_token n g) (tokens_alike n g) ts was.tokens.apart in
+      let wrote = row_updated token_row rowid_of (λ _. refl) tokens db next ts was.tokens.written was.tokens.rise (is 1 0 ∷ is 2 1 ∷ []) shown refl params (is_token n g) hit
+      f (λ t. Int t.rowid ∷ Int t.number ∷ Blob t.digest ∷ Int (role_number role) ∷ []) (λ _. refl) (λ t. token_cast (f t)) (λ _. refl) works_of_nothing works_of_token few edits.rows answer edits.edited in
+      record {
+        schema = edits.schema;
+        tables =
+            tokens_now db next was (update_where (is_token n g) f ts) wrote (all_of (Back token_row token_in) token_back (update_where (is_token n g) f ts))
+            (IsKeyedBy-update_where rowid_of (is_token n g) f (λ _. refl) ts was.tokens.rise) (apart_update same_token (is_token n g) f (λ a b. refl) (λ a b. refl) ts was.tokens.apart);
+      }
+
+  -- a token goes
+  pub token_dropped_stepped : Executes text.token_dropped (Int n ∷ Blob g ∷ []) old new (Ok count) → Stepped old new (DropToken n g)
+  token_dropped_stepped h =
+      let params = Int n ∷ Blob g ∷ [] in
+      let edits = deletes text.token_dropped params old new has 2 tokens refl count token_dropped_query token_dropped_is h in
+      let answer = answered 3 (is 1 0 ∷ is 2 1 ∷ []) (col 1 0 ∷ []) [] db refl params edits.rows edits.answer.answer in
+      let hit = all_of _ (λ (t : TokenRow). then_term (at_ints false Eq t.number n) (last_term (at_blobs false Eq t.digest g) ∙ turn_bytes t.digest g)) ts in
+      let wrote = rows_removed token_row rowid_of (λ _. refl) tokens db next ts was.tokens.written was.tokens.rise (is 1 0 ∷ is 2 1 ∷ []) (col 1 0 ∷ []) refl params (is_token n g) hit
+      (λ _. refl) works_of_no_token edits.rows answer edits.edited in
+      record {
+        schema = edits.schema;
+        tables =
+            tokens_now db next was (delete_where (is_token n g) ts) wrote (all_of (Back token_row token_in) token_back (delete_where (is_token n g) ts))
+            (IsKeyedBy-delete_where rowid_of (is_token n g) ts was.tokens.rise) (apart_delete same_token (is_token n g) ts was.tokens.apart);
+      }

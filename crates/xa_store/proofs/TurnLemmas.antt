@@ -1,0 +1,117 @@
+-- A change that was planned by queries and then run.
+use Rattle.std.proofs.Common.{◌≡◌, ◌⊎◌, inl, inr, ℕ, List, [], ◌∷◌, Option, Some, None, option_map, Result, Ok, Err, IsTrue, IfOk, OnOk, OnErr, refl, sym, ap, subst, ◌∙◌}
+use Rattle.std.specs.FinMap.{get}
+use Rattle.sqlite.specs.Effect.{Database}
+use Rattle.sqlite.specs.State.{State, HasCleanDisk}
+use Rattle.sqlite.specs.Tree.{Trees}
+use Rattle.xa_records.specs.declared.refusal.ChangeError.{ChangeError}
+use Rattle.xa_records.specs.declared.refusal.ChangeError.TheVariants.{Failed, Refused}
+use Rattle.xa_records.specs.declared.refusal.Failure.{Failure}
+use Rattle.xa_records.specs.Changes.{Change}
+use Rattle.xa_records.specs.Keeper.{Changes, IfAnswered}
+use Rattle.xa_records.specs.Kept.{Domain, Kept, IsChanged, IsMade}
+use Rattle.xa_store.specs.declared.step.Step.{Step}
+use Rattle.xa_store.specs.Planning.{told_by}
+use Rattle.xa_store.specs.Quiet.{Quiet}
+use Rattle.xa_store.specs.Sound.{AreNumbered, Ours, Rests, SameNow}
+use Rattle.xa_store.specs.Steps.{AllowsAll, after_all}
+use Rattle.xa_store.specs.Taking.{Holds, Made, Runs}
+use Rattle.xa_store.specs.Turns.{IsPlanned, Plans, Turns, answer_of}
+use Rattle.xa_store.specs.World.{Rows, rows_of, kept_of, world_of}
+use Rattle.xa_store.proofs.QuietLemmas.{rests_after, ours_after}
+
+-- a domain that goes over into the state that it has
+pub still : (kept : Kept) (name : List ℕ) (domain : Domain) → get kept.domains name ≡ Some domain → IsChanged kept kept name (Some domain.state)
+still kept name domain there = record {
+  domain = subst (λ o. Rattle.xa_records.specs.Kept.Becomes kept.next o (Some domain.state) (get kept.domains name)) (sym there) (domain.epoch, inl (record { documents = refl; root = refl; source = refl }, refl), there);
+  others = λ other apart. refl;
+  next = subst (λ o. Rattle.xa_records.specs.Kept.IsNextNumber kept.next o (Some domain.state) kept.next) (sym there) refl;
+}
+
+module _ (change : Change) (name : List ℕ) (old mid new : State) (quiet : Quiet old mid) where
+  -- a change that isn't made
+  pub unmade : (Y : Type 0) (planned : ChangeError) → (HasCleanDisk mid → IfAnswered {X = Y} (Err planned) (IsTrue mid.is_open)) → (HasCleanDisk mid → Ours old → IsPlanned change name (rows_of old.now.trees) (Err planned))
+      → {X : Type 0} → Turns {X = X} change name old mid (Err planned)
+  unmade Y (Refused e) opens planned = record {
+    was_open = λ clean up. quiet.was_open up;
+    clean = quiet.clean;
+    does = λ clean ours up. (planned clean ours, ap (λ (d : Database). world_of d.trees) (quiet.same clean ours.rests up).now);
+    ours = λ clean ours up. ours_after old mid ours (quiet.same clean ours.rests up);
+    stays = λ clean ours. opens clean;
+    leaves = λ clean ours db may. inl (quiet.crash clean ours.rests db may);
+  }
+  unmade Y (Failed failure) opens planned = record {
+    was_open = λ clean up. quiet.was_open up;
+    clean = quiet.clean;
+    does = λ clean ours up. ap (λ (d : Database). world_of d.trees) (quiet.same clean ours.rests up).now;
+    ours = λ clean ours up. ours_after old mid ours (quiet.same clean ours.rests up);
+    stays = λ clean ours. tt;
+    leaves = λ clean ours db may. inl (quiet.crash clean ours.rests db may);
+  }
+
+  module _ (steps : List Step) (opens : HasCleanDisk mid → IsTrue mid.is_open) (planned : HasCleanDisk mid → Ours old → Plans steps change name (rows_of old.now.trees)) where
+    same_rows : (same : SameNow old mid) → rows_of mid.now.trees ≡ rows_of old.now.trees
+    same_rows same = ap (λ (d : Database). rows_of d.trees) same.now
+
+    made_of : Plans steps change name (rows_of old.now.trees) → (db : Trees) → Holds steps (rows_of old.now.trees) db → IsMade change name (world_of old.now.trees) (world_of db)
+    made_of plan db holds = subst (λ rows. IsMade change name (world_of old.now.trees) (kept_of rows)) (sym holds.rows) plan.made
+
+    module _ (clean : HasCleanDisk mid) (ours : Ours old) where
+      here : SameNow old mid
+      here = quiet.same clean ours.rests (opens clean)
+
+      ours_here : Ours mid
+      ours_here = ours_after old mid ours here
+
+      allowed : AllowsAll steps (rows_of mid.now.trees)
+      allowed = subst (AllowsAll steps) (sym (same_rows here)) (planned clean ours).allows
+
+      held : (db : Trees) → Holds steps (rows_of mid.now.trees) db → Holds steps (rows_of old.now.trees) db
+      held db = subst (λ rows. Holds steps rows db) (same_rows here)
+
+      -- the tables after the steps are ours
+      ours_made : Made steps mid new → Ours new
+      ours_made made = record {
+        rests = made.rests;
+        tables = made.holds.tables;
+        domains = subst AreNumbered (sym (held new.now.trees made.holds).rows) (planned clean ours).numbered;
+      }
+
+      left : (db : Trees) → mid.may_leave db ⊎ Holds steps (rows_of mid.now.trees) db → old.may_leave db ⊎ IsMade change name (world_of old.now.trees) (world_of db)
+      left db (inl may) = inl (quiet.crash clean ours.rests db may)
+      left db (inr holds) = inr (made_of (planned clean ours) db (held db holds))
+
+    -- a change that is run
+    pub turned : (r : Result (Unit {0}) Failure) → Runs steps mid new r → Turns change name old new (answer_of r)
+    turned (Ok x) runs = record {
+      was_open = λ clean up. quiet.was_open (runs.was_open clean up);
+      clean = λ clean. quiet.clean (runs.clean clean);
+      does = λ clean ours up.
+          let before = runs.clean clean in
+          let made = runs.made clean (opens before) (ours_here before ours) (allowed before ours) in
+          made_of (planned before ours) new.now.trees (held before ours new.now.trees made.holds);
+      ours = λ clean ours up. let before = runs.clean clean in ours_made before ours (runs.made clean (opens before) (ours_here before ours) (allowed before ours));
+      stays = λ clean ours. let before = runs.clean clean in (runs.made clean (opens before) (ours_here before ours) (allowed before ours)).is_open;
+      leaves = λ clean ours db may. let before = runs.clean clean in left before ours db (runs.crash clean (opens before) (ours_here before ours) (allowed before ours) db may);
+    }
+    turned (Err failure) runs = record {
+      was_open = λ clean up. quiet.was_open (runs.was_open clean up);
+      clean = λ clean. quiet.clean (runs.clean clean);
+      does = λ clean ours up.
+          let before = runs.clean clean in
+          let after = runs.same clean (ours_here before ours).rests up in
+          ap (λ (d : Database). world_of d.trees) (after.now ∙ (here before ours).now);
+      ours = λ clean ours up. let before = runs.clean clean in ours_after mid new (ours_here before ours) (runs.same clean (ours_here before ours).rests up);
+      stays = λ clean ours. tt;
+      leaves = λ clean ours db may. let before = runs.clean clean in left before ours db (runs.crash clean (opens before) (ours_here before ours) (allowed before ours) db may);
+    }
+
+-- what a change tells, where it was made
+pub told : {X : Type 0} (change : Change) (name : List ℕ) (old new : State) (x : X) (r : Result (Unit {0}) ChangeError) → Turns change name old new r → Turns change name old new (told_by x r)
+told change name old new x (Ok done) turns = record { was_open = turns.was_open; clean = turns.clean; does = turns.does; ours = turns.ours; stays = turns.stays; leaves = turns.leaves }
+told change name old new x (Err (Refused e)) turns = record { was_open = turns.was_open; clean = turns.clean; does = turns.does; ours = turns.ours; stays = turns.stays; leaves = turns.leaves }
+told change name old new x (Err (Failed failure)) turns = record { was_open = turns.was_open; clean = turns.clean; does = turns.does; ours = turns.ours; stays = turns.stays; leaves = turns.leaves }
+
+pub told_is : {X : Type 0} (x y : X) → x ≡ y → (r : Result (Unit {0}) ChangeError) → IfOk (told_by x r) (λ z. z ≡ y)
+told_is x y same (Ok done) = same
+told_is x y same (Err error) = tt

@@ -1,0 +1,12 @@
+use Rattle.xa_records.specs.Readings.{gate_of}
+use Rattle.xa_store.proofs.KeeperReadingLemmas.{is_reading_of, keeper_after}
+use Rattle.xa_store.proofs.keeper.SqlRecords.read_gate.Goals as goal
+
+pub invariant_of-self : goal.invariant_of-self
+invariant_of-self g c =
+    keeper_after g.S.Store g.met.S.Store.shut_if_dirty g.met.S.Store.settled c.self.inside.conn c.gate_in-read.new.conn c.self.inside.ours c.self.inside.faults c.self.inside.faults c.self.invariant c.gate_in-read.ensures.quiet
+
+pub returns : goal.returns
+returns g c =
+    is_reading_of g.S.Store g.met.S.Store.shut_if_dirty g.met.S.Store.settled c.self.inside.conn c.gate_in-read.new.conn c.self.inside.ours c.self.inside.faults c.count.new.faults c.self.invariant c.gate_in-read.ensures.quiet
+    c.args.self.now c.self.view_is c.gate_in-read.result (gate_of c.args.name.now) c.gate_in-read.ensures.opens c.gate_in-read.ensures.reads c.count.ensures

@@ -1,0 +1,16 @@
+use Rattle.std.proofs.Common.{w64, refl, option_map}
+use Rattle.std.proofs.lemmas.Int.{to_z-of_z}
+use Rattle.sqlite.specs.Held.{state}
+use Rattle.xa_store.specs.declared.step.Step.TheVariants.{DropDocument}
+use Rattle.xa_store.proofs.DocumentSteps.{document_dropped_stepped}
+use Rattle.xa_store.proofs.StepLemmas.{kind_held}
+use Rattle.xa_store.proofs.TakeLemmas.{took_ok}
+use Rattle.xa_store.proofs.take.documents.drop_document.Goals as goal
+
+pub returns-clause-takes : goal.returns-clause-takes
+returns-clause-takes g c clean inside reads =
+    let old = state g.S.Store c.args.tx.now.conn.now in
+    let new = state g.S.Store c.execute_in.new.tx.conn.now in
+    let n = to_z-of_z w64 c.args.number c.ranges.number in
+    took_ok old new (DropDocument c.args.number c.args.key.now) c.execute_in.result (c.execute_in.ensures.inside clean inside.inside) (c.execute_in.ensures.runs clean inside.inside)
+    (λ ran. document_dropped_stepped old new inside.schema ran.0 inside.tables c.args.number c.args.key.now reads (rw (n, kind_held c.args.key.now.kind) at (rw (c.number_of_kind.ensures, c.as_bytes.ensures, c.as_bytes-2.ensures, c.in_ok-version.ensures) at ran.1)))

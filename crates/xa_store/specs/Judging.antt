@@ -1,0 +1,215 @@
+-- How the tables are read and judged when a store is opened: one query for the rows of each, in the order of their numbers, and one for whether
+-- the table has them in that order.
+use Rattle.std.specs.Prelude.{◌≡◌, ◌⊎◌, ℕ, ℤ, FitsSigned, Bool, true, false, ◌&&◌, List, [], ◌∷◌, ◌++◌, map, int_lt, codes, IsPermutation, IsTrue, ◌↔◌, Option, Some, None, option_map, option_and_then, unwrap_or, Result, Ok, Err, OnOk, OnErr, IfOk, IfErr}
+use Rattle.std.specs.Int.{w64}
+use Rattle.std.specs.List.{AllByRecursion}
+use Rattle.sqlite.specs.Effect.{IsDatabase}
+use Rattle.sqlite.specs.Given.{HasGiven, IsPlain}
+use Rattle.sqlite.specs.Listing.{understood}
+use Rattle.sqlite.specs.Held.{Held, state}
+use Rattle.sqlite.specs.Order.{Row, column}
+use Rattle.sqlite.specs.State.{State, HasCleanDisk, Shown, Survives}
+use Rattle.sqlite.specs.Store.{Ghosts}
+use Rattle.sqlite.specs.Tree.{Trees}
+use Rattle.sqlite.specs.declared.error.Error.{Error}
+use Rattle.sqlite.specs.declared.error.Error.TheVariants.{SqliteFailure, SqlInputError}
+use Rattle.sqlite.specs.declared.error.ErrorCode.TheVariants.{NameTaken, OutOfMemory}
+use Rattle.xa_store.specs.declared.open_error.OpenError.{OpenError}
+use Rattle.xa_store.specs.declared.open_error.OpenError.TheVariants.{NotThisSchema, Damaged, Store, Memory}
+use Rattle.xa_store.specs.declared.opening.kind.Kind.{Kind}
+use Rattle.xa_store.specs.declared.opening.kind.Kind.TheVariants.{Domains, Tokens, Documents, Roots, Attributes}
+use Rattle.xa_store.specs.Opened.{as_read, tree_of, are_rising, int_in, is_number, is_whole_row, row_number, Place, counts_on, opened}
+use Rattle.xa_store.specs.Opening.{Gives, IsBlank, IsFailure, IsMade, Leaves}
+use Rattle.xa_store.specs.Sound.{Ours, Rests, SameNow}
+use Rattle.xa_store.specs.Tables.{our_schema}
+
+abbrev pub text_of : Kind → List ℕ
+text_of Domains = codes "SELECT number, name, epoch FROM domains ORDER BY number"
+text_of Tokens = codes "SELECT rowid, number, digest, role FROM tokens ORDER BY rowid"
+text_of Documents = codes "SELECT rowid, number, kind, id, version, body, active FROM policies ORDER BY rowid"
+text_of Roots = codes "SELECT number, kind, id, pattern, earliest, latest FROM roots ORDER BY number"
+text_of Attributes = codes "SELECT rowid, number, place, category, entity, attribute, value_type, value FROM attributes ORDER BY rowid"
+
+-- it shows a row exactly where the rowids, as the table has them, are other than in their order: then the texts of both differ
+abbrev pub order_text_of : Kind → List ℕ
+order_text_of Domains = codes "WITH s(n) AS (SELECT rowid FROM domains ORDER BY rowid) SELECT 1 WHERE (SELECT group_concat(rowid) FROM domains) IS NOT (SELECT group_concat(n) FROM s)"
+order_text_of Tokens = codes "WITH s(n) AS (SELECT rowid FROM tokens ORDER BY rowid) SELECT 1 WHERE (SELECT group_concat(rowid) FROM tokens) IS NOT (SELECT group_concat(n) FROM s)"
+order_text_of Documents = codes "WITH s(n) AS (SELECT rowid FROM policies ORDER BY rowid) SELECT 1 WHERE (SELECT group_concat(rowid) FROM policies) IS NOT (SELECT group_concat(n) FROM s)"
+order_text_of Roots = codes "WITH s(n) AS (SELECT rowid FROM roots ORDER BY rowid) SELECT 1 WHERE (SELECT group_concat(rowid) FROM roots) IS NOT (SELECT group_concat(n) FROM s)"
+order_text_of Attributes = codes "WITH s(n) AS (SELECT rowid FROM attributes ORDER BY rowid) SELECT 1 WHERE (SELECT group_concat(rowid) FROM attributes) IS NOT (SELECT group_concat(n) FROM s)"
+
+abbrev pub places_shown : List ℕ
+places_shown = codes "SELECT number, place FROM attributes ORDER BY number, place"
+
+-- ---- what a call that only reads leaves
+
+-- The connection holds what it held, if the tables are ours, and a crash leaves what it left.
+pub record Asks {X : Type 0} (old new : State) (result : Result X OpenError) : Type 0 where
+  pub survives : Survives old new (λ db. ¬ Rests old)
+  pub same : HasCleanDisk new → Rests old → IsTrue new.is_open → SameNow old new
+  pub opens : HasCleanDisk new → OnOk result (IsTrue new.is_open)
+
+-- an error that no query of our tables has
+abbrev pub is_misfit : Error → Bool
+is_misfit (SqlInputError fault) = true
+is_misfit (SqliteFailure NameTaken) = true
+is_misfit _ = false
+
+-- what an error means for opening
+abbrev pub refused_as : Error → OpenError
+refused_as (SqlInputError fault) = NotThisSchema
+refused_as (SqliteFailure NameTaken) = NotThisSchema
+refused_as (SqliteFailure OutOfMemory) = Memory
+refused_as _ = Store
+
+-- sound, or damaged; or want of memory or a failure of the store
+abbrev pub Judges : Bool → Result (Unit {0}) OpenError → Type 0
+Judges sound (Ok x) = sound ≡ true
+Judges sound (Err Damaged) = sound ≡ false
+Judges sound (Err NotThisSchema) = ⊥
+Judges sound (Err Store) = Unit {0}
+Judges sound (Err Memory) = Unit {0}
+
+-- what the tables hold was judged by a test of them
+pub record Judged (sound : Trees → Bool) (old new : State) (result : Result (Unit {0}) OpenError) : Type 0 where
+  pub asks : Asks old new result
+  pub finds : HasCleanDisk new → Rests old → Judges (sound old.now.trees) result
+
+-- ---- the rows of one table, in the order of their numbers
+
+-- each row begins with a number
+abbrev pub HasNumbers : Kind → Trees → Type 0
+HasNumbers kind db = AllByRecursion (λ row. is_number (column row 0) ≡ true) (db (tree_of kind))
+
+-- the rows are those of the table, and in its order if that rises
+pub record IsRead (kind : Kind) (db : Trees) (rows : List Row) : Type 0 where
+  pub all : IsPermutation (map (as_read kind) (db (tree_of kind))) rows
+  pub ordered : HasNumbers kind db → are_rising (map row_number (map (as_read kind) (db (tree_of kind)))) ≡ true → rows ≡ map (as_read kind) (db (tree_of kind))
+
+abbrev pub comes_after : Option ℤ → ℤ → Bool
+comes_after None number = true
+comes_after (Some last) number = int_lt last number
+
+abbrev pub fits : Kind → ℤ → Option ℤ → Row → Bool
+fits kind next last row = is_whole_row kind next row && comes_after last (row_number row)
+
+-- each row is sound, and its number above the last
+abbrev pub checks : Kind → ℤ → Option ℤ → List Row → Bool
+checks kind next last [] = true
+checks kind next last (row ∷ rows) = fits kind next last row && checks kind next (Some (row_number row)) rows
+
+-- the numbers of rows are such as a column can hold
+abbrev pub AreHeld : List Row → Type 0
+AreHeld = AllByRecursion (λ row. FitsSigned w64 (row_number row))
+
+abbrev pub Walks : Kind → ℤ → Trees → Result (Unit {0}) OpenError → Type 0
+Walks kind next db (Ok x) = (rows : List Row) × IsRead kind db rows × (checks kind next None rows ≡ true) × AreHeld rows
+Walks kind next db (Err Damaged) = (rows : List Row) × IsRead kind db rows × (checks kind next None rows ≡ false)
+Walks kind next db (Err NotThisSchema) = ⊥
+Walks kind next db (Err Store) = Unit {0}
+Walks kind next db (Err Memory) = Unit {0}
+
+pub record Walked (kind : Kind) (next : ℤ) (old new : State) (result : Result (Unit {0}) OpenError) : Type 0 where
+  pub asks : Asks old new result
+  pub finds : HasCleanDisk new → Rests old → Walks kind next old.now.trees result
+
+-- the number of a row that fits, or that it doesn't
+abbrev pub TellsNumber : Kind → ℤ → Option ℤ → Row → Result ℤ OpenError → Type 0
+TellsNumber kind next last row (Ok number) = (number ≡ row_number row) × (fits kind next last row ≡ true)
+TellsNumber kind next last row (Err Damaged) = fits kind next last row ≡ false
+TellsNumber kind next last row (Err NotThisSchema) = ⊥
+TellsNumber kind next last row (Err Store) = Unit {0}
+TellsNumber kind next last row (Err Memory) = Unit {0}
+
+-- of the row at which a query stands, if it isn't at its end
+abbrev pub TellsNext : Kind → ℤ → Option ℤ → Option Row → Result (Option ℤ) OpenError → Type 0
+TellsNext kind next last (Some row) (Ok (Some number)) = TellsNumber kind next last row (Ok number)
+TellsNext kind next last (Some row) (Ok None) = ⊥
+TellsNext kind next last (Some row) (Err e) = TellsNumber kind next last row (Err e)
+TellsNext kind next last None (Ok (Some number)) = ⊥
+TellsNext kind next last None (Ok None) = Unit {0}
+TellsNext kind next last None (Err e) = IsFailure e
+
+module _ {S : Type 0} (g : Ghosts S) (kind : Kind) (next : ℤ) (last : Option ℤ) (old new : Held S) where
+  -- one more row, which fits or doesn't
+  abbrev pub GivesRow : Bool → List ℕ → List Row → Option ℤ → Type 0
+  GivesRow is sql given number =
+      (row : Row) × HasGiven g sql [] new (given ++ row ∷ []) × (fits kind next last row ≡ is) × (number ≡ Some (row_number row))
+
+  -- the query goes on by one row: that is a sound one after the last; or it isn't; or all rows were given
+  abbrev pub Moves : List ℕ → List Row → Result (Option ℤ) OpenError → Type 0
+  Moves sql given (Ok (Some number)) = GivesRow true sql given (Some number)
+  Moves sql given (Ok None) = Shown sql [] (state g old) (state g new) given
+  Moves sql given (Err Damaged) = (row : Row) × HasGiven g sql [] new (given ++ row ∷ []) × (fits kind next last row ≡ false)
+  Moves sql given (Err NotThisSchema) = IsPlain (understood our_schema sql) → ¬ Rests (state g old)
+  Moves sql given (Err Store) = Unit {0}
+  Moves sql given (Err Memory) = Unit {0}
+
+-- ---- the order of the table
+
+-- of a table that was walked to its end
+abbrev pub Orders : Kind → Trees → Result (Unit {0}) OpenError → Type 0
+Orders kind db result = (next : ℤ) → Walks kind next db (Ok tt) → Judges (are_rising (map row_number (map (as_read kind) (db (tree_of kind))))) result
+
+-- ---- the places of the rows of sources
+
+-- a row shows a domain and a place
+abbrev pub place_told : Row → Option Place
+place_told row = option_and_then (λ number. option_map (λ place. (number, place)) (int_in (column row 1))) (int_in (column row 0))
+
+abbrev pub is_next : Place → Option Place → Bool
+is_next last None = false
+is_next last (Some place) = counts_on last place
+
+-- each row shows a place that comes after the one before
+abbrev pub counts : Place → List Row → Bool
+counts last [] = true
+counts last (row ∷ rows) = is_next last (place_told row) && counts (unwrap_or (place_told row) last) rows
+
+-- ---- what the parts of opening answer
+
+-- the number of the next domain, if that is known
+abbrev pub GivesNext : Option ℤ → Result ℤ OpenError → Type 0
+GivesNext known (Ok next) = known ≡ Some next
+GivesNext known (Err NotThisSchema) = known ≡ None
+GivesNext known (Err Damaged) = ⊥
+GivesNext known (Err Store) = Unit {0}
+GivesNext known (Err Memory) = Unit {0}
+
+-- what opening answers, whatever is found beside it
+abbrev pub GivesAs : {X : Type 0} → Result X OpenError → Result (Unit {0}) OpenError → Type 0
+GivesAs (Ok x) given = given ≡ Ok tt
+GivesAs (Err e) given = Gives (Err e) given
+
+-- the tables were judged, and it was told whether they are those of a keeper
+pub record Checked (old new : State) (result : Result Bool OpenError) : Type 0 where
+  pub asks : Asks old new result
+  pub opened : HasCleanDisk new → Rests old → GivesAs result (opened old.now.trees)
+  pub ours : IfOk result (λ ours. IsTrue ours ↔ (old.now.schema ≡ our_schema))
+  pub live : HasCleanDisk new → OnOk result (IsDatabase old.now)
+  pub was_open : HasCleanDisk new → OnOk result (IsTrue old.is_open)
+
+-- the same of a connection in which nothing waits for a commit; its tables are ours as the keeper writes them, if they were found to be sound and ours
+pub record CheckedIdle (old new : State) (result : Result Bool OpenError) : Type 0 where
+  pub asks : Asks old new result
+  pub opened : HasCleanDisk new → Rests old → GivesAs result (opened old.now.trees)
+  pub known : HasCleanDisk new → Rests old → IfOk result IsTrue
+  pub ours : HasCleanDisk new → IfOk result (λ ours. IsTrue ours → Ours new)
+
+-- the tables were made, all or none
+pub record Made {X : Type 0} (old new : State) (result : Result X OpenError) : Type 0 where
+  pub survives : Survives old new (λ db. IsBlank old → IsMade db)
+  pub made : HasCleanDisk new → IsBlank old → OnOk result (IsTrue new.is_open × Rests new × IsMade new.now.trees)
+  pub same : HasCleanDisk new → IsBlank old → IsTrue new.is_open → OnErr result (SameNow old new)
+  pub fails : IfErr result IsFailure
+
+abbrev pub MakesAs : State → State → Result Bool OpenError → Type 0
+MakesAs old new (Ok ours) = IsTrue ours × IsMade new.now.trees
+MakesAs old new (Err e) = IsFailure e × (SameNow old new ⊎ IsMade new.now.trees)
+
+pub record Loads (old new : State) (result : Result Bool OpenError) : Type 0 where
+  pub survives : Survives old new (Leaves old)
+  pub opens : HasCleanDisk new → Rests old → IsTrue new.is_open → SameNow old new × GivesAs result (opened old.now.trees) × IfOk result IsTrue
+  pub makes : HasCleanDisk new → IsBlank old → IsTrue new.is_open → MakesAs old new result
+  pub ours : HasCleanDisk new → IsTrue new.is_open → IfOk result (λ ours. IsTrue ours → Ours new)
+  pub stays : HasCleanDisk new → OnOk result (IsTrue new.is_open)

@@ -1,0 +1,204 @@
+-- When the tables of a store are those of a keeper, and what opening it answers. A body is a document of the key that its columns hold,
+-- versions and values stand in their printed form, and places count from 0 in each domain. Rows of a number that was given and has no domain are
+-- sound: the tables' keys rule them out, where who writes a file has them enforced, and nothing is ever read of them, since no number is given twice.
+use Rattle.std.specs.Prelude.{◌==◌, ℕ, ◌+ℤ◌, ℤ, pos, negsuc, Bool, true, false, ◌&&◌, if◌then◌else◌, List, [], ◌∷◌, map, length, bytes_eq, is_ok, int_le, int_lt, Option, Some, None, Result, Ok, Err}
+use Rattle.std.specs.List.{list_all}
+use Rattle.std.specs.Ordering.{int_eq, int_cmp, ordering_then}
+use Rattle.std.specs.declared.cmp.Ordering.{Ordering}
+use Rattle.std.specs.Str.{is_utf8}
+use Rattle.sqlite.specs.Ops.{fits_i64}
+use Rattle.sqlite.specs.Order.{Row, column}
+use Rattle.sqlite.specs.Tree.{Trees}
+use Rattle.sqlite.specs.declared.types.Value.{Value}
+use Rattle.sqlite.specs.declared.types.Value.TheVariants.{Null, Int, Text, Blob}
+use Rattle.sqlite_keyed.specs.Lists.{sort_by}
+use Rattle.sqlite_typed.specs.Columns.{int_of}
+use Rattle.xa_value.specs.declared.data_type.DataType.{DataType}
+use Rattle.xa_value.specs.declared.read_error.ReadError.{ReadError}
+use Rattle.xa_value.specs.declared.value.Value.{Value as Datum}
+use Rattle.xa_value.specs.Printing.{printed}
+use Rattle.xa_value.specs.Reading.{read}
+use Rattle.xa_value.specs.Types.{type_at}
+use Rattle.xa_policy.specs.Pattern.{read_pattern}
+use Rattle.xa_policy.specs.Version.{read_version, version_text}
+use Rattle.xa_notation.specs.declared.document.Parsed.{Parsed}
+use Rattle.xa_notation.specs.declared.notation_error.NotationError.{NotationError}
+use Rattle.xa_notation.specs.Document.{document_of}
+use Rattle.xa_records.specs.DomainName.{is_domain_name}
+use Rattle.xa_store.specs.declared.open_error.OpenError.{OpenError}
+use Rattle.xa_store.specs.declared.open_error.OpenError.TheVariants.{NotThisSchema, Damaged}
+use Rattle.xa_store.specs.declared.opening.kind.Kind.{Kind}
+use Rattle.xa_store.specs.declared.opening.kind.Kind.TheVariants.{Domains, Tokens, Documents, Roots, Attributes}
+use Rattle.xa_store.specs.Rows.{nat_of, kind_number}
+
+-- ---- what one column holds
+
+abbrev pub holds_int : (ℤ → Bool) → Value → Bool
+holds_int test (Int n) = test n
+holds_int test _ = false
+
+abbrev pub holds_text : (List ℕ → Bool) → Value → Bool
+holds_text test (Text bytes) = test bytes
+holds_text test _ = false
+
+abbrev pub holds_text_if_any : (List ℕ → Bool) → Value → Bool
+holds_text_if_any test Null = true
+holds_text_if_any test value = holds_text test value
+
+abbrev pub holds_blob : (List ℕ → Bool) → Value → Bool
+holds_blob test (Blob bytes) = test bytes
+holds_blob test _ = false
+
+-- an epoch, or a number: none is negative, and each is one that a column can hold
+abbrev pub is_count : ℤ → Bool
+is_count n = int_le (pos 0) n && fits_i64 n
+
+-- the number of a domain that has been made
+abbrev pub is_given : ℤ → ℤ → Bool
+is_given next n = is_count n && int_lt n next
+
+-- a role, a kind or whether a document is active
+abbrev pub is_bit : ℤ → Bool
+is_bit n = is_count n && int_le n (pos 1)
+
+abbrev pub is_digest : List ℕ → Bool
+is_digest bytes = length bytes == 32
+
+abbrev pub is_pattern : List ℕ → Bool
+is_pattern text = is_utf8 text && is_ok (read_pattern text)
+
+abbrev pub is_version : List ℕ → Bool
+is_version text = is_utf8 text && is_ok (read_version text)
+
+-- ---- a body, whose key the columns hold
+
+abbrev pub holds_key : Value → Value → Value → Result Parsed NotationError → Bool
+holds_key kind id version (Ok parsed) =
+    holds_int (int_eq (kind_number parsed.kind)) kind && holds_text (bytes_eq parsed.id) id && holds_text (bytes_eq (version_text parsed.version)) version
+holds_key kind id version (Err _) = false
+
+-- ---- a value, in its printed form
+
+abbrev pub is_printed : List ℕ → Result Datum ReadError → Bool
+is_printed text (Ok value) = bytes_eq (printed value) text
+is_printed text (Err _) = false
+
+abbrev pub is_value : List ℕ → Option DataType → Bool
+is_value text (Some type) = is_printed text (read type text)
+is_value text None = false
+
+abbrev pub type_numbered : ℤ → Option DataType
+type_numbered number = if is_count number then type_at (nat_of number) else None
+
+abbrev pub holds_value : ℤ → List ℕ → Bool
+holds_value number text = is_utf8 text && is_value text (type_numbered number)
+
+-- ---- a row of each table, as its columns are read; `next` is the number of the next domain
+
+abbrev pub is_sound_row : Kind → ℤ → Row → Bool
+is_sound_row Domains next row = holds_int (is_given next) (column row 0) && holds_text is_domain_name (column row 1) && holds_int is_count (column row 2)
+is_sound_row Tokens next row = holds_int (is_given next) (column row 1) && holds_blob is_digest (column row 2) && holds_int is_bit (column row 3)
+is_sound_row Documents next row =
+    holds_int (is_given next) (column row 1) && holds_int is_bit (column row 6)
+    && holds_blob (λ body. holds_key (column row 2) (column row 3) (column row 4) (document_of body)) (column row 5)
+is_sound_row Roots next row =
+    holds_int (is_given next) (column row 0) && holds_int is_bit (column row 1) && holds_text is_utf8 (column row 2)
+    && holds_text_if_any is_pattern (column row 3) && holds_text_if_any is_version (column row 4) && holds_text_if_any is_version (column row 5)
+is_sound_row Attributes next row =
+    holds_int (is_given next) (column row 1) && holds_text is_utf8 (column row 3) && holds_text is_utf8 (column row 4) && holds_text is_utf8 (column row 5)
+    && holds_int (λ number. holds_text (holds_value number) (column row 7)) (column row 6)
+
+-- the columns that are read, of those that are kept: that of an INTEGER PRIMARY KEY is kept as the rowid
+abbrev pub read_columns : Kind → List ℕ
+read_columns Domains = 0 ∷ 2 ∷ 3 ∷ []
+read_columns Tokens = 0 ∷ 1 ∷ 2 ∷ 3 ∷ []
+read_columns Documents = 0 ∷ 1 ∷ 2 ∷ 3 ∷ 4 ∷ 5 ∷ 6 ∷ []
+read_columns Roots = 0 ∷ 2 ∷ 3 ∷ 4 ∷ 5 ∷ 6 ∷ []
+read_columns Attributes = 0 ∷ 1 ∷ 2 ∷ 3 ∷ 4 ∷ 5 ∷ 6 ∷ 7 ∷ []
+
+abbrev pub as_read : Kind → Row → Row
+as_read kind row = map (column row) (read_columns kind)
+
+abbrev pub tree_of : Kind → ℕ
+tree_of Domains = 1
+tree_of Tokens = 3
+tree_of Documents = 5
+tree_of Roots = 7
+tree_of Attributes = 8
+
+-- ---- the rows of a table
+
+abbrev pub is_number : Value → Bool
+is_number (Int n) = true
+is_number _ = false
+
+-- the row has a number, and its columns hold what they should
+abbrev pub is_whole_row : Kind → ℤ → Row → Bool
+is_whole_row kind next row = is_number (column row 0) && is_sound_row kind next row
+
+-- each number is below those after it
+abbrev pub are_rising : List ℤ → Bool
+are_rising [] = true
+are_rising (n ∷ ns) = list_all (int_lt n) ns && are_rising ns
+
+abbrev pub row_number : Row → ℤ
+row_number row = int_of (column row 0)
+
+abbrev pub are_sound_rows : Kind → ℤ → List Row → Bool
+are_sound_rows kind next rows = list_all (is_whole_row kind next) rows && are_rising (map row_number rows)
+
+-- ---- places
+
+-- a domain and a place in its source
+abbrev pub Place : Type 0
+Place = ℤ × ℤ
+
+abbrev pub place_in : Row → Place
+place_in row = (int_of (column row 1), int_of (column row 2))
+
+-- the place comes after the one before: the first of a domain is 0
+abbrev pub counts_on : Place → Place → Bool
+counts_on last place = if int_eq place.0 last.0 then int_eq place.1 (last.1 +ℤ pos 1) else int_eq place.1 (pos 0)
+
+abbrev pub count_on : Place → List Place → Bool
+count_on last [] = true
+count_on last (place ∷ places) = counts_on last place && count_on place places
+
+-- no domain has a negative number
+abbrev pub no_place : Place
+no_place = (negsuc 0, pos 0)
+
+-- by the domain, and then by the place
+abbrev pub place_cmp : Place → Place → Ordering
+place_cmp a b = ordering_then (int_cmp a.0 b.0) (int_cmp a.1 b.1)
+
+-- ---- what opening answers
+
+-- the number of the next domain, in the one row of the first table as it is read, if that is of schema 1
+abbrev pub int_in : Value → Option ℤ
+int_in (Int n) = Some n
+int_in _ = None
+
+abbrev pub next_of : Row → Option ℤ
+next_of row = if holds_int (int_eq (pos 1)) (column row 0) && holds_int (int_eq (pos 1)) (column row 1) then int_in (column row 2) else None
+
+abbrev pub known_next : List Row → Option ℤ
+known_next (row ∷ []) = next_of row
+known_next _ = None
+
+abbrev pub read_meta : Row → Row
+read_meta row = map (column row) (0 ∷ 2 ∷ 3 ∷ [])
+
+abbrev pub is_sound_table : Trees → ℤ → Kind → Bool
+is_sound_table db next kind = are_sound_rows kind next (map (as_read kind) (db (tree_of kind)))
+
+abbrev pub is_sound : Trees → ℤ → Bool
+is_sound db next =
+    is_count next && list_all (is_sound_table db next) (Domains ∷ Tokens ∷ Documents ∷ Roots ∷ Attributes ∷ []) && count_on no_place (sort_by place_cmp (map place_in (db 8)))
+
+abbrev pub judged : Trees → Option ℤ → Result (Unit {0}) OpenError
+judged db None = Err NotThisSchema
+judged db (Some next) = if is_sound db next then Ok tt else Err Damaged
+
+abbrev pub opened : Trees → Result (Unit {0}) OpenError
+opened db = judged db (known_next (map read_meta (db 0)))

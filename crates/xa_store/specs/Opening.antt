@@ -1,0 +1,81 @@
+-- What opening a connection as a keeper answers, and what it leaves.
+use Rattle.std.specs.Prelude.{◌≡◌, ◌⊎◌, ℕ, pos, Bool, false, ◌&&◌, List, [], ◌∷◌, codes, is_none, Result, Ok, Err, IsTrue}
+use Rattle.sqlite.specs.Held.{Held, state}
+use Rattle.sqlite.specs.Schema.{Schema}
+use Rattle.sqlite.specs.State.{State}
+use Rattle.sqlite.specs.Store.{Ghosts}
+use Rattle.sqlite.specs.Tree.{Trees}
+use Rattle.sqlite_schema.specs.Names.{table_named, index_named, view_named}
+use Rattle.xa_records.specs.Kept.{nothing_kept}
+use Rattle.xa_store.specs.declared.open_error.OpenError.{OpenError}
+use Rattle.xa_store.specs.declared.open_error.OpenError.TheVariants.{NotThisSchema, Damaged, Store, Memory}
+use Rattle.xa_store.specs.declared.opening.kind.Kind.{Kind}
+use Rattle.xa_store.specs.Keeper.{Keeper}
+use Rattle.xa_store.specs.Opened.{opened, tree_of}
+use Rattle.xa_store.specs.Rows.{meta_row}
+use Rattle.xa_store.specs.Sound.{Rests, SameNow}
+use Rattle.xa_store.specs.World.{world_of}
+
+abbrev pub no_tables : Schema
+no_tables = record { tables = []; indexes = []; views = [] }
+
+-- no table, index or view has that name
+abbrev pub is_free : Schema → List ℕ → Bool
+is_free schema name = is_none (table_named schema name) && is_none (index_named schema name) && is_none (view_named schema name)
+
+-- none has the name of one of a keeper's tables, so these can be made
+abbrev pub has_room : Schema → Bool
+has_room schema =
+    is_free schema (codes "meta") && is_free schema (codes "domains") && is_free schema (codes "tokens") && is_free schema (codes "policies") && is_free schema (codes "roots")
+    && is_free schema (codes "attributes")
+
+-- there is no table, and nothing waits for a commit
+pub record IsBlank (s : State) : Type 0 where
+  pub schema : s.now.schema ≡ no_tables
+  pub settled : s.now ≡ s.committed
+  pub idle : s.in_transaction ≡ false
+
+-- the tables as they are made: without domains, of which the first will have the number 1
+pub record IsMade (db : Trees) : Type 0 where
+  pub meta : db 0 ≡ meta_row (pos 1) ∷ []
+  pub empty : (kind : Kind) → db (tree_of kind) ≡ []
+
+-- an answer as the definition gives it, or want of memory or a failure of the store
+abbrev pub Gives : Result (Unit {0}) OpenError → Result (Unit {0}) OpenError → Type 0
+Gives (Err Store) given = Unit {0}
+Gives (Err Memory) given = Unit {0}
+Gives answer given = given ≡ answer
+
+-- it was made of the keeper's tables by nothing that happened, or by want of memory or a failure of the store
+abbrev pub IsFailure : OpenError → Type 0
+IsFailure e = (e ≡ Store) ⊎ (e ≡ Memory)
+
+module _ {S : Type 0} (g : Ghosts S) where
+  -- what is handed back
+  abbrev pub held_in : Result (Keeper S) (OpenError × Held S) → Held S
+  held_in (Ok k) = k.conn
+  held_in (Err e) = e.1
+
+  -- the keeper holds what these tables mean, and no call of it has failed
+  pub record Holds (k : Keeper S) : Type 0 where
+    pub ours : IsTrue k.ours
+    pub faults : k.faults ≡ 0
+
+  -- of a store with our tables: sound ones are taken as they are, and others are left as they are
+  abbrev pub Opens : State → Result (Keeper S) (OpenError × Held S) → Type 0
+  Opens old (Ok k) =
+      IsTrue (state g k.conn).is_open → (opened old.now.trees ≡ Ok tt) × SameNow old (state g k.conn) × Holds k × (world_of (state g k.conn).now.trees ≡ world_of old.committed.trees)
+  Opens old (Err e) = IsTrue (state g e.1).is_open → SameNow old (state g e.1) × Gives (Err e.0) (opened old.now.trees)
+
+  -- of a store without any table: all are made, or none
+  abbrev pub Makes : State → Result (Keeper S) (OpenError × Held S) → Type 0
+  Makes old (Ok k) = IsTrue (state g k.conn).is_open → IsMade (state g k.conn).now.trees × Holds k × (world_of (state g k.conn).now.trees ≡ nothing_kept)
+  Makes old (Err e) = IsTrue (state g e.1).is_open → IsFailure e.0 × (SameNow old (state g e.1) ⊎ IsMade (state g e.1).now.trees)
+
+-- what a crash may leave beside what it could leave before: nothing where there are our tables, and the tables as they are made where there is none
+abbrev pub Leaves : State → Trees → Type 0
+Leaves old db = (¬ Rests old) × (IsBlank old → IsMade db)
+
+-- a crash after it leaves what the keeper holds
+abbrev pub Settles : {S : Type 0} → Ghosts S → Keeper S → Type 0
+Settles g k = IsTrue k.ours → IsTrue (state g k.conn).is_open → (db : Trees) → (state g k.conn).may_leave db → world_of db ≡ world_of (state g k.conn).now.trees

@@ -1,0 +1,79 @@
+-- When the tables mean what the keeper says that they do.
+use Rattle.std.specs.Prelude.{◌≡◌, ◌≤◌, ℕ, ℤ, pos, Bool, false, ◌&&◌, List, [], ◌∷◌, map, IsTrue}
+use Rattle.std.specs.Ordering.{eq_by_cmp, int_eq}
+use Rattle.sqlite.specs.Order.{Row}
+use Rattle.sqlite.specs.State.{State}
+use Rattle.sqlite.specs.Tree.{Trees}
+use Rattle.sqlite_keyed.specs.Keyed.{IsKeyedBy}
+use Rattle.sqlite_keyed.specs.Rules.{AreApart}
+use Rattle.xa_policy.specs.DocumentKey.{compare_keys}
+use Rattle.xa_records.specs.DomainState.{compare_bytes, new_domain}
+use Rattle.xa_records.specs.Kept.{IsNumbered, Kept}
+use Rattle.xa_store.specs.Rows.{DomainRow, TokenRow, DocumentRow, RootRow, AttributeRow, meta_row, next_in, domain_row, domain_in, token_row, token_in, document_row, document_in, root_row, root_in, attribute_row, attribute_in}
+use Rattle.xa_store.specs.Tables.{our_schema}
+use Rattle.xa_store.specs.World.{Rows, rows_of, state_at, kept_of, world_of}
+
+-- ---- rows as the keeper writes them
+
+-- two rows have one key
+abbrev pub same_name : DomainRow → DomainRow → Bool
+same_name a b = eq_by_cmp compare_bytes a.name b.name
+
+abbrev pub same_token : TokenRow → TokenRow → Bool
+same_token a b = int_eq a.number b.number && eq_by_cmp compare_bytes a.digest b.digest
+
+abbrev pub same_document : DocumentRow → DocumentRow → Bool
+same_document a b = int_eq a.number b.number && eq_by_cmp compare_keys a.key b.key
+
+abbrev pub same_place : AttributeRow → AttributeRow → Bool
+same_place a b = int_eq a.number b.number && int_eq a.place b.place
+
+-- the rows of a table are those that these records write, their rowids rise, and no two have one key
+pub record AreRows {X : Type 0} (write : X → Row) (read : Row → X) (rowid : X → ℤ) (same : X → X → Bool) (rows : List Row) : Type 0 where
+  pub written : rows ≡ map write (map read rows)
+  pub rise : IsKeyedBy rowid (map read rows)
+  pub apart : AreApart same (map read rows)
+
+pub record AreTables (db : Trees) : Type 0 where
+  pub meta : db 0 ≡ meta_row (next_in (db 0)) ∷ []
+  pub domains : AreRows domain_row domain_in (λ d. d.number) same_name (db 1)
+  pub tokens : AreRows token_row token_in (λ t. t.rowid) same_token (db 3)
+  pub documents : AreRows document_row document_in (λ d. d.rowid) same_document (db 5)
+  pub roots : AreRows root_row root_in (λ r. r.number) (λ a b. false) (db 7)
+  pub attributes : AreRows attribute_row attribute_in (λ a. a.rowid) same_place (db 8)
+
+-- ---- the domains' numbers
+
+-- numbers are apart and below the next, and no row stands yet for a number that was not given
+pub record AreNumbered (rows : Rows) : Type 0 where
+  pub numbered : IsNumbered (kept_of rows)
+  pub unused : (n : ℕ) → (kept_of rows).next ≤ n → state_at rows (pos n) ≡ new_domain
+
+-- ---- a connection between two calls of the keeper
+
+-- its tables are ours, and nothing waits for a commit
+pub record Rests (s : State) : Type 0 where
+  pub schema : s.now.schema ≡ our_schema
+  pub settled : s.now ≡ s.committed
+  pub idle : s.in_transaction ≡ false
+
+-- it holds what it held
+pub record SameNow (old new : State) : Type 0 where
+  pub now : new.now ≡ old.now
+  pub committed : new.committed ≡ old.committed
+  pub idle : new.in_transaction ≡ false
+
+pub record Ours (s : State) : Type 0 where
+  pub rests : Rests s
+  pub tables : AreTables s.now.trees
+  pub domains : AreNumbered (rows_of s.now.trees)
+
+-- what a crash now may leave
+abbrev pub LeavesWorld : State → Kept → Type 0
+LeavesWorld s left = (db : Trees) × s.may_leave db × (left ≡ world_of db)
+
+-- an open store of our tables, of which a crash leaves what it holds
+pub record IsSoundStore (s : State) : Type 0 where
+  pub is_open : IsTrue s.is_open
+  pub ours : Ours s
+  pub settled : (left : Kept) → LeavesWorld s left → left ≡ world_of s.now.trees

@@ -1,0 +1,93 @@
+-- The steps of which changes are made: each is one statement. What each makes of the rows, and under what it is taken.
+use Rattle.std.specs.Prelude.{◌≡◌, ℕ, ℤ, pos, Bool, false, ◌&&◌, List, [], ◌∷◌, ◌++◌, filter, fold}
+use Rattle.std.specs.Ordering.{eq_by_cmp, int_eq}
+use Rattle.sqlite_keyed.specs.Keyed.{insert_by, next_key}
+use Rattle.sqlite_keyed.specs.Lists.{update_where, delete_where}
+use Rattle.xa_value.specs.declared.value.Value.{Value}
+use Rattle.xa_policy.specs.declared.document_key.DocumentKey.{DocumentKey}
+use Rattle.xa_policy.specs.DocumentKey.{compare_keys}
+use Rattle.xa_policy.specs.Version.{version_text}
+use Rattle.xa_records.specs.DomainState.{compare_bytes}
+use Rattle.xa_store.specs.declared.step.Step.{Step}
+use Rattle.xa_store.specs.declared.step.Step.TheVariants.{AddDomain, SetNext, SetEpoch, DropDomain, AddToken, SetRole, DropToken, AddDocument, SetActive, DropDocument, AddRoot, DropRoot, AddAttribute, DropSource}
+use Rattle.xa_store.specs.Rows.{DomainRow, TokenRow, DocumentRow, RootRow, AttributeRow, root_of, type_number, value_in, value_text, version_in}
+use Rattle.xa_store.specs.World.{Rows}
+
+-- ---- the row of a key
+
+abbrev pub is_named : List ℕ → DomainRow → Bool
+is_named name d = eq_by_cmp compare_bytes name d.name
+
+abbrev pub is_token : ℤ → List ℕ → TokenRow → Bool
+is_token number digest t = int_eq t.number number && eq_by_cmp compare_bytes digest t.digest
+
+abbrev pub is_document : ℤ → DocumentKey → DocumentRow → Bool
+is_document number key d = int_eq d.number number && eq_by_cmp compare_keys key d.key
+
+abbrev pub is_place : ℤ → ℤ → AttributeRow → Bool
+is_place number place a = int_eq a.number number && int_eq a.place place
+
+-- ---- what a step makes of the rows
+
+abbrev pub with_epoch : ℤ → ℤ → List DomainRow → List DomainRow
+with_epoch number epoch = update_where (λ d. int_eq d.number number) (λ d. record d { epoch = epoch })
+
+-- a domain goes with all its rows
+abbrev pub without_domain : ℤ → Rows → Rows
+without_domain number rows = record {
+  next = rows.next;
+  domains = delete_where (λ d. int_eq d.number number) rows.domains;
+  tokens = delete_where (λ t. int_eq t.number number) rows.tokens;
+  documents = delete_where (λ d. int_eq d.number number) rows.documents;
+  roots = delete_where (λ r. int_eq r.number number) rows.roots;
+  attributes = delete_where (λ a. int_eq a.number number) rows.attributes;
+}
+
+-- a row that is added stands last, but that domains and roots stand in the order of their numbers
+abbrev pub after : Step → Rows → Rows
+after (AddDomain number name) rows = record rows { domains = insert_by (λ d. d.number) rows.domains (record { number = number; name = name; epoch = pos 0 }) }
+after (SetNext next) rows = record rows { next = next }
+after (SetEpoch number epoch) rows = record rows { domains = with_epoch number epoch rows.domains }
+after (DropDomain number) rows = without_domain number rows
+after (AddToken number digest role) rows =
+    record rows { tokens = rows.tokens ++ record { rowid = next_key (λ t. t.rowid) rows.tokens; number = number; digest = digest; role = role } ∷ [] }
+after (SetRole number digest role) rows = record rows { tokens = update_where (is_token number digest) (λ t. record t { role = role }) rows.tokens }
+after (DropToken number digest) rows = record rows { tokens = delete_where (is_token number digest) rows.tokens }
+after (AddDocument number key text) rows =
+    record rows { documents = rows.documents ++ record { rowid = next_key (λ d. d.rowid) rows.documents; number = number; key = key; text = text; active = false } ∷ [] }
+after (SetActive number key active) rows = record rows { documents = update_where (is_document number key) (λ d. record d { active = active }) rows.documents }
+after (DropDocument number key) rows = record rows { documents = delete_where (is_document number key) rows.documents }
+after (AddRoot number root) rows = record rows { roots = insert_by (λ r. r.number) rows.roots (root_of number root) }
+after (DropRoot number) rows = record rows { roots = delete_where (λ r. int_eq r.number number) rows.roots }
+after (AddAttribute number place row) rows =
+    record rows { attributes = rows.attributes ++ record { rowid = next_key (λ a. a.rowid) rows.attributes; number = number; place = place; row = row } ∷ [] }
+after (DropSource number) rows = record rows { attributes = delete_where (λ a. int_eq a.number number) rows.attributes }
+
+abbrev pub after_all : List Step → Rows → Rows
+after_all steps rows = fold (λ rows step. after step rows) rows steps
+
+-- ---- under what it is taken: no row of that key is there, where one comes; the domain is there, where it goes. Of a domain or a root that comes it
+-- isn't asked that its number has no row yet: where it has one, `after` puts the new row in its place, and the statement fails and makes nothing
+
+-- the text of the value reads as the value
+abbrev pub ReadsBack : Value → Type 0
+ReadsBack v = value_in (type_number v) (value_text v) ≡ v
+
+-- the version of the key reads back from its text
+abbrev pub KeyReads : DocumentKey → Type 0
+KeyReads key = version_in (version_text key.version) ≡ key.version
+
+abbrev pub Allows : Step → Rows → Type 0
+Allows (AddDomain number name) rows = filter (is_named name) rows.domains ≡ []
+Allows (AddToken number digest role) rows = filter (is_token number digest) rows.tokens ≡ []
+Allows (AddDocument number key text) rows = (filter (is_document number key) rows.documents ≡ []) × KeyReads key
+Allows (SetActive number key active) rows = KeyReads key
+Allows (DropDocument number key) rows = KeyReads key
+Allows (AddAttribute number place row) rows = (filter (is_place number place) rows.attributes ≡ []) × ReadsBack row.value
+Allows (DropDomain number) rows = (d : DomainRow) × (filter (λ x. int_eq x.number number) rows.domains ≡ d ∷ [])
+Allows _ rows = Unit {0}
+
+-- each step after those before it
+abbrev pub AllowsAll : List Step → Rows → Type 0
+AllowsAll [] rows = Unit {0}
+AllowsAll (step ∷ steps) rows = Allows step rows × AllowsAll steps (after step rows)

@@ -1,0 +1,111 @@
+-- The tables in which domains are kept. Trees are numbered as the tables and their automatic indexes are made.
+use Rattle.std.specs.Prelude.{ℕ, List, [], ◌∷◌, codes, true, false, None, Some}
+use Rattle.sqlite.specs.Collation.TheVariants.{Binary}
+use Rattle.sqlite.specs.Kind.{Kind}
+use Rattle.sqlite.specs.Kind.TheVariants.{Integer, Text, Blob}
+use Rattle.sqlite.specs.Schema.{Schema}
+use Rattle.sqlite.specs.Table.{Table}
+use Rattle.sqlite.specs.declared.types.Value.TheVariants.{Null}
+use Rattle.sqlite_schema.specs.declared.schema.Action.TheVariants.{NoAction, Cascade}
+use Rattle.sqlite_schema.specs.declared.schema.Column.{Column}
+use Rattle.sqlite_schema.specs.declared.schema.Index.{Index}
+use Rattle.sqlite_schema.specs.declared.schema.Reference.{Reference}
+use Rattle.sqlite_value.specs.declared.keys.Order.{Order}
+
+-- ---- columns
+
+abbrev pub needed : List ℕ → Kind → Column
+needed name kind = record { name = name; kind = kind; is_strict = true; not_null = true; default = Null; collation = Binary }
+
+abbrev pub text_if_any : List ℕ → Column
+text_if_any name = record { name = name; kind = Text; is_strict = true; not_null = false; default = Null; collation = Binary }
+
+-- the INTEGER PRIMARY KEY, which is never NULL
+abbrev pub own_key : List ℕ → Column
+own_key name = record { name = name; kind = Integer; is_strict = true; not_null = false; default = Null; collation = Binary }
+
+-- to the domain of that number, with which the row goes
+abbrev pub of_domain : Reference
+of_domain = record { columns = 1 ∷ []; parent = codes "domains"; parent_columns = codes "number" ∷ []; on_delete = Cascade; on_update = NoAction; is_deferred = false }
+
+-- ---- tables
+
+-- a table whose first column is the row's own key
+abbrev pub with_own_key : List ℕ → ℕ → List Column → Table
+with_own_key name tree columns = record {
+  name = name;
+  tree = tree;
+  columns = columns;
+  key = Some 0;
+  primary = 0 ∷ [];
+  uniques = [];
+  orders = [];
+  checks = [];
+  references = [];
+  computed = [];
+  stamps = record { places = []; terms = []; formats = [] };
+  is_counted = false;
+}
+
+-- a table of rows of domains, whose key is these of its columns
+abbrev pub of_domains : List ℕ → ℕ → List Column → List ℕ → Order → Table
+of_domains name tree columns places order = record {
+  name = name;
+  tree = tree;
+  columns = columns;
+  key = None;
+  primary = places;
+  uniques = places ∷ [];
+  orders = order ∷ [];
+  checks = [];
+  references = of_domain ∷ [];
+  computed = [];
+  stamps = record { places = []; terms = []; formats = [] };
+  is_counted = false;
+}
+
+-- rising in each column
+abbrev pub rising : Order
+rising = record { digits = 0 }
+
+abbrev pub meta : Table
+meta = with_own_key (codes "meta") 0 (own_key (codes "id") ∷ needed (codes "schema_no") Integer ∷ needed (codes "next_number") Integer ∷ [])
+
+abbrev pub domains : Table
+domains = record (with_own_key (codes "domains") 1 (own_key (codes "number") ∷ needed (codes "name") Text ∷ needed (codes "epoch") Integer ∷ [])) { uniques = (2 ∷ []) ∷ []; orders = rising ∷ [] }
+
+abbrev pub tokens : Table
+tokens = of_domains (codes "tokens") 3 (needed (codes "number") Integer ∷ needed (codes "digest") Blob ∷ needed (codes "role") Integer ∷ []) (1 ∷ 2 ∷ []) rising
+
+abbrev pub policies : Table
+policies =
+    of_domains (codes "policies") 5
+    (needed (codes "number") Integer ∷ needed (codes "kind") Integer ∷ needed (codes "id") Text ∷ needed (codes "version") Text ∷ needed (codes "body") Blob ∷ needed (codes "active") Integer ∷ [])
+    (1 ∷ 2 ∷ 3 ∷ 4 ∷ []) rising
+
+abbrev pub roots : Table
+roots =
+    record (with_own_key (codes "roots") 7 (own_key (codes "number") ∷ needed (codes "kind") Integer ∷ needed (codes "id") Text ∷ text_if_any (codes "pattern") ∷ text_if_any (codes "earliest") ∷ text_if_any (codes "latest") ∷ []))
+    { references = record of_domain { columns = 0 ∷ [] } ∷ [] }
+
+abbrev pub attributes : Table
+attributes =
+    of_domains (codes "attributes") 8
+    (needed (codes "number") Integer ∷ needed (codes "place") Integer ∷ needed (codes "category") Text ∷ needed (codes "entity") Text ∷ needed (codes "attribute") Text ∷ needed (codes "value_type") Integer ∷ needed (codes "value") Text ∷ [])
+    (1 ∷ 2 ∷ []) rising
+
+-- ---- their automatic indexes
+
+abbrev pub index_of : List ℕ → ℕ → ℕ → List ℕ → Index
+index_of name tree table columns = record { name = name; tree = tree; table = table; columns = columns; order = rising; is_unique = true }
+
+abbrev pub our_indexes : List Index
+our_indexes =
+    index_of (codes "sqlite_autoindex_domains_1") 2 1 (2 ∷ [])
+    ∷ index_of (codes "sqlite_autoindex_tokens_1") 4 3 (1 ∷ 2 ∷ [])
+    ∷ index_of (codes "sqlite_autoindex_policies_1") 6 5 (1 ∷ 2 ∷ 3 ∷ 4 ∷ [])
+    ∷ index_of (codes "sqlite_autoindex_attributes_1") 9 8 (1 ∷ 2 ∷ [])
+    ∷ []
+
+abbrev pub our_schema : Schema
+our_schema = record { tables = meta ∷ domains ∷ tokens ∷ policies ∷ roots ∷ attributes ∷ []; indexes = our_indexes; views = [] }

@@ -1,0 +1,87 @@
+-- What the tables mean.
+use Rattle.std.specs.Prelude.{ℕ, ℤ, List, map, filter, Bool, Option, option_map}
+use Rattle.std.specs.FinMap.{FinMap, from_entries}
+use Rattle.std.specs.Ordering.{int_cmp, int_eq, on}
+use Rattle.sqlite.specs.Tree.{Trees}
+use Rattle.sqlite_keyed.specs.Keyed.{get_by}
+use Rattle.sqlite_keyed.specs.Lists.{sort_by}
+use Rattle.xa_policy.specs.declared.document_key.DocumentKey.{DocumentKey}
+use Rattle.xa_policy.specs.declared.reference.Reference.{Reference}
+use Rattle.xa_policy.specs.DocumentKey.{compare_keys}
+use Rattle.xa_notation.specs.declared.token.Role.{Role}
+use Rattle.xa_decide.specs.declared.source_row.SourceRow.{SourceRow}
+use Rattle.xa_records.specs.DomainState.{DomainState, StoredDocument, compare_bytes}
+use Rattle.xa_records.specs.Kept.{Domain, Kept}
+use Rattle.xa_store.specs.Rows.{DomainRow, TokenRow, DocumentRow, RootRow, AttributeRow, nat_of, next_in, domain_in, token_in, document_in, root_in, attribute_in, reference_of}
+
+-- ---- the rows of all tables
+
+pub record Rows : Type 0 where
+  pub next : ℤ
+  pub domains : List DomainRow
+  pub tokens : List TokenRow
+  pub documents : List DocumentRow
+  pub roots : List RootRow
+  pub attributes : List AttributeRow
+
+abbrev pub rows_of : Trees → Rows
+rows_of db = record {
+  next = next_in (db 0);
+  domains = map domain_in (db 1);
+  tokens = map token_in (db 3);
+  documents = map document_in (db 5);
+  roots = map root_in (db 7);
+  attributes = map attribute_in (db 8);
+}
+
+-- ---- the state of the domain of a number
+
+abbrev pub tokens_at : List TokenRow → ℤ → List TokenRow
+tokens_at tokens number = filter (λ t. int_eq t.number number) tokens
+
+abbrev pub documents_at : List DocumentRow → ℤ → List DocumentRow
+documents_at documents number = filter (λ d. int_eq d.number number) documents
+
+abbrev pub attributes_at : List AttributeRow → ℤ → List AttributeRow
+attributes_at attributes number = filter (λ a. int_eq a.number number) attributes
+
+abbrev pub token_entry : TokenRow → List ℕ × Role
+token_entry t = (t.digest, t.role)
+
+abbrev pub document_entry : DocumentRow → DocumentKey × StoredDocument
+document_entry d = (d.key, record { text = d.text; active = d.active })
+
+abbrev pub roles_of : List TokenRow → FinMap compare_bytes Role
+roles_of tokens = from_entries (map token_entry tokens)
+
+abbrev pub library_of : List DocumentRow → FinMap compare_keys StoredDocument
+library_of documents = from_entries (map document_entry documents)
+
+abbrev pub root_at : List RootRow → ℤ → Option Reference
+root_at roots number = option_map reference_of (get_by (λ r. r.number) roots number)
+
+-- the rows of a source stand in the order of their places
+abbrev pub source_of : List AttributeRow → List SourceRow
+source_of attributes = map (λ a. a.row) (sort_by (on (λ a. a.place) int_cmp) attributes)
+
+abbrev pub state_at : Rows → ℤ → DomainState
+state_at rows number = record {
+  tokens = roles_of (tokens_at rows.tokens number);
+  documents = library_of (documents_at rows.documents number);
+  root = root_at rows.roots number;
+  source = source_of (attributes_at rows.attributes number);
+}
+
+-- ---- all domains
+
+abbrev pub domain_of : Rows → DomainRow → Domain
+domain_of rows d = record { number = nat_of d.number; epoch = nat_of d.epoch; state = state_at rows d.number }
+
+abbrev pub domain_entry : Rows → DomainRow → List ℕ × Domain
+domain_entry rows d = (d.name, domain_of rows d)
+
+abbrev pub kept_of : Rows → Kept
+kept_of rows = record { domains = from_entries (map (domain_entry rows) rows.domains); next = nat_of rows.next }
+
+abbrev pub world_of : Trees → Kept
+world_of db = kept_of (rows_of db)

@@ -1,0 +1,50 @@
+//! The text of an active document.
+ghost use Rattle.std.specs.Prelude.{◌≡◌, IfOk};
+ghost use Rattle.xa_store.specs.Shown.{key_told, listed_told, text_told};
+
+use crate::shown::{bytes_in, flag_in, kind_in, text_in, version_in};
+use crate::told::Told;
+use sqlite::Row;
+use std::alloc::Global;
+use xa_policy::DocumentKey;
+use xa_records::{Failure, Listed};
+use xa_value::Items;
+
+/// The text of an active document, with its key.
+#[derive(Debug, Drop)]
+pub(crate) struct ActiveText {
+    /// The document's key.
+    pub key: DocumentKey,
+    /// Its text.
+    pub text: Items<u8>,
+}
+
+/// The key that a row begins with.
+fn key_in(row: &Row) -> Result<DocumentKey, Failure>
+    ensures { IfOk result (λ key. key ≡ key_told row.now) }
+{
+    let kind = kind_in(row, 0)?;
+    let id = text_in(row, 1)?;
+    let version = version_in(row, 2)?;
+    Ok(DocumentKey { kind, id, version })
+}
+
+impl Told for ActiveText {
+    ghost told = { text_told };
+
+    fn told(_: Global, row: &Row) -> Result<ActiveText, Failure> {
+        let key = key_in(row)?;
+        let text = bytes_in(row, 3)?;
+        Ok(ActiveText { key, text })
+    }
+}
+
+impl Told for Listed {
+    ghost told = { listed_told };
+
+    fn told(_: Global, row: &Row) -> Result<Listed, Failure> {
+        let key = key_in(row)?;
+        let active = flag_in(row, 3)?;
+        Ok(Listed { key, active })
+    }
+}

@@ -1,0 +1,128 @@
+//! Whether roots and source rows are the very same.
+ghost use Rattle.std.specs.Prelude.{◌≡◌, ◌↔◌, IsTrue};
+
+use xa_decide::SourceRow;
+use xa_policy::{DocumentKind, Pattern, PatternPart, Reference, Version};
+use xa_value::{Items, Text, Value};
+
+/// Whether the two texts are one.
+fn is_same_text(one: &Text, other: &Text) -> bool
+    ensures { IsTrue result ↔ (one.now ≡ other.now) }
+{
+    one == other
+}
+
+/// Whether the two kinds are one.
+fn is_same_kind(one: DocumentKind, other: DocumentKind) -> bool
+    ensures { IsTrue result ↔ (one ≡ other) }
+{
+    one == other
+}
+
+/// Whether the two versions are one, if they are there.
+fn is_same_version(one: &Option<Version>, other: &Option<Version>) -> bool
+    ensures { IsTrue result ↔ (one.now ≡ other.now) }
+{
+    one == other
+}
+
+/// Whether the two patterns are one, if they are there.
+fn is_same_pattern(one: &Option<Pattern>, other: &Option<Pattern>) -> bool
+    ensures { IsTrue result ↔ (one.now ≡ other.now) }
+{
+    match (one, other) {
+        (Some(one), Some(other)) => are_same_parts(one.parts(), other.parts()),
+        (None, None) => true,
+        (Some(_), None) => false,
+        (None, Some(_)) => false,
+    }
+}
+
+/// Whether the two parts are one.
+fn is_same_part(one: &PatternPart, other: &PatternPart) -> bool
+    ensures { IsTrue result ↔ (one.now ≡ other.now) }
+{
+    one == other
+}
+
+/// Whether the parts are the same, in the same order.
+fn are_same_parts(one: &[PatternPart], other: &[PatternPart]) -> bool
+    ensures { IsTrue result ↔ (one.now ≡ other.now) }
+{
+    match (one, other) {
+        ([], []) => true,
+        ([part, parts @ ..], [first, others @ ..]) => {
+            is_same_part(part, first) && are_same_parts(parts, others)
+        }
+        ([], [_, ..]) => false,
+        ([_, ..], []) => false,
+    }
+}
+
+/// Whether the two references are one.
+fn is_same_reference(one: &Reference, other: &Reference) -> bool
+    ensures { IsTrue result ↔ (one.now ≡ other.now) }
+{
+    is_same_kind(one.kind, other.kind)
+        && is_same_text(&one.id, &other.id)
+        && is_same_pattern(&one.version, &other.version)
+        && is_same_version(&one.earliest, &other.earliest)
+        && is_same_version(&one.latest, &other.latest)
+}
+
+/// Whether the two roots are one, or there is none in either place.
+pub(crate) fn is_same_root(one: &Option<Reference>, other: &Option<Reference>) -> bool
+    ensures { IsTrue result ↔ (one.now ≡ other.now) }
+{
+    match (one, other) {
+        (Some(one), Some(other)) => is_same_reference(one, other),
+        (None, None) => true,
+        (Some(_), None) => false,
+        (None, Some(_)) => false,
+    }
+}
+
+/// Whether the two values are one.
+pub(crate) fn is_same_value(one: &Value, other: &Value) -> bool
+    ensures { IsTrue result ↔ (one.now ≡ other.now) }
+{
+    one == other
+}
+
+/// Whether the two rows are one.
+fn is_same_row(one: &SourceRow, other: &SourceRow) -> bool
+    ensures { IsTrue result ↔ (one.now ≡ other.now) }
+{
+    is_same_text(&one.category, &other.category)
+        && is_same_text(&one.entity, &other.entity)
+        && is_same_text(&one.attribute_id, &other.attribute_id)
+        && is_same_value(&one.value, &other.value)
+}
+
+/// Whether the rows are the same, in the same order.
+fn are_same_rows(one: &[SourceRow], other: &[SourceRow]) -> bool
+    ensures { IsTrue result ↔ (one.now ≡ other.now) }
+{
+    match (one, other) {
+        ([], []) => true,
+        ([row, rows @ ..], [first, others @ ..]) => {
+            is_same_row(row, first) && are_same_rows(rows, others)
+        }
+        ([], [_, ..]) => false,
+        ([_, ..], []) => false,
+    }
+}
+
+/// Whether the sources have the same rows, in the same order.
+pub(crate) fn is_same_source(one: &Items<SourceRow>, other: &Items<SourceRow>) -> bool
+    ensures { IsTrue result ↔ (one.now ≡ other.now) }
+{
+    are_same_rows(one.as_slice(), other.as_slice())
+}
+
+/// Whether references may resolve to a document both times, or neither time.
+pub(crate) fn is_same_activity(one: bool, other: bool) -> bool
+    ensures { IsTrue result ↔ (one ≡ other) }
+{
+    one == other
+}

@@ -1,0 +1,155 @@
+//! The source of attributes of a domain is set.
+ghost use Rattle.std.specs.Prelude.{◌≡◌, ◌≤◌, ◌++◌, ℕ, List, length, nat_le, IsTrue, IfOk, OnOk};
+ghost use Rattle.sqlite.specs.Held.{state};
+ghost use Rattle.sqlite.specs.State.{HasCleanDisk};
+ghost use Rattle.sqlite_keyed.specs.Keyed.{IsKeyedBy};
+ghost use Rattle.xa_records.specs.Changes.{source_set, within};
+ghost use Rattle.xa_records.specs.Keeper.{IfAnswered};
+ghost use Rattle.xa_store.specs.Found.{IsDomain};
+ghost use Rattle.xa_store.specs.Planning.{RowsRead, SetsSource, number_key, row_steps, source_steps};
+ghost use Rattle.xa_store.specs.Quiet.{Quiet};
+ghost use Rattle.xa_store.specs.Sound.{AreNumbered, Ours};
+ghost use Rattle.xa_store.specs.Steps.{ReadsBack};
+ghost use Rattle.xa_store.specs.Turns.{IsPlanned, Turns};
+ghost use Rattle.xa_store.specs.World.{Rows, rows_of, state_at};
+
+use crate::changes::raising::raised;
+use crate::changes::root::answered;
+use crate::changes::sameness::{is_same_source, is_same_value};
+use crate::domain_found::{DomainFound, domain_named};
+use crate::run::run;
+use crate::source::source_of;
+use crate::step::Step;
+use sqlite::{Alter, Connection};
+use std::alloc::{AllocError, Global};
+use xa_decide::SourceRow;
+use xa_records::{ChangeError, Failure, Refusal};
+use xa_value::{Items, OrMemory, Text, Value};
+
+/// The most rows of a domain's source of attributes.
+const MAX_SOURCE_ROWS: usize = 1_024;
+
+/// Whether a domain may keep so many rows.
+fn may_be_kept(rows: &Items<SourceRow>) -> bool
+    ensures { result ≡ nat_le (length rows.now) 1_024 }
+{
+    rows.len() <= MAX_SOURCE_ROWS
+}
+
+/// Answers where the value reads back from its text. One that doesn't, a URI with white space around it for one, can't be kept.
+fn check_value(alloc: Global, value: &Value) -> Result<(), Failure>
+    ensures reads { OnOk result (ReadsBack value.now) }
+{
+    let text = value.to_text(alloc)?;
+    match Value::read(alloc, value.data_type(), text.as_str()) {
+        Ok(read) => {
+            if is_same_value(&read, value) {
+                return Ok(());
+            }
+            Err(Failure::Store)
+        }
+        Err(OrMemory::Memory) => Err(Failure::Memory),
+        Err(OrMemory::Error(_)) => Err(Failure::Store),
+    }
+}
+
+/// Answers where the values of all the rows read back. In time in proportion to their texts.
+fn check_rows(alloc: Global, rows: &[SourceRow]) -> Result<(), Failure>
+    ensures { OnOk result (RowsRead rows.now) }
+{
+    match rows {
+        [] => Ok(()),
+        [row, rest @ ..] => {
+            check_value(alloc, &row.value)?;
+            check_rows(alloc, rest)
+        }
+    }
+}
+
+/// The steps, and then those that put the rows in.
+fn row_steps(
+    mut steps: Items<Step>,
+    number: i64,
+    rows: Items<SourceRow>,
+) -> Result<Items<Step>, AllocError>
+    requires { length rows ≤ 1_024 }
+    ensures { IfOk result (λ all. all ≡ steps ++ row_steps number 0 rows) }
+{
+    let mut place: u32 = 0;
+    for row in rows.into_vec() {
+        steps.push(Step::AddAttribute(number, i64::from(place), row))?;
+        place += 1;
+    }
+    Ok(steps)
+}
+
+/// The steps that set the source.
+fn source_steps(
+    alloc: Global,
+    number: i64,
+    epoch: i64,
+    rows: Items<SourceRow>,
+) -> Result<Items<Step>, AllocError>
+    requires { length rows ≤ 1_024 }
+    ensures { IfOk result (λ steps. steps ≡ source_steps number epoch rows) }
+{
+    let mut steps = Items::new(alloc);
+    steps.push(Step::DropSource(number))?;
+    steps.push(Step::SetEpoch(number, epoch))?;
+    row_steps(steps, number, rows)
+}
+
+/// The plan for a domain that was found with that source.
+fn plan_found(
+    alloc: Global,
+    found: DomainFound,
+    there: &Items<SourceRow>,
+    rows: Items<SourceRow>,
+) -> Result<Items<Step>, ChangeError>
+    ensures plans { (name : List ℕ) → (kept : Rows) → AreNumbered kept → IsKeyedBy number_key kept.domains → IsDomain name kept found → there.now ≡ (state_at kept found.number).source → IsPlanned (within (source_set rows)) name kept result }
+    ensures steps { IfOk result (SetsSource found.number rows) }
+{
+    if !may_be_kept(&rows) {
+        return Err(ChangeError::Refused(Refusal::Quota));
+    }
+    if is_same_source(there, &rows) {
+        return Ok(Items::new(alloc));
+    }
+    check_rows(alloc, rows.as_slice())?;
+    let epoch = raised(found.epoch)?;
+    Ok(source_steps(alloc, found.number, epoch, rows)?)
+}
+
+/// The plan, or why the source isn't set.
+fn plan<S: Alter>(
+    conn: &mut Connection<S>,
+    alloc: Global,
+    name: &Text,
+    rows: Items<SourceRow>,
+) -> Result<Items<Step>, ChangeError>
+    ensures quiet { Quiet (state S.Store conn.old) (state S.Store conn.new) }
+    ensures opens { HasCleanDisk (state S.Store conn.new) → IfAnswered result (IsTrue (state S.Store conn.new).is_open) }
+    ensures plans { HasCleanDisk (state S.Store conn.new) → Ours (state S.Store conn.old) → IsPlanned (within (source_set rows)) name.now (rows_of (state S.Store conn.old).now.trees) result }
+{
+    let found = domain_named(conn, name)?;
+    let Some(found) = found else {
+        return Err(ChangeError::Refused(Refusal::Absent));
+    };
+    let there = source_of(conn, alloc, found.number)?;
+    plan_found(alloc, found, &there, rows)
+}
+
+/// Puts these rows into the source of the domain of that name, in place of all that were there.
+pub(crate) fn set_source_in<S: Alter>(
+    conn: &mut Connection<S>,
+    alloc: Global,
+    name: &Text,
+    rows: Items<SourceRow>,
+) -> Result<(), ChangeError>
+    ensures turns { Turns (within (source_set rows)) name.now (state S.Store conn.old) (state S.Store conn.new) result }
+{
+    match plan(conn, alloc, name, rows) {
+        Ok(steps) => answered(run(conn, alloc, steps.as_slice())),
+        Err(error) => Err(error),
+    }
+}

@@ -1,0 +1,56 @@
+//! The keeper.
+ghost use Rattle.std.specs.Prelude.{◌≡◌, IsTrue};
+ghost use Rattle.sqlite.specs.Held.{state};
+ghost use Rattle.xa_store.specs.Sound.{Ours};
+
+mod reading;
+mod records;
+
+use sqlite::{Alter, Connection};
+use std::marker::Model;
+
+/// A keeper of domains over the tables of a database. Each change is one transaction.
+#[derive(Drop)]
+pub struct SqlRecords<S: Alter> {
+    pub(crate) conn: Connection<S>,
+    pub(crate) ours: bool,
+    pub(crate) faults: u64,
+}
+
+impl<S: Alter> Model for SqlRecords<S> {
+    ghost use Rattle.xa_store.specs.Keeper.{Keeper, keeper_code, IsKeeper};
+
+    ghost Value = { Keeper S };
+
+    ghost coded = { keeper_code S.code };
+
+    ghost view = { λ r. record { conn = r.conn; ours = r.ours; faults = r.faults } };
+
+    ghost invariant = { λ r. IsKeeper S.Store (record { conn = r.conn; ours = r.ours; faults = r.faults }) };
+}
+
+impl<S: Alter> SqlRecords<S> {
+    /// A keeper over the connection, no call of which has failed.
+    pub(crate) fn over(conn: Connection<S>, ours: bool) -> SqlRecords<S>
+        requires { IsTrue ours → IsTrue (state S.Store conn).is_open → Ours (state S.Store conn) }
+        ensures { result ≡ record { conn = conn; ours = ours; faults = 0 } }
+    {
+        SqlRecords {
+            conn,
+            ours,
+            faults: 0,
+        }
+    }
+
+    /// The connection that it was made over.
+    pub fn into_connection(self) -> Connection<S>
+        ensures { result ≡ self.conn }
+    {
+        let SqlRecords {
+            conn,
+            ours: _,
+            faults: _,
+        } = self;
+        conn
+    }
+}

@@ -1,0 +1,28 @@
+//! A keeper of domains over the tables of a database.
+#![tactic(auto)]
+
+mod active_text;
+mod ask;
+mod changes;
+mod counts;
+mod document_found;
+mod documents;
+mod domain_found;
+mod failure;
+mod keeper;
+mod names;
+mod next_number;
+mod open_error;
+mod opening;
+mod readings;
+mod root;
+mod run;
+mod shown;
+mod source;
+mod step;
+mod take;
+mod tokens;
+mod told;
+
+pub use keeper::SqlRecords;
+pub use open_error::OpenError;

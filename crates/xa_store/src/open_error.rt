@@ -1,0 +1,20 @@
+//! Why a connection can't be opened as a keeper.
+
+use thiserror::Error;
+
+/// Why a connection can't be opened as a keeper of domains.
+#[derive(Clone, Copy, Debug, Drop, PartialEq, Eq, Error)]
+pub enum OpenError {
+    /// Its tables aren't those of this product, in a schema that this version knows.
+    #[error("the tables are of another schema")]
+    NotThisSchema,
+    /// The tables hold a text, a row or a digest that isn't one.
+    #[error("a row of the tables is damaged")]
+    Damaged,
+    /// The store failed.
+    #[error("the store failed")]
+    Store,
+    /// There is no memory left.
+    #[error("out of memory")]
+    Memory,
+}

@@ -1,0 +1,28 @@
+//! Queries of the tables when a store is opened.
+ghost use Rattle.std.specs.Prelude.{[], IsTrue, IfErr, IfOk, OnOk};
+ghost use Rattle.sqlite.specs.Given.{IsPlain};
+ghost use Rattle.sqlite.specs.Held.{state};
+ghost use Rattle.sqlite.specs.Listing.{understood};
+ghost use Rattle.sqlite.specs.State.{HasCleanDisk, Shown};
+ghost use Rattle.xa_store.specs.Judging.{Asks};
+ghost use Rattle.xa_store.specs.Opening.{IsFailure};
+ghost use Rattle.xa_store.specs.Sound.{Rests};
+ghost use Rattle.xa_store.specs.Tables.{our_schema};
+
+use super::refusing::refused;
+use crate::open_error::OpenError;
+use sqlite::{Alter, Connection, Row};
+
+/// All rows that a plain query of these tables shows.
+pub(crate) fn rows_of<S: Alter>(conn: &mut Connection<S>, sql: &str) -> Result<Vec<Row>, OpenError>
+    requires { IsPlain (understood our_schema sql.now) }
+    ensures asks { Asks (state S.Store conn.old) (state S.Store conn.new) result }
+    ensures was_open { HasCleanDisk (state S.Store conn.new) → OnOk result (IsTrue (state S.Store conn.old).is_open) }
+    ensures shows { HasCleanDisk (state S.Store conn.new) → IfOk result (λ rows. Shown sql.now [] (state S.Store conn.old) (state S.Store conn.new) rows.items) }
+    ensures fails { HasCleanDisk (state S.Store conn.new) → Rests (state S.Store conn.old) → IfErr result IsFailure }
+{
+    match conn.query_all(sql, &[]) {
+        Ok(rows) => Ok(rows),
+        Err(error) => Err(refused(error)),
+    }
+}

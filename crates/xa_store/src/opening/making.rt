@@ -1,0 +1,121 @@
+//! Making the tables, in one transaction.
+ghost use Rattle.std.specs.Prelude.{◌≡◌, IsTrue, OnOk};
+ghost use Rattle.sqlite.specs.Held.{state};
+ghost use Rattle.sqlite.specs.State.{HasCleanDisk, KeepsCommit, Survives};
+ghost use Rattle.xa_store.specs.Judging.{Made};
+ghost use Rattle.xa_store.specs.Making.{text_of, AreMade, IsAfter, IsBefore};
+ghost use Rattle.xa_store.specs.declared.opening.making.Part.TheVariants as parts;
+
+use super::refusing::failed;
+use crate::failure::failure_of;
+use crate::open_error::OpenError;
+use crate::take::execute_in;
+use sqlite::{Alter, Connection, Transaction};
+use xa_records::Failure;
+
+/// A part of what is made.
+#[derive(Clone, Copy, Debug)]
+enum Part {
+    /// The table of the schema's number and the next domain's.
+    Meta,
+    /// The table of domains.
+    Domains,
+    /// The table of their tokens.
+    Tokens,
+    /// The table of their documents.
+    Policies,
+    /// The table of their roots.
+    Roots,
+    /// The table of the rows of their sources.
+    Attributes,
+    /// The one row of the first table.
+    FirstRow,
+}
+
+impl Part {
+    /// The statement that makes it.
+    fn text(self) -> &'static str
+        ensures { result.now ≡ text_of self }
+    {
+        match self {
+            Part::Meta =>
+                "CREATE TABLE meta (id INTEGER PRIMARY KEY, schema_no INTEGER NOT NULL, next_number INTEGER NOT NULL) STRICT",
+            Part::Domains =>
+                "CREATE TABLE domains (number INTEGER PRIMARY KEY, name TEXT NOT NULL UNIQUE, epoch INTEGER NOT NULL) STRICT",
+            Part::Tokens =>
+                "CREATE TABLE tokens (number INTEGER NOT NULL REFERENCES domains (number) ON DELETE CASCADE, digest BLOB NOT NULL, role INTEGER NOT NULL, PRIMARY KEY (number, digest)) STRICT",
+            Part::Policies =>
+                "CREATE TABLE policies (number INTEGER NOT NULL REFERENCES domains (number) ON DELETE CASCADE, kind INTEGER NOT NULL, id TEXT NOT NULL, version TEXT NOT NULL, body BLOB NOT NULL, active INTEGER NOT NULL, PRIMARY KEY (number, kind, id, version)) STRICT",
+            Part::Roots =>
+                "CREATE TABLE roots (number INTEGER PRIMARY KEY REFERENCES domains (number) ON DELETE CASCADE, kind INTEGER NOT NULL, id TEXT NOT NULL, pattern TEXT, earliest TEXT, latest TEXT) STRICT",
+            Part::Attributes =>
+                "CREATE TABLE attributes (number INTEGER NOT NULL REFERENCES domains (number) ON DELETE CASCADE, place INTEGER NOT NULL, category TEXT NOT NULL, entity TEXT NOT NULL, attribute TEXT NOT NULL, value_type INTEGER NOT NULL, value TEXT NOT NULL, PRIMARY KEY (number, place)) STRICT",
+            Part::FirstRow => "INSERT INTO meta (id, schema_no, next_number) VALUES (1, 1, 1)",
+        }
+    }
+}
+
+/// Makes that part.
+fn take<S: Alter>(tx: &mut Transaction<'_, S>, part: Part) -> Result<(), Failure>
+    ensures same_reference { tx.new.conn.ghost_name ≡ tx.old.conn.ghost_name }
+    ensures survives { Survives (state S.Store tx.old.conn.now) (state S.Store tx.new.conn.now) (λ _. ⊥) }
+    ensures kept { HasCleanDisk (state S.Store tx.new.conn.now) → IsTrue (state S.Store tx.old.conn.now).in_transaction → KeepsCommit (state S.Store tx.old.conn.now) (state S.Store tx.new.conn.now) }
+    ensures inside { HasCleanDisk (state S.Store tx.new.conn.now) → IsTrue (state S.Store tx.old.conn.now).in_transaction → OnOk result (IsTrue (state S.Store tx.new.conn.now).in_transaction) }
+    ensures makes { HasCleanDisk (state S.Store tx.new.conn.now) → IsTrue (state S.Store tx.old.conn.now).in_transaction → IsBefore part (state S.Store tx.old.conn.now).now → OnOk result (IsAfter part (state S.Store tx.new.conn.now).now) }
+{
+    execute_in(tx, part.text(), &[])
+}
+
+/// The tables of domains and of what each has by its own number.
+fn take_front<S: Alter>(tx: &mut Transaction<'_, S>) -> Result<(), Failure>
+    ensures same_reference { tx.new.conn.ghost_name ≡ tx.old.conn.ghost_name }
+    ensures survives { Survives (state S.Store tx.old.conn.now) (state S.Store tx.new.conn.now) (λ _. ⊥) }
+    ensures kept { HasCleanDisk (state S.Store tx.new.conn.now) → IsTrue (state S.Store tx.old.conn.now).in_transaction → KeepsCommit (state S.Store tx.old.conn.now) (state S.Store tx.new.conn.now) }
+    ensures inside { HasCleanDisk (state S.Store tx.new.conn.now) → IsTrue (state S.Store tx.old.conn.now).in_transaction → OnOk result (IsTrue (state S.Store tx.new.conn.now).in_transaction) }
+    ensures makes { HasCleanDisk (state S.Store tx.new.conn.now) → IsTrue (state S.Store tx.old.conn.now).in_transaction → IsBefore parts.Meta (state S.Store tx.old.conn.now).now → OnOk result (IsBefore parts.Roots (state S.Store tx.new.conn.now).now) }
+{
+    take(tx, Part::Meta)?;
+    take(tx, Part::Domains)?;
+    take(tx, Part::Tokens)?;
+    take(tx, Part::Policies)
+}
+
+/// The other tables, and the first row.
+fn take_back<S: Alter>(tx: &mut Transaction<'_, S>) -> Result<(), Failure>
+    ensures same_reference { tx.new.conn.ghost_name ≡ tx.old.conn.ghost_name }
+    ensures survives { Survives (state S.Store tx.old.conn.now) (state S.Store tx.new.conn.now) (λ _. ⊥) }
+    ensures kept { HasCleanDisk (state S.Store tx.new.conn.now) → IsTrue (state S.Store tx.old.conn.now).in_transaction → KeepsCommit (state S.Store tx.old.conn.now) (state S.Store tx.new.conn.now) }
+    ensures inside { HasCleanDisk (state S.Store tx.new.conn.now) → IsTrue (state S.Store tx.old.conn.now).in_transaction → OnOk result (IsTrue (state S.Store tx.new.conn.now).in_transaction) }
+    ensures makes { HasCleanDisk (state S.Store tx.new.conn.now) → IsTrue (state S.Store tx.old.conn.now).in_transaction → IsBefore parts.Roots (state S.Store tx.old.conn.now).now → OnOk result (AreMade (state S.Store tx.new.conn.now).now) }
+{
+    take(tx, Part::Roots)?;
+    take(tx, Part::Attributes)?;
+    take(tx, Part::FirstRow)
+}
+
+/// All parts, one after another.
+fn take_all<S: Alter>(tx: &mut Transaction<'_, S>) -> Result<(), Failure>
+    ensures same_reference { tx.new.conn.ghost_name ≡ tx.old.conn.ghost_name }
+    ensures survives { Survives (state S.Store tx.old.conn.now) (state S.Store tx.new.conn.now) (λ _. ⊥) }
+    ensures kept { HasCleanDisk (state S.Store tx.new.conn.now) → IsTrue (state S.Store tx.old.conn.now).in_transaction → KeepsCommit (state S.Store tx.old.conn.now) (state S.Store tx.new.conn.now) }
+    ensures inside { HasCleanDisk (state S.Store tx.new.conn.now) → IsTrue (state S.Store tx.old.conn.now).in_transaction → OnOk result (IsTrue (state S.Store tx.new.conn.now).in_transaction) }
+    ensures makes { HasCleanDisk (state S.Store tx.new.conn.now) → IsTrue (state S.Store tx.old.conn.now).in_transaction → IsBefore parts.Meta (state S.Store tx.old.conn.now).now → OnOk result (AreMade (state S.Store tx.new.conn.now).now) }
+{
+    take_front(tx)?;
+    take_back(tx)
+}
+
+/// Makes the tables, all or none.
+pub(crate) fn make<S: Alter>(conn: &mut Connection<S>) -> Result<(), OpenError>
+    ensures { Made (state S.Store conn.old) (state S.Store conn.new) result }
+{
+    if !conn.is_autocommit() {
+        return Err(OpenError::Store);
+    }
+    let mut tx = conn.transaction();
+    take_all(&mut tx)?;
+    match tx.commit() {
+        Ok(()) => Ok(()),
+        Err(error) => Err(failed(failure_of(&error))),
+    }
+}

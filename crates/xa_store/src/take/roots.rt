@@ -1,0 +1,106 @@
+//! Statements on roots.
+ghost use Rattle.std.specs.Prelude.{◌≡◌, [], ◌∷◌, IsTrue, OnOk};
+ghost use Rattle.sqlite.specs.Held.{state};
+ghost use Rattle.sqlite.specs.State.{HasCleanDisk, KeepsCommit, Survives};
+ghost use Rattle.xa_store.specs.declared.step.Step.TheVariants.{AddRoot, DropRoot};
+ghost use Rattle.std.specs.Prelude.{IfOk, option_map};
+ghost use Rattle.sqlite.specs.Values.{bound_value};
+ghost use Rattle.sqlite_value.specs.Value.{owned};
+ghost use Rattle.xa_policy.specs.Pattern.{pattern_text};
+ghost use Rattle.xa_policy.specs.Version.{version_text};
+ghost use Rattle.xa_store.specs.Rows.{kind_number};
+ghost use Rattle.xa_store.specs.Taking.{IsInside, Took, text_column};
+ghost use Rattle.xa_store.specs.World.{rows_of};
+
+use crate::take::execute_in;
+use sqlite::types::ValueRef;
+use sqlite::{Alter, Transaction};
+use std::alloc::{AllocError, Global};
+use xa_policy::{DocumentKind, Pattern, Reference, Version};
+use xa_records::Failure;
+use xa_value::Text;
+
+/// The number of a kind of documents.
+pub(crate) fn number_of_kind(kind: DocumentKind) -> i64
+    ensures { result ≡ kind_number kind }
+{
+    match kind {
+        DocumentKind::Policy => 0,
+        DocumentKind::PolicySet => 1,
+    }
+}
+
+/// The pattern's text, if there is a pattern.
+fn text_of_pattern(alloc: Global, pattern: &Option<Pattern>) -> Result<Option<Text>, AllocError>
+    ensures { IfOk result (λ text. text ≡ option_map pattern_text pattern.now) }
+{
+    match pattern {
+        Some(pattern) => Ok(Some(pattern.to_text(alloc)?)),
+        None => Ok(None),
+    }
+}
+
+/// The version's text, if there is a version.
+fn text_of_version(alloc: Global, version: &Option<Version>) -> Result<Option<Text>, AllocError>
+    ensures { IfOk result (λ text. text ≡ option_map version_text version.now) }
+{
+    match version {
+        Some(version) => Ok(Some(version.to_text(alloc)?)),
+        None => Ok(None),
+    }
+}
+
+/// The text as a column holds it.
+fn text_or_null<'a>(text: &'a Option<Text>) -> ValueRef<'a>
+    ensures { bound_value (owned result) ≡ text_column text.now }
+{
+    match text {
+        Some(text) => ValueRef::Text(text.as_bytes()),
+        None => ValueRef::Null,
+    }
+}
+
+/// Puts the root in.
+pub(crate) fn add_root<S: Alter>(
+    tx: &mut Transaction<'_, S>,
+    alloc: Global,
+    number: i64,
+    root: &Reference,
+) -> Result<(), Failure>
+    ensures same_reference { tx.new.conn.ghost_name ≡ tx.old.conn.ghost_name }
+    ensures survives { Survives (state S.Store tx.old.conn.now) (state S.Store tx.new.conn.now) (λ _. ⊥) }
+    ensures kept { HasCleanDisk (state S.Store tx.new.conn.now) → IsTrue (state S.Store tx.old.conn.now).in_transaction → KeepsCommit (state S.Store tx.old.conn.now) (state S.Store tx.new.conn.now) }
+    ensures inside { HasCleanDisk (state S.Store tx.new.conn.now) → IsTrue (state S.Store tx.old.conn.now).in_transaction → OnOk result (IsTrue (state S.Store tx.new.conn.now).in_transaction) }
+    ensures takes { HasCleanDisk (state S.Store tx.new.conn.now) → IsInside (state S.Store tx.old.conn.now) → OnOk result (Took ((AddRoot number root.now) ∷ []) (state S.Store tx.old.conn.now) (state S.Store tx.new.conn.now)) }
+{
+    let pattern = text_of_pattern(alloc, &root.version)?;
+    let earliest = text_of_version(alloc, &root.earliest)?;
+    let latest = text_of_version(alloc, &root.latest)?;
+    execute_in(
+        tx,
+        "INSERT INTO roots (number, kind, id, pattern, earliest, latest) VALUES (?1, ?2, ?3, ?4, ?5, ?6)",
+        &[
+            ValueRef::Int(number),
+            ValueRef::Int(number_of_kind(root.kind)),
+            ValueRef::Text(root.id.as_bytes()),
+            text_or_null(&pattern),
+            text_or_null(&earliest),
+            text_or_null(&latest),
+        ],
+    )
+}
+
+/// Takes the root out.
+pub(crate) fn drop_root<S: Alter>(tx: &mut Transaction<'_, S>, number: i64) -> Result<(), Failure>
+    ensures same_reference { tx.new.conn.ghost_name ≡ tx.old.conn.ghost_name }
+    ensures survives { Survives (state S.Store tx.old.conn.now) (state S.Store tx.new.conn.now) (λ _. ⊥) }
+    ensures kept { HasCleanDisk (state S.Store tx.new.conn.now) → IsTrue (state S.Store tx.old.conn.now).in_transaction → KeepsCommit (state S.Store tx.old.conn.now) (state S.Store tx.new.conn.now) }
+    ensures inside { HasCleanDisk (state S.Store tx.new.conn.now) → IsTrue (state S.Store tx.old.conn.now).in_transaction → OnOk result (IsTrue (state S.Store tx.new.conn.now).in_transaction) }
+    ensures takes { HasCleanDisk (state S.Store tx.new.conn.now) → IsInside (state S.Store tx.old.conn.now) → OnOk result (Took ((DropRoot number) ∷ []) (state S.Store tx.old.conn.now) (state S.Store tx.new.conn.now)) }
+{
+    execute_in(
+        tx,
+        "DELETE FROM roots WHERE number = ?1",
+        &[ValueRef::Int(number)],
+    )
+}

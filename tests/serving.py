@@ -1,0 +1,201 @@
+"""A running `pdpd serve`, and a client that writes bytes to it: what tests/serve, tests/tables and the benchmarks share."""
+import os
+import selectors
+import socket
+import struct
+import subprocess
+import time
+
+OPERATOR = "operator-token-1"
+MOST_CONNECTIONS = 1_000_000
+PATIENCE = 30
+
+
+def message(method, path, token, body=None, more=""):
+    """The bytes of a message that shows that token."""
+    data = body if isinstance(body, bytes) else (body or "").encode()
+    length = "" if body is None else f"Content-Length: {len(data)}\r\n"
+    return f"{method} {path} HTTP/1.1\r\nAuthorization: Bearer {token}\r\n{more}{length}\r\n".encode() + data
+
+
+def reply(status, body, media="json", more=""):
+    return f"HTTP/1.1 {status}\r\nContent-Type: application/{media}\r\nContent-Length: {len(body.encode())}\r\n{more}\r\n{body}".encode()
+
+
+def fault(status, code, more=""):
+    return reply(status, f'{{"Error":"{code}"}}', more=more)
+
+
+def decided(decision, status="ok"):
+    code = f'{{"StatusCode":{{"Value":"urn:oasis:names:tc:xacml:1.0:status:{status}"}}}}'
+    return reply("200 OK", f'{{"Response":[{{"Decision":"{decision}","Status":{code}}}]}}', "xacml+json")
+
+
+CREATED, DONE = reply("201 Created", "{}"), reply("200 OK", "{}")
+UNAUTHORIZED = fault("401 Unauthorized", "Unauthorized", "WWW-Authenticate: Bearer\r\n")
+BAD_HEAD, HEAD_TOO_LARGE = fault("400 Bad Request", "BadHead"), fault("431 Request Header Fields Too Large", "HeadTooLarge")
+EXISTS, ABSENT = fault("409 Conflict", "Exists"), fault("404 Not Found", "Absent")
+UNAVAILABLE = fault("503 Service Unavailable", "Unavailable")
+
+
+def free_port():
+    with socket.socket() as taken:
+        taken.bind(("127.0.0.1", 0))
+        return taken.getsockname()[1]
+
+
+class Client:
+    """One connection: bytes go out as they are given, and replies are read one at a time."""
+
+    def __init__(self, port):
+        self.socket = socket.create_connection(("127.0.0.1", port), timeout=PATIENCE)
+        self.socket.setsockopt(socket.IPPROTO_TCP, socket.TCP_NODELAY, 1)
+        self.held = b""
+
+    def send(self, data):
+        self.socket.sendall(data)
+
+    def ends_writing(self):
+        self.socket.shutdown(socket.SHUT_WR)
+
+    def more(self):
+        """Whether more bytes came before the end of the stream."""
+        try:
+            data = self.socket.recv(65_536)
+        except ConnectionResetError:
+            data = b""
+        self.held += data
+        return bool(data)
+
+    def reply(self):
+        """The next whole reply; what came of one, where the stream ends before."""
+        while b"\r\n\r\n" not in self.held:
+            if not self.more():
+                return self.rest()
+        head, _, _ = self.held.partition(b"\r\n\r\n")
+        lengths = [line for line in head.split(b"\r\n") if line.lower().startswith(b"content-length:")]
+        whole = len(head) + 4 + int(lengths[0].split(b":")[1])
+        while len(self.held) < whole:
+            if not self.more():
+                return self.rest()
+        found, self.held = self.held[:whole], self.held[whole:]
+        return found
+
+    def rest(self):
+        found, self.held = self.held, b""
+        return found
+
+    def all(self):
+        """All bytes up to the end of the stream."""
+        while self.more():
+            pass
+        return self.rest()
+
+    def is_silent(self, seconds):
+        """Whether no byte comes for so long."""
+        with selectors.DefaultSelector() as selector:
+            selector.register(self.socket, selectors.EVENT_READ)
+            return not self.held and not selector.select(seconds)
+
+    def ask(self, data):
+        self.send(data)
+        return self.reply()
+
+    def close(self, reset=False):
+        if reset:
+            self.socket.setsockopt(socket.SOL_SOCKET, socket.SO_LINGER, struct.pack("ii", 1, 0))
+        self.socket.close()
+
+    def __enter__(self):
+        return self
+
+    def __exit__(self, *what):
+        self.close()
+
+
+class Served:
+    """The program over a file, for so many connections. It is killed, if it still runs, at the end of the `with` statement."""
+
+    def __init__(self, program, path, token_file, connections=MOST_CONNECTIONS, port=None, **more):
+        self.port = port or free_port()
+        address = f"127.0.0.1:{self.port}"
+        self.process = subprocess.Popen([program, "serve", path, address, token_file, str(connections)], stdin=subprocess.DEVNULL,
+                                        stdout=subprocess.PIPE, stderr=subprocess.PIPE, **more)
+        self.first_line = self.process.stdout.readline()
+        self.listens = self.first_line == f"listening {address}\n".encode()
+
+    def client(self):
+        return Client(self.port)
+
+    def once(self, *messages):
+        """The replies to messages on one connection of their own."""
+        with self.client() as client:
+            return [client.ask(one) for one in messages]
+
+    def ended(self):
+        """What the program writes after its first line, what it says, and its exit status, once it has ended by itself."""
+        out, said = self.process.communicate(timeout=PATIENCE)
+        return out, said, self.process.returncode
+
+    def kill(self):
+        self.process.kill()
+        self.process.communicate()
+
+    def resident(self):
+        """The most memory that it has held, in KiB."""
+        with open(f"/proc/{self.process.pid}/status") as lines:
+            return int(next(line for line in lines if line.startswith("VmHWM")).split()[1])
+
+    def processor_seconds(self):
+        with open(f"/proc/{self.process.pid}/stat") as line:
+            fields = line.read().rpartition(")")[2].split()
+        return (int(fields[11]) + int(fields[12])) / os.sysconf("SC_CLK_TCK")
+
+    def __enter__(self):
+        return self
+
+    def __exit__(self, *what):
+        if self.process.poll() is None:
+            self.kill()
+
+
+class Checks:
+    """What was expected and found."""
+
+    def __init__(self, name):
+        self.name, self.count, self.failed, self.began = name, 0, 0, time.time()
+
+    def expect(self, what, found, wanted):
+        self.count += 1
+        if found != wanted:
+            self.failed += 1
+            short = lambda it: repr(it)[:600]
+            print(f"FAILED {what}\n  found  {short(found)}\n  wanted {short(wanted)}")
+
+    def status(self):
+        print(f"{self.name}: {self.count - self.failed} passed, {self.failed} failed, in {time.time() - self.began:.0f} s")
+        return 1 if self.failed else 0
+
+
+def is_program(name, program):
+    if os.path.isfile(program):
+        return True
+    print(f"{name}: {program} is not there: `make test` or `make pdpd` builds it")
+    return False
+
+
+def policy(rule="Permit", policy_id="urn:p", version="1.0", description=None):
+    """A policy of one rule, with that effect."""
+    told = "" if description is None else f'"Description":"{description}",'
+    return (f'{{"Policy":{{"PolicyId":"{policy_id}","Version":"{version}",{told}"RuleCombiningAlgId":'
+            f'"urn:oasis:names:tc:xacml:3.0:rule-combining-algorithm:deny-overrides","Rule":[{{"RuleId":"r","Effect":"{rule}"}}]}}}}')
+
+
+def making(name, token, text=None):
+    """Messages that make a domain whose root is that policy, each with its reply."""
+    at = f"/domains/{name}/pap"
+    return [(message("PUT", f"/operator/domains/{name}", OPERATOR), CREATED),
+            (message("POST", f"/operator/domains/{name}/tokens", OPERATOR, f'{{"Role":"admin","Token":"{token}"}}'), DONE),
+            (message("POST", f"{at}/policies", token, text or policy()), CREATED),
+            (message("PUT", f"{at}/policy/urn:p/1.0/active", token), DONE),
+            (message("PUT", f"{at}/root", token, '{"PolicyIdReference":{"Id":"urn:p"}}'), DONE)]
