@@ -1,10 +1,10 @@
 //! The typing of documents.
-ghost use Rattle.std.specs.Prelude.{◌≡◌, [], ◌∷◌, map, Ok};
+ghost use Rattle.std.specs.Prelude.{◌≡◌, [], map};
 ghost use Rattle.std.specs.Result.{result_map_both};
-ghost use Rattle.xa_value.specs.Gives.{Gives, ◌>>=◌};
+ghost use Rattle.xa_value.specs.Gives.{Gives};
 ghost use Rattle.xa_bag.specs.HigherOrder.{collected};
-ghost use Rattle.xa_policy.specs.Adding.{with_rules};
-ghost use Rattle.xa_notation.specs.Typing.{typed_all_of, typed_any_of, typed_match, typed_policy, typed_rule, typed_set, typed_target, typed_tree, typed_variables};
+ghost use Rattle.xa_notation.specs.Typing.{typed_all_of, typed_any_of, typed_match, typed_policy, typed_set, typed_target, typed_tree, typed_variables};
+ghost use Rattle.xa_notation.specs.parsing.Adding.{with_typed_rule, with_typed_rules};
 
 use crate::document::Document;
 use crate::written::{
@@ -102,7 +102,7 @@ fn add_rule(
     policy: &mut Policy,
     written: WrittenRule,
 ) -> Result<(), OrMemory<CheckError>>
-    ensures { Gives (result_map_both (λ _. policy.new) (λ e. e) result) (typed_rule policy.old.variables written >>= (λ r. Ok (with_rules policy.old (r ∷ [])))) }
+    ensures { Gives (result_map_both (λ _. policy.new) (λ e. e) result) (with_typed_rule policy.old written) }
 {
     let WrittenRule {
         effect,
@@ -129,7 +129,7 @@ fn with_rules(
     mut policy: Policy,
     written: Items<WrittenRule>,
 ) -> Result<Policy, OrMemory<CheckError>>
-    ensures { Gives result (collected (map (typed_rule policy.variables) written) >>= (λ rules. Ok (with_rules policy rules))) }
+    ensures { Gives result (with_typed_rules policy written) }
 {
     for rule in written.into_vec() {
         add_rule(alloc, &mut policy, rule)?;
