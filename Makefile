@@ -61,5 +61,5 @@ author-test: ## tests the policy author's desk (author/policy); proves and build
 	author/policy build
 	author/test
 
-bench: pdpd ## proves and builds pdpd, and runs all benchmarks but bench/heads
+bench: pdpd ## proves and builds pdpd, and runs all benchmarks but bench/heads and bench/casbin
 	bench/all
