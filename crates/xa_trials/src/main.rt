@@ -15,6 +15,7 @@ mod holders;
 mod keeper;
 mod keeper_changes;
 mod keeper_readings;
+mod keepers;
 mod linking;
 mod messages;
 mod no_answer;
@@ -25,6 +26,7 @@ mod server;
 mod setup;
 mod setup_messages;
 mod source_rows;
+mod stores;
 mod values;
 mod versions;
 
@@ -115,6 +117,7 @@ fn answer_first(answer: &mut Answer, kind: &str, fields: &[&str]) -> Result<(), 
         "combine" => combining::combination(answer, first, fields),
         "resolve" => references::resolution(answer, first, fields),
         "link" => linking::tree(answer, first, fields),
+        "opened" => stores::opened(answer, first, fields),
         _ => Err(NoAnswer::Malformed),
     }
 }
