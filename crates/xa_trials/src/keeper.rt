@@ -14,11 +14,17 @@ use xa_value::Text;
 /// What a keeper answers to the calls, of which the first finds no domain: one in memory, and one over tables, which has to answer the same.
 pub fn keeper(answer: &mut Answer, calls: &[&str]) -> Result<(), NoAnswer> {
     let alloc = answer.alloc();
-    make_all(answer, PlainRecords::new(alloc), calls)?;
+    keeper_in_memory(answer, calls)?;
     let mut other = Answer::new(alloc);
     make_all(&mut other, tables(alloc)?, calls)?;
     answer.compare(&other);
     Ok(())
+}
+
+/// The same, by the keeper in memory alone.
+pub fn keeper_in_memory(answer: &mut Answer, calls: &[&str]) -> Result<(), NoAnswer> {
+    let alloc = answer.alloc();
+    make_all(answer, PlainRecords::new(alloc), calls)
 }
 
 /// Makes the calls, one after another.

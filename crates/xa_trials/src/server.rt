@@ -6,7 +6,7 @@ use crate::decisions::moment_of;
 use crate::field::bytes_of;
 use crate::keepers::tables;
 use crate::no_answer::NoAnswer;
-use crate::setup::{NoServer, server_of};
+use crate::setup::server_of;
 use std::alloc::Global;
 use xa_http::{Message, Next, Session};
 use xa_records::{PlainRecords, Records};
@@ -129,7 +129,7 @@ fn is_count(field: &str) -> bool {
 }
 
 /// How many fields stand before the first event.
-fn fields_before_events(fields: &[&str]) -> usize {
+pub fn fields_before_events(fields: &[&str]) -> usize {
     fields
         .iter()
         .position(|field| is_event(field))
@@ -140,11 +140,17 @@ fn fields_before_events(fields: &[&str]) -> usize {
 /// have to answer the same.
 pub fn server(answer: &mut Answer, fields: &[&str]) -> Result<(), NoAnswer> {
     let alloc = answer.alloc();
-    server_over(answer, PlainRecords::new(alloc), fields)?;
+    server_in_memory(answer, fields)?;
     let mut other = Answer::new(alloc);
     server_over(&mut other, tables(alloc)?, fields)?;
     answer.compare(&other);
     Ok(())
+}
+
+/// The same, over the keeper in memory alone.
+pub fn server_in_memory(answer: &mut Answer, fields: &[&str]) -> Result<(), NoAnswer> {
+    let alloc = answer.alloc();
+    server_over(answer, PlainRecords::new(alloc), fields)
 }
 
 /// What the server over the keeper answers; where there is none, the reply that says why.
@@ -158,11 +164,7 @@ fn server_over<R: Records + Drop>(
     let events = fields.get(count..).unwrap_or(&[]);
     match server_of(answer.alloc(), records, domains) {
         Ok(server) => stream(answer, server, events),
-        Err(NoServer::Reply(reply)) => {
-            answer.field("", reply.bytes());
-            Ok(())
-        }
-        Err(NoServer::NoAnswer(error)) => Err(error),
+        Err(error) => error.tell(answer),
     }
 }
 

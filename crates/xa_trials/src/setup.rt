@@ -2,6 +2,7 @@
 //! come fields `domain:NAME`, after each of which stand its tokens,
 //! `ask:TOKEN` and `admin:TOKEN`, its documents, `document:TEXT`, or `inactive:TEXT` where one isn't active, its root, `root:REFERENCE`, and the
 //! rows of its source of attributes, `row:CATEGORY|ENTITY|ID|TYPE=TEXT`. A field `limit:UNITS` limits the work for each message of the row's events.
+use crate::answer::Answer;
 use crate::decisions::moment_of;
 use crate::documents::document_of;
 use crate::field::{bytes_of, number_of, text_of};
@@ -27,6 +28,19 @@ pub enum NoServer {
     Reply(Reply),
     /// The row gets no answer.
     NoAnswer(NoAnswer),
+}
+
+impl NoServer {
+    /// Answers with the reply, if that is why.
+    pub fn tell(self, answer: &mut Answer) -> Result<(), NoAnswer> {
+        match self {
+            NoServer::Reply(reply) => {
+                answer.field("", reply.bytes());
+                Ok(())
+            }
+            NoServer::NoAnswer(error) => Err(error),
+        }
+    }
 }
 
 impl From<NoAnswer> for NoServer {
