@@ -28,7 +28,7 @@ impl Clock for StandingClock {
 
 /// A server, the address at which it takes connections, and the client's end of the last one.
 #[derive(Drop)]
-struct Loopback<R: Records + Drop> {
+struct Sockets<R: Records + Drop> {
     rt: HostRuntime,
     server: Server<R>,
     listener: TcpListener,
@@ -42,12 +42,12 @@ fn connected(rt: &HostRuntime, listener: &TcpListener) -> Result<TcpStream, NoAn
     Ok(TcpStream::connect(rt, address)?)
 }
 
-impl<R: Records + Drop> Loopback<R> {
+impl<R: Records + Drop> Sockets<R> {
     /// The server with a connection, which it hasn't taken yet.
-    fn new(rt: &HostRuntime, server: Server<R>) -> Result<Loopback<R>, NoAnswer> {
+    fn new(rt: &HostRuntime, server: Server<R>) -> Result<Sockets<R>, NoAnswer> {
         let listener = TcpListener::bind(rt, (Ipv4Addr::LOCALHOST, 0))?;
         let client = connected(rt, &listener)?;
-        Ok(Loopback {
+        Ok(Sockets {
             rt: *rt,
             server,
             listener,
@@ -119,11 +119,11 @@ fn connections<R: Records + Drop>(
     server: Server<R>,
     events: &[&str],
 ) -> Result<(), NoAnswer> {
-    let mut loopback = Loopback::new(rt, server)?;
+    let mut sockets = Sockets::new(rt, server)?;
     for event in events {
-        loopback.step(answer, event)?;
+        sockets.step(answer, event)?;
     }
-    loopback.end(answer)
+    sockets.end(answer)
 }
 
 /// What clients receive from the server with the domains of the first fields, over a keeper of tables, when the events of the others happen.

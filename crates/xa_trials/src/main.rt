@@ -99,9 +99,16 @@ fn answer_many(answer: &mut Answer, kind: &str, fields: &[&str]) -> Result<(), N
         "target" => expressions::target(answer, fields),
         "keys" => holders::keys(answer, fields),
         "stream" => messages::stream(answer, fields),
+        "decide" => decisions::decision(answer, fields),
+        _ => answer_kept(answer, kind, fields),
+    }
+}
+
+/// Answers a row of what is kept.
+fn answer_kept(answer: &mut Answer, kind: &str, fields: &[&str]) -> Result<(), NoAnswer> {
+    match kind {
         "server" => server::server(answer, fields),
         "server_in_memory" => server::server_in_memory(answer, fields),
-        "decide" => decisions::decision(answer, fields),
         "keeper" => keeper::keeper(answer, fields),
         "keeper_in_memory" => keeper::keeper_in_memory(answer, fields),
         _ => answer_first(answer, kind, fields),
