@@ -1,5 +1,5 @@
 -- From the parts of opening to what it answers.
-use Rattle.std.proofs.Common.{◌≡◌, ◌≢◌, ◌⊎◌, inl, inr, Bool, true, false, List, [], ◌∷◌, Result, Ok, Err, IsTrue, IfOk, OnOk, refl, sym, ap, subst, ◌∙◌, true≢false, arith}
+use Rattle.std.proofs.Common.{◌≡◌, ◌≢◌, inl, inr, Bool, true, false, Result, Ok, Err, IsTrue, IfOk, refl, sym, ap, subst, ◌∙◌, arith}
 use Rattle.sqlite.specs.Effect.{Database}
 use Rattle.sqlite.specs.Held.{Held, state}
 use Rattle.sqlite_schema.specs.Names.{same_name}
@@ -7,14 +7,13 @@ use Rattle.sqlite.specs.State.{State, HasCleanDisk, Survives}
 use Rattle.sqlite.specs.Store.{Ghosts}
 use Rattle.sqlite.specs.Tree.{Trees}
 use Rattle.sqlite.proofs.StateLemmas.{clean_if_open, survives_then, survives_weaker}
-use Rattle.xa_records.specs.Kept.{nothing_kept}
 use Rattle.xa_store.specs.declared.open_error.OpenError.{OpenError}
 use Rattle.xa_store.specs.declared.open_error.OpenError.TheVariants.{NotThisSchema, Damaged, Store, Memory}
-use Rattle.xa_store.specs.Judging.{Asks, Checked, CheckedIdle, GivesAs, Loads, Made, MakesAs}
+use Rattle.xa_store.specs.Judging.{Checked, CheckedIdle, GivesAs, Loads, Made, MakesAs}
 use Rattle.xa_store.specs.Keeper.{Keeper, IsKeeper, IsSound}
 use Rattle.xa_store.specs.Opened.{opened}
-use Rattle.xa_store.specs.Opening.{Gives, IsBlank, IsFailure, IsMade, Leaves, Makes, Opens, Settles, has_room, held_in, no_tables}
-use Rattle.xa_store.specs.Sound.{Ours, Rests, SameNow}
+use Rattle.xa_store.specs.Opening.{Gives, IsBlank, IsFailure, IsMade, Leaves, Makes, Opens, Settles, has_room, no_tables}
+use Rattle.xa_store.specs.Sound.{Rests, SameNow}
 use Rattle.xa_store.specs.Tables.{our_schema}
 use Rattle.xa_store.specs.World.{world_of}
 use Rattle.xa_store.proofs.OursLemmas.{made_nothing, made_opened, opened_ours}

@@ -16,6 +16,7 @@ mod loading;
 mod looking;
 mod making;
 mod refusing;
+mod table_columns;
 mod walking;
 
 use crate::keeper::SqlRecords;

@@ -1,6 +1,6 @@
-use Rattle.std.proofs.Common.{IsTrue, Ok, Err, sym, subst}
+use Rattle.std.proofs.Common.{IsTrue, Ok, sym, subst}
 use Rattle.sqlite.specs.Held.{state}
-use Rattle.xa_store.specs.Keeper.{IsSound, Keeper}
+use Rattle.xa_store.specs.Keeper.{IsSound}
 use Rattle.xa_store.specs.Opening.{Makes, Opens, Settles}
 use Rattle.xa_store.proofs.OpenLemmas.{is_keeper, makes_keeper, makes_refused, opens_keeper, opens_refused, settles_keeper, sound_keeper}
 use Rattle.xa_store.proofs.keeper.SqlRecords.open.Goals as goal
