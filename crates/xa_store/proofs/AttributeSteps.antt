@@ -1,5 +1,5 @@
 -- What the statements on the rows of sources make of the rows.
-use Rattle.std.proofs.Common.{◌≡◌, ℕ, ℤ, pos, List, [], ◌∷◌, ◌++◌, map, filter, Bool, true, false, not, ◌&&◌, refl, sym, ap, subst, ◌∙◌, arith, int_eq, to_z, of_z, w64, Ok}
+use Rattle.std.proofs.Common.{◌≡◌, ℕ, ℤ, pos, List, [], ◌∷◌, ◌++◌, map, filter, Bool, false, not, refl, ap, subst, ◌∙◌, int_eq, to_z, of_z, w64, Ok}
 use Rattle.std.specs.List.{AllByRecursion}
 use Rattle.sqlite.specs.Order.{Row}
 use Rattle.sqlite.specs.Rowids.TheVariants.{Chosen}
@@ -16,7 +16,7 @@ use Rattle.sqlite_rules.specs.Cast.{cast_row}
 use Rattle.sqlite_rules.specs.Edit.{with_rowid, next_rowid}
 use Rattle.sqlite_keyed.specs.Keyed.{next_key}
 use Rattle.sqlite_keyed.specs.Lists.{delete_where}
-use Rattle.sqlite_keyed.proofs.ListLemmas.{all_of, all_weaker, all-filter}
+use Rattle.sqlite_keyed.proofs.ListLemmas.{all_of, all-filter}
 use Rattle.sqlite_keyed.proofs.KeyedLemmas.{IsKeyedBy-delete_where}
 use Rattle.sqlite_keyed.proofs.RuleLemmas.{apart_delete}
 use Rattle.sqlite_typed.proofs.TestLemmas.{at_ints, last_term}
@@ -30,7 +30,6 @@ use Rattle.xa_store.specs.Sound.{AreTables, same_place}
 use Rattle.xa_store.specs.Steps.{ReadsBack, is_place}
 use Rattle.xa_store.specs.Tables.{our_schema, attributes}
 use Rattle.xa_store.specs.Texts as text
-use Rattle.xa_store.specs.World.{rows_of}
 use Rattle.xa_store.proofs.ChangeLemmas.{none_pass}
 use Rattle.xa_store.proofs.HoldLemmas.{Back, attributes_now, written_back}
 use Rattle.xa_store.proofs.LastLemmas.{stands_last, keyed_last, all_last, apart_last}

@@ -1,5 +1,5 @@
 -- What the actions of foreign keys take out, where the row of a domain goes.
-use Rattle.std.proofs.Common.{◌≡◌, ◌≢◌, ◌⊎◌, inl, inr, ℕ, zero, suc, ◌+◌, ℤ, pos, ◌<ℤ◌, List, [], ◌∷◌, ◌++◌, map, filter, fold, length, Bool, true, false, not, ◌&&◌, ◌||◌, cond, Option, Some, None, Ok, refl, sym, ap, ap₂, subst, subst₂, ◌∙◌, arith, int_eq, append-nil, length-append}
+use Rattle.std.proofs.Common.{◌≡◌, ◌≢◌, inl, inr, ℕ, zero, suc, ℤ, ◌<ℤ◌, List, [], ◌∷◌, ◌++◌, map, filter, fold, length, Bool, true, false, not, ◌&&◌, ◌||◌, cond, Option, Some, None, Ok, refl, sym, ap, ap₂, subst, subst₂, ◌∙◌, arith, int_eq, append-nil, length-append}
 use Rattle.std.specs.List.{AllByRecursion, list_any, flat_map, filter_map}
 use Rattle.std.proofs.lemmas.Int.{ints}
 use Rattle.sqlite.specs.Ops.{binary}
@@ -7,7 +7,7 @@ use Rattle.sqlite.specs.Order.{Row}
 use Rattle.sqlite.specs.Table.{Table}
 use Rattle.sqlite.specs.Tree.{Trees}
 use Rattle.sqlite.specs.declared.types.Value.{Value}
-use Rattle.sqlite.specs.declared.types.Value.TheVariants.{Null, Int}
+use Rattle.sqlite.specs.declared.types.Value.TheVariants.{Int}
 use Rattle.sqlite_schema.specs.Names.{same_name}
 use Rattle.sqlite_schema.specs.declared.schema.Keys.TheVariants.{Enforced}
 use Rattle.sqlite_schema.specs.declared.schema.Reference.{Reference}

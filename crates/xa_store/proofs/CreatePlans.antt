@@ -1,5 +1,5 @@
 -- The plan of a domain that is made.
-use Rattle.std.proofs.Common.{◌≡◌, ◌≢◌, ℕ, ◌+◌, ◌<◌, ◌≤◌, ◌^◌, ℤ, pos, List, [], ◌∷◌, filter, find, Bool, true, false, cond, Option, Some, None, option_map, Ok, Err, Ordering, Less, Equal, Greater, is_eq, int_cmp, int_eq, true≢false, refl, sym, ap, subst, ◌∙◌, arith}
+use Rattle.std.proofs.Common.{◌≡◌, ◌≢◌, ℕ, ◌+◌, ◌<◌, ◌^◌, ℤ, pos, List, [], ◌∷◌, filter, find, Bool, true, false, cond, Option, Some, None, option_map, Ok, Err, Ordering, Less, Equal, Greater, is_eq, int_cmp, int_eq, true≢false, refl, sym, ap, subst, ◌∙◌, arith}
 use Rattle.std.specs.List.{AllByRecursion}
 use Rattle.std.specs.Ordering.{match_ordering}
 use Rattle.std.specs.FinMap.{get}

@@ -1,5 +1,5 @@
 -- The plans of changes of documents.
-use Rattle.std.proofs.Common.{◌≡◌, ◌≢◌, inl, inr, ℕ, ◌+◌, ◌<◌, ◌^◌, ℤ, List, [], ◌∷◌, ◌++◌, map, filter, find, Bool, true, false, ◌&&◌, cond, nat_lt, bytes_eq, Option, Some, None, option_map, is_some, Result, Ok, Err, refl, sym, ap, subst, ◌∙◌, arith, int_eq}
+use Rattle.std.proofs.Common.{◌≡◌, ◌≢◌, inr, ℕ, ◌+◌, ◌<◌, ◌^◌, ℤ, List, [], ◌∷◌, ◌++◌, filter, find, Bool, true, false, cond, nat_lt, bytes_eq, Option, Some, None, option_map, is_some, Result, Ok, Err, refl, sym, ap, subst, ◌∙◌, arith, int_eq}
 use Rattle.std.specs.Ordering.{eq_by_cmp}
 use Rattle.std.specs.FinMap.{FinMap, get, insert, remove, len}
 use Rattle.std.proofs.lemmas.Int.{ints}
@@ -24,7 +24,7 @@ use Rattle.xa_store.specs.Planning.{IsUploadPlanned, RaisesTo}
 use Rattle.xa_store.specs.declared.step.Step.TheVariants.{AddDocument, SetActive, DropDocument, SetEpoch}
 use Rattle.xa_store.specs.Rows.{DomainRow, DocumentRow, nat_of}
 use Rattle.xa_store.specs.Sound.{AreNumbered}
-use Rattle.xa_store.specs.Steps.{KeyReads, is_document, is_named, with_epoch}
+use Rattle.xa_store.specs.Steps.{KeyReads, is_document, with_epoch}
 use Rattle.xa_store.specs.Turns.{Plans}
 use Rattle.xa_store.specs.World.{Rows, library_of, state_at, documents_at, domain_of, kept_of}
 use Rattle.xa_store.proofs.ChangeLemmas.{IsOnly, Rewrote, number_of, kept_one}

@@ -2,8 +2,7 @@
 use Rattle.std.proofs.Common.{◌≡◌, ℕ, ℤ, pos, List, [], ◌∷◌, ◌++◌, map, filter, Bool, true, false, ◌&&◌, refl, sym, ap, subst, ◌∙◌, arith, int_eq, to_z, of_z, w64, Ok}
 use Rattle.std.specs.List.{AllByRecursion}
 use Rattle.std.specs.Ordering.{eq_by_cmp}
-use Rattle.std.specs.Cmp.{IsTotalOrder, eq_by_cmp_equiv}
-use Rattle.std.specs.FinMap.{IsAntisymmetric}
+use Rattle.std.specs.Cmp.{eq_by_cmp_equiv}
 use Rattle.std.proofs.lemmas.Bool.{and_parts, and_from}
 use Rattle.std.proofs.lemmas.Int.{ints}
 use Rattle.sqlite.specs.Order.{Row}
@@ -20,7 +19,7 @@ use Rattle.sqlite_rules.specs.Cast.{cast_row}
 use Rattle.sqlite_rules.specs.Edit.{with_rowid, next_rowid}
 use Rattle.sqlite_keyed.specs.Keyed.{next_key}
 use Rattle.sqlite_keyed.specs.Lists.{update_where, delete_where}
-use Rattle.sqlite_keyed.proofs.ListLemmas.{all_weaker, all-filter, all_map, all_both}
+use Rattle.sqlite_keyed.proofs.ListLemmas.{all_weaker, all-filter, all_map}
 use Rattle.sqlite_keyed.proofs.KeyedLemmas.{same_int, IsKeyedBy-delete_where, IsKeyedBy-update_where}
 use Rattle.sqlite_keyed.proofs.RuleLemmas.{apart_update, apart_delete}
 use Rattle.xa_policy.specs.declared.document_key.DocumentKey.{DocumentKey}
@@ -29,15 +28,14 @@ use Rattle.xa_policy.specs.Version.{version_text}
 use Rattle.xa_records.proofs.FinMapLemmas.{here_or_elsewhere}
 use Rattle.xa_records.proofs.OrderLemmas.{keys_exact, keys_total}
 use Rattle.xa_store.specs.declared.step.Step.TheVariants.{AddDocument, SetActive, DropDocument}
-use Rattle.xa_store.specs.Rows.{DocumentRow, kind_number, bit, is_set, document_row, document_in, version_in}
+use Rattle.xa_store.specs.Rows.{DocumentRow, kind_number, bit, is_set, document_row, document_in}
 use Rattle.xa_store.specs.Sound.{AreTables, same_document}
 use Rattle.xa_store.specs.Steps.{KeyReads, is_document}
 use Rattle.xa_store.specs.Tables.{our_schema, policies}
 use Rattle.xa_store.specs.Texts as text
-use Rattle.xa_store.specs.World.{rows_of}
 use Rattle.xa_store.proofs.ChangeLemmas.{none_pass}
 use Rattle.xa_store.proofs.HitLemmas.{document_hit}
-use Rattle.xa_store.proofs.HoldLemmas.{Back, Hold, documents_now, written_back}
+use Rattle.xa_store.proofs.HoldLemmas.{Back, documents_now, written_back}
 use Rattle.xa_store.proofs.LastLemmas.{apart_few, stands_last, keyed_last, all_last, apart_last}
 use Rattle.xa_store.proofs.SqlLemmas.{answered, hits}
 use Rattle.xa_store.proofs.StepLemmas.{Stepped, cast_int, cast_null, kind_back}

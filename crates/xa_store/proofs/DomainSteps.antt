@@ -1,9 +1,7 @@
 -- What the statement that adds a domain makes of the rows.
-use Rattle.std.proofs.Common.{◌≡◌, ℕ, ℤ, pos, List, [], ◌∷◌, map, filter, Bool, true, false, not, ◌&&◌, refl, sym, ap, subst, ◌∙◌, int_eq, Ok}
-use Rattle.std.specs.List.{AllByRecursion, list_any}
+use Rattle.std.proofs.Common.{◌≡◌, ℕ, ℤ, pos, List, [], ◌∷◌, map, filter, Bool, true, false, not, ◌&&◌, refl, ap, ◌∙◌, int_eq, Ok}
 use Rattle.std.specs.Ordering.{eq_by_cmp}
 use Rattle.std.proofs.lemmas.Cmp.{nat_list_cmp_total}
-use Rattle.sqlite.specs.Order.{Row}
 use Rattle.sqlite.specs.Rowids.TheVariants.{Chosen}
 use Rattle.sqlite.specs.State.{State, Executes}
 use Rattle.sqlite.specs.Tree.{Trees}
@@ -23,7 +21,6 @@ use Rattle.xa_store.specs.Sound.{AreTables, same_name}
 use Rattle.xa_store.specs.Steps.{is_named}
 use Rattle.xa_store.specs.Tables.{our_schema, domains}
 use Rattle.xa_store.specs.Texts as text
-use Rattle.xa_store.specs.World.{rows_of}
 use Rattle.xa_store.proofs.ChangeLemmas.{none_pass}
 use Rattle.xa_store.proofs.HoldLemmas.{Back, domains_now}
 use Rattle.xa_store.proofs.StepLemmas.{Stepped, cast_int, cast_null, works_of_domain}

@@ -1,7 +1,6 @@
 -- What the statement that takes a domain out makes of the rows: all that is in it goes too.
-use Rattle.std.proofs.Common.{◌≡◌, ◌≢◌, ◌⊎◌, inl, inr, ℕ, ℤ, pos, List, [], ◌∷◌, ◌++◌, map, drop, filter, find, option_map, Bool, true, false, not, cond, Some, None, unwrap_or, Ok, refl, sym, ap, subst, ◌∙◌, arith, int_eq}
+use Rattle.std.proofs.Common.{◌≡◌, ◌≢◌, inl, inr, ℕ, ℤ, List, [], ◌∷◌, map, drop, filter, find, option_map, Bool, true, false, not, cond, Some, unwrap_or, Ok, refl, sym, ap, subst, ◌∙◌, arith, int_eq}
 use Rattle.std.specs.List.{AllByRecursion}
-use Rattle.std.proofs.lemmas.Int.{ints}
 use Rattle.sqlite.specs.Edit.{edit_of}
 use Rattle.sqlite.specs.Order.{Row}
 use Rattle.sqlite.specs.Rowids.TheVariants.{Given}
@@ -16,26 +15,24 @@ use Rattle.sqlite_sql.specs.declared.ops.CompareOp.TheVariants.{Eq}
 use Rattle.sqlite_trees.specs.Tree.{has_rowid}
 use Rattle.sqlite_value.specs.Keys.{joined}
 use Rattle.sqlite_value.proofs.OrderLemmas.{value_cmp-Int}
-use Rattle.sqlite_rules.specs.Action.{Work, works, Leads}
+use Rattle.sqlite_rules.specs.Action.{works, Leads}
 use Rattle.sqlite_rules.specs.Calls.{ids_of}
 use Rattle.sqlite_rules.specs.Edit.{IsNoIndex, without_all, row_at}
-use Rattle.sqlite_keyed.specs.Lists.{delete_where, without_key}
+use Rattle.sqlite_keyed.specs.Lists.{delete_where}
 use Rattle.sqlite_keyed.proofs.ListLemmas.{all_of, all-filter}
 use Rattle.sqlite_keyed.proofs.KeyedLemmas.{same_int, IsKeyedBy-delete_where}
 use Rattle.sqlite_keyed.proofs.RuleLemmas.{apart_delete}
 use Rattle.sqlite_typed.proofs.RowLemmas.{deletes-map}
 use Rattle.sqlite_typed.proofs.TestLemmas.{at_ints, last_term}
 use Rattle.xa_store.specs.declared.step.Step.TheVariants.{DropDomain}
-use Rattle.xa_store.specs.Rows.{DomainRow, TokenRow, DocumentRow, RootRow, AttributeRow, meta_row, next_in, domain_row, domain_in, token_row, token_in, document_row, document_in, root_row, root_in, attribute_row, attribute_in}
+use Rattle.xa_store.specs.Rows.{DomainRow, RootRow, meta_row, next_in, domain_row, domain_in, token_row, token_in, document_row, document_in, root_row, root_in, attribute_row, attribute_in}
 use Rattle.xa_store.specs.Sound.{AreTables, same_name as same_domain, same_token, same_document, same_place}
-use Rattle.xa_store.specs.Steps.{without_domain}
 use Rattle.xa_store.specs.Tables.{our_schema, domains, tokens, policies, roots, attributes, of_domain}
 use Rattle.xa_store.specs.Texts as text
-use Rattle.xa_store.specs.World.{rows_of}
-use Rattle.xa_store.proofs.CascadeLemmas.{of_root, four, work_on, works_of_drop, child_at, root_child_at, Cleared, acted, settled, children_gone}
+use Rattle.xa_store.proofs.CascadeLemmas.{of_root, four, work_on, works_of_drop, child_at, root_child_at, acted, settled, children_gone}
 use Rattle.xa_store.proofs.EntryLemmas.{found_passes}
 use Rattle.xa_store.proofs.FilterLemmas.{find_one}
-use Rattle.xa_store.proofs.HoldLemmas.{Back, Hold, are_rows, rows_read, written_back}
+use Rattle.xa_store.proofs.HoldLemmas.{Back, are_rows, rows_read, written_back}
 use Rattle.xa_store.proofs.SqlLemmas.{answered, one_hit}
 use Rattle.xa_store.proofs.StepLemmas.{Stepped}
 use Rattle.xa_store.proofs.TableLemmas.{deletes}

@@ -1,5 +1,5 @@
 -- The rows of one domain among those of all, after the writes of the statements.
-use Rattle.std.proofs.Common.{◌≡◌, Bool, true, false, not, cond, ◌&&◌, List, [], ◌∷◌, ◌++◌, map, filter, find, Option, Some, None, option_map, refl, sym, ap, ◌∙◌}
+use Rattle.std.proofs.Common.{◌≡◌, Bool, true, false, not, cond, ◌&&◌, List, [], ◌∷◌, ◌++◌, filter, find, Some, None, refl, ap}
 use Rattle.sqlite_keyed.specs.Lists.{update_where, delete_where}
 
 module _ {X : Type 0} (p q : X → Bool) where

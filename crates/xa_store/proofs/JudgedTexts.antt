@@ -1,5 +1,5 @@
 -- What the queries are by which the rows of the tables are judged.
-use Rattle.std.proofs.Common.{◌≡◌, ℕ, List, [], ◌∷◌, map, codes, refl}
+use Rattle.std.proofs.Common.{ℕ, List, [], ◌∷◌, map, codes, refl}
 use Rattle.sqlite.specs.Listing.{understood}
 use Rattle.sqlite.specs.Query.{Query}
 use Rattle.sqlite.specs.Term.{col}

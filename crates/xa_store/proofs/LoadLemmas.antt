@@ -1,5 +1,5 @@
 -- The tables are judged one after another.
-use Rattle.std.proofs.Common.{◌≡◌, ◌↔◌, ℤ, Bool, true, false, ◌&&◌, cond, List, [], ◌∷◌, map, Option, Some, None, Result, Ok, Err, IsTrue, OnOk, refl, sym, ap, subst, ◌∙◌, arith}
+use Rattle.std.proofs.Common.{◌≡◌, ◌↔◌, ℤ, Bool, true, false, ◌&&◌, cond, List, [], ◌∷◌, map, Some, Result, Ok, Err, IsTrue, refl, sym, ap, subst, ◌∙◌, arith}
 use Rattle.std.specs.List.{list_all}
 use Rattle.sqlite.specs.Effect.{Database, IsDatabase}
 use Rattle.sqlite.specs.State.{State, HasCleanDisk}
@@ -14,7 +14,7 @@ use Rattle.xa_store.specs.declared.open_error.OpenError.TheVariants.{NotThisSche
 use Rattle.xa_store.specs.Judging.{Asks, Checked, GivesAs, GivesNext, Judged, Judges, Orders, Walked, Walks}
 use Rattle.xa_store.specs.Opened.{are_rising, as_read, count_on, is_count, is_sound, is_sound_table, judged, known_next, no_place, opened, place_cmp, place_in, read_meta, row_number, tree_of}
 use Rattle.xa_store.specs.Rows.{attribute_in, attribute_row}
-use Rattle.xa_store.specs.Sound.{AreRows, Rests, SameNow, same_place}
+use Rattle.xa_store.specs.Sound.{AreRows, Rests, same_place}
 use Rattle.xa_store.specs.Tables.{our_schema}
 use Rattle.xa_store.proofs.AskedLemmas.{as_answered, as_failed, asks_then, rests_before, same_before}
 use Rattle.xa_store.proofs.ReadLemmas.{stopped_judges, walked_judges}

@@ -1,12 +1,11 @@
 -- The tables are made in a transaction: from the parts to the commit.
-use Rattle.std.proofs.Common.{◌≡◌, ◌⊎◌, inl, inr, List, [], true, false, Result, Ok, Err, IsTrue, refl, sym, ap, subst, ◌∙◌, arith}
+use Rattle.std.proofs.Common.{◌≡◌, inl, inr, [], true, false, Ok, Err, IsTrue, refl, sym, ap, subst, ◌∙◌, arith}
 use Rattle.std.proofs.lemmas.Bool.{both_ways}
 use Rattle.sqlite.specs.Effect.{Database}
 use Rattle.sqlite.specs.Held.{Held, state}
 use Rattle.sqlite.specs.State.{State, HasCleanDisk, KeepsCommit, KeepsCounts, Shows, Survives}
 use Rattle.sqlite.specs.Steps.{FailsToCommit}
 use Rattle.sqlite.specs.Store.{Ghosts}
-use Rattle.sqlite.specs.Tree.{Trees}
 use Rattle.sqlite.specs.declared.error.Error.{Error}
 use Rattle.sqlite.proofs.Callers.{survives_begin}
 use Rattle.sqlite.proofs.StateLemmas.{survives_then}
@@ -15,7 +14,7 @@ use Rattle.xa_store.specs.declared.opening.making.Part.TheVariants as parts
 use Rattle.xa_store.specs.Judging.{Made}
 use Rattle.xa_store.specs.Making.{AreMade, IsBefore}
 use Rattle.xa_store.specs.Opening.{IsBlank, IsFailure, IsMade}
-use Rattle.xa_store.specs.Sound.{Rests, SameNow}
+use Rattle.xa_store.specs.Sound.{SameNow}
 
 module _ {S : Type 0} (g : Ghosts S) (old mid last : Held S) where
   abbrev begun : State

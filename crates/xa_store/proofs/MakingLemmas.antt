@@ -5,7 +5,6 @@ use Rattle.sqlite.specs.Change.{created, next_tree}
 use Rattle.sqlite.specs.Does.{Tally, Does, MakesSequence, MakesTable, lacks_sequence, sequence_text}
 use Rattle.sqlite.specs.Effect.{Database}
 use Rattle.sqlite.specs.Listing.{understood}
-use Rattle.sqlite.specs.Order.{Row}
 use Rattle.sqlite.specs.Rows.{Gives}
 use Rattle.sqlite.specs.Rowids.TheVariants.{Chosen}
 use Rattle.sqlite.specs.Schema.{Schema}
@@ -16,21 +15,16 @@ use Rattle.sqlite.specs.Command.TheVariants.{CreateTable}
 use Rattle.sqlite.specs.declared.types.Value.TheVariants.{Null, Int}
 use Rattle.sqlite.proofs.Callers.{statement_of, runs_as}
 use Rattle.sqlite_catalog.specs.Change.{KeepsRows}
-use Rattle.sqlite_schema.specs.Names.{same_name}
-use Rattle.sqlite_schema.specs.declared.schema.Keys.TheVariants.{Enforced}
-use Rattle.sqlite_value.specs.Keys.{joined}
-use Rattle.sqlite_rules.specs.Action.{works}
 use Rattle.sqlite_rules.specs.Cast.{cast_row}
 use Rattle.sqlite_rules.specs.Edit.{IsNoIndex, with_rowid}
 use Rattle.sqlite_keyed.proofs.ListLemmas.{all-append}
-use Rattle.std.specs.Fmt.{digits}
 use Rattle.xa_store.specs.declared.opening.making.Part.{Part}
 use Rattle.xa_store.specs.declared.opening.making.Part.TheVariants as parts
 use Rattle.xa_store.specs.declared.opening.kind.Kind.{Kind}
 use Rattle.xa_store.specs.declared.opening.kind.Kind.TheVariants.{Domains, Tokens, Documents, Roots, Attributes}
-use Rattle.xa_store.specs.Making.{text_of, first, second, third, fourth, fifth, AreEmpty, AreMade, IsBefore, IsAfter}
+use Rattle.xa_store.specs.Making.{text_of, first, second, third, fourth, fifth, IsBefore, IsAfter}
 use Rattle.xa_store.specs.Opened.{tree_of}
-use Rattle.xa_store.specs.Opening.{no_tables, IsMade}
+use Rattle.xa_store.specs.Opening.{no_tables}
 use Rattle.xa_store.specs.Rows.{meta_row}
 use Rattle.xa_store.specs.Tables.{our_schema, meta, domains, tokens, policies, roots, attributes}
 use Rattle.xa_store.specs.Texts as texts

@@ -1,5 +1,5 @@
 -- From the parts of opening to what it answers.
-use Rattle.std.proofs.Common.{◌≡◌, ◌≢◌, ◌⊎◌, inl, inr, Bool, true, false, List, [], ◌∷◌, Result, Ok, Err, IsTrue, IfOk, OnOk, refl, sym, ap, subst, ◌∙◌, true≢false, arith}
+use Rattle.std.proofs.Common.{◌≡◌, ◌≢◌, inl, inr, Bool, true, false, Result, Ok, Err, IsTrue, IfOk, refl, sym, ap, subst, ◌∙◌, arith}
 use Rattle.sqlite.specs.Effect.{Database}
 use Rattle.sqlite.specs.Held.{Held, state}
 use Rattle.sqlite_schema.specs.Names.{same_name}
@@ -7,14 +7,13 @@ use Rattle.sqlite.specs.State.{State, HasCleanDisk, Survives}
 use Rattle.sqlite.specs.Store.{Ghosts}
 use Rattle.sqlite.specs.Tree.{Trees}
 use Rattle.sqlite.proofs.StateLemmas.{clean_if_open, survives_then, survives_weaker}
-use Rattle.xa_records.specs.Kept.{nothing_kept}
 use Rattle.xa_store.specs.declared.open_error.OpenError.{OpenError}
 use Rattle.xa_store.specs.declared.open_error.OpenError.TheVariants.{NotThisSchema, Damaged, Store, Memory}
-use Rattle.xa_store.specs.Judging.{Asks, Checked, CheckedIdle, GivesAs, Loads, Made, MakesAs}
-use Rattle.xa_store.specs.Keeper.{Keeper, IsKeeper}
+use Rattle.xa_store.specs.Judging.{Checked, CheckedIdle, GivesAs, Loads, Made, MakesAs}
+use Rattle.xa_store.specs.Keeper.{Keeper, IsKeeper, IsSound}
 use Rattle.xa_store.specs.Opened.{opened}
-use Rattle.xa_store.specs.Opening.{Gives, IsBlank, IsFailure, IsMade, Leaves, Makes, Opens, Settles, has_room, held_in, no_tables}
-use Rattle.xa_store.specs.Sound.{Ours, Rests, SameNow}
+use Rattle.xa_store.specs.Opening.{Gives, IsBlank, IsFailure, IsMade, Leaves, Makes, Opens, Settles, has_room, no_tables}
+use Rattle.xa_store.specs.Sound.{Rests, SameNow}
 use Rattle.xa_store.specs.Tables.{our_schema}
 use Rattle.xa_store.specs.World.{world_of}
 use Rattle.xa_store.proofs.OursLemmas.{made_nothing, made_opened, opened_ours}
@@ -130,6 +129,12 @@ module _ {S : Type 0} (g : Ghosts S) (shut : (s : S) → (g.view s).is_clean ≡
   settles_keeper ours loads own up db may =
       let all = loads.ours (clean_up up) up own in
       ap world_of (settled last.store db up may ∙ ap (λ (d : Database). d.trees) (sym all.rests.settled))
+
+  pub sound_keeper : (ours : Bool) → Loads old (state g last) (Ok ours) → IsTrue ours → IsTrue (state g last).is_open → IsSound g (keeper ours)
+  sound_keeper ours loads own up = (
+    own,
+    record { is_open = up; ours = loads.ours (clean_up up) up own; settled = λ left leaves. leaves.2 ∙ settles_keeper ours loads own up leaves.0 leaves.1 },
+  )
 
   pub opens_refused : (e : OpenError) → Loads old (state g last) (Err e) → Rests old → Opens g old (Err (e, last))
   opens_refused e loads rests up = let it = loads.opens (clean_up up) rests up in (it.0, it.1)

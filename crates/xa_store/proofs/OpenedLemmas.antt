@@ -1,5 +1,5 @@
 -- What the tests of columns tell.
-use Rattle.std.proofs.Common.{◌≡◌, inl, inr, List, ℕ, Bool, true, false, refl}
+use Rattle.std.proofs.Common.{◌≡◌, inl, inr, List, ℕ, true, false}
 use Rattle.std.specs.Str.{IsUtf8, is_utf8}
 use Rattle.std.proofs.lemmas.Bool.{cases_Bool}
 use Rattle.std.proofs.lemmas.Str.{IsUtf8-from_is_utf8, is_utf8-from_IsUtf8}

@@ -1,6 +1,5 @@
 -- What the query tells that compares the rowids of a table with the same in their order.
-use Rattle.std.proofs.Common.{◌≡◌, inl, inr, ℕ, suc, ℤ, Bool, true, false, not, cond, ◌&&◌, ◌==◌, if◌then◌else◌, List, [], ◌∷◌, ◌++◌, map, fold, flat_map, length, is_eq, Option, Some, None, unwrap_or, Ok, refl, sym, ap, ap₂, subst, ◌∙◌, append-nil, append_assoc, true≢false, arith, SFits, w64, IsPermutation, Ordering, Less, Equal, Greater}
-use Rattle.std.specs.Cmp.Lexicographic.{slice_cmp}
+use Rattle.std.proofs.Common.{◌≡◌, inl, inr, ℕ, suc, ℤ, Bool, true, false, not, cond, ◌==◌, if◌then◌else◌, List, [], ◌∷◌, ◌++◌, map, fold, flat_map, length, is_eq, Some, None, unwrap_or, Ok, refl, sym, ap, ap₂, subst, ◌∙◌, append-nil, append_assoc, true≢false, arith, SFits, w64, IsPermutation, Ordering, Less, Equal, Greater}
 use Rattle.std.specs.FinMap.{nat_cmp-IsAntisymmetric, slice_cmp-IsAntisymmetric}
 use Rattle.std.specs.Fmt.{signed_decimal}
 use Rattle.std.specs.List.{AllByRecursion, list_all}
@@ -15,7 +14,7 @@ use Rattle.sqlite.specs.Collation.TheVariants.{Binary}
 use Rattle.sqlite.specs.Ops.{unary, binary, is_true}
 use Rattle.sqlite.specs.Order.{Row, column}
 use Rattle.sqlite.specs.Program.{overlay}
-use Rattle.sqlite.specs.Query.{Output, Query, output, output_cmp}
+use Rattle.sqlite.specs.Query.{Output, output, output_cmp}
 use Rattle.sqlite.specs.State.{State, Shown}
 use Rattle.sqlite.specs.Term.{Term, Env, col, op1, op2, holds, eval}
 use Rattle.sqlite.specs.Tree.{Trees}
@@ -34,8 +33,6 @@ use Rattle.sqlite_sql.specs.Text.{joined, text_in}
 use Rattle.sqlite_sql.specs.declared.aggregate.AggregateOp.TheVariants.{Concat}
 use Rattle.sqlite_sql.specs.declared.ops.BinaryOp.TheVariants.{Is}
 use Rattle.sqlite_sql.specs.declared.ops.UnaryOp.TheVariants.{Not}
-use Rattle.sqlite_trees.specs.Tree.{IsAscending}
-use Rattle.sqlite_typed.specs.Columns.{int_of}
 use Rattle.sqlite_typed.proofs.TestLemmas.{last_term}
 use Rattle.sqlite_value.specs.Order.{value_cmp}
 use Rattle.sqlite_value.proofs.OrderLemmas.{value_cmp-Text, value_cmp-Null, value_cmp_total}

@@ -1,12 +1,9 @@
 -- What the query for the places of the rows of sources tells, and the query of the first table.
-use Rattle.std.proofs.Common.{◌≡◌, ℕ, ℤ, Bool, true, false, ◌&&◌, List, [], ◌∷◌, map, filter, length, Ordering, is_eq, int_cmp, int_eq, Option, Some, None, refl, sym, ap, subst, ◌∙◌, arith, IsPermutation}
-use Rattle.std.specs.List.{AllByRecursion}
-use Rattle.std.specs.Ordering.{ordering_then}
-use Rattle.std.proofs.lemmas.List.{length-map}
+use Rattle.std.proofs.Common.{◌≡◌, Bool, true, false, ◌&&◌, List, [], ◌∷◌, map, filter, Ordering, is_eq, int_cmp, refl, sym, ap, subst, ◌∙◌, arith, IsPermutation}
 use Rattle.std.proofs.lemmas.List.Sorted.{length_permutation, IsPermutation-map}
 use Rattle.sqlite.specs.Given.{IsPlain}
 use Rattle.sqlite.specs.Listing.{understood}
-use Rattle.sqlite.specs.Order.{Row, column}
+use Rattle.sqlite.specs.Order.{Row}
 use Rattle.sqlite.specs.Query.{Output}
 use Rattle.sqlite.specs.State.{State, Shown}
 use Rattle.sqlite.specs.Term.{col}
@@ -14,13 +11,12 @@ use Rattle.sqlite.specs.Tree.{Trees}
 use Rattle.sqlite.specs.declared.types.Value.TheVariants.{Int}
 use Rattle.sqlite.proofs.Callers.{reads_as, one_permutation}
 use Rattle.sqlite_keyed.specs.Lists.{sort_by}
-use Rattle.sqlite_keyed.specs.Rules.{AreApart}
 use Rattle.sqlite_keyed.proofs.ListLemmas.{all_of, filter_all, map-map, ascending_weaker}
 use Rattle.sqlite_keyed.proofs.SortLemmas.{sort_by-map}
 use Rattle.sqlite_trees.specs.Tree.{IsAscending}
 use Rattle.sqlite_typed.proofs.TestLemmas.{then_key, last_key}
 use Rattle.sqlite_value.proofs.OrderLemmas.{value_cmp-Int}
-use Rattle.xa_store.specs.Judging.{places_shown, counts, place_told}
+use Rattle.xa_store.specs.Judging.{places_shown, counts}
 use Rattle.xa_store.specs.Opened.{Place, count_on, counts_on, known_next, no_place, place_cmp, place_in, read_meta}
 use Rattle.xa_store.specs.Rows.{AttributeRow, attribute_in, attribute_row}
 use Rattle.xa_store.specs.Sound.{AreRows, Rests, same_place}
@@ -29,7 +25,7 @@ use Rattle.xa_store.specs.Texts.{meta_shown}
 use Rattle.xa_store.proofs.FoundLemmas.{found_sorted}
 use Rattle.xa_store.proofs.HitLemmas.{eq_then}
 use Rattle.xa_store.proofs.JudgedTexts.{places_is}
-use Rattle.xa_store.proofs.SqlLemmas.{Answered, answered, show, out}
+use Rattle.xa_store.proofs.SqlLemmas.{Answered, answered, out}
 use Rattle.xa_store.proofs.TextLemmas.{meta_shown_is}
 
 -- ---- the queries

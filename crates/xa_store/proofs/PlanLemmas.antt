@@ -1,9 +1,8 @@
 -- What the plans of changes have in common.
-use Rattle.std.proofs.Common.{◌≡◌, ◌≢◌, ℕ, ◌<◌, ◌≤◌, ◌^◌, ℤ, pos, List, [], ◌∷◌, filter, Option, Some, None, option_map, refl, sym, ap, subst, ◌∙◌, arith}
-use Rattle.std.specs.FinMap.{get}
+use Rattle.std.proofs.Common.{◌≡◌, ℕ, ◌<◌, ◌≤◌, ◌^◌, ℤ, pos, List, [], filter, Option, Some, None, option_map, refl, ap, subst, ◌∙◌, arith}
 use Rattle.sqlite_keyed.specs.Keyed.{IsKeyedBy}
-use Rattle.xa_records.specs.DomainState.{DomainState, new_domain}
-use Rattle.xa_records.specs.Kept.{Domain, Kept, IsChanged, IsNextEpoch, state_of}
+use Rattle.xa_records.specs.DomainState.{DomainState}
+use Rattle.xa_records.specs.Kept.{Domain, IsChanged, IsNextEpoch, state_of}
 use Rattle.xa_records.proofs.KeptLemmas.{numbered_changed}
 use Rattle.xa_store.specs.declared.domain_found.DomainFound.{DomainFound}
 use Rattle.xa_store.specs.Found.{FindsDomain}

@@ -1,17 +1,17 @@
 -- The plan of a domain that is removed.
-use Rattle.std.proofs.Common.{◌≡◌, ◌≢◌, ℕ, ◌<◌, ◌≤◌, ℤ, pos, List, [], ◌∷◌, filter, find, not, Bool, true, false, cond, Option, Some, None, option_map, Ok, int_eq, slice_get, refl, sym, ap, subst, ◌∙◌, arith}
+use Rattle.std.proofs.Common.{◌≡◌, ◌≢◌, ℕ, ◌<◌, ℤ, pos, List, [], ◌∷◌, filter, find, not, Bool, true, false, cond, Option, Some, None, option_map, int_eq, slice_get, refl, sym, ap, subst, ◌∙◌, arith}
 use Rattle.std.specs.List.{AllByRecursion}
 use Rattle.std.specs.Ordering.{eq_by_cmp}
 use Rattle.std.specs.FinMap.{get}
 use Rattle.std.proofs.lemmas.Int.{ints}
 use Rattle.std.proofs.lemmas.Bool.{both_ways}
 use Rattle.sqlite_keyed.specs.Keyed.{IsKeyedBy, get_by}
-use Rattle.sqlite_keyed.specs.Lists.{delete_where, without_key}
+use Rattle.sqlite_keyed.specs.Lists.{delete_where}
 use Rattle.sqlite_keyed.proofs.KeyedLemmas.{int_eq_apart, same_int}
 use Rattle.sqlite_keyed.proofs.ListLemmas.{all_weaker, slice_get-filter}
 use Rattle.sqlite_typed.proofs.TestLemmas.{same_bytes}
 use Rattle.xa_records.specs.Changes.{removed}
-use Rattle.xa_records.specs.DomainState.{DomainState, compare_bytes}
+use Rattle.xa_records.specs.DomainState.{compare_bytes}
 use Rattle.xa_records.specs.Kept.{Domain, Becomes, IsChanged, IsNextNumber}
 use Rattle.xa_records.proofs.KeptLemmas.{numbered_changed}
 use Rattle.xa_store.specs.declared.domain_found.DomainFound.{DomainFound}

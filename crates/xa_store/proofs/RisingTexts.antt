@@ -1,5 +1,5 @@
 -- The queries that tell whether a table has its rowids in their order: one text of them as the table has them, one as they are sorted.
-use Rattle.std.proofs.Common.{◌≡◌, ℕ, pos, negsuc, List, [], ◌∷◌, codes, false, None, refl}
+use Rattle.std.proofs.Common.{ℕ, pos, negsuc, [], ◌∷◌, codes, false, None, refl}
 use Rattle.sqlite.specs.Collation.TheVariants.{Binary}
 use Rattle.sqlite.specs.Command.{Command}
 use Rattle.sqlite.specs.Command.TheVariants.{Select}

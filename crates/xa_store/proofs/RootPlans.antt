@@ -1,5 +1,5 @@
 -- The plan of a root that is set.
-use Rattle.std.proofs.Common.{◌≡◌, ◌≢◌, inl, inr, ◌+◌, ◌<◌, ◌^◌, ℕ, ℤ, List, [], ◌∷◌, Bool, true, false, cond, Option, Some, None, option_map, option_and_then, Ok, refl, sym, ap, subst, ◌∙◌, arith, int_eq}
+use Rattle.std.proofs.Common.{◌≡◌, ◌≢◌, inr, ◌+◌, ◌<◌, ◌^◌, ℕ, ℤ, List, [], Bool, true, false, cond, Option, Some, None, option_map, option_and_then, Ok, refl, sym, ap, subst, ◌∙◌, arith, int_eq}
 use Rattle.sqlite_keyed.specs.Keyed.{IsKeyedBy, get_by, insert_by}
 use Rattle.sqlite_keyed.specs.Lists.{without_key}
 use Rattle.sqlite_keyed.proofs.KeyedLemmas.{int_eq_apart}

@@ -1,5 +1,5 @@
 -- A change in its transaction: from the steps to the commit.
-use Rattle.std.proofs.Common.{◌≡◌, ◌⊎◌, inl, inr, ℕ, List, [], true, false, Result, Ok, Err, IsTrue, refl, sym, ap, subst, ◌∙◌, arith}
+use Rattle.std.proofs.Common.{◌≡◌, ◌⊎◌, inl, inr, List, [], true, false, Ok, Err, IsTrue, refl, sym, ap, subst, ◌∙◌, arith}
 use Rattle.std.proofs.lemmas.Bool.{both_ways}
 use Rattle.sqlite.specs.Effect.{Database}
 use Rattle.sqlite.specs.Held.{Held, state}
@@ -12,7 +12,7 @@ use Rattle.xa_records.specs.declared.refusal.Failure.{Failure}
 use Rattle.xa_store.specs.declared.step.Step.{Step}
 use Rattle.xa_store.specs.Sound.{AreTables, Ours, Rests, SameNow}
 use Rattle.xa_store.specs.Steps.{AllowsAll}
-use Rattle.xa_store.specs.Taking.{IsInside, Took, Holds, Made, Runs}
+use Rattle.xa_store.specs.Taking.{IsInside, Took, Holds, Runs}
 use Rattle.xa_store.specs.World.{rows_of}
 
 module _ {S : Type 0} (g : Ghosts S) (old mid last : Held S) (steps : List Step) where

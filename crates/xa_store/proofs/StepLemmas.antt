@@ -1,5 +1,5 @@
 -- What the statements on domains, on roots and on the next number make of the rows.
-use Rattle.std.proofs.Common.{◌≡◌, ℕ, ◌≤◌, ℤ, pos, List, [], ◌∷◌, map, filter, length, Bool, true, false, cond, Option, Some, None, Ok, refl, sym, ap, subst, ◌∙◌, arith, int_eq, to_z, of_z, w64}
+use Rattle.std.proofs.Common.{◌≡◌, ℕ, ℤ, pos, List, [], ◌∷◌, map, Bool, true, false, cond, Option, Some, None, Ok, refl, sym, ap, subst, ◌∙◌, arith, int_eq, to_z, of_z, w64}
 use Rattle.std.specs.List.{AllByRecursion}
 use Rattle.sqlite.specs.Cast.{cast}
 use Rattle.sqlite.specs.Kind.TheVariants.{Integer, Text as TextKind}
@@ -17,11 +17,11 @@ use Rattle.sqlite_value.specs.Keys.{joined}
 use Rattle.sqlite_rules.specs.Action.{works}
 use Rattle.sqlite_rules.specs.Cast.{cast_row}
 use Rattle.sqlite_rules.specs.Edit.{with_rowid}
-use Rattle.sqlite_keyed.specs.Keyed.{IsKeyedBy, insert_by}
+use Rattle.sqlite_keyed.specs.Keyed.{insert_by}
 use Rattle.sqlite_keyed.specs.Lists.{update_where, delete_where}
 use Rattle.sqlite_keyed.specs.Rules.{AreApart}
-use Rattle.sqlite_keyed.proofs.ListLemmas.{all_of, all-filter, all_map}
-use Rattle.sqlite_keyed.proofs.KeyedLemmas.{all-insert_by, IsKeyedBy-insert_by, IsKeyedBy-delete_where, IsKeyedBy-update_where}
+use Rattle.sqlite_keyed.proofs.ListLemmas.{all_of}
+use Rattle.sqlite_keyed.proofs.KeyedLemmas.{IsKeyedBy-insert_by, IsKeyedBy-delete_where, IsKeyedBy-update_where}
 use Rattle.sqlite_keyed.proofs.RuleLemmas.{at_most_one, apart_update}
 use Rattle.sqlite_typed.specs.Columns.{bytes_of, or_null, unless_null}
 use Rattle.sqlite_typed.proofs.TestLemmas.{at_ints, last_term, null_back}
@@ -35,12 +35,12 @@ use Rattle.xa_store.specs.Sound.{AreTables, same_name as same_domain}
 use Rattle.xa_store.specs.Steps.{after}
 use Rattle.xa_store.specs.Tables.{our_schema, meta, domains, roots}
 use Rattle.xa_store.specs.Texts as text
-use Rattle.xa_store.specs.World.{Rows, rows_of}
-use Rattle.xa_store.proofs.HoldLemmas.{Back, Hold, written_back, meta_now, domains_now, roots_now}
+use Rattle.xa_store.specs.World.{rows_of}
+use Rattle.xa_store.proofs.HoldLemmas.{Back, Hold, meta_now, domains_now, roots_now}
 use Rattle.xa_store.proofs.SqlLemmas.{answered}
 use Rattle.xa_store.proofs.TableLemmas.{updates, deletes, inserts}
 use Rattle.xa_store.proofs.TextLemmas.{is, is_one, epoch_set_is, epoch_set_query, next_set_is, next_set_query, root_added_given, root_added_is, root_dropped_is, root_dropped_query}
-use Rattle.xa_store.proofs.WriteLemmas.{Wrote, row_added, row_updated, rows_removed}
+use Rattle.xa_store.proofs.WriteLemmas.{row_added, row_updated, rows_removed}
 
 -- ---- columns
 

@@ -1,27 +1,25 @@
 -- A table that is read row by row, from one row to the next.
-use Rattle.std.proofs.Common.{◌≡◌, ◌⊎◌, inl, inr, ℕ, ℤ, w64, Bool, true, false, List, [], ◌∷◌, ◌++◌, Option, Some, None, Result, Ok, Err, IsTrue, OnOk, refl, sym, ap, subst, ◌∙◌, arith}
+use Rattle.std.proofs.Common.{◌≡◌, ◌⊎◌, inl, inr, ℕ, ℤ, w64, false, List, [], ◌∷◌, ◌++◌, Option, Some, None, Result, Ok, Err, IsTrue, OnOk, refl, sym, ap, subst, arith}
 use Rattle.std.specs.Prelude.{FitsSigned}
 use Rattle.sqlite.specs.Effect.{Database}
 use Rattle.sqlite.specs.Given.{HasGiven, GivesOn, HasBegun, IsPlain}
 use Rattle.sqlite.specs.Held.{Held, state}
 use Rattle.sqlite.specs.Listing.{understood}
 use Rattle.sqlite.specs.Order.{Row}
-use Rattle.sqlite.specs.State.{State, HasCleanDisk, IsUnchanged, IsRolledBack, Shown, Survives, FailsToQuery, Fails, CommitsShowing}
+use Rattle.sqlite.specs.State.{State, HasCleanDisk, IsUnchanged, IsRolledBack, Survives, FailsToQuery, Fails}
 use Rattle.sqlite.specs.Store.{Ghosts}
-use Rattle.sqlite.specs.Tree.{Trees}
 use Rattle.sqlite.specs.declared.error.Error.{Error}
 use Rattle.sqlite.proofs.Callers.{given_begin, begins_as, begun_plain, unchanged_then}
 use Rattle.sqlite.proofs.StateLemmas.{survives_then}
 use Rattle.xa_store.specs.declared.open_error.OpenError.{OpenError}
 use Rattle.xa_store.specs.declared.open_error.OpenError.TheVariants.{NotThisSchema, Damaged, Store, Memory}
 use Rattle.xa_store.specs.declared.opening.kind.Kind.{Kind}
-use Rattle.xa_store.specs.Judging.{text_of, AreHeld, Asks, IsRead, Moves, refused_as, TellsNext, Walked, Walks, checks, fits}
+use Rattle.xa_store.specs.Judging.{text_of, AreHeld, IsRead, Moves, refused_as, TellsNext, Walked, Walks, fits}
 use Rattle.xa_store.specs.Opened.{row_number}
-use Rattle.xa_store.specs.Opening.{IsFailure}
 use Rattle.xa_store.specs.Sound.{Rests, SameNow}
 use Rattle.xa_store.specs.Tables.{our_schema}
-use Rattle.xa_store.proofs.AskLemmas.{shown_open, shown_same, unchanged_same, rolled_same}
-use Rattle.xa_store.proofs.AskedLemmas.{failed_fits, never_damaged, never_refused, same_then, survives_asked}
+use Rattle.xa_store.proofs.AskLemmas.{unchanged_same, rolled_same}
+use Rattle.xa_store.proofs.AskedLemmas.{failed_fits, never_damaged, never_refused, same_then}
 use Rattle.xa_store.proofs.JudgedTexts.{judged_is}
 use Rattle.xa_store.proofs.QuietLemmas.{rests_after}
 use Rattle.xa_store.proofs.ReadLemmas.{bare, is_read, shown_read}

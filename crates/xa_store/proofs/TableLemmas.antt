@@ -1,14 +1,12 @@
 -- What a statement on one table writes, as the records of its rows.
-use Rattle.std.proofs.Common.{◌≡◌, ◌≢◌, ◌⊎◌, inl, inr, ◌≤◌, ℕ, ℤ, pos, ◌+ℤ◌, ◌/◌, List, [], ◌∷◌, ◌++◌, map, filter, fold, drop, length, slice_get, Bool, MatchBool, is_lt, int_cmp, true, false, cond, Some, None, Ok, Err, Result, Option, refl, sym, ap, subst, subst₂, ◌∙◌, arith}
-use Rattle.std.specs.List.Sorted.{IsPermutation}
+use Rattle.std.proofs.Common.{◌≡◌, ◌⊎◌, inl, inr, ℕ, ℤ, ◌/◌, List, [], length, slice_get, MatchBool, is_lt, int_cmp, false, cond, Some, None, Ok, Err, Result, Option, sym, ap, subst, subst₂, ◌∙◌}
 use Rattle.sqlite.specs.Cast.{cast}
 use Rattle.sqlite.specs.Command.{Command}
-use Rattle.sqlite.specs.Command.TheVariants.{Insert, Update, Delete}
+use Rattle.sqlite.specs.Command.TheVariants.{Insert}
 use Rattle.sqlite.specs.Does.{Tally, Does, OnRows, WritesRows}
 use Rattle.sqlite.specs.declared.run.Mode.{Mode}
 use Rattle.sqlite.specs.Edit.{edit_of}
-use Rattle.sqlite.specs.Effect.{Database, Answers, IsSource, value_rows}
-use Rattle.sqlite.specs.Kind.TheVariants.{Integer, Text as TextKind}
+use Rattle.sqlite.specs.Effect.{Database, Answers, value_rows}
 use Rattle.sqlite.specs.Listing.{understood}
 use Rattle.sqlite.specs.Ops.{unary}
 use Rattle.sqlite.specs.Order.{Row, column}
@@ -20,10 +18,7 @@ use Rattle.sqlite.specs.Term.{Term}
 use Rattle.sqlite.specs.State.{State, mode_of, Executes}
 use Rattle.sqlite.specs.Table.{Table}
 use Rattle.sqlite.specs.Tree.{Trees}
-use Rattle.sqlite.specs.declared.types.Value.{Value}
-use Rattle.sqlite.specs.declared.types.Value.TheVariants.{Null, Int, Text}
 use Rattle.sqlite.proofs.Callers.{statement_of, runs_as}
-use Rattle.sqlite_schema.specs.declared.program.Program.{Program}
 use Rattle.sqlite_schema.specs.declared.schema.Keys.TheVariants.{Enforced}
 use Rattle.sqlite_rules.specs.Calls.{ids_of}
 use Rattle.xa_store.specs.Tables.{our_schema}

@@ -1,15 +1,13 @@
 -- The plans of changes of tokens.
-use Rattle.std.proofs.Common.{◌≡◌, ◌≢◌, inl, inr, ℕ, ℤ, List, [], ◌∷◌, ◌++◌, filter, find, Bool, true, false, ◌&&◌, ◌||◌, cond, nat_lt, Option, Some, None, option_map, is_some, Result, Ok, Err, refl, sym, ap, subst, ◌∙◌, arith, int_eq}
+use Rattle.std.proofs.Common.{◌≡◌, ◌≢◌, inl, ℕ, ℤ, List, [], ◌∷◌, ◌++◌, filter, find, Bool, true, false, ◌||◌, cond, nat_lt, Option, Some, None, option_map, is_some, Ok, Err, refl, sym, ap, subst, ◌∙◌, arith, int_eq}
 use Rattle.std.specs.List.{AllByRecursion}
 use Rattle.std.specs.Ordering.{eq_by_cmp}
-use Rattle.std.specs.FinMap.{FinMap, get, contains_key, insert, remove, len}
+use Rattle.std.specs.FinMap.{FinMap, contains_key, insert, remove, len}
 use Rattle.std.proofs.lemmas.Int.{ints}
 use Rattle.sqlite_keyed.specs.Keyed.{IsKeyedBy, next_key}
 use Rattle.sqlite_keyed.specs.Lists.{update_where, delete_where}
-use Rattle.sqlite_keyed.proofs.ListLemmas.{all_weaker, filter_none}
 use Rattle.sqlite_keyed.proofs.KeyedLemmas.{int_eq_apart, same_int}
 use Rattle.xa_notation.specs.declared.token.Role.{Role}
-use Rattle.xa_records.specs.declared.refusal.Refusal.{Refusal}
 use Rattle.xa_records.specs.declared.refusal.Refusal.TheVariants.{Absent, Quota}
 use Rattle.xa_records.specs.Changes.{token_dropped, token_put, with_tokens, within}
 use Rattle.xa_records.specs.DomainState.{DomainState, compare_bytes}
@@ -20,11 +18,11 @@ use Rattle.xa_store.specs.Found.{FindsRole, IsDomain}
 use Rattle.xa_store.specs.declared.step.Step.TheVariants.{AddToken, SetRole, DropToken}
 use Rattle.xa_store.specs.Rows.{DomainRow, TokenRow, nat_of}
 use Rattle.xa_store.specs.Sound.{AreNumbered}
-use Rattle.xa_store.specs.Steps.{after, is_named, is_token, with_epoch}
+use Rattle.xa_store.specs.Steps.{is_named, is_token, with_epoch}
 use Rattle.xa_store.specs.Turns.{Plans}
 use Rattle.xa_store.specs.World.{Rows, roles_of, state_at, tokens_at, kept_of}
 use Rattle.xa_store.proofs.ChangeLemmas.{IsOnly, Rewrote, number_of, one_passes}
-use Rattle.xa_store.proofs.EntryLemmas.{got, pushed, updated, deleted, has}
+use Rattle.xa_store.proofs.EntryLemmas.{got, pushed, updated, deleted}
 use Rattle.xa_store.proofs.FilterLemmas.{filter_both, filter_delete, filter_delete_apart, filter_push, filter_push_apart, filter_update, filter_update_apart, find_none, find_one}
 use Rattle.xa_store.proofs.KeyLemmas.{untouched}
 use Rattle.xa_store.proofs.PlanLemmas.{changed, its_state, numbered_after}

@@ -1,5 +1,5 @@
 -- What the statements on tokens make of the rows.
-use Rattle.std.proofs.Common.{◌≡◌, ℕ, ◌≤◌, ℤ, pos, List, [], ◌∷◌, ◌++◌, map, filter, length, Bool, true, false, ◌&&◌, cond, Ok, refl, sym, ap, ap₂, subst, ◌∙◌, arith, int_eq, to_z, of_z, w64}
+use Rattle.std.proofs.Common.{◌≡◌, ℕ, ℤ, List, [], ◌∷◌, ◌++◌, map, filter, true, false, ◌&&◌, Ok, refl, sym, ap, subst, ◌∙◌, arith, int_eq, to_z, of_z, w64}
 use Rattle.std.specs.Ordering.{eq_by_cmp}
 use Rattle.std.proofs.lemmas.Bool.{and_parts, and_from}
 use Rattle.std.proofs.lemmas.Int.{ints}
@@ -32,9 +32,8 @@ use Rattle.xa_store.specs.Sound.{AreTables, same_token}
 use Rattle.xa_store.specs.Steps.{is_token}
 use Rattle.xa_store.specs.Tables.{our_schema, tokens}
 use Rattle.xa_store.specs.Texts as text
-use Rattle.xa_store.specs.World.{rows_of}
 use Rattle.xa_store.proofs.ChangeLemmas.{none_pass}
-use Rattle.xa_store.proofs.HoldLemmas.{Back, Hold, tokens_now}
+use Rattle.xa_store.proofs.HoldLemmas.{Back, tokens_now}
 use Rattle.xa_store.proofs.LastLemmas.{apart_few, stands_last, keyed_last, apart_last}
 use Rattle.xa_store.proofs.SqlLemmas.{answered}
 use Rattle.xa_store.proofs.StepLemmas.{Stepped, cast_int, cast_null}

@@ -1,5 +1,5 @@
 -- A change that was planned by queries and then run.
-use Rattle.std.proofs.Common.{◌≡◌, ◌⊎◌, inl, inr, ℕ, List, [], ◌∷◌, Option, Some, None, option_map, Result, Ok, Err, IsTrue, IfOk, OnOk, OnErr, refl, sym, ap, subst, ◌∙◌}
+use Rattle.std.proofs.Common.{◌≡◌, ◌⊎◌, inl, inr, ℕ, List, Some, Result, Ok, Err, IsTrue, IfOk, refl, sym, ap, subst, ◌∙◌}
 use Rattle.std.specs.FinMap.{get}
 use Rattle.sqlite.specs.Effect.{Database}
 use Rattle.sqlite.specs.State.{State, HasCleanDisk}
@@ -8,17 +8,17 @@ use Rattle.xa_records.specs.declared.refusal.ChangeError.{ChangeError}
 use Rattle.xa_records.specs.declared.refusal.ChangeError.TheVariants.{Failed, Refused}
 use Rattle.xa_records.specs.declared.refusal.Failure.{Failure}
 use Rattle.xa_records.specs.Changes.{Change}
-use Rattle.xa_records.specs.Keeper.{Changes, IfAnswered}
+use Rattle.xa_records.specs.Keeper.{IfAnswered}
 use Rattle.xa_records.specs.Kept.{Domain, Kept, IsChanged, IsMade}
 use Rattle.xa_store.specs.declared.step.Step.{Step}
 use Rattle.xa_store.specs.Planning.{told_by}
 use Rattle.xa_store.specs.Quiet.{Quiet}
-use Rattle.xa_store.specs.Sound.{AreNumbered, Ours, Rests, SameNow}
-use Rattle.xa_store.specs.Steps.{AllowsAll, after_all}
+use Rattle.xa_store.specs.Sound.{AreNumbered, Ours, SameNow}
+use Rattle.xa_store.specs.Steps.{AllowsAll}
 use Rattle.xa_store.specs.Taking.{Holds, Made, Runs}
 use Rattle.xa_store.specs.Turns.{IsPlanned, Plans, Turns, answer_of}
-use Rattle.xa_store.specs.World.{Rows, rows_of, kept_of, world_of}
-use Rattle.xa_store.proofs.QuietLemmas.{rests_after, ours_after}
+use Rattle.xa_store.specs.World.{rows_of, kept_of, world_of}
+use Rattle.xa_store.proofs.QuietLemmas.{ours_after}
 
 -- a domain that goes over into the state that it has
 pub still : (kept : Kept) (name : List ℕ) (domain : Domain) → get kept.domains name ≡ Some domain → IsChanged kept kept name (Some domain.state)

@@ -1,12 +1,12 @@
 -- Reading a table row by row.
-use Rattle.std.proofs.Common.{◌≡◌, ◌⊎◌, inl, inr, ℕ, ℤ, Bool, true, false, ◌&&◌, List, [], ◌∷◌, ◌++◌, Option, Some, None, Result, Ok, Err, IsTrue, int_lt, refl, sym, ap, subst, ◌∙◌, append-nil, append_assoc, true≢false}
+use Rattle.std.proofs.Common.{◌≡◌, ℤ, true, false, ◌&&◌, List, [], ◌∷◌, ◌++◌, Option, Some, None, refl, sym, ap, ◌∙◌, append-nil, append_assoc}
 use Rattle.sqlite.specs.Order.{Row, column}
 use Rattle.sqlite.specs.declared.types.Value.{Value}
 use Rattle.sqlite.specs.declared.types.Value.TheVariants.{Null, Int, Real, Text, Blob}
 use Rattle.sqlite_typed.specs.Columns.{int_of}
 use Rattle.xa_store.specs.declared.opening.kind.Kind.{Kind}
 use Rattle.xa_store.specs.Judging.{checks, comes_after, fits}
-use Rattle.xa_store.specs.Opened.{int_in, is_number, is_sound_row, is_whole_row, row_number}
+use Rattle.xa_store.specs.Opened.{int_in, is_number, is_sound_row, row_number}
 
 pub no_number : (v : Value) → int_in v ≡ None → is_number v ≡ false
 no_number Null e = refl

@@ -1,14 +1,13 @@
 -- How the tables are made: part by part, in one transaction.
-use Rattle.std.specs.Prelude.{◌≡◌, ℕ, List, [], ◌∷◌, pos}
+use Rattle.std.specs.Prelude.{◌≡◌, ℕ, List, [], ◌∷◌}
 use Rattle.std.specs.List.{AllByRecursion}
 use Rattle.sqlite.specs.Change.{created}
 use Rattle.sqlite.specs.Effect.{Database}
 use Rattle.sqlite.specs.Schema.{Schema}
-use Rattle.sqlite.specs.Tree.{Trees}
 use Rattle.xa_store.specs.declared.opening.making.Part.{Part}
 use Rattle.xa_store.specs.declared.opening.making.Part.TheVariants as part
 use Rattle.xa_store.specs.Opening.{no_tables, IsMade}
-use Rattle.xa_store.specs.Tables.{our_schema, meta, domains, tokens, policies, roots, attributes}
+use Rattle.xa_store.specs.Tables.{our_schema, meta, domains, tokens, policies, roots}
 use Rattle.xa_store.specs.Texts as text
 
 -- the statement that makes it

@@ -1,6 +1,6 @@
 -- The rows of the tables: of each a record, the row that writes it, and the record that a row writes. A row begins with its rowid;
 -- where that is a column of the table, that column holds NULL.
-use Rattle.std.specs.Prelude.{ℕ, zero, suc, ℤ, pos, negsuc, Bool, true, false, List, [], ◌∷◌, map, drop, slice_get, slice_index_or, unwrap_or, Option, Some, None, option_map, option_and_then, Result, Ok, Err}
+use Rattle.std.specs.Prelude.{ℕ, zero, ℤ, pos, negsuc, Bool, true, false, List, [], ◌∷◌, map, drop, slice_get, slice_index_or, unwrap_or, Option, Some, None, option_map, option_and_then, Result, Ok, Err}
 use Rattle.sqlite.specs.Order.{Row, column}
 use Rattle.sqlite.specs.declared.types.Value.TheVariants.{Null, Int, Text, Blob}
 use Rattle.sqlite_typed.specs.Columns.{int_of, bytes_of, or_null, unless_null}

@@ -9,7 +9,7 @@ use Rattle.sqlite_keyed.specs.Rules.{AreApart}
 use Rattle.xa_policy.specs.DocumentKey.{compare_keys}
 use Rattle.xa_records.specs.DomainState.{compare_bytes, new_domain}
 use Rattle.xa_records.specs.Kept.{IsNumbered, Kept}
-use Rattle.xa_store.specs.Rows.{DomainRow, TokenRow, DocumentRow, RootRow, AttributeRow, meta_row, next_in, domain_row, domain_in, token_row, token_in, document_row, document_in, root_row, root_in, attribute_row, attribute_in}
+use Rattle.xa_store.specs.Rows.{DomainRow, TokenRow, DocumentRow, AttributeRow, meta_row, next_in, domain_row, domain_in, token_row, token_in, document_row, document_in, root_row, root_in, attribute_row, attribute_in}
 use Rattle.xa_store.specs.Tables.{our_schema}
 use Rattle.xa_store.specs.World.{Rows, rows_of, state_at, kept_of, world_of}
 

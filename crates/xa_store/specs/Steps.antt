@@ -10,7 +10,7 @@ use Rattle.xa_policy.specs.Version.{version_text}
 use Rattle.xa_records.specs.DomainState.{compare_bytes}
 use Rattle.xa_store.specs.declared.step.Step.{Step}
 use Rattle.xa_store.specs.declared.step.Step.TheVariants.{AddDomain, SetNext, SetEpoch, DropDomain, AddToken, SetRole, DropToken, AddDocument, SetActive, DropDocument, AddRoot, DropRoot, AddAttribute, DropSource}
-use Rattle.xa_store.specs.Rows.{DomainRow, TokenRow, DocumentRow, RootRow, AttributeRow, root_of, type_number, value_in, value_text, version_in}
+use Rattle.xa_store.specs.Rows.{DomainRow, TokenRow, DocumentRow, AttributeRow, root_of, type_number, value_in, value_text, version_in}
 use Rattle.xa_store.specs.World.{Rows}
 
 -- ---- the row of a key

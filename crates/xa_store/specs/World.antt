@@ -1,5 +1,5 @@
 -- What the tables mean.
-use Rattle.std.specs.Prelude.{ℕ, ℤ, List, map, filter, Bool, Option, option_map}
+use Rattle.std.specs.Prelude.{ℕ, ℤ, List, map, filter, Option, option_map}
 use Rattle.std.specs.FinMap.{FinMap, from_entries}
 use Rattle.std.specs.Ordering.{int_cmp, int_eq, on}
 use Rattle.sqlite.specs.Tree.{Trees}

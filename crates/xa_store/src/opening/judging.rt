@@ -1,6 +1,5 @@
 //! Which rows are those of a keeper.
 ghost use Rattle.std.specs.Prelude.{◌≡◌, IfOk};
-ghost use Rattle.std.specs.Str.{is_utf8};
 ghost use Rattle.sqlite.specs.Order.{column};
 ghost use Rattle.xa_notation.specs.Document.{document_of};
 ghost use Rattle.xa_value.specs.Reading.{read};

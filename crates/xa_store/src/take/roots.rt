@@ -10,7 +10,6 @@ ghost use Rattle.xa_policy.specs.Pattern.{pattern_text};
 ghost use Rattle.xa_policy.specs.Version.{version_text};
 ghost use Rattle.xa_store.specs.Rows.{kind_number};
 ghost use Rattle.xa_store.specs.Taking.{IsInside, Took, text_column};
-ghost use Rattle.xa_store.specs.World.{rows_of};
 
 use crate::take::execute_in;
 use sqlite::types::ValueRef;

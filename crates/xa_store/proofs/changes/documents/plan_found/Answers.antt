@@ -1,4 +1,4 @@
-use Rattle.std.proofs.Common.{None, Some, sym, subst, rules, w64}
+use Rattle.std.proofs.Common.{None, subst, rules, w64}
 use Rattle.std.proofs.lemmas.Int.{to_z-of_z}
 use Rattle.sqlite.specs.Held.{state}
 use Rattle.xa_store.specs.Found.{FindsDocument, IsDomain}

@@ -1,4 +1,4 @@
-use Rattle.std.proofs.Common.{List, ◌≡◌, sym, subst, ap, ◌∙◌, IfOk, Result}
+use Rattle.std.proofs.Common.{List, ◌≡◌, sym, subst, ◌∙◌, IfOk, Result}
 use Rattle.sqlite.specs.Held.{state}
 use Rattle.xa_records.specs.declared.refusal.ChangeError.{ChangeError}
 use Rattle.xa_records.specs.declared.upload.Upload.{Upload}

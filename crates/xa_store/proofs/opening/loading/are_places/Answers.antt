@@ -1,4 +1,4 @@
-use Rattle.std.proofs.Common.{◌≡◌, ◌∙◌, sym, true, false, Some}
+use Rattle.std.proofs.Common.{◌≡◌, ◌∙◌, sym, Some}
 use Rattle.xa_store.specs.Judging.{place_told}
 use Rattle.xa_store.proofs.CountLemmas.{goes_on, stops}
 use Rattle.xa_store.proofs.opening.loading.are_places.Goals as goal

@@ -1,8 +1,7 @@
-use Rattle.std.proofs.Common.{◌&&◌, w64}
+use Rattle.std.proofs.Common.{w64}
 use Rattle.std.proofs.lemmas.Int.{to_z-of_z}
 use Rattle.sqlite.specs.Held.{state}
 use Rattle.xa_store.specs.Opened.{is_sound_table}
-use Rattle.xa_store.specs.declared.opening.kind.Kind.TheVariants.{Domains, Tokens, Documents, Roots, Attributes}
 use Rattle.xa_store.proofs.LoadLemmas.{judged_then}
 use Rattle.xa_store.proofs.opening.loading.judge_two.Goals as goal
 

@@ -1,6 +1,5 @@
-use Rattle.std.proofs.Common.{inl, inr, [], w64}
+use Rattle.std.proofs.Common.{inl, [], w64}
 use Rattle.std.proofs.lemmas.Int.{to_z-of_z}
-use Rattle.sqlite.specs.Held.{state}
 use Rattle.xa_store.proofs.StreamLemmas.{moved_ok, moved_err, same_weaker, kept_failed}
 use Rattle.xa_store.proofs.opening.walking.next_number.Goals as goal
 

@@ -1,4 +1,4 @@
-use Rattle.std.proofs.Common.{w64, refl, option_map}
+use Rattle.std.proofs.Common.{w64}
 use Rattle.std.proofs.lemmas.Int.{to_z-of_z}
 use Rattle.sqlite.specs.Held.{state}
 use Rattle.xa_store.specs.declared.step.Step.TheVariants.{SetActive}
