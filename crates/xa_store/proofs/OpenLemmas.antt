@@ -11,7 +11,7 @@ use Rattle.xa_records.specs.Kept.{nothing_kept}
 use Rattle.xa_store.specs.declared.open_error.OpenError.{OpenError}
 use Rattle.xa_store.specs.declared.open_error.OpenError.TheVariants.{NotThisSchema, Damaged, Store, Memory}
 use Rattle.xa_store.specs.Judging.{Asks, Checked, CheckedIdle, GivesAs, Loads, Made, MakesAs}
-use Rattle.xa_store.specs.Keeper.{Keeper, IsKeeper}
+use Rattle.xa_store.specs.Keeper.{Keeper, IsKeeper, IsSound}
 use Rattle.xa_store.specs.Opened.{opened}
 use Rattle.xa_store.specs.Opening.{Gives, IsBlank, IsFailure, IsMade, Leaves, Makes, Opens, Settles, has_room, held_in, no_tables}
 use Rattle.xa_store.specs.Sound.{Ours, Rests, SameNow}
@@ -130,6 +130,12 @@ module _ {S : Type 0} (g : Ghosts S) (shut : (s : S) → (g.view s).is_clean ≡
   settles_keeper ours loads own up db may =
       let all = loads.ours (clean_up up) up own in
       ap world_of (settled last.store db up may ∙ ap (λ (d : Database). d.trees) (sym all.rests.settled))
+
+  pub sound_keeper : (ours : Bool) → Loads old (state g last) (Ok ours) → IsTrue ours → IsTrue (state g last).is_open → IsSound g (keeper ours)
+  sound_keeper ours loads own up = (
+    own,
+    record { is_open = up; ours = loads.ours (clean_up up) up own; settled = λ left leaves. leaves.2 ∙ settles_keeper ours loads own up leaves.0 leaves.1 },
+  )
 
   pub opens_refused : (e : OpenError) → Loads old (state g last) (Err e) → Rests old → Opens g old (Err (e, last))
   opens_refused e loads rests up = let it = loads.opens (clean_up up) rests up in (it.0, it.1)

@@ -42,6 +42,13 @@ impl<S: Alter> SqlRecords<S> {
         }
     }
 
+    /// Whether its store had a keeper's tables and no others when it was opened. Only of such a keeper do the clauses of `Records` say what it holds.
+    pub fn is_ours(&self) -> bool
+        ensures { result ≡ self.now.ours }
+    {
+        self.ours
+    }
+
     /// The connection that it was made over.
     pub fn into_connection(self) -> Connection<S>
         ensures { result ≡ self.conn }

@@ -3,6 +3,7 @@ ghost use Rattle.std.specs.Prelude.{◌≢◌, ◌⊎◌, IfOk, IsTrue};
 ghost use Rattle.sqlite.specs.Held.{state};
 ghost use Rattle.sqlite.specs.State.{HasCleanDisk, Survives};
 ghost use Rattle.xa_store.specs.Judging.{CheckedIdle, Loads};
+ghost use Rattle.xa_store.specs.Keeper.{IsSound};
 ghost use Rattle.xa_store.specs.Opening.{held_in, IsBlank, Leaves, Makes, Opens, Settles};
 ghost use Rattle.xa_store.specs.Sound.{Rests};
 ghost use Rattle.xa_store.specs.Tables.{our_schema};
@@ -67,6 +68,7 @@ impl<S: Alter> SqlRecords<S> {
         ensures makes { IsBlank (state S.Store conn) → Makes S.Store (state S.Store conn) result }
         ensures leaves { Survives (state S.Store conn) (state S.Store (held_in S.Store result)) (Leaves (state S.Store conn)) }
         ensures settled { IfOk result (Settles S.Store) }
+        ensures sound { IfOk result (λ k. IsTrue k.ours → IsTrue (state S.Store k.conn).is_open → IsSound S.Store k) }
         ensures stays { HasCleanDisk (state S.Store (held_in S.Store result)) → (Rests (state S.Store conn) ⊎ IsBlank (state S.Store conn)) → IfOk result (λ k. IsTrue (state S.Store k.conn).is_open) }
     {
         match load(alloc, &mut conn) {

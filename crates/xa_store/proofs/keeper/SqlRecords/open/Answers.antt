@@ -1,8 +1,8 @@
-use Rattle.std.proofs.Common.{Ok, Err, sym, subst}
+use Rattle.std.proofs.Common.{IsTrue, Ok, Err, sym, subst}
 use Rattle.sqlite.specs.Held.{state}
-use Rattle.xa_store.specs.Keeper.{Keeper}
+use Rattle.xa_store.specs.Keeper.{IsSound, Keeper}
 use Rattle.xa_store.specs.Opening.{Makes, Opens, Settles}
-use Rattle.xa_store.proofs.OpenLemmas.{is_keeper, makes_keeper, makes_refused, opens_keeper, opens_refused, settles_keeper}
+use Rattle.xa_store.proofs.OpenLemmas.{is_keeper, makes_keeper, makes_refused, opens_keeper, opens_refused, settles_keeper, sound_keeper}
 use Rattle.xa_store.proofs.keeper.SqlRecords.open.Goals as goal
 
 pub over-requires : goal.over-requires
@@ -22,6 +22,11 @@ pub returns-in-Ok-clause-settled : goal.returns-in-Ok-clause-settled
 returns-in-Ok-clause-settled g c =
     subst (λ k. Settles g.S.Store k) (sym c.over.ensures)
     (settles_keeper g.S.Store g.met.S.Store.shut_if_dirty g.met.S.Store.settled (state g.S.Store c.args.conn) c.load.new.conn c.in-Ok.ours c.in-Ok.ensures)
+
+pub returns-in-Ok-clause-sound : goal.returns-in-Ok-clause-sound
+returns-in-Ok-clause-sound g c =
+    subst (λ k. IsTrue k.ours → IsTrue (state g.S.Store k.conn).is_open → IsSound g.S.Store k) (sym c.over.ensures)
+    (sound_keeper g.S.Store g.met.S.Store.shut_if_dirty g.met.S.Store.settled (state g.S.Store c.args.conn) c.load.new.conn c.in-Ok.ours c.in-Ok.ensures)
 
 pub returns-in-Err-clause-opens : goal.returns-in-Err-clause-opens
 returns-in-Err-clause-opens g c =
