@@ -1,6 +1,6 @@
 //! Rows of stores that are opened as a keeper's. The first field behind the kind says how the store begins: `empty`, or `keeper`, with the tables of a
 //! keeper without domains. Statements of SQL follow, which are run; then the store's file, which is in memory, is closed and opened again. The answer says
-//! whether the keeper is opened, and of a store that is refused whether it holds something else than before.
+//! whether the keeper is opened and the store has a keeper's tables and no others, and of a store that is refused whether it holds something else than before.
 use crate::answer::Answer;
 use crate::field::kept_text;
 use crate::no_answer::NoAnswer;
@@ -34,12 +34,20 @@ fn new_file(alloc: Global) -> Result<InFile, NoAnswer> {
     )
 }
 
+/// The files of the store, which is closed.
+fn closed(conn: InFile) -> Result<Files<Memory>, NoAnswer> {
+    match conn.close_files() {
+        Ok(files) => Ok(files),
+        Err(failed) => {
+            drop(failed);
+            Err(NoAnswer::Memory)
+        }
+    }
+}
+
 /// The store, of which the files were closed and opened again.
 fn reopened(alloc: Global, conn: InFile) -> Result<InFile, NoAnswer> {
-    match conn.close_files() {
-        Ok(files) => file(alloc, files),
-        Err(_) => Err(NoAnswer::Memory),
-    }
+    file(alloc, closed(conn)?)
 }
 
 /// The store, with the tables of a keeper without domains.
@@ -92,11 +100,14 @@ fn contents(alloc: Global, conn: &mut InFile) -> Result<String, NoAnswer> {
     Ok(held)
 }
 
-/// Why the store isn't opened, if it isn't, and its connection.
-fn refusal(alloc: Global, conn: InFile) -> (Option<OpenError>, InFile) {
+/// Whether the store that is opened has a keeper's tables and no others, or why it isn't opened; and its connection.
+fn judged(alloc: Global, conn: InFile) -> (Result<bool, OpenError>, InFile) {
     match SqlRecords::open(alloc, conn) {
-        Ok(keeper) => (None, keeper.into_connection()),
-        Err((error, conn)) => (Some(error), conn),
+        Ok(keeper) => {
+            let is_ours = keeper.is_ours();
+            (Ok(is_ours), keeper.into_connection())
+        }
+        Err((error, conn)) => (Err(error), conn),
     }
 }
 
@@ -109,19 +120,40 @@ fn prepared(alloc: Global, word: &str, statements: &[&str]) -> Result<InFile, No
     reopened(alloc, conn)
 }
 
+/// Answers that the store is opened.
+fn push_opened(answer: &mut Answer, is_ours: bool) {
+    answer.word("opened");
+    if is_ours {
+        answer.word("ours");
+    }
+}
+
+/// Answers why the store isn't opened, and whether it has changed since it held that.
+fn push_refused(
+    answer: &mut Answer,
+    error: OpenError,
+    conn: &mut InFile,
+    before: &str,
+) -> Result<(), NoAnswer> {
+    answer.name("!", &error);
+    let after = contents(answer.alloc(), conn)?;
+    if after.as_str() != before {
+        answer.word("changed");
+    }
+    Ok(())
+}
+
 /// What opening the store answers.
 pub fn opened(answer: &mut Answer, word: &str, statements: &[&str]) -> Result<(), NoAnswer> {
     let alloc = answer.alloc();
     let mut conn = prepared(alloc, word, statements)?;
     let before = contents(alloc, &mut conn)?;
-    let (refused, mut conn) = refusal(alloc, conn);
-    let Some(error) = refused else {
-        answer.word("opened");
-        return Ok(());
-    };
-    answer.name("!", &error);
-    if contents(alloc, &mut conn)? != before {
-        answer.word("changed");
+    let (judgement, mut conn) = judged(alloc, conn);
+    match judgement {
+        Ok(is_ours) => {
+            push_opened(answer, is_ours);
+            Ok(())
+        }
+        Err(error) => push_refused(answer, error, &mut conn, before.as_str()),
     }
-    Ok(())
 }
