@@ -187,7 +187,7 @@ KINDS = {
     "apply": apply, "higher": higher, "token": token, "domain": domain, "number": number,
     "evaluate": questions.evaluate, "target": questions.target,
     "months": months, "nanoseconds": nanoseconds, "held": held, "keys": keys, "bag": bag, "digest": digest,
-    "server": servers.server, "stream": messages.stream, "route": routes.route, "combine": combining.combine,
+    "server": servers.server, "loopback": servers.loopback, "stream": messages.stream, "route": routes.route, "combine": combining.combine,
     "version": versions.version, "pattern": versions.pattern, "matches": versions.matches, "versions": versions.versions,
     "resolve": versions.resolve, "document": documents.document,
     "link": linking.link, "decide": decisions.decide, "request": requests.request, "individuals": requests.individuals,

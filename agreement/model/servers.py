@@ -140,18 +140,50 @@ def in_runs(replies):
     return fields
 
 
-def piece(stream, server, moment, held):
-    """What is answered after a piece."""
+def replied(stream, server, moment, held):
+    """The replies to the messages that are whole after these bytes, the reply to a fault, if it is one that follows, and what the stream answers then."""
     stream.held += held
     replies = []
     while isinstance(found := stream.next(), Message):
         replies.append(server.answer(found, moment))
-    fields = in_runs(replies)
-    if isinstance(found, Fault):
-        fields.append(encoded(error_reply(str(found))))
+    return replies, [error_reply(str(found))] if isinstance(found, Fault) else [], found
+
+
+def piece(stream, server, moment, held):
+    """What is answered after a piece."""
+    replies, fault, found = replied(stream, server, moment, held)
+    fields = in_runs(replies) + [encoded(reply) for reply in fault]
     if found != "More":
         fields.append("!Ended")
     return fields or ["More"]
+
+
+def connection(server, moment, held):
+    """How a connection ends for the server on which these bytes come, and what is sent on it, if that is something."""
+    replies, fault, _ = replied(Stream(), server, moment, held)
+    sent = b"".join(replies + fault)
+    return ["Ended"] + ([encoded(sent)] if sent else [])
+
+
+def loopback(*fields):
+    """The answer to a row of connections; None as for a row of a server."""
+    if any(field.startswith("limit:") for field in fields):
+        return None
+    try:
+        made = set_up(fields)
+    except TurnedAway as reply:
+        return [encoded(reply.args[0])]
+    held, moment, shown = b"", 0, []
+    for field in [*fields, "close:"]:
+        word, _, text = field.partition(":")
+        if word == "piece":
+            held += decoded(text)
+        elif word == "close":
+            shown += connection(made, moment, held)
+            held = b""
+        elif word == "moment":
+            moment = int(text)
+    return shown
 
 
 def server(*fields):

@@ -35,6 +35,13 @@ impl Answer {
         self.line.as_str()
     }
 
+    /// Adds the other keeper's answer, if it is another.
+    pub fn compare(&mut self, other: &Answer) {
+        if self.line() != other.line() {
+            self.field("!Differs ", other.line().as_bytes());
+        }
+    }
+
     /// Cuts the answer.
     pub fn cut(&mut self) {
         self.is_cut = true;

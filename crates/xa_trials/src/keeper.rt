@@ -6,13 +6,33 @@ use crate::keeper_changes::{
     activate, create, delete, drop_token, put_token, remove, set_root, set_source, upload,
 };
 use crate::keeper_readings::{document, domains, gate, list, role, view};
+use crate::keepers::tables;
 use crate::no_answer::NoAnswer;
 use xa_records::{PlainRecords, Records};
 use xa_value::Text;
 
-/// What a keeper in memory answers to the calls, of which the first finds no domain.
+/// What a keeper answers to the calls, of which the first finds no domain: one in memory, and one over tables, which has to answer the same.
 pub fn keeper(answer: &mut Answer, calls: &[&str]) -> Result<(), NoAnswer> {
-    let mut records = PlainRecords::new(answer.alloc());
+    let alloc = answer.alloc();
+    keeper_in_memory(answer, calls)?;
+    let mut other = Answer::new(alloc);
+    make_all(&mut other, tables(alloc)?, calls)?;
+    answer.compare(&other);
+    Ok(())
+}
+
+/// The same, by the keeper in memory alone.
+pub fn keeper_in_memory(answer: &mut Answer, calls: &[&str]) -> Result<(), NoAnswer> {
+    let alloc = answer.alloc();
+    make_all(answer, PlainRecords::new(alloc), calls)
+}
+
+/// Makes the calls, one after another.
+fn make_all<R: Records + Drop>(
+    answer: &mut Answer,
+    mut records: R,
+    calls: &[&str],
+) -> Result<(), NoAnswer> {
     for call in calls {
         make(answer, &mut records, call)?;
     }

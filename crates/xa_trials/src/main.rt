@@ -15,7 +15,9 @@ mod holders;
 mod keeper;
 mod keeper_changes;
 mod keeper_readings;
+mod keepers;
 mod linking;
+mod loopback;
 mod messages;
 mod no_answer;
 mod plain;
@@ -25,12 +27,13 @@ mod server;
 mod setup;
 mod setup_messages;
 mod source_rows;
+mod stores;
 mod values;
 mod versions;
 
 use answer::Answer;
 use no_answer::NoAnswer;
-use std::alloc::{AllocError, Global};
+use std::alloc::AllocError;
 use std::io::{self, Write};
 
 /// Answers a row of one field behind the kind.
@@ -96,9 +99,18 @@ fn answer_many(answer: &mut Answer, kind: &str, fields: &[&str]) -> Result<(), N
         "target" => expressions::target(answer, fields),
         "keys" => holders::keys(answer, fields),
         "stream" => messages::stream(answer, fields),
-        "server" => server::server(answer, fields),
         "decide" => decisions::decision(answer, fields),
+        _ => answer_kept(answer, kind, fields),
+    }
+}
+
+/// Answers a row of what is kept.
+fn answer_kept(answer: &mut Answer, kind: &str, fields: &[&str]) -> Result<(), NoAnswer> {
+    match kind {
+        "server" => server::server(answer, fields),
+        "server_in_memory" => server::server_in_memory(answer, fields),
         "keeper" => keeper::keeper(answer, fields),
+        "keeper_in_memory" => keeper::keeper_in_memory(answer, fields),
         _ => answer_first(answer, kind, fields),
     }
 }
@@ -115,6 +127,7 @@ fn answer_first(answer: &mut Answer, kind: &str, fields: &[&str]) -> Result<(), 
         "combine" => combining::combination(answer, first, fields),
         "resolve" => references::resolution(answer, first, fields),
         "link" => linking::tree(answer, first, fields),
+        "opened" => stores::opened(answer, first, fields),
         _ => Err(NoAnswer::Malformed),
     }
 }
@@ -131,23 +144,32 @@ fn answer_row(answer: &mut Answer, fields: &[&str]) -> Result<(), NoAnswer> {
     }
 }
 
+/// Answers a row, over sockets if it asks for them.
+fn answer_over(rt: &HostRuntime, answer: &mut Answer, fields: &[&str]) -> Result<(), NoAnswer> {
+    match fields {
+        ["loopback", fields @ ..] => loopback::loopback(answer, rt, fields),
+        _ => answer_row(answer, fields),
+    }
+}
+
 /// The answer to a line.
-fn answer_to(alloc: Global, line: &str) -> Result<Answer, AllocError> {
-    let mut answer = Answer::new(alloc);
-    let fields: Vec<&str> = line.split('\t').collect(alloc)?;
-    match answer_row(&mut answer, &fields) {
+fn answer_to(rt: &HostRuntime, line: &str) -> Result<Answer, AllocError> {
+    let mut answer = Answer::new(rt.alloc());
+    let fields: Vec<&str> = line.split('\t').collect(rt.alloc())?;
+    match answer_over(rt, &mut answer, &fields) {
         Ok(()) => {}
         Err(NoAnswer::Memory) => answer.cut(),
         Err(NoAnswer::Malformed) => answer.word("!Malformed"),
+        Err(NoAnswer::Socket) => answer.word("!Socket"),
     }
     Ok(answer)
 }
 
 /// The answers to the lines of the text.
-fn answers(alloc: Global, text: &str) -> Result<String, AllocError> {
-    let mut answers = String::new(alloc);
+fn answers(rt: &HostRuntime, text: &str) -> Result<String, AllocError> {
+    let mut answers = String::new(rt.alloc());
     for line in text.lines() {
-        let answer = answer_to(alloc, line)?;
+        let answer = answer_to(rt, line)?;
         answers.push_str(answer.line())?;
         answers.push_str("\n")?;
     }
@@ -156,6 +178,6 @@ fn answers(alloc: Global, text: &str) -> Result<String, AllocError> {
 
 fn main(rt: HostRuntime) -> io::Result<()> {
     let text = io::read_to_string(rt.alloc(), rt.reader())?;
-    let answers = answers(rt.alloc(), text.as_str())?;
+    let answers = answers(&rt, text.as_str())?;
     io::writer(&rt).write_all(answers.as_bytes())
 }

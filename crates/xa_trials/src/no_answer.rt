@@ -1,5 +1,6 @@
 //! Why a row gets no answer.
 use std::alloc::{AllocError, AllocFailed};
+use std::io;
 
 /// Why a row gets no answer.
 #[derive(Clone, Copy)]
@@ -8,6 +9,8 @@ pub enum NoAnswer {
     Memory,
     /// The row is none of those that the program knows.
     Malformed,
+    /// A socket of this machine failed.
+    Socket,
 }
 
 impl From<AllocError> for NoAnswer {
@@ -19,5 +22,14 @@ impl From<AllocError> for NoAnswer {
 impl<T: Drop> From<AllocFailed<T>> for NoAnswer {
     fn from(_error: AllocFailed<T>) -> NoAnswer {
         NoAnswer::Memory
+    }
+}
+
+impl From<io::Error> for NoAnswer {
+    fn from(error: io::Error) -> NoAnswer {
+        match error.kind() {
+            io::ErrorKind::OutOfMemory => NoAnswer::Memory,
+            _ => NoAnswer::Socket,
+        }
     }
 }

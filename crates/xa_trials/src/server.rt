@@ -4,19 +4,20 @@
 use crate::answer::Answer;
 use crate::decisions::moment_of;
 use crate::field::bytes_of;
+use crate::keepers::tables;
 use crate::no_answer::NoAnswer;
-use crate::setup::{NoServer, server_of};
+use crate::setup::server_of;
 use std::alloc::Global;
 use xa_http::{Message, Next, Session};
-use xa_records::PlainRecords;
+use xa_records::{PlainRecords, Records};
 use xa_server::{Reply, Server, fault_reply};
 use xa_value::Moment;
 
 /// A server at a moment, with the stream whose messages it answers.
 #[derive(Drop)]
-struct Trial {
+struct Trial<R: Records + Drop> {
     alloc: Global,
-    server: Server<PlainRecords>,
+    server: Server<R>,
     session: Session,
     moment: Moment,
 }
@@ -59,7 +60,7 @@ fn take_messages(
     Ok(Next::More)
 }
 
-impl Trial {
+impl<R: Records + Drop> Trial<R> {
     /// Answers the messages that are whole after the piece.
     fn piece(&mut self, answer: &mut Answer, field: &str) -> Result<(), NoAnswer> {
         let bytes = bytes_of(self.alloc, field)?;
@@ -128,31 +129,48 @@ fn is_count(field: &str) -> bool {
 }
 
 /// How many fields stand before the first event.
-fn fields_before_events(fields: &[&str]) -> usize {
+pub fn fields_before_events(fields: &[&str]) -> usize {
     fields
         .iter()
         .position(|field| is_event(field))
         .unwrap_or(fields.len())
 }
 
-/// What the server with the domains of the first fields answers to the events of the others; where there is none, the reply that says why.
+/// What the server with the domains of the first fields answers to the events of the others: over a keeper in memory, and over tables, which
+/// have to answer the same.
 pub fn server(answer: &mut Answer, fields: &[&str]) -> Result<(), NoAnswer> {
+    let alloc = answer.alloc();
+    server_in_memory(answer, fields)?;
+    let mut other = Answer::new(alloc);
+    server_over(&mut other, tables(alloc)?, fields)?;
+    answer.compare(&other);
+    Ok(())
+}
+
+/// The same, over the keeper in memory alone.
+pub fn server_in_memory(answer: &mut Answer, fields: &[&str]) -> Result<(), NoAnswer> {
+    let alloc = answer.alloc();
+    server_over(answer, PlainRecords::new(alloc), fields)
+}
+
+/// What the server over the keeper answers; where there is none, the reply that says why.
+fn server_over<R: Records + Drop>(
+    answer: &mut Answer,
+    records: R,
+    fields: &[&str],
+) -> Result<(), NoAnswer> {
     let count = fields_before_events(fields);
     let domains = fields.get(..count).unwrap_or(&[]);
     let events = fields.get(count..).unwrap_or(&[]);
-    match server_of(answer.alloc(), domains) {
+    match server_of(answer.alloc(), records, domains) {
         Ok(server) => stream(answer, server, events),
-        Err(NoServer::Reply(reply)) => {
-            answer.field("", reply.bytes());
-            Ok(())
-        }
-        Err(NoServer::NoAnswer(error)) => Err(error),
+        Err(error) => error.tell(answer),
     }
 }
 
-fn stream(
+fn stream<R: Records + Drop>(
     answer: &mut Answer,
-    server: Server<PlainRecords>,
+    server: Server<R>,
     events: &[&str],
 ) -> Result<(), NoAnswer> {
     let alloc = answer.alloc();

@@ -2,6 +2,7 @@
 //! come fields `domain:NAME`, after each of which stand its tokens,
 //! `ask:TOKEN` and `admin:TOKEN`, its documents, `document:TEXT`, or `inactive:TEXT` where one isn't active, its root, `root:REFERENCE`, and the
 //! rows of its source of attributes, `row:CATEGORY|ENTITY|ID|TYPE=TEXT`. A field `limit:UNITS` limits the work for each message of the row's events.
+use crate::answer::Answer;
 use crate::decisions::moment_of;
 use crate::documents::document_of;
 use crate::field::{bytes_of, number_of, text_of};
@@ -10,7 +11,7 @@ use crate::setup_messages::{message, new_token, old_token, path_part, root};
 use crate::source_rows::source_row;
 use std::alloc::{AllocError, AllocFailed, Global};
 use xa_decide::{SourceRow, write_rows};
-use xa_records::{Digest, PlainRecords, kind_name};
+use xa_records::{Digest, Records, kind_name};
 use xa_server::{Reply, Server};
 use xa_value::Items;
 
@@ -27,6 +28,19 @@ pub enum NoServer {
     Reply(Reply),
     /// The row gets no answer.
     NoAnswer(NoAnswer),
+}
+
+impl NoServer {
+    /// Answers with the reply, if that is why.
+    pub fn tell(self, answer: &mut Answer) -> Result<(), NoAnswer> {
+        match self {
+            NoServer::Reply(reply) => {
+                answer.field("", reply.bytes());
+                Ok(())
+            }
+            NoServer::NoAnswer(error) => Err(error),
+        }
+    }
 }
 
 impl From<NoAnswer> for NoServer {
@@ -54,9 +68,9 @@ fn is_success(reply: &[u8]) -> bool {
 
 /// A server whose domains are made, one after another.
 #[derive(Drop)]
-struct Setup {
+struct Setup<R: Records + Drop> {
     alloc: Global,
-    server: Server<PlainRecords>,
+    server: Server<R>,
     /// The name of the last domain as it stands in a path, empty before the first.
     domain: String,
     /// The rows of its source of attributes.
@@ -65,9 +79,9 @@ struct Setup {
     limit: Option<u64>,
 }
 
-impl Setup {
+impl<R: Records + Drop> Setup<R> {
     /// The server, which has no domains.
-    fn new(alloc: Global, server: Server<PlainRecords>) -> Setup {
+    fn new(alloc: Global, server: Server<R>) -> Setup<R> {
         Setup {
             alloc,
             server,
@@ -207,7 +221,7 @@ impl Setup {
     }
 
     /// The server, with the limit if there is one.
-    fn into_server(self) -> Server<PlainRecords> {
+    fn into_server(self) -> Server<R> {
         match self.limit {
             Some(units) => self.server.with_limit(units),
             None => self.server,
@@ -216,21 +230,29 @@ impl Setup {
 }
 
 /// A server without domains, with the room for views that is given.
-fn empty_server(alloc: Global, views: Option<&str>) -> Result<Server<PlainRecords>, NoServer> {
+fn empty_server<R: Records + Drop>(
+    alloc: Global,
+    records: R,
+    views: Option<&str>,
+) -> Result<Server<R>, NoServer> {
     let operator = Digest::of(OPERATOR_TOKEN.as_bytes());
-    let server = Server::new(alloc, PlainRecords::new(alloc), operator)?;
+    let server = Server::new(alloc, records, operator)?;
     match views {
         Some(count) => Ok(server.with_views(number_of(count)?)),
         None => Ok(server),
     }
 }
 
-/// The server with the domains of the fields.
-pub fn server_of(alloc: Global, fields: &[&str]) -> Result<Server<PlainRecords>, NoServer> {
+/// The server with the domains of the fields, over a keeper that has none.
+pub fn server_of<R: Records + Drop>(
+    alloc: Global,
+    records: R,
+    fields: &[&str],
+) -> Result<Server<R>, NoServer> {
     let views = fields
         .first()
         .and_then(|field| field.strip_prefix("views:"));
-    let mut setup = Setup::new(alloc, empty_server(alloc, views)?);
+    let mut setup = Setup::new(alloc, empty_server(alloc, records, views)?);
     let domains = if views.is_some() { 1 } else { 0 };
     for field in fields.get(domains..).unwrap_or(&[]) {
         setup.step(field)?;
