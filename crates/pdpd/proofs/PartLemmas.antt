@@ -1,12 +1,13 @@
 -- The parts of a line, cut off at the first space.
 use Rattle.std.proofs.Common.{◌≡◌, ◌≢◌, ℕ, ◌+◌, ◌<◌, ◌≤◌, List, [], ◌∷◌, length, get_or, take, drop, false, refl, ap, ◌∙◌, suc, add-one, arith}
-use Rattle.std.specs.Prelude.{◌==◌, None}
+use Rattle.std.specs.Prelude.{◌==◌, Err}
 use Rattle.std.specs.List.{All}
 use Rattle.std.proofs.Math.Seq.{split_at}
 use Rattle.std.proofs.lemmas.Bool.Decides.{Decides-eqb, nat_tests}
 use Rattle.std.proofs.lemmas.List.{take_all}
 use Rattle.std.proofs.lemmas.List.Elements.{All-more}
 use Rattle.std.proofs.lemmas.List.Splits.{length-slice_split, slice_split_at, slice_split_none}
+use Rattle.pdpd.specs.declared.heading.HeadingFault.TheVariants.{Parts}
 use Rattle.pdpd.specs.Heading.{heading_of, parts_of, heading_of_parts}
 
 -- none of them is a space
@@ -29,11 +30,11 @@ one_part text i end none = slice_split_none (λ c. c == 32) text (rw (take_all i
 
 -- three parts and more are not three
 pub more_parts : (line first second third after beyond rest : List ℕ) → parts_of line ≡ first ∷ parts_of after
-    → parts_of after ≡ second ∷ parts_of beyond → parts_of beyond ≡ third ∷ parts_of rest → heading_of line ≡ None
+    → parts_of after ≡ second ∷ parts_of beyond → parts_of beyond ≡ third ∷ parts_of rest → heading_of line ≡ Err Parts
 more_parts line first second third after beyond rest a b c =
     ap heading_of_parts (a ∙ ap (λ parts. first ∷ parts) (b ∙ ap (λ parts. second ∷ parts) c))
     ∙ too_many (parts_of rest) (omega (arith, length-slice_split (λ c. c == 32) rest))
   where
-    too_many : (parts : List (List ℕ)) → 0 < length parts → heading_of_parts (first ∷ second ∷ third ∷ parts) ≡ None
+    too_many : (parts : List (List ℕ)) → 0 < length parts → heading_of_parts (first ∷ second ∷ third ∷ parts) ≡ Err Parts
     too_many [] some = absurd (omega (arith, some))
     too_many (part ∷ parts) some = refl

@@ -1,16 +1,18 @@
 -- How the program ends.
-use Rattle.std.specs.Prelude.{ℕ, Bool, true, false, Result, Ok, Err}
+use Rattle.std.specs.Prelude.{ℕ, Bool, true, false}
 use Rattle.std.specs.declared.io.ErrorKind.{ErrorKind}
 use Rattle.std.specs.declared.io.ErrorKind.TheVariants.{OutOfMemory}
 use Rattle.pdpd.specs.declared.exit.Exit.{Exit}
 use Rattle.pdpd.specs.declared.exit.Exit.TheVariants.{Done, Failed, Usage, Malformed, Store, Socket, Memory}
+use Rattle.pdpd.specs.declared.transcript.ReadFault.{ReadFault}
+use Rattle.pdpd.specs.declared.transcript.ReadFault.TheVariants as read
 
 -- the status with which it ends
 abbrev pub status_of : Exit → ℕ
 status_of Done = 0
 status_of Failed = 1
 status_of Usage = 2
-status_of Malformed = 3
+status_of (Malformed _ _) = 3
 status_of Store = 4
 status_of Socket = 5
 status_of Memory = 6
@@ -20,9 +22,19 @@ abbrev pub exit_of : ErrorKind → Exit
 exit_of OutOfMemory = Memory
 exit_of _ = Failed
 
--- the exits in the middle of a transcript
+-- how it ends where that entry, counted from 1, can't be read
+abbrev pub exit_of_read : ℕ → ReadFault → Exit
+exit_of_read entry (read.Malformed fault) = Malformed entry fault
+exit_of_read entry read.Failed = Failed
+exit_of_read entry read.Memory = Memory
+
+-- the exits in the middle of an entry
 abbrev pub breaks_off : Exit → Bool
 breaks_off Failed = true
-breaks_off Malformed = true
 breaks_off Memory = true
 breaks_off _ = false
+
+-- the exits of connections that are served: no transcript is read
+abbrev pub ends_serving : Exit → Bool
+ends_serving (Malformed _ _) = false
+ends_serving _ = true

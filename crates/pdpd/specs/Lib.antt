@@ -1,8 +1,13 @@
 pub mod Batch
 pub mod CommandLine
 pub mod Connections
+pub mod Ending
 pub mod Entry
 pub mod Exit
 pub mod Fault
 pub mod Heading
+pub mod Reading
+pub mod Replay
+pub mod Replaying
 pub mod Token
+pub mod Transcript

@@ -3,6 +3,7 @@ ghost use Rattle.std.specs.Prelude.{◌≡◌};
 ghost use Rattle.std.specs.Process.{exit_status};
 ghost use Rattle.pdpd.specs.Exit.{status_of};
 
+use crate::transcript_fault::TranscriptFault;
 use std::alloc::{AllocError, AllocFailed};
 use std::fmt;
 use std::io::{self, ErrorKind};
@@ -17,8 +18,8 @@ pub enum Exit {
     Failed,
     /// The command line asks for nothing that is done, or the token is malformed or can't be read.
     Usage,
-    /// The transcript is malformed or cut. The replies of the entries before are written.
-    Malformed,
+    /// That entry of the transcript, counted from 1, is malformed or cut. The replies to the entries before are written.
+    Malformed { entry: u64, fault: TranscriptFault },
     /// The store can't be opened.
     Store,
     /// The socket or the clock failed.
@@ -36,7 +37,7 @@ impl Exit {
             Exit::Done => 0,
             Exit::Failed => 1,
             Exit::Usage => 2,
-            Exit::Malformed => 3,
+            Exit::Malformed { .. } => 3,
             Exit::Store => 4,
             Exit::Socket => 5,
             Exit::Memory => 6,
@@ -51,7 +52,7 @@ impl fmt::Display for Exit {
             Exit::Failed => "pdpd: standard input or output failed",
             Exit::Usage =>
                 "usage: pdpd serve DATABASE ADDRESS TOKEN-FILE CONNECTIONS, or pdpd replay OPERATOR-TOKEN (8 to 64 visible ASCII characters); pdpd --help says more",
-            Exit::Malformed => "pdpd: the transcript is malformed or cut",
+            Exit::Malformed { entry, fault } => return write!(f, "pdpd: entry {entry}: {fault}"),
             Exit::Store => "pdpd: the store failed",
             Exit::Socket => "pdpd: the socket or the clock failed",
             Exit::Memory => "pdpd: out of memory",

@@ -1,5 +1,6 @@
 //! Why `pdpd serve` ends before its connections are served, as one line that says what to do.
-ghost use Rattle.std.specs.Prelude.{◌≡◌};
+ghost use Rattle.std.specs.Prelude.{◌≡◌, IsTrue};
+ghost use Rattle.pdpd.specs.Exit.{ends_serving};
 ghost use Rattle.pdpd.specs.Fault.{exit_of_fault};
 
 use crate::command_line::Serving;
@@ -73,7 +74,8 @@ pub enum Fault {
 impl Fault {
     /// How the program ends.
     pub fn exit(self) -> Exit
-        ensures { result ≡ exit_of_fault self }
+        ensures exit { result ≡ exit_of_fault self }
+        ensures serving { IsTrue (ends_serving result) }
     {
         match self {
             Fault::Address | Fault::Work | Fault::TokenUnread | Fault::TokenBad => Exit::Usage,

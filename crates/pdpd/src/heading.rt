@@ -3,6 +3,7 @@ ghost use Rattle.std.specs.Prelude.{◌≡◌, ◌-◌, ◌^◌, ◌∷◌, [], 
 ghost use Rattle.xa_value.specs.Digits.{number_up_to};
 ghost use Rattle.pdpd.specs.Heading.{heading_of, heading_of_three, moment_of, parts_of};
 
+use std::fmt;
 use xa_value::{Moment, number_up_to};
 
 /// How many connections a transcript may hold at once.
@@ -20,6 +21,31 @@ pub struct Heading {
     pub moment: Moment,
     /// How many bytes follow.
     pub count: usize,
+}
+
+/// What is wrong with the line before an entry. Of several faults it is the first.
+#[derive(Clone, Copy, Debug, PartialEq, Eq)]
+pub enum HeadingFault {
+    /// It hasn't three parts, with one space between two.
+    Parts,
+    /// The connection is no number from 0 to 63.
+    BadConnection,
+    /// The moment is no number of seconds within the years 0001 to 9999.
+    BadMoment,
+    /// The count is no number of at most 1,048,576.
+    BadCount,
+}
+
+impl fmt::Display for HeadingFault {
+    fn fmt<W: fmt::Write>(&self, f: &mut fmt::Formatter<W>) -> fmt::Result {
+        f.write_str(match self {
+            HeadingFault::Parts => "the line before it hasn't three parts, with one space between",
+            HeadingFault::BadConnection => "its connection is no number from 0 to 63",
+            HeadingFault::BadMoment =>
+                "its moment is no number of seconds within the years 0001 to 9999",
+            HeadingFault::BadCount => "its count is no number of at most 1048576",
+        })
+    }
 }
 
 /// The seconds that plain digits write.
@@ -55,28 +81,28 @@ fn split_once_at_space(text: &[u8]) -> Option<(&[u8], &[u8])>
 
 /// The heading of three parts.
 #[tactic(auto, unfolding(crate::specs::Heading::heading_of_three))]
-fn heading_of_three(connection: &[u8], moment: &[u8], count: &[u8]) -> Option<Heading>
+fn heading_of_three(connection: &[u8], moment: &[u8], count: &[u8]) -> Result<Heading, HeadingFault>
     ensures { result ≡ heading_of_three connection.now moment.now count.now }
 {
-    let connection = number_up_to(CONNECTIONS - 1, connection)?;
-    let moment = moment_of(moment)?;
-    let count = number_up_to(MAX_ENTRY_BYTES, count)?;
-    Some(Heading {
+    let connection = number_up_to(CONNECTIONS - 1, connection).ok_or(HeadingFault::BadConnection)?;
+    let moment = moment_of(moment).ok_or(HeadingFault::BadMoment)?;
+    let count = number_up_to(MAX_ENTRY_BYTES, count).ok_or(HeadingFault::BadCount)?;
+    Ok(Heading {
         connection,
         moment,
         count,
     })
 }
 
-/// The heading that a line writes, if it is well-formed.
+/// The heading that a line writes, or what is wrong with the line.
 #[tactic(auto, using(crate::proofs::PartLemmas::more_parts))]
-pub fn heading_of(line: &[u8]) -> Option<Heading>
+pub fn heading_of(line: &[u8]) -> Result<Heading, HeadingFault>
     ensures { result ≡ heading_of line.now }
 {
-    let (connection, rest) = split_once_at_space(line)?;
-    let (moment, count) = split_once_at_space(rest)?;
+    let (connection, rest) = split_once_at_space(line).ok_or(HeadingFault::Parts)?;
+    let (moment, count) = split_once_at_space(rest).ok_or(HeadingFault::Parts)?;
     match split_once_at_space(count) {
-        Some(_) => None,
+        Some(_) => Err(HeadingFault::Parts),
         None => heading_of_three(connection, moment, count),
     }
 }

@@ -2,7 +2,12 @@
 //! `pdpd replay OPERATOR-TOKEN`: answers those of a transcript.
 #![tactic(auto)]
 
-ghost use Rattle.std.specs.Prelude.{◌≡◌};
+ghost use Rattle.std.specs.Prelude.{◌≡◌, ◌⊎◌, ◌↔◌, IsFalse, IsTrue, map, string_bytes};
+ghost use Rattle.xa_notation.specs.Tokens.{is_token};
+ghost use Rattle.pdpd.specs.declared.exit.Exit.TheVariants.{Done, Failed, Usage};
+ghost use Rattle.pdpd.specs.CommandLine.{command_of};
+ghost use Rattle.pdpd.specs.Ending.{MayEnd};
+ghost use Rattle.pdpd.specs.Exit.{ends_serving};
 
 mod answers;
 mod command_line;
@@ -12,13 +17,13 @@ mod fault;
 mod heading;
 mod help;
 mod open_stream;
+mod piece;
 mod replay;
 mod serve;
 mod store;
-#[cfg(test)]
-mod tests;
 mod token;
 mod transcript;
+mod transcript_fault;
 mod wall_clock;
 mod writing;
 
@@ -49,7 +54,9 @@ fn told(rt: &HostRuntime, exit: Exit) -> Exit
 }
 
 /// Prints a text.
-fn tell(rt: &HostRuntime, text: &str) -> Exit {
+fn tell(rt: &HostRuntime, text: &str) -> Exit
+    ensures { (result ≡ Done) ⊎ (result ≡ Failed) }
+{
     match rt.println(text) {
         Ok(()) => Exit::Done,
         Err(_) => told(rt, Exit::Failed),
@@ -57,7 +64,9 @@ fn tell(rt: &HostRuntime, text: &str) -> Exit {
 }
 
 /// Serves connections. A line on standard error tells of a fault.
-fn served(rt: &HostRuntime, serving: &Serving<'_>) -> Exit {
+fn served(rt: &HostRuntime, serving: &Serving<'_>) -> Exit
+    ensures { IsTrue (ends_serving result) }
+{
     match serve::serve(rt, serving) {
         Ok(()) => Exit::Done,
         Err(fault) => {
@@ -68,18 +77,20 @@ fn served(rt: &HostRuntime, serving: &Serving<'_>) -> Exit {
 }
 
 /// Replays the transcript on standard input.
-fn replayed(rt: &HostRuntime, token: &str) -> Exit {
-    let exit = replay::replay(rt.alloc(), &mut rt.stdin(), &mut rt.stdout(), token);
-    told(rt, exit)
+fn replayed(rt: &HostRuntime, token: &str) -> Exit
+    ensures { (result ≡ Usage) ↔ IsFalse (is_token token.now) }
+{
+    told(
+        rt,
+        replay::replay(rt.alloc(), rt.stdin(), rt.stdout(), token),
+    )
 }
 
-/// Does what the command line asks for.
-fn run(rt: &HostRuntime) -> Exit {
-    let words = match words(rt) {
-        Ok(words) => words,
-        Err(exit) => return told(rt, exit),
-    };
-    match command_of(&words) {
+/// Does what the words of the command line ask for, and says how that ended.
+fn exit_of_words(rt: &HostRuntime, words: &[String]) -> Exit
+    ensures { MayEnd (command_of (map string_bytes words.now)) result }
+{
+    match command_of(words) {
         Some(Command::Help) => tell(rt, help::HELP),
         Some(Command::Version) => tell(rt, help::VERSION),
         Some(Command::Replay(token)) => replayed(rt, token.as_str()),
@@ -89,5 +100,8 @@ fn run(rt: &HostRuntime) -> Exit {
 }
 
 fn main(rt: HostRuntime) -> ExitCode {
-    run(&rt).status()
+    match words(&rt) {
+        Ok(words) => exit_of_words(&rt, &words).status(),
+        Err(exit) => told(&rt, exit).status(),
+    }
 }

@@ -1,10 +1,15 @@
 //! The replay of a transcript.
-ghost use Rattle.std.specs.Prelude.{◌≡◌, ◌≢◌, ◌↔◌, Ok, false, IsTrue, IsFalse, IfOk, IfErr, [], ◌∷◌, slice_index_or, slice_set, replicate};
+ghost use Rattle.std.specs.Prelude.{◌≡◌, ◌≢◌, ◌↔◌, IsTrue, IsFalse, IfOk, IfErr, slice_index_or, slice_set, replicate};
+ghost use Rattle.std.specs.Io.Buffered.{writer_contents};
 ghost use Rattle.sha2.specs.Sha256.{sha256};
 ghost use Rattle.xa_notation.specs.Tokens.{is_token};
+ghost use Rattle.xa_server.specs.World.{world};
 ghost use Rattle.pdpd.specs.Exit.{breaks_off};
+ghost use Rattle.pdpd.specs.Reading.{remaining_of};
+ghost use Rattle.pdpd.specs.Replay.{ConnectionTakes, IsEntryReplied, IsReplayed, StreamTakes};
+ghost use Rattle.pdpd.specs.Replaying.{Writes, between};
 ghost use Rattle.pdpd.specs.declared.exit.Exit.TheVariants.{Memory, Usage};
-ghost use Rattle.pdpd.specs.declared.connection.Connection.TheVariants.{Closed, Ended};
+ghost use Rattle.pdpd.specs.declared.connection.Connection.TheVariants.{Closed};
 
 use crate::answers::answer;
 use crate::connection::{Connection, closed_connections};
@@ -52,13 +57,16 @@ impl<R: Records + Drop, W: Write + Drop> Replayer<R, W> {
 
     /// Hands the bytes of an entry to its connection, and writes the replies to them.
     fn entry(&mut self, heading: Heading, bytes: &[u8]) -> Result<(), Exit>
+        ensures replied { IfOk result (λ _. R.sound self.new.server.records →
+            Writes (writer_contents W.contents self.old.writer) (writer_contents W.contents self.new.writer)
+            (IsEntryReplied heading bytes.now (between R.kept self.old.server self.old.connections.items) (between R.kept self.new.server self.new.connections.items))) }
         ensures sound { R.sound self.new.server.records → R.sound self.old.server.records }
         ensures err { IfErr result (λ exit. IsTrue (breaks_off exit)) }
     {
         let place = heading.connection;
-        let was = self.replace(place, Connection::Closed);
-        let is = self.connection_after(was, heading, bytes)?;
-        self.replace(place, is);
+        let before = self.replace(place, Connection::Closed);
+        let after = self.connection_after(before, heading, bytes)?;
+        self.replace(place, after);
         Ok(())
     }
 
@@ -67,6 +75,7 @@ impl<R: Records + Drop, W: Write + Drop> Replayer<R, W> {
         ensures before { result ≡ slice_index_or self.old.connections.items place Closed }
         ensures after { self.new.connections.items ≡ slice_set self.old.connections.items place by }
         ensures server { self.new.server ≡ self.old.server }
+        ensures writer { self.new.writer ≡ self.old.writer }
     {
         match self.connections.get_mut(place) {
             Some(connection) => mem::replace(connection, by),
@@ -82,8 +91,9 @@ impl<R: Records + Drop, W: Write + Drop> Replayer<R, W> {
         heading: Heading,
         bytes: &[u8],
     ) -> Result<Connection, Exit>
-        ensures closes { bytes.now ≡ [] → result ≡ Ok Closed }
-        ensures passes_over { was ≡ Ended → bytes.now ≢ [] → result ≡ Ok Ended }
+        ensures taken { IfOk result (λ is. R.sound self.new.server.records →
+            Writes (writer_contents W.contents self.old.writer) (writer_contents W.contents self.new.writer)
+            (ConnectionTakes heading bytes.now was is (world R.kept self.old.server) (world R.kept self.new.server))) }
         ensures others { self.new.connections ≡ self.old.connections }
         ensures sound { R.sound self.new.server.records → R.sound self.old.server.records }
         ensures err { IfErr result (λ exit. IsTrue (breaks_off exit)) }
@@ -106,6 +116,9 @@ impl<R: Records + Drop, W: Write + Drop> Replayer<R, W> {
         heading: Heading,
         bytes: &[u8],
     ) -> Result<Connection, Exit>
+        ensures taken { IfOk result (λ is. R.sound self.new.server.records →
+            Writes (writer_contents W.contents self.old.writer) (writer_contents W.contents self.new.writer)
+            (StreamTakes heading bytes.now session is (world R.kept self.old.server) (world R.kept self.new.server))) }
         ensures others { self.new.connections ≡ self.old.connections }
         ensures sound { R.sound self.new.server.records → R.sound self.old.server.records }
         ensures err { IfErr result (λ exit. IsTrue (breaks_off exit)) }
@@ -129,31 +142,37 @@ impl<R: Records + Drop, W: Write + Drop> Replayer<R, W> {
 
 /// Answers the entries of a transcript, one after another.
 fn answer_all<I: Read, R: Records + Drop, W: Write + Drop>(
-    alloc: Global,
-    reader: &mut I,
+    transcript: &mut Transcript<I>,
     replayer: &mut Replayer<R, W>,
 ) -> Result<(), Exit>
+    ensures replayed { R.sound replayer.new.server.records →
+        IsReplayed (between R.kept replayer.old.server replayer.old.connections.items) (between R.kept replayer.new.server replayer.new.connections.items)
+        (remaining_of I.remaining transcript.old) (remaining_of I.remaining transcript.new)
+        (writer_contents W.contents replayer.old.writer) (writer_contents W.contents replayer.new.writer) result }
     ensures sound { R.sound replayer.new.server.records → R.sound replayer.old.server.records }
-    ensures err { IfErr result (λ exit. IsTrue (breaks_off exit)) }
+    ensures err { IfErr result (λ exit. exit ≢ Usage) }
 {
-    let mut transcript = Transcript::new(alloc, reader)?;
-    let mut bytes = Vec::new(alloc);
-    for _ in 0..u64::MAX {
-        let Some(heading) = transcript.heading()? else {
-            break;
+    let mut bytes = Vec::new(replayer.alloc);
+    for number in 1..u64::MAX {
+        let next = match transcript.entry(&mut bytes) {
+            Ok(next) => next,
+            Err(fault) => return Err(fault.exit(number)),
         };
-        transcript.entry(heading.count, &mut bytes)?;
+        let Some(heading) = next else {
+            return Ok(());
+        };
         replayer.entry(heading, &bytes)?;
     }
-    Ok(())
+    // No reader gives this many.
+    Err(Exit::Failed)
 }
 
 /// Answers the messages of a transcript over a keeper, each at the moment of the entry that makes it whole, and writes the
 /// replies. `token` is the operator's. What was answered is written, however it ends.
-fn replay_over<R: Records + Drop, I: Read, W: Write + Drop>(
+fn replay_over<R: Records + Drop, I: Read + Drop, W: Write + Drop>(
     alloc: Global,
     records: R,
-    reader: &mut I,
+    reader: I,
     writer: W,
     token: &str,
 ) -> Exit
@@ -163,7 +182,11 @@ fn replay_over<R: Records + Drop, I: Read, W: Write + Drop>(
         Ok(replayer) => replayer,
         Err(exit) => return exit,
     };
-    let exit = match answer_all(alloc, reader, &mut replayer) {
+    let mut transcript = match Transcript::new(alloc, reader) {
+        Ok(transcript) => transcript,
+        Err(error) => return Exit::from(error),
+    };
+    let exit = match answer_all(&mut transcript, &mut replayer) {
         Ok(()) => Exit::Done,
         Err(exit) => exit,
     };
@@ -174,9 +197,9 @@ fn replay_over<R: Records + Drop, I: Read, W: Write + Drop>(
 }
 
 /// Answers the messages of a transcript, over a store in memory that keeps no domains yet.
-pub fn replay<I: Read, W: Write + Drop>(
+pub fn replay<I: Read + Drop, W: Write + Drop>(
     alloc: Global,
-    reader: &mut I,
+    reader: I,
     writer: W,
     token: &str,
 ) -> Exit

@@ -1,6 +1,9 @@
 //! The store of `pdpd serve`, and that of `pdpd replay`.
 
-ghost use Rattle.std.specs.Prelude.{◌≢◌, IfErr};
+ghost use Rattle.std.specs.Prelude.{◌≡◌, ◌≢◌, IfErr, IfOk};
+ghost use Rattle.sqlite.specs.Steps.{over_memory};
+ghost use Rattle.xa_records.specs.Kept.{nothing_kept};
+ghost use Rattle.xa_store.specs.KeeperReading.{kept_by};
 ghost use Rattle.pdpd.specs.declared.exit.Exit.TheVariants.{Store, Usage};
 ghost use Rattle.pdpd.specs.Fault.{EndsBy};
 
@@ -53,7 +56,8 @@ pub fn records_in_file(rt: &HostRuntime, path: &str) -> Result<SqlRecords<FileSt
 
 /// A keeper in memory, which keeps no domains yet.
 pub fn records_in_memory(alloc: Global) -> Result<SqlRecords<MemStore>, Exit>
-    ensures { IfErr result (λ exit. exit ≢ Usage) }
+    ensures nothing { IfOk result (λ records. kept_by over_memory records ≡ nothing_kept) }
+    ensures err { IfErr result (λ exit. exit ≢ Usage) }
 {
     let conn = Connection::open_in_memory(alloc)?;
     match SqlRecords::open(alloc, conn) {

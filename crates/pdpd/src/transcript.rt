@@ -1,141 +1,210 @@
 //! Transcripts: entries of a line `CONNECTION MOMENT COUNT`, as many bytes as it counts, and a line feed.
-ghost use Rattle.std.specs.Prelude.{◌≡◌, ◌<◌, ◌≤◌, IsTrue, IfOk, IfErr, vec_len};
-ghost use Rattle.pdpd.specs.Exit.{breaks_off};
-ghost use Rattle.pdpd.specs.declared.exit.Exit.TheVariants.{Memory};
+ghost use Rattle.std.specs.Prelude.{◌≡◌, ◌≢◌, [], IfErr, IfOk, OnOk};
+ghost use Rattle.std.specs.Io.KnownBytes.{IsAtEnd, Keeps};
+ghost use Rattle.pdpd.specs.declared.exit.Exit.TheVariants.{Usage};
+ghost use Rattle.pdpd.specs.Exit.{exit_of_read};
+ghost use Rattle.pdpd.specs.Reading.{Adds, IsOfReader, TakesBody, TakesByte, TakesBytes, TakesHeading, TakesLine, remaining_of};
+ghost use Rattle.pdpd.specs.Transcript.{IsNoBody, IsNoEntry, IsNoHeading, Reads, Rejects, TakesEntry};
 
 use crate::exit::Exit;
 use crate::heading::{Heading, heading_of};
-use std::alloc::Global;
-use std::io::{self, Read};
+use crate::piece::Piece;
+use crate::transcript_fault::TranscriptFault;
+use std::alloc::{AllocError, AllocFailed, Global};
+use std::io::{self, ErrorKind, Read};
 
 /// The most bytes of an entry's line, without its line feed.
 const MAX_LINE_BYTES: usize = 64;
 
-/// How many bytes are read at once.
-const PIECE_BYTES: usize = 65_536;
+/// How often in a row a read may be interrupted before that counts as a failed read.
+const MAX_INTERRUPTIONS: u32 = 1_000_000_000;
 
-/// How often the transcript is read before that counts as a failed read.
-const MAX_READS: u32 = 1_000_000_000;
+/// Why no further entry is read.
+#[derive(Clone, Copy, Debug, PartialEq, Eq)]
+pub enum ReadFault {
+    /// The next entry is malformed or cut.
+    Malformed(TranscriptFault),
+    /// The reader failed.
+    Failed,
+    /// There was no memory for it.
+    Memory,
+}
+
+impl ReadFault {
+    /// How the program ends by it, at that entry.
+    pub fn exit(self, entry: u64) -> Exit
+        ensures exit { result ≡ exit_of_read entry self }
+        ensures other { result ≢ Usage }
+    {
+        match self {
+            ReadFault::Malformed(fault) => Exit::Malformed { entry, fault },
+            ReadFault::Failed => Exit::Failed,
+            ReadFault::Memory => Exit::Memory,
+        }
+    }
+}
 
 /// A transcript, which is read a piece at a time.
 #[derive(Drop)]
-pub struct Transcript<'a, R> {
-    reader: &'a mut R,
-    piece: Vec<u8>,
-    start: usize,
-    end: usize,
-    reads: u32,
-    ghost held: { (start ≤ end) × (end ≤ vec_len piece) },
+pub struct Transcript<R> {
+    reader: R,
+    piece: Piece,
 }
 
-impl<'a, R: Read> Transcript<'a, R> {
+impl<R: Read> Transcript<R> {
     /// A transcript of which nothing is read yet.
-    pub fn new(alloc: Global, reader: &'a mut R) -> Result<Transcript<'a, R>, Exit>
-        ensures { IfErr result (λ exit. exit ≡ Memory) }
+    pub fn new(alloc: Global, reader: R) -> Result<Transcript<R>, AllocError>
+    where
+        R: Drop,
+        ensures { IfOk result (λ transcript. remaining_of R.remaining transcript ≡ R.remaining reader) }
     {
         Ok(Transcript {
+            piece: Piece::new(alloc)?,
             reader,
-            piece: vec![in alloc; 0; PIECE_BYTES]?,
-            start: 0,
-            end: 0,
-            reads: MAX_READS,
         })
     }
 
-    /// Reads the next piece, once all of the last is taken. It is empty at the transcript's end.
-    fn refill(&mut self) -> Result<(), Exit>
-        ensures { IfErr result (λ exit. IsTrue (breaks_off exit)) }
+    /// Reads on, where all that was read is taken. Afterwards the piece is empty only at the transcript's end.
+    fn read_on(&mut self) -> Result<(), ReadFault>
+        ensures keeps { OnOk result (Keeps (remaining_of R.remaining self.old) (remaining_of R.remaining self.new)) }
+        ensures end { OnOk result (self.new.piece ≡ [] → IsAtEnd (remaining_of R.remaining self.new)) }
+        ensures err { IfErr result IsOfReader }
     {
-        for _ in 0..MAX_READS {
-            if self.reads == 0 {
-                return Err(Exit::Failed);
-            }
-            self.reads -= 1;
-            match self.reader.read(&mut self.piece) {
-                Ok(count) => {
-                    self.start = 0;
-                    self.end = count;
-                    return Ok(());
-                }
-                Err(error) if error.kind() == io::ErrorKind::Interrupted => {}
-                Err(error) => return Err(Exit::from(error)),
+        if !self.piece.is_empty() {
+            return Ok(());
+        }
+        for _ in 0..MAX_INTERRUPTIONS {
+            match self.piece.fill(&mut self.reader) {
+                Ok(()) => return Ok(()),
+                Err(error) if error.kind() == ErrorKind::Interrupted => {}
+                Err(error) => return Err(ReadFault::from(error)),
             }
         }
-        Err(Exit::Failed)
-    }
-
-    /// Whether the transcript goes on. It reads on where all that was read is taken.
-    fn goes_on(&mut self) -> Result<bool, Exit>
-        ensures more { IfOk result (λ more. IsTrue more → self.new.start < self.new.end) }
-        ensures err { IfErr result (λ exit. IsTrue (breaks_off exit)) }
-    {
-        if self.start == self.end {
-            self.refill()?;
-        }
-        Ok(self.start < self.end)
+        Err(ReadFault::Failed)
     }
 
     /// The next byte, if the transcript goes on.
-    fn next_byte(&mut self) -> Result<Option<u8>, Exit>
-        ensures { IfErr result (λ exit. IsTrue (breaks_off exit)) }
+    fn next_byte(&mut self) -> Result<Option<u8>, ReadFault>
+        ensures byte { IfOk result (TakesByte (remaining_of R.remaining self.old) (remaining_of R.remaining self.new)) }
+        ensures err { IfErr result IsOfReader }
     {
-        if !self.goes_on()? {
-            return Ok(None);
-        }
-        let byte = self.piece[self.start];
-        self.start += 1;
-        Ok(Some(byte))
+        self.read_on()?;
+        Ok(self.piece.take_first())
     }
 
     /// Moves at most `most` bytes of the transcript to the end of `bytes`, if it goes on. Whether it does.
-    fn append_to(&mut self, bytes: &mut Vec<u8>, most: usize) -> Result<bool, Exit>
-        ensures { IfErr result (λ exit. IsTrue (breaks_off exit)) }
+    fn append_to(&mut self, bytes: &mut Vec<u8>, most: usize) -> Result<bool, ReadFault>
+        ensures added { IfOk result (Adds most (remaining_of R.remaining self.old) (remaining_of R.remaining self.new) bytes.old.items bytes.new.items) }
+        ensures err { IfErr result IsOfReader }
     {
-        if !self.goes_on()? {
-            return Ok(false);
-        }
-        let taken = most.min(self.end - self.start);
-        bytes.extend_from_slice(&self.piece[self.start..self.start + taken])?;
-        self.start += taken;
-        Ok(true)
+        self.read_on()?;
+        let goes_on = !self.piece.is_empty();
+        self.piece.move_to(bytes, most)?;
+        Ok(goes_on)
     }
 
-    /// The heading of the next entry, if there is one.
-    pub fn heading(&mut self) -> Result<Option<Heading>, Exit>
-        ensures { IfErr result (λ exit. IsTrue (breaks_off exit)) }
+    /// The line before the next entry, in place of what `line` holds. Whether there is one.
+    fn line(&mut self, line: &mut Vec<u8>) -> Result<bool, ReadFault>
+        ensures { let left = remaining_of R.remaining self.old in let rest = remaining_of R.remaining self.new in
+            Reads (TakesLine left rest line.new.items) (Rejects IsNoHeading left rest) result }
     {
-        let mut line = [0; MAX_LINE_BYTES];
-        for len in 0..=MAX_LINE_BYTES {
+        line.clear();
+        for _ in 0..MAX_LINE_BYTES + 1 {
             match self.next_byte()? {
-                None if len == 0 => return Ok(None),
-                None => return Err(Exit::Malformed),
-                Some(b'\n') => return heading_of(&line[..len]).map(Some).ok_or(Exit::Malformed),
-                Some(byte) => match line.get_mut(len) {
-                    Some(place) => *place = byte,
-                    None => return Err(Exit::Malformed),
-                },
+                Some(b'\n') => return Ok(true),
+                Some(byte) => line.push(byte)?,
+                None if line.is_empty() => return Ok(false),
+                None => return Err(ReadFault::Malformed(TranscriptFault::CutLine)),
             }
         }
-        Err(Exit::Malformed)
+        Err(ReadFault::Malformed(TranscriptFault::LongLine))
     }
 
-    /// The bytes of an entry, in place of those of the last, and the line feed after them.
-    pub fn entry(&mut self, count: usize, bytes: &mut Vec<u8>) -> Result<(), Exit>
-        ensures { IfErr result (λ exit. IsTrue (breaks_off exit)) }
+    /// The heading of the next entry, if there is one. Its line takes the place of what `line` holds.
+    fn heading(&mut self, line: &mut Vec<u8>) -> Result<Option<Heading>, ReadFault>
+        ensures { let left = remaining_of R.remaining self.old in let rest = remaining_of R.remaining self.new in
+            Reads (TakesHeading left rest) (Rejects IsNoHeading left rest) result }
+    {
+        if !self.line(line)? {
+            return Ok(None);
+        }
+        match heading_of(line) {
+            Ok(heading) => Ok(Some(heading)),
+            Err(fault) => Err(ReadFault::Malformed(TranscriptFault::Heading(fault))),
+        }
+    }
+
+    /// That many bytes, in place of what `bytes` holds.
+    fn take(&mut self, count: usize, bytes: &mut Vec<u8>) -> Result<(), ReadFault>
+        ensures { let left = remaining_of R.remaining self.old in let rest = remaining_of R.remaining self.new in
+            Reads (λ _. TakesBytes left rest count bytes.new.items) (Rejects (IsNoBody count) left rest) result }
     {
         bytes.clear();
-        for _ in 0..count {
-            let wanted = count.saturating_sub(bytes.len());
-            if wanted == 0 {
-                break;
-            }
-            if !self.append_to(bytes, wanted)? {
-                return Err(Exit::Malformed);
+        while bytes.len() < count {
+            if !self.append_to(bytes, count - bytes.len())? {
+                return Err(ReadFault::Malformed(TranscriptFault::CutBytes));
             }
         }
+        Ok(())
+    }
+
+    /// The bytes of an entry, in place of what `bytes` holds, and the line feed after them.
+    fn body(&mut self, count: usize, bytes: &mut Vec<u8>) -> Result<(), ReadFault>
+        ensures { let left = remaining_of R.remaining self.old in let rest = remaining_of R.remaining self.new in
+            Reads (λ _. TakesBody left rest count bytes.new.items) (Rejects (IsNoBody count) left rest) result }
+    {
+        self.take(count, bytes)?;
         match self.next_byte()? {
             Some(b'\n') => Ok(()),
-            _ => Err(Exit::Malformed),
+            Some(_) => Err(ReadFault::Malformed(TranscriptFault::NoLineFeed)),
+            None => Err(ReadFault::Malformed(TranscriptFault::NoLineFeed)),
+        }
+    }
+
+    /// The heading of the next entry, if there is one, and its bytes in place of what `bytes` holds.
+    pub fn entry(&mut self, bytes: &mut Vec<u8>) -> Result<Option<Heading>, ReadFault>
+        ensures { let left = remaining_of R.remaining self.old in let rest = remaining_of R.remaining self.new in
+            Reads (TakesEntry left rest bytes.new.items) (Rejects IsNoEntry left rest) result }
+    {
+        let Some(heading) = self.heading(bytes)? else {
+            return Ok(None);
+        };
+        self.body(heading.count, bytes)?;
+        Ok(Some(heading))
+    }
+}
+
+impl From<AllocError> for ReadFault {
+    ghost use Rattle.std.specs.Prelude.{◌≡◌};
+    ghost use Rattle.pdpd.specs.declared.transcript.ReadFault.TheVariants.{Memory};
+
+    ghost from_gives = { λ _ fault. fault ≡ Memory };
+
+    fn from(_: AllocError) -> ReadFault {
+        ReadFault::Memory
+    }
+}
+
+impl<T: Drop> From<AllocFailed<T>> for ReadFault {
+    ghost use Rattle.std.specs.Prelude.{◌≡◌};
+    ghost use Rattle.pdpd.specs.declared.transcript.ReadFault.TheVariants.{Memory};
+
+    ghost from_gives = { λ _ fault. fault ≡ Memory };
+
+    fn from(_: AllocFailed<T>) -> ReadFault {
+        ReadFault::Memory
+    }
+}
+
+impl From<io::Error> for ReadFault {
+    ghost use Rattle.pdpd.specs.Reading.{IsOfReader};
+
+    ghost from_gives = { λ _ fault. IsOfReader fault };
+
+    fn from(error: io::Error) -> ReadFault {
+        match error.kind() {
+            ErrorKind::OutOfMemory => ReadFault::Memory,
+            _ => ReadFault::Failed,
         }
     }
 }

@@ -1,4 +1,15 @@
+use Rattle.std.specs.Io.Buffered.{writer_contents}
+use Rattle.pdpd.specs.Reading.{remaining_of}
+use Rattle.pdpd.specs.Replaying.{between}
+use Rattle.pdpd.proofs.ReplayLemmas.{SoFar}
 use Rattle.pdpd.proofs.replay.answer_all.Given as goal
 
-abbrev pub invariant-loop : goal.invariant-loop
-invariant-loop g l = g.R.Records.sound l.replayer.server.records → g.R.Records.sound l.fn.replayer.server.records
+-- the entries before the one of that number are answered
+abbrev pub invariant-loop-number : goal.invariant-loop-number
+invariant-loop-number g l = record {
+  sound : g.R.Records.sound l.replayer.server.records → g.R.Records.sound l.fn.replayer.server.records;
+  so_far : g.R.Records.sound l.replayer.server.records →
+      SoFar (between g.R.Records.kept l.fn.replayer.server l.fn.replayer.connections.items) (between g.R.Records.kept l.replayer.server l.replayer.connections.items)
+      (remaining_of g.I.Read.remaining l.fn.transcript) (remaining_of g.I.Read.remaining l.transcript)
+      (writer_contents g.W.Write.contents l.fn.replayer.writer) (writer_contents g.W.Write.contents l.replayer.writer) l.number;
+}

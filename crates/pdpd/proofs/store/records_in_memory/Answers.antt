@@ -1,0 +1,9 @@
+use Rattle.std.proofs.Common.{refl}
+use Rattle.sqlite.specs.Held.{state}
+use Rattle.sqlite.specs.Steps.{over_memory}
+use Rattle.pdpd.proofs.StoreLemmas.{blank}
+use Rattle.pdpd.proofs.store.records_in_memory.Goals as goal
+
+pub returns-in-Ok-clause-nothing : goal.returns-in-Ok-clause-nothing
+returns-in-Ok-clause-nothing c =
+    (c.in-Ok.ensures.makes (blank (state over_memory c.in_ok-conn.conn) c.in_ok-conn.ensures.empty) refl).2
