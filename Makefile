@@ -12,9 +12,8 @@ crate = $(or $(NAME),$(error make $@ NAME: the name of a crate is missing, one o
 help:
 	@awk -F ':.*## ' '/^[a-z-]+:.*## / { printf "  make %-12s %s\n", $$1 ($$1 ~ /^(try|check|edits)$$/ ? " NAME" : ""), $$2 }' Makefile
 
-run: ## serves the ward's example over a file and asks it by curl, stops, and asks once more; compiles without proving where nothing is built
-	@if [ -x crates/pdpd/out/pdpd ]; then examples/ward/walk; else \
-	echo '# Compiled without proving (rt try), in five minutes; `make test` proves it, and then `make run` takes what it built.'; examples/ward/walk rt try --; fi
+run: ## serves the ward's example and asks it by curl; over a file and once more after a restart, where the program is built
+	@examples/ward/walk
 
 # the word after `try`, `check` or `edits` is a crate's name, and no target
 ifneq (,$(filter try check edits,$(firstword $(MAKECMDGOALS))))
@@ -62,5 +61,5 @@ author-test: ## tests the policy author's desk (author/policy); proves and build
 	author/policy build
 	author/test
 
-bench: pdpd ## proves and builds pdpd, and runs all benchmarks but bench/heads
+bench: pdpd ## proves and builds pdpd, and runs all benchmarks but bench/heads and bench/casbin
 	bench/all
