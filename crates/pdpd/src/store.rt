@@ -3,6 +3,7 @@
 ghost use Rattle.std.specs.Prelude.{◌≡◌, ◌≢◌, IfErr, IfOk};
 ghost use Rattle.sqlite.specs.Steps.{over_memory};
 ghost use Rattle.xa_records.specs.Kept.{nothing_kept};
+ghost use Rattle.xa_store.specs.Keeper.{IsSound};
 ghost use Rattle.xa_store.specs.KeeperReading.{kept_by};
 ghost use Rattle.pdpd.specs.declared.exit.Exit.TheVariants.{Store, Usage};
 ghost use Rattle.pdpd.specs.Fault.{EndsBy};
@@ -57,6 +58,7 @@ pub fn records_in_file(rt: &HostRuntime, path: &str) -> Result<SqlRecords<FileSt
 /// A keeper in memory, which keeps no domains yet.
 pub fn records_in_memory(alloc: Global) -> Result<SqlRecords<MemStore>, Exit>
     ensures nothing { IfOk result (λ records. kept_by over_memory records ≡ nothing_kept) }
+    ensures sound { IfOk result (IsSound over_memory) }
     ensures err { IfErr result (λ exit. exit ≢ Usage) }
 {
     let conn = Connection::open_in_memory(alloc)?;

@@ -7,3 +7,8 @@ use Rattle.pdpd.proofs.store.records_in_memory.Goals as goal
 pub returns-in-Ok-clause-nothing : goal.returns-in-Ok-clause-nothing
 returns-in-Ok-clause-nothing c =
     (c.in-Ok.ensures.makes (blank (state over_memory c.in_ok-conn.conn) c.in_ok-conn.ensures.empty) refl).2
+
+pub returns-in-Ok-clause-sound : goal.returns-in-Ok-clause-sound
+returns-in-Ok-clause-sound c =
+    let made = c.in-Ok.ensures.makes (blank (state over_memory c.in_ok-conn.conn) c.in_ok-conn.ensures.empty) refl in
+    c.in-Ok.ensures.sound made.1.ours refl
