@@ -1,5 +1,5 @@
 -- The keys of documents, and their order.
-use Rattle.std.specs.Prelude.{ℕ, Bool, ◌&&◌, bytes_eq}
+use Rattle.std.specs.Prelude.{ℕ}
 use Rattle.std.specs.Cmp.Lexicographic.{slice_cmp}
 use Rattle.std.specs.Ordering.{nat_cmp, on, then_cmp}
 use Rattle.std.specs.declared.cmp.Ordering.{Ordering}
