@@ -3,7 +3,7 @@ from commands import NAMES, TOKENS, alter
 from machines import Server
 from messages import Message, Stream
 from rows import encoded
-from servers import OPERATOR_TOKEN, TurnedAway, set_up
+from servers import COUNTS, OPERATOR_TOKEN, TurnedAway, loopback, set_up
 from views import distinct
 
 NO_TOKENS = [b"a" * 7, b"a" * 65, b"acme token 1", b"acme-token-\xe9", b""]
@@ -41,6 +41,8 @@ FAULTY_LINES = [b"Content-Length: 3\r\n", b"Content-Length: \r\n", b"Content-Len
 MESSAGES = 20
 # how many views a server has room for, where a row says that; 128 is as many as any has
 ROOMS = [0, 1, 2, 128]
+# how many bytes one end of a connection may write before the other one reads
+BUFFERED = 32_768
 
 
 class Exchanges:
@@ -170,6 +172,14 @@ class Exchanges:
             kind, *fields = self.server()
             self.in_rooms = [[kind, f"views:{most}", *fields] for most in ROOMS]
         return self.in_rooms.pop()
+
+    def sockets(self):
+        """A row of a server's messages over sockets; of the server alone where a connection has more bytes than are sure to fit into the buffers."""
+        kind, *fields = self.server()
+        fields = [field for field in fields if field.partition(":")[0] not in COUNTS]
+        written = " ".join(fields).split(" close: ")
+        fits = all(len(held) < BUFFERED for held in written + loopback(*fields))
+        return ["loopback" if fits else kind, *fields]
 
     def next(self):
         return self.server() if self.seldom(0.8) else self.stream()
