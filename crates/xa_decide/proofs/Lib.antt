@@ -1,4 +1,5 @@
 mod IndexLemmas
 mod KeyLemmas
+mod LookLemmas
 mod NamingLemmas
 pub mod TimelessLemmas

@@ -1,6 +1,7 @@
 //! The values of attributes in the context of a decision.
 ghost use Rattle.std.specs.Prelude.{◌≡◌, IfOk};
 ghost use Rattle.xa_bag.specs.Bag.{bag_of};
+ghost use Rattle.xa_expr.specs.Looked.{looked};
 ghost use Rattle.xa_decide.specs.Context.{entity, source_values, outside_values, values_of};
 ghost use Rattle.xa_decide.specs.Decision.{objects_at};
 
@@ -8,12 +9,13 @@ use crate::bag::bag_of_one;
 use crate::clock::clock_value_in;
 use crate::indexed_object::IndexedObject;
 use crate::individual_objects::IndividualObjects;
+use crate::look::Look;
 use crate::source::Source;
 use std::alloc::{AllocError, Global};
 use std::marker::Model;
 use xa_bag::Bag;
-use xa_expr::{Budget, Context, Designator, STEP};
-use xa_value::{DataType, Moment};
+use xa_expr::{Budget, Context, Designator, Looked, STEP};
+use xa_value::{DataType, Moment, Value};
 
 /// The context of the decision on an individual request.
 #[derive(Drop)]
@@ -92,6 +94,33 @@ impl<'a> IndividualContext<'a> {
             None => self.source_bag(alloc, category, id, data_type),
         }
     }
+
+    /// A look at the values that the source has.
+    #[tactic(auto, unfolding(crate::specs::Context::source_values))]
+    fn look_in_source(&self, look: &Look<'_>) -> Result<Looked, AllocError>
+        ensures { IfOk result (λ found. found ≡ looked look.now.sought.now (source_values self.now.source look.now.designator.now.category (entity self.now.objects look.now.designator.now.category) look.now.designator.now.attribute_id look.now.designator.now.data_type)) }
+    {
+        if self.source.is_empty() {
+            return Ok(Looked::Nothing);
+        }
+        let entity = self.objects.entity(look.designator.category.as_str());
+        let id = look.designator.attribute_id.as_str();
+        self.budget.spend(units_of_look_up(entity, id))?;
+        look.at_source(self.source, entity)
+    }
+
+    /// A look at the values that are not in the request.
+    #[tactic(auto, unfolding(crate::specs::Context::outside_values))]
+    fn look_outside(&self, look: &Look<'_>) -> Result<Looked, AllocError>
+        ensures { IfOk result (λ found. found ≡ looked look.now.sought.now (outside_values self.now look.now.designator.now)) }
+    {
+        let category = look.designator.category.as_str();
+        let id = look.designator.attribute_id.as_str();
+        match clock_value_in(self.moment, category, id, look.designator.data_type) {
+            Some(value) => look.at_clock(&value),
+            None => self.look_in_source(look),
+        }
+    }
 }
 
 impl<'a> Context for IndividualContext<'a> {
@@ -111,6 +140,29 @@ impl<'a> Context for IndividualContext<'a> {
             self.outside_bag(alloc, designator)
         } else {
             Ok(own)
+        }
+    }
+
+    #[tactic(auto, unfolding(crate::specs::Context::values_of), using(crate::proofs::LookLemmas::looked_or_outside))]
+    fn look_for(
+        &self,
+        alloc: Global,
+        designator: &Designator,
+        sought: &Value,
+    ) -> Result<Looked, AllocError> {
+        let category = designator.category.as_str();
+        let id = designator.attribute_id.as_str();
+        self.budget.spend(units_of_look_up(category, id))?;
+        let look = Look {
+            budget: self.budget,
+            designator,
+            sought,
+        };
+        let found = look.at_objects(&self.objects)?;
+        if found == Looked::Nothing && designator.issuer.is_none() {
+            self.look_outside(&look)
+        } else {
+            Ok(found)
         }
     }
 

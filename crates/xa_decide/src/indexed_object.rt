@@ -75,7 +75,7 @@ impl<'a> IndexedObject<'a> {
     }
 
     /// The object's attributes.
-    fn attributes(&self) -> &'a [Attribute]
+    pub(crate) fn attributes(&self) -> &'a [Attribute]
         ensures { result.now ≡ self.now.attributes }
     {
         self.object.attributes.as_slice()
@@ -94,7 +94,7 @@ impl<'a> IndexedObject<'a> {
 
     /// Places among which are those of all attributes of that id, type and issuer that have values.
     #[tactic(auto, using(crate::proofs::KeyLemmas::named_found, crate::proofs::KeyLemmas::issued_found))]
-    fn places(&self, id: &str, data_type: DataType, issuer: &Option<Text>) -> &[usize]
+    pub(crate) fn places(&self, id: &str, data_type: DataType, issuer: &Option<Text>) -> &[usize]
         ensures { flat_map (λ a. a.values.values) (filter (is_named id.now data_type issuer.now) (filter_map (slice_get self.now.attributes) result.now)) ≡ object_values id.now data_type issuer.now self.now }
     {
         let attributes = self.object.attributes.as_slice();

@@ -86,7 +86,7 @@ impl<'a> IndividualObjects<'a> {
     }
 
     /// Places among which are those of all objects of that category.
-    fn places(&self, category: &str) -> &[usize]
+    pub(crate) fn places(&self, category: &str) -> &[usize]
         ensures { filter (λ o. bytes_eq o.category category.now) (filter_map (slice_get self.now) result.now) ≡ filter (λ o. bytes_eq o.category category.now) self.now }
     {
         let key = category_key(category);
@@ -95,7 +95,7 @@ impl<'a> IndividualObjects<'a> {
 
     /// The object that has the place.
     #[tactic(auto, using(crate::proofs::KeyLemmas::object_got))]
-    fn object(&self, place: usize) -> Option<&'a IndexedObject<'a>>
+    pub(crate) fn object(&self, place: usize) -> Option<&'a IndexedObject<'a>>
         ensures { option_map (λ o. o.now) result ≡ slice_get self.now place }
     {
         self.objects.get(place).copied()

@@ -11,6 +11,7 @@ mod indexed_object;
 mod individual_objects;
 mod key;
 mod keys;
+mod look;
 mod naming;
 mod order;
 mod response_work;

@@ -51,9 +51,22 @@ impl Source {
         self.rows.is_empty()
     }
 
+    /// The rows.
+    pub(crate) fn rows(&self) -> &[SourceRow]
+        ensures { result.now ≡ self.now }
+    {
+        self.rows.as_slice()
+    }
+
     /// Places among which are those of all rows of that category, entity, id and type.
     #[tactic(auto, using(crate::proofs::KeyLemmas::rows_found))]
-    fn places(&self, category: &str, entity: &str, id: &str, data_type: DataType) -> &[usize]
+    pub(crate) fn places(
+        &self,
+        category: &str,
+        entity: &str,
+        id: &str,
+        data_type: DataType,
+    ) -> &[usize]
         ensures { filter (is_row category.now entity.now id.now data_type) (filter_map (slice_get self.now) result.now) ≡ filter (is_row category.now entity.now id.now data_type) self.now }
     {
         let key = row_key(category, entity, id, data_type);
@@ -74,7 +87,7 @@ impl Source {
         ensures { IfOk result (λ bag. bag ≡ bag_of data_type (source_values self.now category.now entity.now id.now data_type)) }
     {
         let places = self.places(category, entity, id, data_type);
-        let rows = self.rows.as_slice();
+        let rows = self.rows();
         let mut bag = Bag::new(alloc, data_type);
         for place in places {
             if let Some(row) = item_at(rows, *place) {
@@ -106,7 +119,13 @@ fn push_row(
 }
 
 /// Whether it is a row of that category, entity, id and type.
-fn is_row(category: &str, entity: &str, id: &str, data_type: DataType, row: &SourceRow) -> bool
+pub(crate) fn is_row(
+    category: &str,
+    entity: &str,
+    id: &str,
+    data_type: DataType,
+    row: &SourceRow,
+) -> bool
     ensures value { result ≡ is_row category.now entity.now id.now data_type row.now }
     ensures of_type { result ≡ true → type_of row.now.value ≡ data_type }
 {

@@ -3,6 +3,7 @@ pub mod CheckLemmas
 pub mod DesignatorLemmas
 pub mod FunctionLemmas
 pub mod KindLemmas
+pub mod LookedLemmas
 pub mod MatchLemmas
 pub mod PlaceLemmas
 pub mod TargetLemmas

@@ -1,6 +1,6 @@
 -- What a match's function takes, and what equality makes of a match.
-use Rattle.std.proofs.Common.{◌≡◌, Bool, true, false, ◌&&◌, ◌||◌, List, [], ◌∷◌, map, refl, ap, sym, subst, ◌∙◌}
-use Rattle.std.specs.Prelude.{if◌then◌else◌, Ok}
+use Rattle.std.proofs.Common.{◌≡◌, Bool, true, false, cond, ◌&&◌, ◌||◌, List, [], ◌∷◌, map, refl, ap, sym, subst, ◌∙◌}
+use Rattle.std.specs.Prelude.{if◌then◌else◌, Ok, Err}
 use Rattle.std.specs.List.{list_any}
 use Rattle.xa_value.specs.declared.data_type.DataType.{DataType}
 use Rattle.xa_value.specs.declared.value.Value.{Value}
@@ -10,11 +10,17 @@ use Rattle.xa_func.specs.declared.func_id.FuncId.TheVariants as function
 use Rattle.xa_func.specs.Application.{applied}
 use Rattle.xa_func.specs.Signature.{TakesKinds, kind_of, signature_of}
 use Rattle.xa_func.specs.Table.{is_scalar}
+use Rattle.xa_bag.specs.declared.value_or_bag.ValueOrBag.TheVariants as given
+use Rattle.xa_bag.specs.Bag.{bag_of}
+use Rattle.xa_expr.specs.declared.fault.Fault.TheVariants.{MissingAttribute}
+use Rattle.xa_expr.specs.declared.looked.Looked.TheVariants.{Nothing, Found, NotFound}
 use Rattle.xa_expr.specs.declared.matching.Matching.{Matching}
 use Rattle.xa_expr.specs.declared.matching.Matching.TheVariants as matching
+use Rattle.xa_expr.specs.Evaluation.{Attributes, is_empty}
 use Rattle.xa_expr.specs.Fault.{of_function}
+use Rattle.xa_expr.specs.Looked.{looked, match_by}
 use Rattle.xa_expr.specs.Match.{Question, IsRight, argument_kinds}
-use Rattle.xa_expr.specs.Target.{answer, matching_of, some_match}
+use Rattle.xa_expr.specs.Target.{answer, match_on, match_value, matching_of, some_match}
 use Rattle.xa_expr.specs.Typed.{accepted}
 use Rattle.xa_expr.proofs.KindLemmas.{accepts_of}
 
@@ -57,9 +63,26 @@ answer_of_equal : (q : Question) (t : DataType) (v : Value) → q.function ≡ f
 answer_of_equal q t v is = ap (λ f. matching_of (of_function (applied f (q.literal ∷ v ∷ [])))) is
 
 -- a match of an equality matches where some value is the same as the literal
-pub equal_answers : (q : Question) (t : DataType) (vs : List Value)
+equal_answers : (q : Question) (t : DataType) (vs : List Value)
     → q.function ≡ function.Equal t → some_match (map (answer q) vs) ≡ (if list_any (same q.literal) vs then matching.Match else matching.NoMatch)
 equal_answers q t [] is = refl
 equal_answers q t (v ∷ vs) is =
     ap (λ m. some_match (m ∷ map (answer q) vs)) (answer_of_equal q t v is)
     ∙ one_more (same q.literal v) (list_any (same q.literal) vs) (map (answer q) vs) (equal_answers q t vs is)
+
+-- so it is what a look for the literal says
+found_on : (q : Question) (t : DataType) (vs : List Value) → q.function ≡ function.Equal t
+    → match_on q (cond (is_empty vs && q.designator.must_be_present) (Err MissingAttribute) (Ok (given.Bag (bag_of q.designator.data_type vs))))
+    ≡ match_by q.designator.must_be_present (looked q.literal vs)
+found_on q t [] is = by_case q.designator.must_be_present where
+  by_case : (must : Bool) → match_on q (cond must (Err MissingAttribute) (Ok (given.Bag (bag_of q.designator.data_type [])))) ≡ match_by must Nothing
+  by_case true = refl
+  by_case false = refl
+found_on q t (v ∷ vs) is = equal_answers q t (v ∷ vs) is ∙ by_case (list_any (same q.literal) (v ∷ vs)) q.designator.must_be_present where
+  by_case : (found must : Bool) → cond found matching.Match matching.NoMatch ≡ match_by must (cond found Found NotFound)
+  by_case true must = refl
+  by_case false must = refl
+
+pub found_answers : (attributes : Attributes) (q : Question) (t : DataType)
+    → q.function ≡ function.Equal t → match_by q.designator.must_be_present (looked q.literal (attributes q.designator)) ≡ match_value attributes q
+found_answers attributes q t is = sym (found_on q t (attributes q.designator) is)

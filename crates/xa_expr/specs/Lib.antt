@@ -2,6 +2,7 @@ pub mod Arguments
 pub mod Designators
 pub mod Evaluation
 pub mod Fault
+pub mod Looked
 pub mod Match
 pub mod Results
 pub mod Target

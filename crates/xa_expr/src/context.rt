@@ -3,10 +3,14 @@ ghost use Rattle.std.specs.Prelude.{◌≡◌, List, IfOk};
 ghost use Rattle.xa_value.specs.declared.value.Value.{Value};
 ghost use Rattle.xa_bag.specs.Bag.{bag_of};
 ghost use Rattle.xa_expr.specs.declared.designator.Designator.{Designator};
+ghost use Rattle.xa_expr.specs.Looked.{looked};
 
 use crate::designator::Designator;
+use crate::looked::Looked;
+use crate::work::units_of_look;
 use std::alloc::{AllocError, Global};
 use xa_bag::Bag;
+use xa_value::Value;
 
 /// Where the values of attributes come from (core, section 7.3): to each designator its bag, which is of the designator's type.
 pub trait Context {
@@ -16,6 +20,21 @@ pub trait Context {
     /// The bag of the designator, whether or not it must be present.
     fn bag(&self, alloc: Global, designator: &Designator) -> Result<Bag, AllocError>
         ensures { IfOk result (λ bag. bag ≡ bag_of designator.now.data_type (values_of self.now designator.now)) };
+
+    /// What a look for the value in the designator's bag comes to. A context that has the values itself looks at them where they are; by
+    /// default the bag is asked for. Either way it takes the units of the bag, as where that is asked for, and those of a look at it.
+    fn look_for(
+        &self,
+        alloc: Global,
+        designator: &Designator,
+        sought: &Value,
+    ) -> Result<Looked, AllocError>
+        ensures { IfOk result (λ found. found ≡ looked sought.now (values_of self.now designator.now)) }
+    {
+        let bag = self.bag(alloc, designator)?;
+        self.spend(units_of_look(&bag))?;
+        Ok(Looked::in_bag(sought, &bag))
+    }
 
     /// Takes the units from the work that the message may still ask for. A context that counts no work lets all of it be done. No
     /// clause speaks of it: what is refused is answered as want of memory, which every evaluation may answer.

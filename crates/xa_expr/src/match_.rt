@@ -1,12 +1,11 @@
 //! Matches of a literal against the values of an attribute.
-ghost use Rattle.std.specs.Prelude.{◌≡◌, [], ◌∷◌, ◌++◌, map, if◌then◌else◌, Some, Ok, IfOk};
-ghost use Rattle.std.specs.List.{list_any};
-ghost use Rattle.xa_value.specs.Order.{type_of, same};
+ghost use Rattle.std.specs.Prelude.{◌≡◌, [], ◌∷◌, ◌++◌, map, Some, Ok, IfOk};
+ghost use Rattle.xa_value.specs.Order.{type_of};
 ghost use Rattle.xa_func.specs.Application.{applied};
 ghost use Rattle.xa_func.specs.Signature.{TakesKinds, kind_of};
 ghost use Rattle.xa_bag.specs.Bag.{OfType};
-ghost use Rattle.xa_expr.specs.declared.matching.Matching.TheVariants as matching;
 ghost use Rattle.xa_expr.specs.Fault.{of_function};
+ghost use Rattle.xa_expr.specs.Looked.{looked, match_by};
 ghost use Rattle.xa_expr.specs.Match.{argument_kinds, may_ask, matched, matched_by};
 ghost use Rattle.xa_expr.specs.Target.{answer, match_value, matching_of, some_match};
 ghost use Rattle.xa_expr.specs.Typed.{accepted};
@@ -15,9 +14,10 @@ use crate::check_error::CheckError;
 use crate::context::Context;
 use crate::designator::Designator;
 use crate::fault::Fault;
+use crate::looked::Looked;
 use crate::matching::Matching;
 use crate::scope::attribute;
-use crate::work::{LOOK, STEP, units_of, units_of_values};
+use crate::work::{STEP, units_of, units_of_values};
 use std::alloc::{AllocError, Global};
 use std::marker::Model;
 use xa_func::{FuncId, HasKind, Kind, Signature};
@@ -74,12 +74,37 @@ impl Match {
         &self.designator
     }
 
-    /// The value of the match (core, section 7.6).
+    /// The value of the match (core, section 7.6). Equality looks at the values where they are; every other function is called with a copy
+    /// of each.
+    #[tactic(auto, using(crate::proofs::MatchLemmas::found_answers))]
     pub(crate) fn matching<C: Context>(
         &self,
         alloc: Global,
         context: &C,
     ) -> Result<Matching, AllocError>
+        ensures { IfOk result (λ m. m ≡ match_value (C.values_of context.now) self.now) }
+    {
+        match self.function {
+            FuncId::Equal(_) => self.literal_in(alloc, context),
+            _ => self.true_in(alloc, context),
+        }
+    }
+
+    /// What a look for the literal says of the match. It takes two steps, as asking for the bag and looking at it do, and one where a value is
+    /// missing.
+    fn literal_in<C: Context>(&self, alloc: Global, context: &C) -> Result<Matching, AllocError>
+        ensures { IfOk result (λ m. m ≡ match_by self.now.designator.must_be_present (looked self.now.literal (C.values_of context.now self.now.designator))) }
+    {
+        context.spend(STEP)?;
+        let found = context.look_for(alloc, &self.designator, &self.literal)?;
+        if found != Looked::Nothing || !self.designator.must_be_present {
+            context.spend(STEP)?;
+        }
+        Ok(found.matching(self.designator.must_be_present))
+    }
+
+    /// Whether the function is true of one of the values of the bag.
+    fn true_in<C: Context>(&self, alloc: Global, context: &C) -> Result<Matching, AllocError>
         ensures { IfOk result (λ m. m ≡ match_value (C.values_of context.now) self.now) }
     {
         match attribute(alloc, context, &self.designator) {
@@ -89,7 +114,7 @@ impl Match {
         }
     }
 
-    /// Whether the function is true of one of the values. What it takes to look at all of them is counted before.
+    /// Whether the function is true of one of the values. What it takes to call it for all of them is counted before.
     fn found_in<C: Context>(
         &self,
         alloc: Global,
@@ -99,33 +124,17 @@ impl Match {
         requires { OfType self.now.designator.data_type values.now }
         ensures { IfOk result (λ m. m ≡ some_match (map (answer self.now) values.now)) }
     {
-        context.spend(STEP.saturating_add(self.units_of_looking(values)))?;
-        self.true_of_some(alloc, values)
+        context.spend(STEP.saturating_add(self.units_of_calls(values)))?;
+        self.found_true(alloc, values)
     }
 
-    /// The units of a look at each of the values: equality compares them where they are, and the units of the bag were counted when it
-    /// was given; every other function is called for a copy of each, beside one of the literal.
-    fn units_of_looking(&self, values: &[Value]) -> u64 {
+    /// The units of a call for a copy of each of the values, beside one of the literal.
+    fn units_of_calls(&self, values: &[Value]) -> u64 {
         let count = values.len() as u64;
-        match self.function {
-            FuncId::Equal(_) => count.saturating_mul(LOOK),
-            _ => count
-                .saturating_add(1)
-                .saturating_mul(STEP.saturating_add(units_of(&self.literal)))
-                .saturating_add(units_of_values(values)),
-        }
-    }
-
-    /// Whether the function is true of one of the values. Equality looks at them where they are.
-    #[tactic(auto, using(crate::proofs::MatchLemmas::equal_answers))]
-    fn true_of_some(&self, alloc: Global, values: &[Value]) -> Result<Matching, AllocError>
-        requires { OfType self.now.designator.data_type values.now }
-        ensures { IfOk result (λ m. m ≡ some_match (map (answer self.now) values.now)) }
-    {
-        match self.function {
-            FuncId::Equal(_) => Ok(equal_to_some(&self.literal, values)),
-            _ => self.found_true(alloc, values),
-        }
+        count
+            .saturating_add(1)
+            .saturating_mul(STEP.saturating_add(units_of(&self.literal)))
+            .saturating_add(units_of_values(values))
     }
 
     /// Whether the function is true of one of the values. The first of which it is settles it.
@@ -201,23 +210,6 @@ fn answer_for(function: FuncId, alloc: Global, arguments: &[Value]) -> Result<Ma
         Err(OrMemory::Error(fault)) => Ok(Matching::Indeterminate(Fault::with(fault.status()))),
         Err(OrMemory::Memory) => Err(AllocError),
     }
-}
-
-/// Whether one of the values is equal to the literal.
-fn equal_to_some(literal: &Value, values: &[Value]) -> Matching
-    ensures { result ≡ (if list_any (same literal.now) values.now then matching.Match else matching.NoMatch) }
-{
-    if has_equal(literal, values) {
-        Matching::Match
-    } else {
-        Matching::NoMatch
-    }
-}
-
-fn has_equal(literal: &Value, values: &[Value]) -> bool
-    ensures { result ≡ list_any (same literal.now) values.now }
-{
-    values.iter().any(|value| literal.same(value))
 }
 
 /// What the boolean says of a match.

@@ -97,6 +97,11 @@ pub fn units_of_bag(bag: &Bag) -> u64 {
     units_of_values(bag.values())
 }
 
+/// The units of a bag, and of a look at each of its values where it is.
+pub(crate) fn units_of_look(bag: &Bag) -> u64 {
+    units_of_bag(bag).saturating_add(LOOK.saturating_mul(bag.len() as u64))
+}
+
 /// The units of a value or of a bag.
 pub fn units_of_given(given: &ValueOrBag) -> u64 {
     match given {

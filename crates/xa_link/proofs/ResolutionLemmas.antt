@@ -11,8 +11,9 @@ use Rattle.std.proofs.lemmas.List.MinMax.{ranks_by}
 use Rattle.std.proofs.lemmas.List.Sums.{position_or_len_is, list_all-from_AllPass}
 use borrow.Author.Tests.{lt-ltb}
 use Rattle.xa_policy.specs.declared.reference.Reference.{Reference}
+use Rattle.xa_policy.specs.Version.{is_before}
 use Rattle.xa_link.specs.declared.active.Active.{Active}
-use Rattle.xa_link.specs.Resolution.{is_before, fits, resolve}
+use Rattle.xa_link.specs.Resolution.{fits, resolve}
 
 -- ---- over any test and order
 

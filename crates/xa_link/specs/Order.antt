@@ -12,6 +12,7 @@ use Rattle.xa_policy.specs.declared.pattern.PatternPart.TheVariants.{Number, Any
 use Rattle.xa_policy.specs.declared.reference.DocumentKind.{DocumentKind}
 use Rattle.xa_policy.specs.DocumentKey.{place_of_kind}
 use Rattle.xa_policy.specs.declared.reference.Reference.{Reference}
+use Rattle.xa_policy.specs.Version.{compare_versions}
 use Rattle.xa_link.specs.declared.active.Active.{Active}
 use Rattle.xa_link.specs.Resolution.{fits, not_after, not_before}
 
@@ -31,7 +32,7 @@ compare_names = then_cmp (on (λ n. n.rank) nat_cmp) (on (λ n. n.id) (slice_cmp
 
 -- by kind, id and version
 abbrev pub compare_documents : Active → Active → Ordering
-compare_documents = then_cmp (on name_of compare_names) (on (λ d. d.version) (slice_cmp nat_cmp))
+compare_documents = then_cmp (on name_of compare_names) (on (λ d. d.version) compare_versions)
 
 -- the greater document comes first, and of like ones the first
 abbrev pub compare_places : List Active → ℕ → ℕ → Ordering

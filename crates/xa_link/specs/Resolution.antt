@@ -1,13 +1,12 @@
 -- Which version a pattern matches, and which document a reference stands for (XACML 3.0, core, sections 5.10 to 5.13).
 use Rattle.std.specs.Prelude.{◌≡◌, ℕ, Bool, true, false, not, ◌&&◌, ◌==◌, bytes_eq, List, [], ◌∷◌, slice_get, Option, Some, None}
-use Rattle.std.specs.Cmp.Lexicographic.{slice_cmp}
 use Rattle.std.specs.List.{list_all, position}
-use Rattle.std.specs.Ordering.{nat_cmp, is_lt}
 use Rattle.xa_policy.specs.declared.pattern.PatternPart.{PatternPart}
 use Rattle.xa_policy.specs.declared.pattern.PatternPart.TheVariants.{Number, AnyNumber, AnyNumbers}
 use Rattle.xa_policy.specs.declared.reference.DocumentKind.{DocumentKind}
 use Rattle.xa_policy.specs.declared.reference.DocumentKind.TheVariants.{Policy, PolicySet}
 use Rattle.xa_policy.specs.declared.reference.Reference.{Reference}
+use Rattle.xa_policy.specs.Version.{is_before}
 use Rattle.xa_link.specs.declared.active.Active.{Active}
 
 -- a number matches itself, `*` any one number, and `+` any number and all that follow it
@@ -18,10 +17,6 @@ matches (part ∷ parts) [] = false
 matches (Number m ∷ parts) (n ∷ ns) = (m == n) && matches parts ns
 matches (AnyNumber ∷ parts) (n ∷ ns) = matches parts ns
 matches (AnyNumbers ∷ parts) (n ∷ ns) = true
-
--- versions compare as lists of numbers, a proper prefix being less
-abbrev pub is_before : List ℕ → List ℕ → Bool
-is_before v w = is_lt (slice_cmp nat_cmp v w)
 
 abbrev pub same_kind : DocumentKind → DocumentKind → Bool
 same_kind Policy Policy = true

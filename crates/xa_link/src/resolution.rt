@@ -1,6 +1,7 @@
 //! Which document a reference stands for.
 ghost use Rattle.std.specs.Prelude.{◌≡◌, ◌<◌, true, length, slice_index_or, IfSome, MatchOption};
-ghost use Rattle.xa_link.specs.Resolution.{OnePlaceForEachVersion, matches, is_before, fits_pattern, not_before, not_after, fits, resolve};
+ghost use Rattle.xa_policy.specs.Version.{is_before};
+ghost use Rattle.xa_link.specs.Resolution.{OnePlaceForEachVersion, matches, fits_pattern, not_before, not_after, fits, resolve};
 
 use crate::active::Active;
 use xa_policy::{Pattern, PatternPart, Reference, Version};

@@ -1,3 +1,4 @@
+pub mod AddingLemmas
 pub mod JsonLemmas
 pub mod TypingLemmas
 pub mod VariableLemmas

@@ -1,16 +1,19 @@
 -- The typing of a document, in table order (XACML 3.0, core, section 5): a match's function takes the literal and a value of the designator's
 -- type and gives a boolean, a condition is a boolean, and a variable is defined before it is used.
-use Rattle.std.specs.Prelude.{List, [], ◌∷◌, map, Result, Ok}
+use Rattle.std.specs.Prelude.{if◌then◌else◌, List, [], ◌∷◌, ◌++◌, map, Result, Ok}
 use Rattle.xa_value.specs.Gives.{◌>>=◌}
 use Rattle.xa_bag.specs.HigherOrder.{collected}
 use Rattle.xa_expr.specs.declared.check_error.CheckError.{CheckError}
 use Rattle.xa_expr.specs.declared.target.AllOf.{AllOf}
 use Rattle.xa_expr.specs.declared.target.AnyOf.{AnyOf}
 use Rattle.xa_expr.specs.declared.target.Target.{Target}
+use Rattle.xa_expr.specs.declared.typed.Typed.{Typed}
 use Rattle.xa_expr.specs.declared.variables.Definition.{Definition}
 use Rattle.xa_expr.specs.Match.{Question, matched}
-use Rattle.xa_expr.specs.Variables.{defined, may_be_defined}
-use Rattle.xa_policy.specs.Checking.{duties_set, no_expressions, rule_added, set_duties_set}
+use Rattle.xa_expr.specs.Typing.{checked}
+use Rattle.xa_expr.specs.Variables.{is_defined}
+use Rattle.xa_policy.specs.declared.rule.Rule.{Rule}
+use Rattle.xa_policy.specs.Checking.{checked_duties, checked_rule}
 use Rattle.xa_policy.specs.Policy.{PolicyParts}
 use Rattle.xa_notation.specs.declared.document.Document.{Document}
 use Rattle.xa_notation.specs.declared.document.Document.TheVariants as document
@@ -39,37 +42,35 @@ typed_any_of a = collected (map typed_all_of a.all_of) >>= (λ all_of. Ok (recor
 abbrev pub typed_target : WrittenTarget → Result Target CheckError
 typed_target t = collected (map typed_any_of t.any_of) >>= (λ any_of. Ok (record { any_of = any_of }))
 
--- variables (5.23): each behind others, whose definitions may name those
+-- variables (5.23), behind those before them: an expression may name what is before it. Of two of one name the first stands.
 abbrev pub typed_variables : List Definition → List WrittenVariable → Result (List Definition) CheckError
-typed_variables definitions [] = Ok definitions
-typed_variables definitions (v ∷ vs) =
-    may_be_defined definitions v.name v.expression >>= (λ _. typed_variables (defined definitions v.name v.expression) vs)
+typed_variables before [] = Ok before
+typed_variables before (v ∷ vs) =
+    if is_defined before v.name then typed_variables before vs
+    else checked before v.expression >>= (λ expression. typed_variables (before ++ record { name = v.name; expression = expression } ∷ []) vs)
 
--- a rule (5.21): its target, its condition, its obligations and its advice;
--- a policy with a rule behind those that it has, and with rules, in order
-abbrev pub typed_rule_added : PolicyParts → WrittenRule → Result PolicyParts CheckError
-typed_rule_added p r =
-    typed_target r.target >>= (λ target. rule_added p (record { effect = r.effect; target = target; condition = r.condition; duties = r.duties }))
-
-abbrev pub typed_rules_added : PolicyParts → List WrittenRule → Result PolicyParts CheckError
-typed_rules_added p [] = Ok p
-typed_rules_added p (r ∷ rs) = typed_rule_added p r >>= (λ q. typed_rules_added q rs)
+-- a rule (5.21) under the policy's variables: its target, its condition, its obligations and its advice
+abbrev pub typed_rule : List Definition → WrittenRule → Result (Rule Typed) CheckError
+typed_rule variables r =
+    typed_target r.target >>= (λ target.
+    checked_rule variables (record { effect = r.effect; target = target; condition = r.condition; duties = r.duties }))
 
 -- a policy (5.14): its target, its variables, its rules, its obligations and its advice
 unfoldable pub typed_policy : WrittenPolicy → Result PolicyParts CheckError
 typed_policy p = do
   target ← typed_target p.target
   variables ← typed_variables [] p.variables
-  policy ← typed_rules_added (record { algorithm = p.algorithm; target = target; variables = variables; rules = []; duties = no_expressions }) p.rules
-  duties_set policy p.duties
+  rules ← collected (map (typed_rule variables) p.rules)
+  duties ← checked_duties variables p.duties
+  Ok (record { algorithm = p.algorithm; target = target; variables = variables; rules = rules; duties = duties })
 
--- a policy set (5.1), by what its children come to
+-- a policy set (5.1), by what its children come to: its target, its children, its obligations and its advice
 unfoldable pub typed_set : WrittenSet → List (Result Document CheckError) → Result Document CheckError
 typed_set s children = do
   target ← typed_target s.target
   typed ← collected children
-  set ← set_duties_set (record { algorithm = s.algorithm; target = target; duties = no_expressions }) s.duties
-  Ok (document.PolicySet set typed)
+  duties ← checked_duties [] s.duties
+  Ok (document.PolicySet (record { algorithm = s.algorithm; target = target; duties = duties }) typed)
 
 -- each part of a document, by what those in it come to
 abbrev pub typed_step : WrittenTree-F (Result Document CheckError) → Result Document CheckError

@@ -3,7 +3,8 @@ ghost use Rattle.std.specs.Prelude.{◌≡◌, [], map};
 ghost use Rattle.std.specs.Result.{result_map_both};
 ghost use Rattle.xa_value.specs.Gives.{Gives};
 ghost use Rattle.xa_bag.specs.HigherOrder.{collected};
-ghost use Rattle.xa_notation.specs.Typing.{typed_all_of, typed_any_of, typed_match, typed_policy, typed_rule_added, typed_rules_added, typed_set, typed_target, typed_tree, typed_variables};
+ghost use Rattle.xa_notation.specs.Typing.{typed_all_of, typed_any_of, typed_match, typed_policy, typed_set, typed_target, typed_tree, typed_variables};
+ghost use Rattle.xa_notation.specs.parsing.Adding.{with_typed_rule, with_typed_rules};
 
 use crate::document::Document;
 use crate::written::{
@@ -80,6 +81,7 @@ fn typed_target(alloc: Global, written: WrittenTarget) -> Result<Target, OrMemor
 }
 
 /// The typed variables: each is defined behind those before it.
+#[tactic(auto, using(crate::proofs::AddingLemmas::variable_first))]
 fn typed_variables(
     alloc: Global,
     written: Items<WrittenVariable>,
@@ -100,7 +102,7 @@ fn add_rule(
     policy: &mut Policy,
     written: WrittenRule,
 ) -> Result<(), OrMemory<CheckError>>
-    ensures { Gives (result_map_both (λ _. policy.new) (λ e. e) result) (typed_rule_added policy.old written) }
+    ensures { Gives (result_map_both (λ _. policy.new) (λ e. e) result) (with_typed_rule policy.old written) }
 {
     let WrittenRule {
         effect,
@@ -121,12 +123,13 @@ fn add_rule(
 }
 
 /// The policy with the typed rules behind those that it has.
+#[tactic(auto, using(crate::proofs::AddingLemmas::rule_first, crate::proofs::AddingLemmas::rules_end))]
 fn with_rules(
     alloc: Global,
     mut policy: Policy,
     written: Items<WrittenRule>,
 ) -> Result<Policy, OrMemory<CheckError>>
-    ensures { Gives result (typed_rules_added policy written) }
+    ensures { Gives result (with_typed_rules policy written) }
 {
     for rule in written.into_vec() {
         add_rule(alloc, &mut policy, rule)?;
@@ -134,7 +137,7 @@ fn with_rules(
     Ok(policy)
 }
 
-#[tactic(auto, unfolding(crate::specs::Typing::typed_policy))]
+#[tactic(auto, using(crate::proofs::AddingLemmas::policy_built))]
 fn typed_policy(alloc: Global, written: WrittenPolicy) -> Result<Policy, OrMemory<CheckError>>
     ensures { Gives result (typed_policy written) }
 {
@@ -169,7 +172,7 @@ fn typed_children(
 }
 
 #[cycle(typing)]
-#[tactic(auto, unfolding(crate::specs::Typing::typed_set))]
+#[tactic(auto, using(crate::proofs::AddingLemmas::set_built))]
 fn typed_set(
     alloc: Global,
     written: WrittenSet,

@@ -1,6 +1,6 @@
 -- The type check of rules, obligations and advice (XACML 3.0, core, sections 5.21, 5.26 and 5.39 to 5.41): a condition is a boolean, and an
 -- assignment a value or a bag of any type.
-use Rattle.std.specs.Prelude.{if◌then◌else◌, List, [], ◌∷◌, ◌++◌, map, Option, Some, None, Result, Ok, Err}
+use Rattle.std.specs.Prelude.{if◌then◌else◌, List, map, Option, Some, None, Result, Ok, Err}
 use Rattle.xa_value.specs.declared.data_type.DataType.TheVariants as type
 use Rattle.xa_value.specs.Gives.{◌>>=◌}
 use Rattle.xa_func.specs.declared.signature.Kind.TheVariants as kind
@@ -16,7 +16,6 @@ use Rattle.xa_policy.specs.declared.duty.AttributeAssignmentExpression.{Attribut
 use Rattle.xa_policy.specs.declared.duty.DutyExpression.{DutyExpression}
 use Rattle.xa_policy.specs.declared.duty.DutyExpressions.{DutyExpressions}
 use Rattle.xa_policy.specs.declared.rule.Rule.{Rule}
-use Rattle.xa_policy.specs.Policy.{PolicyParts, SetParts}
 
 -- a condition is a boolean, and no bag
 abbrev pub boolean_alone : Typed → Result Typed CheckError
@@ -51,28 +50,3 @@ checked_rule variables rule =
     checked_condition variables rule.condition >>= (λ condition.
     checked_duties variables rule.duties >>= (λ duties.
     Ok (record { effect = rule.effect; target = rule.target; condition = condition; duties = duties })))
-
--- a policy without rules, obligations and advice
-abbrev pub no_expressions : DutyExpressions Typed
-no_expressions = record { obligations = []; advice = [] }
-
--- the policy with a rule behind those that it has, where the rule passes
-abbrev pub with_rule : PolicyParts → Rule Typed → PolicyParts
-with_rule p rule = record { algorithm = p.algorithm; target = p.target; variables = p.variables; rules = p.rules ++ rule ∷ []; duties = p.duties }
-
-abbrev pub rule_added : PolicyParts → Rule Expr → Result PolicyParts CheckError
-rule_added p rule = checked_rule p.variables rule >>= (λ r. Ok (with_rule p r))
-
--- the policy with these obligations and this advice in place of its own, where they pass
-abbrev pub with_duties : PolicyParts → DutyExpressions Typed → PolicyParts
-with_duties p duties = record { algorithm = p.algorithm; target = p.target; variables = p.variables; rules = p.rules; duties = duties }
-
-abbrev pub duties_set : PolicyParts → DutyExpressions Expr → Result PolicyParts CheckError
-duties_set p duties = checked_duties p.variables duties >>= (λ ds. Ok (with_duties p ds))
-
--- the same of a policy set, which has no variables
-abbrev pub set_with_duties : SetParts → DutyExpressions Typed → SetParts
-set_with_duties s duties = record { algorithm = s.algorithm; target = s.target; duties = duties }
-
-abbrev pub set_duties_set : SetParts → DutyExpressions Expr → Result SetParts CheckError
-set_duties_set s duties = checked_duties [] duties >>= (λ ds. Ok (set_with_duties s ds))

@@ -1,11 +1,12 @@
 -- The keys of documents, and their order.
-use Rattle.std.specs.Prelude.{ℕ, Bool, ◌&&◌, bytes_eq}
+use Rattle.std.specs.Prelude.{ℕ}
 use Rattle.std.specs.Cmp.Lexicographic.{slice_cmp}
 use Rattle.std.specs.Ordering.{nat_cmp, on, then_cmp}
 use Rattle.std.specs.declared.cmp.Ordering.{Ordering}
 use Rattle.xa_policy.specs.declared.document_key.DocumentKey.{DocumentKey}
 use Rattle.xa_policy.specs.declared.reference.DocumentKind.{DocumentKind}
 use Rattle.xa_policy.specs.declared.reference.DocumentKind.TheVariants.{Policy, PolicySet}
+use Rattle.xa_policy.specs.Version.{compare_versions}
 
 -- policies stand before policy sets
 abbrev pub place_of_kind : DocumentKind → ℕ
@@ -14,4 +15,4 @@ place_of_kind PolicySet = 1
 
 -- by the kind, then by the bytes of the id, and then by the numbers of the version
 abbrev pub compare_keys : DocumentKey → DocumentKey → Ordering
-compare_keys = then_cmp (then_cmp (on (λ k. place_of_kind k.kind) nat_cmp) (on (λ k. k.id) (slice_cmp nat_cmp))) (on (λ k. k.version) (slice_cmp nat_cmp))
+compare_keys = then_cmp (then_cmp (on (λ k. place_of_kind k.kind) nat_cmp) (on (λ k. k.id) (slice_cmp nat_cmp))) (on (λ k. k.version) compare_versions)

@@ -3,7 +3,7 @@ ghost use Rattle.std.specs.Prelude.{◌≡◌, [], OnErr};
 ghost use Rattle.std.specs.Result.{result_map_both};
 ghost use Rattle.xa_value.specs.Gives.{Gives};
 ghost use Rattle.xa_expr.specs.Variables.{kinds};
-ghost use Rattle.xa_policy.specs.Checking.{duties_set, no_expressions, rule_added};
+ghost use Rattle.xa_policy.specs.Adding.{duties_set, no_expressions, rule_added};
 ghost use Rattle.xa_policy.specs.Policy.{AreTypedDuties, AreTypedRules};
 
 use crate::checking::{check_duties, check_rule};

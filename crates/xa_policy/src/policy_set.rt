@@ -2,7 +2,7 @@
 ghost use Rattle.std.specs.Prelude.{◌≡◌, [], OnErr};
 ghost use Rattle.std.specs.Result.{result_map_both};
 ghost use Rattle.xa_value.specs.Gives.{Gives};
-ghost use Rattle.xa_policy.specs.Checking.{no_expressions, set_duties_set};
+ghost use Rattle.xa_policy.specs.Adding.{no_expressions, set_duties_set};
 ghost use Rattle.xa_policy.specs.Policy.{AreTypedDuties};
 
 use crate::checking::check_duties;

@@ -1,0 +1,143 @@
+//! Looks for a value among those of a designator, where they are: no value is copied.
+ghost use Rattle.std.specs.Prelude.{◌≡◌, [], ◌∷◌, bytes_eq, IfOk, if◌then◌else◌};
+ghost use Rattle.xa_expr.specs.Looked.{looked};
+ghost use Rattle.xa_decide.specs.Context.{is_named, is_row, object_values, request_values, source_values};
+
+use crate::attribute::is_named;
+use crate::indexed_object::IndexedObject;
+use crate::individual_objects::IndividualObjects;
+use crate::order::item_at;
+use crate::source::{Source, is_row};
+use crate::source_row::SourceRow;
+use std::alloc::AllocError;
+use xa_bag::Bag;
+use xa_expr::{Budget, Designator, LOOK, Looked, units_of, units_of_bag};
+use xa_profile::Attribute;
+use xa_value::Value;
+
+/// A look for a value among those of a designator. It takes the units of the values that it comes to twice, as the designator's bag does,
+/// once where it is made and once where it is given, and those of a look at each.
+#[derive(Drop)]
+pub(crate) struct Look<'a> {
+    pub(crate) budget: &'a Budget,
+    pub(crate) designator: &'a Designator,
+    pub(crate) sought: &'a Value,
+}
+
+/// The units of so many values that have these units together.
+fn units_of_looks(units: u64, count: usize) -> u64 {
+    units
+        .saturating_mul(2)
+        .saturating_add(LOOK.saturating_mul(count as u64))
+}
+
+impl<'a> Look<'a> {
+    /// A look at the values of a bag.
+    fn at_bag(&self, bag: &Bag) -> Result<Looked, AllocError>
+        ensures { IfOk result (λ found. found ≡ looked self.now.sought.now bag.now.values) }
+    {
+        self.budget
+            .spend(units_of_looks(units_of_bag(bag), bag.len()))?;
+        Ok(Looked::in_bag(self.sought, bag))
+    }
+
+    /// A look at the value that the clock gives, of which no copy would be made.
+    pub(crate) fn at_clock(&self, value: &Value) -> Result<Looked, AllocError>
+        ensures { IfOk result (λ found. found ≡ looked self.now.sought.now (value.now ∷ [])) }
+    {
+        self.budget.spend(units_of(value).saturating_add(LOOK))?;
+        Ok(Looked::at_value(self.sought, value))
+    }
+
+    /// A look at the values of the attribute, if it is one that the designator names.
+    fn at_attribute(&self, attribute: &Attribute) -> Result<Looked, AllocError>
+        ensures { IfOk result (λ found. found ≡ looked self.now.sought.now (if is_named self.now.designator.now.attribute_id self.now.designator.now.data_type self.now.designator.now.issuer attribute.now then attribute.now.values.values else [])) }
+    {
+        let id = self.designator.attribute_id.as_str();
+        if is_named(
+            id,
+            self.designator.data_type,
+            &self.designator.issuer,
+            attribute,
+        ) {
+            self.at_bag(&attribute.values)
+        } else {
+            Ok(Looked::Nothing)
+        }
+    }
+
+    /// A look at the values of the object's attributes.
+    #[tactic(auto, using(xa_expr::proofs::LookedLemmas::joined_nothing))]
+    fn at_object(&self, object: &IndexedObject<'_>) -> Result<Looked, AllocError>
+        ensures { IfOk result (λ found. found ≡ looked self.now.sought.now (object_values self.now.designator.now.attribute_id self.now.designator.now.data_type self.now.designator.now.issuer object.now)) }
+    {
+        let id = self.designator.attribute_id.as_str();
+        let places = object.places(id, self.designator.data_type, &self.designator.issuer);
+        let attributes = object.attributes();
+        let mut so_far = Looked::Nothing;
+        for place in places {
+            if let Some(attribute) = item_at(attributes, *place) {
+                so_far = so_far.and(self.at_attribute(attribute)?);
+            }
+        }
+        Ok(so_far)
+    }
+
+    /// A look at the values of the object's attributes, if it is of the designator's category.
+    fn at_object_of_category(&self, object: &IndexedObject<'_>) -> Result<Looked, AllocError>
+        ensures { IfOk result (λ found. found ≡ looked self.now.sought.now (if bytes_eq object.now.category self.now.designator.now.category then object_values self.now.designator.now.attribute_id self.now.designator.now.data_type self.now.designator.now.issuer object.now else [])) }
+    {
+        if object.category() == self.designator.category.as_str() {
+            self.at_object(object)
+        } else {
+            Ok(Looked::Nothing)
+        }
+    }
+
+    /// A look at the values that the request has.
+    #[tactic(auto, unfolding(crate::specs::Context::request_values), using(xa_expr::proofs::LookedLemmas::joined_nothing))]
+    pub(crate) fn at_objects(&self, objects: &IndividualObjects<'_>) -> Result<Looked, AllocError>
+        ensures { IfOk result (λ found. found ≡ looked self.now.sought.now (request_values objects.now self.now.designator.now.category self.now.designator.now.attribute_id self.now.designator.now.data_type self.now.designator.now.issuer)) }
+    {
+        let places = objects.places(self.designator.category.as_str());
+        let mut so_far = Looked::Nothing;
+        for place in places {
+            if let Some(object) = objects.object(*place) {
+                so_far = so_far.and(self.at_object_of_category(object)?);
+            }
+        }
+        Ok(so_far)
+    }
+
+    /// A look at the row's value, if it is a row of the entity's attribute that the designator names.
+    fn at_row(&self, entity: &str, row: &SourceRow) -> Result<Looked, AllocError>
+        ensures { IfOk result (λ found. found ≡ looked self.now.sought.now (if is_row self.now.designator.now.category entity.now self.now.designator.now.attribute_id self.now.designator.now.data_type row.now then row.now.value ∷ [] else [])) }
+    {
+        let category = self.designator.category.as_str();
+        let id = self.designator.attribute_id.as_str();
+        if is_row(category, entity, id, self.designator.data_type, row) {
+            self.budget.spend(units_of_looks(units_of(&row.value), 1))?;
+            Ok(Looked::at_value(self.sought, &row.value))
+        } else {
+            Ok(Looked::Nothing)
+        }
+    }
+
+    /// A look at the values that the source has of the entity's attribute.
+    #[tactic(auto, unfolding(crate::specs::Context::source_values), using(xa_expr::proofs::LookedLemmas::joined_nothing))]
+    pub(crate) fn at_source(&self, source: &Source, entity: &str) -> Result<Looked, AllocError>
+        ensures { IfOk result (λ found. found ≡ looked self.now.sought.now (source_values source.now self.now.designator.now.category entity.now self.now.designator.now.attribute_id self.now.designator.now.data_type)) }
+    {
+        let category = self.designator.category.as_str();
+        let id = self.designator.attribute_id.as_str();
+        let places = source.places(category, entity, id, self.designator.data_type);
+        let rows = source.rows();
+        let mut so_far = Looked::Nothing;
+        for place in places {
+            if let Some(row) = item_at(rows, *place) {
+                so_far = so_far.and(self.at_row(entity, row)?);
+            }
+        }
+        Ok(so_far)
+    }
+}
