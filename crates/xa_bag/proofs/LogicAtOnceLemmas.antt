@@ -30,7 +30,7 @@ use Rattle.xa_bag.proofs.JoiningLemmas.{then_verdict, verdict_cons, verdict_one,
 
 -- how many of the values are True
 abbrev pub trues : List Value → ℕ
-trues vs = true_count (given (booleans vs))
+trues vs = true_count (booleans vs)
 
 trues_first : (v : Value) (vs : List Value) → trues (v ∷ vs) ≡ cond (is_true v) (suc (trues vs)) (trues vs)
 trues_first (value.Boolean true) vs = refl
@@ -147,9 +147,9 @@ rises_from : {F : Type 0} (k : ℕ) → Rises {F = F} (λ n. Ok (nat_le k n))
 rises_from k = record { up = λ n. rise_up k n (nat_le k n) refl; down = λ n. rise_down k n (nat_le k (suc n)) refl }
 
 -- or: at least one
-or_counted : (bs : List Bool) → or_of (given bs) ≡ Ok (nat_le 1 (true_count (given bs)))
+or_counted : (bs : List Bool) → or_of (given bs) ≡ Ok (nat_le 1 (true_count bs))
 or_counted [] = refl
-or_counted (true ∷ bs) = let h : true ≡ nat_le 1 (suc (true_count (given bs))) = grind (arith, nat_tests) in ap Ok h
+or_counted (true ∷ bs) = let h : true ≡ nat_le 1 (suc (true_count bs)) = grind (arith, nat_tests) in ap Ok h
 or_counted (false ∷ bs) = or_counted bs
 
 or_at_most : (arguments : List ValueOrBag) → of_some_choice logic.Or arguments ≡ at_most (λ n. Ok (nat_le 1 n)) (most_true arguments)
@@ -161,19 +161,19 @@ pub or_by_most : (arguments : List ValueOrBag) (most : Option ℕ) → most ≡ 
 or_by_most arguments most is = or_at_most arguments ∙ ap (at_most (λ n. Ok (nat_le 1 n))) (sym is)
 
 -- and: as many as there are
-trues_within : (bs : List Bool) → true_count (given bs) ≤ length (given bs)
+trues_within : (bs : List Bool) → true_count bs ≤ length (given bs)
 trues_within [] = omega arith
 trues_within (true ∷ bs) = let h = trues_within bs in omega arith
 trues_within (false ∷ bs) = let h = trues_within bs in omega arith
 
-and_counted : (bs : List Bool) → and_of (given bs) ≡ Ok (nat_le (length (given bs)) (true_count (given bs)))
+and_counted : (bs : List Bool) → and_of (given bs) ≡ Ok (nat_le (length (given bs)) (true_count bs))
 and_counted [] = refl
 and_counted (true ∷ bs) =
-    let h : nat_le (length (given bs)) (true_count (given bs)) ≡ nat_le (suc (length (given bs))) (suc (true_count (given bs))) = grind (arith, nat_tests) in
+    let h : nat_le (length (given bs)) (true_count bs) ≡ nat_le (suc (length (given bs))) (suc (true_count bs)) = grind (arith, nat_tests) in
     and_counted bs ∙ ap Ok h
 and_counted (false ∷ bs) =
     let some = trues_within bs in
-    let h : false ≡ nat_le (suc (length (given bs))) (true_count (given bs)) = grind (arith, nat_tests) in ap Ok h
+    let h : false ≡ nat_le (suc (length (given bs))) (true_count bs) = grind (arith, nat_tests) in ap Ok h
 
 -- every value of every argument is a boolean
 abbrev AllBoolean : List ValueOrBag → Type 0
@@ -244,16 +244,16 @@ of_no_choice function arguments none = ap (λ cs. or_of (map (logical function) 
 
 -- n-of: at least as many as its number, where that is none too great
 n_among_counted : (k : ℕ) (bs : List Bool) (many : ℕ) → length (given bs) ≡ many
-    → n_among Position k (given bs) ≡ cond (nat_lt many k) (Err Position) (Ok (nat_le k (true_count (given bs))))
+    → n_among Position k (given bs) ≡ cond (nat_lt many k) (Err Position) (Ok (nat_le k (true_count bs)))
 n_among_counted k bs many is = by_case (nat_lt many k) refl where
-  by_case : (b : Bool) → nat_lt many k ≡ b → n_among Position k (given bs) ≡ cond b (Err Position) (Ok (nat_le k (true_count (given bs))))
+  by_case : (b : Bool) → nat_lt many k ≡ b → n_among Position k (given bs) ≡ cond b (Err Position) (Ok (nat_le k (true_count bs)))
   by_case true e = let short : length (given bs) < k = grind (arith, nat_tests) in n_among_short Position k (given bs) short
   by_case false e = let enough : k ≤ length (given bs) = grind (arith, nat_tests) in n_among_given k bs enough
 
-n_of_given : (z : ℤ) (bs : List Bool) (many : ℕ) → length (given bs) ≡ many → n_of Position z (given bs) ≡ n_of_counted (true_count (given bs)) many z
+n_of_given : (z : ℤ) (bs : List Bool) (many : ℕ) → length (given bs) ≡ many → n_of Position z (given bs) ≡ n_of_counted (true_count bs) many z
 n_of_given z bs many is = by_case (int_lt z (pos 0)) where
   by_case : (b : Bool) → cond b (Err Position) (n_among Position (unsigned_abs z) (given bs))
-      ≡ cond b (Err Position) (cond (nat_lt many (unsigned_abs z)) (Err Position) (Ok (nat_le (unsigned_abs z) (true_count (given bs)))))
+      ≡ cond b (Err Position) (cond (nat_lt many (unsigned_abs z)) (Err Position) (Ok (nat_le (unsigned_abs z) (true_count bs))))
   by_case true = refl
   by_case false = n_among_counted (unsigned_abs z) bs many is
 

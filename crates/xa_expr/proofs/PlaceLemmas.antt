@@ -1,13 +1,12 @@
 -- Or, and, n-of, place by place, as far as the places decide.
-use Rattle.std.proofs.Common.{◌≡◌, refl, ap, sym, ◌∙◌, ℕ, zero, suc, ◌+◌, ◌-◌, ◌<◌, ◌≤◌, arith, Bool, true, false, nat_lt, ◌==◌, List, [], ◌∷◌, map, length, drop}
+use Rattle.std.proofs.Common.{◌≡◌, refl, ap, sym, ◌∙◌, ℕ, zero, suc, ◌+◌, ◌-◌, ◌<◌, ◌≤◌, arith, Bool, true, false, List, [], ◌∷◌, map, length, drop}
 use Rattle.std.specs.Prelude.{Result, Ok, Err, IsErrAnd, ℤ, pos, int_lt, unsigned_abs}
-use Rattle.std.proofs.lemmas.Bool.Decides.{nat_tests}
 use Rattle.std.proofs.lemmas.List.{length-drop}
 use mathlib.Core.Bool.{beq}
 use Rattle.xa_value.specs.declared.or_memory.OrMemory.{OrMemory}
 use Rattle.xa_value.specs.Gives.{Gives}
 use Rattle.xa_func.specs.Logic.{n_places, n_among}
-use Rattle.xa_func.proofs.LogicLemmas.{n_among_short, n_places_fault, n_places_one, n_places_true, n_places_false, n_places_short}
+use Rattle.xa_func.proofs.LogicLemmas.{n_among_short, n_among_enough, n_places_false, n_places_short}
 use Rattle.xa_bag.proofs.JoiningLemmas.{verdict, then_verdict, verdict_cons, stop_decides, rest_decides}
 use Rattle.xa_bag.specs.declared.value_or_bag.ValueOrBag.{ValueOrBag}
 use Rattle.xa_expr.specs.declared.fault.Fault.{Fault}
@@ -37,17 +36,7 @@ place_passes stop answer given here next whole so_far at is differ = rest_decide
 
 -- n of the places: none is True at once
 pub n_none : {F : Type 0} (fault : F) (rs : List (Result Bool F)) → n_among fault 0 rs ≡ Ok true
-unfolding n_among
-n_none fault rs = let few : nat_lt (length rs) 0 ≡ false = grind (arith, nat_tests) in rw few
-
--- and where there are as many, the places decide
-pub n_some : {F : Type 0} (fault : F) (n : ℕ) (rs : List (Result Bool F)) → 1 ≤ n → n ≤ length rs → n_among fault n rs ≡ n_places n rs
-unfolding n_among
-n_some fault zero rs some enough = absurd (omega arith)
-n_some fault (suc n) rs some enough =
-    let few : nat_lt (length rs) (suc n) ≡ false = grind (arith, nat_tests) in
-    let more : (suc n == 0) ≡ false = grind (arith, nat_tests) in
-    rw (few, more)
+n_none fault rs = n_among_enough fault 0 rs (omega arith)
 
 -- n of the places of these arguments
 abbrev pub n_of_these : {A : Type 0} → (A → Outcome) → ℕ → List A → Result Bool Fault
@@ -63,34 +52,28 @@ here_first v n ts us t o whole walked so_far here =
     ap (λ r. n_places n (place r ∷ map place (map v us))) (sym here) ∙ ap (λ ss. n_of_these v n ss) (sym walked) ∙ so_far
 
 pub n_fault : {A : Type 0} (v : A → Outcome) (n : ℕ) (ts us : List A) (t : A) (whole : Result Bool Fault)
-    → ts ≡ t ∷ us → n_of_these v n ts ≡ whole → (f : Fault) → v t ≡ Err f → whole ≡ Err f
-n_fault v n ts us t whole walked so_far f here = sym (here_first v n ts us t (Err f) whole walked so_far here) ∙ n_places_fault n f (map place (map v us))
+    → ts ≡ t ∷ us → n_of_these v n ts ≡ whole → 1 ≤ n → (f : Fault) → v t ≡ Err f → whole ≡ Err f
+n_fault v zero ts us t whole walked so_far some f here = absurd (omega arith)
+n_fault v (suc n) ts us t whole walked so_far some f here = sym (here_first v (suc n) ts us t (Err f) whole walked so_far here)
 
 true_first : {A : Type 0} (v : A → Outcome) (n : ℕ) (ts us : List A) (t : A) (given : ValueOrBag) (b : Bool) (whole : Result Bool Fault)
     → ts ≡ t ∷ us → n_of_these v n ts ≡ whole → v t ≡ Ok given → truth given ≡ b → n_places n (Ok b ∷ map place (map v us)) ≡ whole
 true_first v n ts us t given b whole walked so_far here is =
     ap (λ c. n_places n (Ok c ∷ map place (map v us))) (sym is) ∙ here_first v n ts us t (Ok given) whole walked so_far here
 
--- the last that is wanted
+-- True: one fewer of the rest is wanted
+pub n_less : {A : Type 0} (v : A → Outcome) (n : ℕ) (ts us : List A) (t : A) (given : ValueOrBag) (whole : Result Bool Fault)
+    → ts ≡ t ∷ us → n_of_these v n ts ≡ whole → v t ≡ Ok given → truth given ≡ true → 1 ≤ n → n_of_these v (n - 1) us ≡ whole
+n_less v zero ts us t given whole walked so_far here is more = absurd (omega arith)
+n_less v (suc n) ts us t given whole walked so_far here is more =
+    let less : suc n - 1 ≡ n = omega arith in
+    rw less (true_first v (suc n) ts us t given true whole walked so_far here is)
+
+-- and the last that is wanted
 pub n_last : {A : Type 0} (v : A → Outcome) (n : ℕ) (ts us : List A) (t : A) (given : ValueOrBag) (whole : Result Bool Fault)
     → ts ≡ t ∷ us → n_of_these v n ts ≡ whole → v t ≡ Ok given → truth given ≡ true → n ≡ 1 → whole ≡ Ok true
 n_last v n ts us t given whole walked so_far here is one =
-    sym (true_first v n ts us t given true whole walked so_far here is)
-    ∙ ap (λ m. n_places m (Ok true ∷ map place (map v us))) one ∙ n_places_one (map place (map v us))
-
--- one of more that are wanted
-pub n_next : {A : Type 0} (v : A → Outcome) (n : ℕ) (ts us : List A) (t : A) (given : ValueOrBag) (whole : Result Bool Fault)
-    → ts ≡ t ∷ us → n_of_these v (suc (suc n)) ts ≡ whole → v t ≡ Ok given → truth given ≡ true → n_of_these v (suc n) us ≡ whole
-n_next v n ts us t given whole walked so_far here is =
-    sym (n_places_true n (map place (map v us))) ∙ true_first v (suc (suc n)) ts us t given true whole walked so_far here is
-
-pub n_less : {A : Type 0} (v : A → Outcome) (n : ℕ) (ts us : List A) (t : A) (given : ValueOrBag) (whole : Result Bool Fault)
-    → ts ≡ t ∷ us → n_of_these v n ts ≡ whole → v t ≡ Ok given → truth given ≡ true → 2 ≤ n → n_of_these v (n - 1) us ≡ whole
-n_less v zero ts us t given whole walked so_far here is more = absurd (omega arith)
-n_less v (suc zero) ts us t given whole walked so_far here is more = absurd (omega arith)
-n_less v (suc (suc n)) ts us t given whole walked so_far here is more =
-    let less : suc (suc n) - 1 ≡ suc n = omega arith in
-    rw less (n_next v n ts us t given whole walked so_far here is)
+    sym (true_first v n ts us t given true whole walked so_far here is) ∙ ap (λ m. n_places m (Ok true ∷ map place (map v us))) one
 
 -- False, and enough are left
 pub n_passes : {A : Type 0} (v : A → Outcome) (n : ℕ) (ts us : List A) (t : A) (given : ValueOrBag) (whole : Result Bool Fault)
@@ -107,8 +90,8 @@ n_ends v n ts us t given whole walked so_far here is short =
     sym (true_first v n ts us t given false whole walked so_far here is) ∙ n_places_short n (map place (map v us)) (omega arith)
 
 -- n of all, where there are as many
-pub n_whole : {A : Type 0} (v : A → Outcome) (n : ℕ) (ts : List A) → 1 ≤ n → n ≤ length ts → n_among ProcessingError n (map place (map v ts)) ≡ n_of_these v n ts
-n_whole v n ts some enough = let same = length_places v ts in n_some ProcessingError n (map place (map v ts)) some (omega arith)
+pub n_whole : {A : Type 0} (v : A → Outcome) (n : ℕ) (ts : List A) → n ≤ length ts → n_among ProcessingError n (map place (map v ts)) ≡ n_of_these v n ts
+n_whole v n ts enough = let same = length_places v ts in n_among_enough ProcessingError n (map place (map v ts)) (omega arith)
 
 pub n_too_few : {A : Type 0} (v : A → Outcome) (n : ℕ) (ts : List A) → length ts < n → n_among ProcessingError n (map place (map v ts)) ≡ Err ProcessingError
 n_too_few v n ts short = let same = length_places v ts in n_among_short ProcessingError n (map place (map v ts)) (omega arith)

@@ -40,7 +40,7 @@ pub(crate) fn all_true(arguments: &[Value]) -> bool
 /// How many of the booleans are true.
 fn true_count(arguments: &[Value]) -> usize
     requires { Every (kind.Value data_type.Boolean) (map kind_of arguments.now) }
-    ensures value { result ≡ true_count (given (booleans arguments.now)) }
+    ensures value { result ≡ true_count (booleans arguments.now) }
     ensures bound { result ≤ length arguments.now }
 {
     let mut count = 0;

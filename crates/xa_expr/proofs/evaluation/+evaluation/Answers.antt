@@ -128,9 +128,9 @@ n_among-evaluate-requires g t c κs within =
 pub n_among-returns-in_err-given : goal.n_among-returns-in_err-given
 n_among-returns-in_err-given g t c =
     let i = c.loop-boolean.invariant in
-    let so_far = i.0 ∙ sym (n_whole (outcome (g.C.Context.values_of c.args.scope.now.context.now) c.args.scope.now.results.now) _ _ i.4 i.5) in
+    let so_far = i.0 ∙ sym (n_whole (outcome (g.C.Context.values_of c.args.scope.now.context.now) c.args.scope.now.results.now) _ _ i.4) in
     fault_passed c.in_err-given.field-0.0 _ ((outcome (g.C.Context.values_of c.args.scope.now.context.now) c.args.scope.now.results.now) c.boolean-item.result) _
-    (λ f at. n_fault (outcome (g.C.Context.values_of c.args.scope.now.context.now) c.args.scope.now.results.now) _ _ _ _ _ (walked _ _ _ c.boolean-item.is c.loop-boolean-test.true) so_far f at)
+    (λ f at. n_fault (outcome (g.C.Context.values_of c.args.scope.now.context.now) c.args.scope.now.results.now) _ _ _ _ _ (walked _ _ _ c.boolean-item.is c.loop-boolean-test.true) so_far i.1 f at)
     c.from_residual.ensures.1 c.in_err-given.ensures.value
 
 pub n_among-returns-then-wanted-booleans : goal.n_among-returns-then-wanted-booleans
@@ -149,7 +149,6 @@ n_among-loop-boolean-preserved-then-not-truth g t c =
       omega (arith, i.1, i.2, i.3),
       enough,
       i.4,
-      i.5,
     )
 
 pub n_among-loop-boolean-preserved : goal.n_among-loop-boolean-preserved
@@ -157,18 +156,17 @@ n_among-loop-boolean-preserved g t c =
     let i = c.loop-boolean.invariant in
     let differ = c.if-missing-eq1.false in
     let more : 2 ≤ c.loop-boolean.missing = grind (arith, i.1, differ) in (
-      n_less (outcome (g.C.Context.values_of c.args.scope.now.context.now) c.args.scope.now.results.now) c.loop-boolean.missing _ _ _ c.in_ok-given.given _ (walked _ _ _ c.boolean-item.is c.loop-boolean-test.true) i.0 c.in_ok-given.ensures.value (sym c.if-not-truth.ensures) more,
+      n_less (outcome (g.C.Context.values_of c.args.scope.now.context.now) c.args.scope.now.results.now) c.loop-boolean.missing _ _ _ c.in_ok-given.given _ (walked _ _ _ c.boolean-item.is c.loop-boolean-test.true) i.0 c.in_ok-given.ensures.value (sym c.if-not-truth.ensures) i.1,
       omega (arith, more),
       omega (arith, i.1, i.2, i.3),
       omega (arith, i.3),
       i.4,
-      i.5,
     )
 
 pub n_among-returns-then-left-missing : goal.n_among-returns-then-left-missing
 n_among-returns-then-left-missing g t c =
     let i = c.loop-boolean.invariant in
-    let so_far = i.0 ∙ sym (n_whole (outcome (g.C.Context.values_of c.args.scope.now.context.now) c.args.scope.now.results.now) _ _ i.4 i.5) in
+    let so_far = i.0 ∙ sym (n_whole (outcome (g.C.Context.values_of c.args.scope.now.context.now) c.args.scope.now.results.now) _ _ i.4) in
     let behind = left_behind c.args.booleans.now c.loop-boolean.boolean-index c.loop-boolean.left i.2 (omega (arith, i.1, i.3)) in
     let short = c.if-left-missing.true in
     n_ends (outcome (g.C.Context.values_of c.args.scope.now.context.now) c.args.scope.now.results.now) c.loop-boolean.missing _ _ _ c.in_ok-given.given _ (walked _ _ _ c.boolean-item.is c.loop-boolean-test.true) so_far c.in_ok-given.ensures.value (sym c.if-not-truth.ensures) (omega (arith, behind, short))
@@ -176,5 +174,5 @@ n_among-returns-then-left-missing g t c =
 pub n_among-returns-then-missing-eq1 : goal.n_among-returns-then-missing-eq1
 n_among-returns-then-missing-eq1 g t c =
     let i = c.loop-boolean.invariant in
-    let so_far = i.0 ∙ sym (n_whole (outcome (g.C.Context.values_of c.args.scope.now.context.now) c.args.scope.now.results.now) _ _ i.4 i.5) in
+    let so_far = i.0 ∙ sym (n_whole (outcome (g.C.Context.values_of c.args.scope.now.context.now) c.args.scope.now.results.now) _ _ i.4) in
     n_last (outcome (g.C.Context.values_of c.args.scope.now.context.now) c.args.scope.now.results.now) c.loop-boolean.missing _ _ _ c.in_ok-given.given _ (walked _ _ _ c.boolean-item.is c.loop-boolean-test.true) so_far c.in_ok-given.ensures.value (sym c.if-not-truth.ensures) c.if-missing-eq1.true

@@ -58,7 +58,7 @@ invariant-n_among-loop-boolean g l =
     let v = outcome (g.C.Context.values_of l.scope.context.now) l.scope.results.now in
     (n_of_these v l.missing (drop l.boolean-index l.booleans) ≡ n_of_these v l.wanted l.booleans)
     × (1 ≤ l.missing) × (l.left + l.boolean-index ≡ length l.booleans) × (l.missing ≤ l.left)
-    × (1 ≤ l.wanted) × (l.wanted ≤ length l.booleans)
+    × (l.wanted ≤ length l.booleans)
 
 -- those that are there, and the rest, are all
 abbrev pub invariant-all_values-loop-argument : goal.invariant-all_values-loop-argument
