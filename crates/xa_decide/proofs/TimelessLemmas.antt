@@ -1,6 +1,6 @@
 -- What is answered is the same at every two moments, where no attribute that the clock gives is asked for.
 use Rattle.std.proofs.Common.{◌≡◌, refl, ap, sym, ◌∙◌, ℕ, Bool, true, false, cond, List, [], ◌∷◌, map}
-use Rattle.std.specs.Prelude.{◌&&◌, ◌||◌, bytes_eq, codes, is_none, Option, Some, None, Result, Ok, Err, ℤ}
+use Rattle.std.specs.Prelude.{◌&&◌, ◌||◌, bytes_eq, is_none, Option, Some, None, Result, Ok, Err, ℤ}
 use Rattle.std.proofs.lemmas.Bool.{true≢false}
 use Rattle.xa_value.specs.declared.category.Category.TheVariants.{Environment}
 use Rattle.xa_value.specs.declared.data_type.DataType.{DataType}
@@ -12,7 +12,7 @@ use Rattle.xa_value.specs.Moment.{date_of, date_time_of, time_of}
 use Rattle.xa_expr.specs.declared.designator.Designator.{Designator}
 use Rattle.xa_expr.specs.declared.fault.Fault.TheVariants.{ProcessingError}
 use Rattle.xa_expr.specs.Evaluation.{Attributes}
-use Rattle.xa_expr.specs.Timeless.{SameButForTheClock, is_clock_id, names_the_clock}
+use Rattle.xa_expr.specs.Timeless.{SameButForTheClock, is_clock_id, is_some_clock_id, names_the_clock}
 use Rattle.xa_policy.specs.declared.linked.Linked.{Linked}
 use Rattle.xa_policy.proofs.DesignatorLemmas.{steady}
 use Rattle.xa_link.specs.declared.link_error.LinkError.{LinkError}
@@ -40,16 +40,11 @@ none_of false false true e = absurd (true≢false e)
 none_of false false false e = (refl, (refl, refl))
 
 -- it gives nothing to an id that isn't one of its own
-no_clock_value : (moment : ℤ) (id : List ℕ) (t : DataType) → is_clock_id id ≡ false → clock_value moment id t ≡ None
-unfolding clock_value is_clock_id
+no_clock_value : (moment : ℤ) (id : List ℕ) (t : DataType) → is_some_clock_id id ≡ false → clock_value moment id t ≡ None
+unfolding is_some_clock_id is_clock_id
 no_clock_value moment id t e = by_type t where
-  own :
-      (bytes_eq id (codes "urn:oasis:names:tc:xacml:1.0:environment:current-time") ≡ false)
-      × ((bytes_eq id (codes "urn:oasis:names:tc:xacml:1.0:environment:current-date") ≡ false)
-      × (bytes_eq id (codes "urn:oasis:names:tc:xacml:1.0:environment:current-dateTime") ≡ false))
-  own =
-      none_of (bytes_eq id (codes "urn:oasis:names:tc:xacml:1.0:environment:current-time")) (bytes_eq id (codes "urn:oasis:names:tc:xacml:1.0:environment:current-date"))
-      (bytes_eq id (codes "urn:oasis:names:tc:xacml:1.0:environment:current-dateTime")) e
+  own : (is_clock_id type.Time id ≡ false) × ((is_clock_id type.Date id ≡ false) × (is_clock_id type.DateTime id ≡ false))
+  own = none_of (is_clock_id type.Time id) (is_clock_id type.Date id) (is_clock_id type.DateTime id) e
 
   by_type : (t : DataType) → clock_value moment id t ≡ None
   by_type type.Time = ap (λ b. cond b (Some (value.Time (time_of moment))) None) own.0
@@ -67,7 +62,7 @@ no_clock_value moment id t e = by_type t where
 clock_silent : (moment : ℤ) (d : Designator) → names_the_clock d ≡ false → clock_value_in moment d.category d.attribute_id d.data_type ≡ None
 unfolding names_the_clock
 clock_silent moment d = by_category (bytes_eq d.category (uri_of Environment)) where
-  by_category : (b : Bool) → (b && is_clock_id d.attribute_id) ≡ false → cond b (clock_value moment d.attribute_id d.data_type) None ≡ None
+  by_category : (b : Bool) → (b && is_some_clock_id d.attribute_id) ≡ false → cond b (clock_value moment d.attribute_id d.data_type) None ≡ None
   by_category true e = no_clock_value moment d.attribute_id d.data_type e
   by_category false e = refl
 

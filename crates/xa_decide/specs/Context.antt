@@ -12,6 +12,7 @@ use Rattle.xa_value.specs.Category.{all_categories, is_subject, uri_of}
 use Rattle.xa_value.specs.Moment.{date_of, date_time_of, time_of}
 use Rattle.xa_value.specs.Order.{type_of}
 use Rattle.xa_expr.specs.declared.designator.Designator.{Designator}
+use Rattle.xa_expr.specs.Timeless.{is_clock_id}
 use Rattle.xa_value.specs.Types.{same_type}
 use Rattle.xa_profile.specs.declared.attribute.Attribute.{Attribute}
 use Rattle.xa_profile.specs.declared.category_object.CategoryObject.{CategoryObject}
@@ -45,12 +46,16 @@ request_values objects category id t issuer = flat_map (object_values id t issue
 
 -- ---- the clock
 
--- the value that the clock gives to an attribute of that id and type: the time, the date or both, by UTC
-unfoldable pub clock_value : ℤ → List ℕ → DataType → Option Value
-clock_value moment id type.Time = if bytes_eq id (codes "urn:oasis:names:tc:xacml:1.0:environment:current-time") then Some (value.Time (time_of moment)) else None
-clock_value moment id type.Date = if bytes_eq id (codes "urn:oasis:names:tc:xacml:1.0:environment:current-date") then Some (value.Date (date_of moment)) else None
-clock_value moment id type.DateTime = if bytes_eq id (codes "urn:oasis:names:tc:xacml:1.0:environment:current-dateTime") then Some (value.DateTime (date_time_of moment)) else None
-clock_value moment id _ = None
+-- the time, the date or both, by UTC
+abbrev pub moment_as : ℤ → DataType → Option Value
+moment_as moment type.Time = Some (value.Time (time_of moment))
+moment_as moment type.Date = Some (value.Date (date_of moment))
+moment_as moment type.DateTime = Some (value.DateTime (date_time_of moment))
+moment_as moment _ = None
+
+-- the value that the clock gives to an attribute of that id and type
+abbrev pub clock_value : ℤ → List ℕ → DataType → Option Value
+clock_value moment id t = if is_clock_id t id then moment_as moment t else None
 
 -- ---- the source
 

@@ -1,8 +1,9 @@
 //! The attributes that the clock gives.
 ghost use Rattle.std.specs.Prelude.{◌≡◌, IfSome};
 ghost use Rattle.xa_value.specs.Order.{type_of};
-ghost use Rattle.xa_decide.specs.Context.{clock_value, clock_value_in};
+ghost use Rattle.xa_decide.specs.Context.{clock_value, clock_value_in, moment_as};
 
+use xa_expr::is_clock_id;
 use xa_value::{Category, DataType, Moment, Value};
 
 /// The value that the clock gives to an attribute of that category, id and type (XACML 3.0, core, section 7.3.6).
@@ -23,21 +24,26 @@ pub(crate) fn clock_value_in(
 }
 
 /// The value that the clock gives to an attribute of the environment.
-#[tactic(auto, unfolding(crate::specs::Context::clock_value))]
 fn clock_value(moment: Moment, id: &str, data_type: DataType) -> Option<Value>
     ensures value { result ≡ clock_value moment id.now data_type }
     ensures of_type { IfSome result (λ v. type_of v ≡ data_type) }
 {
+    if is_clock_id(data_type, id) {
+        moment_as(moment, data_type)
+    } else {
+        None
+    }
+}
+
+/// The time, the date or both, as the type asks for them.
+fn moment_as(moment: Moment, data_type: DataType) -> Option<Value>
+    ensures value { result ≡ moment_as moment data_type }
+    ensures of_type { IfSome result (λ v. type_of v ≡ data_type) }
+{
     match data_type {
-        DataType::Time if id == "urn:oasis:names:tc:xacml:1.0:environment:current-time" => {
-            Some(Value::Time(moment.time()))
-        },
-        DataType::Date if id == "urn:oasis:names:tc:xacml:1.0:environment:current-date" => {
-            Some(Value::Date(moment.date()))
-        },
-        DataType::DateTime if id == "urn:oasis:names:tc:xacml:1.0:environment:current-dateTime" => {
-            Some(Value::DateTime(moment.date_time()))
-        },
+        DataType::Time => Some(Value::Time(moment.time())),
+        DataType::Date => Some(Value::Date(moment.date())),
+        DataType::DateTime => Some(Value::DateTime(moment.date_time())),
         _ => None,
     }
 }

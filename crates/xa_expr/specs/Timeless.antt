@@ -2,20 +2,26 @@
 use Rattle.std.specs.Prelude.{◌≡◌, ℕ, Bool, false, ◌&&◌, ◌||◌, not, bytes_eq, codes, List}
 use Rattle.std.specs.List.{list_all}
 use Rattle.xa_value.specs.declared.category.Category.TheVariants.{Environment}
+use Rattle.xa_value.specs.declared.data_type.DataType.{DataType}
+use Rattle.xa_value.specs.declared.data_type.DataType.TheVariants as type
 use Rattle.xa_value.specs.Category.{uri_of}
 use Rattle.xa_expr.specs.declared.designator.Designator.{Designator}
 use Rattle.xa_expr.specs.Evaluation.{Attributes}
 
--- the ids of the attributes that the clock gives
-unfoldable pub is_clock_id : List ℕ → Bool
-is_clock_id id =
-    bytes_eq id (codes "urn:oasis:names:tc:xacml:1.0:environment:current-time")
-    || (bytes_eq id (codes "urn:oasis:names:tc:xacml:1.0:environment:current-date")
-    || bytes_eq id (codes "urn:oasis:names:tc:xacml:1.0:environment:current-dateTime"))
+-- the id is that of the attribute that the clock gives as a value of that type
+unfoldable pub is_clock_id : DataType → List ℕ → Bool
+is_clock_id type.Time id = bytes_eq id (codes "urn:oasis:names:tc:xacml:1.0:environment:current-time")
+is_clock_id type.Date id = bytes_eq id (codes "urn:oasis:names:tc:xacml:1.0:environment:current-date")
+is_clock_id type.DateTime id = bytes_eq id (codes "urn:oasis:names:tc:xacml:1.0:environment:current-dateTime")
+is_clock_id _ id = false
+
+-- or as a value of some type
+unfoldable pub is_some_clock_id : List ℕ → Bool
+is_some_clock_id id = is_clock_id type.Time id || (is_clock_id type.Date id || is_clock_id type.DateTime id)
 
 -- the designator names such an attribute, whatever its issuer and its type
 unfoldable pub names_the_clock : Designator → Bool
-names_the_clock d = bytes_eq d.category (uri_of Environment) && is_clock_id d.attribute_id
+names_the_clock d = bytes_eq d.category (uri_of Environment) && is_some_clock_id d.attribute_id
 
 -- none of the designators does
 abbrev pub is_timeless : List Designator → Bool

@@ -33,7 +33,7 @@ pub use looked::Looked;
 pub use match_::Match;
 pub use matching::Matching;
 pub use target::{AllOf, AnyOf, Target};
-pub use timeless::{HasDesignators, all_timeless};
+pub use timeless::{HasDesignators, all_timeless, is_clock_id};
 pub use typed::Typed;
 pub use variables::{Definition, Variables};
 pub use work::{Budget, LOOK, STEP, units_of, units_of_bag, units_of_given, units_of_values};

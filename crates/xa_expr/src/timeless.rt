@@ -2,14 +2,14 @@
 ghost use Rattle.std.specs.Prelude.{◌≡◌, List, map, flat_map};
 ghost use Rattle.xa_expr.specs.declared.designator.Designator.{Designator};
 ghost use Rattle.xa_expr.specs.Designators.{designators, designators_of_all_of, designators_of_any_of, designators_of_match, designators_of_target};
-ghost use Rattle.xa_expr.specs.Timeless.{is_clock_id, is_timeless, names_the_clock};
+ghost use Rattle.xa_expr.specs.Timeless.{is_clock_id, is_some_clock_id, is_timeless, names_the_clock};
 
 use crate::designator::Designator;
 use crate::match_::Match;
 use crate::target::{AllOf, AnyOf, Target};
 use crate::typed::Typed;
 use crate::variables::Definition;
-use xa_value::Category;
+use xa_value::{Category, DataType};
 
 /// What designators stand in.
 pub trait HasDesignators {
@@ -41,18 +41,31 @@ impl Designator {
         ensures { result ≡ names_the_clock self.now }
     {
         self.category.as_str() == Category::Environment.uri()
-            && is_clock_id(self.attribute_id.as_str())
+            && is_some_clock_id(self.attribute_id.as_str())
     }
 }
 
 /// Whether the clock gives the environment's attribute of that id.
-#[tactic(auto, unfolding(crate::specs::Timeless::is_clock_id))]
-fn is_clock_id(id: &str) -> bool
-    ensures { result ≡ is_clock_id id.now }
+#[tactic(auto, unfolding(crate::specs::Timeless::is_some_clock_id))]
+fn is_some_clock_id(id: &str) -> bool
+    ensures { result ≡ is_some_clock_id id.now }
 {
-    id == "urn:oasis:names:tc:xacml:1.0:environment:current-time"
-        || id == "urn:oasis:names:tc:xacml:1.0:environment:current-date"
-        || id == "urn:oasis:names:tc:xacml:1.0:environment:current-dateTime"
+    is_clock_id(DataType::Time, id)
+        || is_clock_id(DataType::Date, id)
+        || is_clock_id(DataType::DateTime, id)
+}
+
+/// Whether the id is that of the environment's attribute that the clock gives as a value of the type (core, appendix B.7).
+#[tactic(auto, unfolding(crate::specs::Timeless::is_clock_id))]
+pub fn is_clock_id(data_type: DataType, id: &str) -> bool
+    ensures { result ≡ is_clock_id data_type id.now }
+{
+    match data_type {
+        DataType::Time => id == "urn:oasis:names:tc:xacml:1.0:environment:current-time",
+        DataType::Date => id == "urn:oasis:names:tc:xacml:1.0:environment:current-date",
+        DataType::DateTime => id == "urn:oasis:names:tc:xacml:1.0:environment:current-dateTime",
+        _ => false,
+    }
 }
 
 impl HasDesignators for Typed {
