@@ -15,7 +15,7 @@ use std::alloc::{AllocError, Global};
 use xa_expr::{Budget, Context, Fault, STEP};
 use xa_func::Status;
 use xa_link::LinkError;
-use xa_policy::{Decision, Evaluated, Linked, evaluate};
+use xa_policy::{Decision, Evaluated, Linked, evaluate, undecided_result};
 use xa_profile::{CategoryObject, Individual, Request, RequestError, Response, ResultObject};
 use xa_value::{Items, Moment, OrMemory};
 
@@ -41,13 +41,6 @@ pub struct Responded {
 struct Outcome {
     results: Items<ResultObject>,
     timeless: bool,
-}
-
-/// Indeterminate, for the fault's reason.
-fn undecided_result(alloc: Global, fault: Fault) -> Evaluated
-    ensures { result ≡ undecided fault }
-{
-    Evaluated::without_duties(alloc, Decision::IndeterminateDenyPermit, fault.status())
 }
 
 /// What is decided by the tree: NotApplicable without one, and Indeterminate where it is too large.

@@ -74,8 +74,8 @@ fn evaluate_linked<C: Context>(
     }
 }
 
-/// {DP}, left open by the fault.
-fn undecided_result(alloc: Global, fault: Fault) -> Evaluated
+/// Indeterminate, whether Deny or Permit, for the fault's reason, with no obligations and no advice.
+pub fn undecided_result(alloc: Global, fault: Fault) -> Evaluated
     ensures { result ≡ undecided fault }
 {
     Evaluated::without_duties(alloc, Decision::IndeterminateDenyPermit, fault.status())

@@ -30,7 +30,7 @@ pub use duty::{
     DutyExpressions,
 };
 pub use evaluated::Evaluated;
-pub use evaluation::evaluate;
+pub use evaluation::{evaluate, undecided_result};
 pub use linked::Linked;
 pub use pattern::{Pattern, PatternPart};
 pub use policy::Policy;
