@@ -1,5 +1,5 @@
 //! The tree that a reference leads to.
-ghost use Rattle.std.specs.Prelude.{◌≡◌, ◌∷◌, map, slice_get, None, IfOk};
+ghost use Rattle.std.specs.Prelude.{◌≡◌, ◌≤◌, ◌-◌, ◌∷◌, map, slice_get, None, IfOk};
 ghost use Rattle.xa_value.specs.Gives.{Gives, answered};
 ghost use Rattle.xa_policy.specs.declared.linked.Linked.TheVariants.{Unresolved};
 ghost use Rattle.xa_link.specs.Linking.{link, replaced_in, tree_within, unless_circular};
@@ -37,8 +37,21 @@ pub fn link(
 {
     let mut resolved = Resolved::new(alloc, active);
     let place = resolve(active, root);
-    let fitted = linked_reference(alloc, &mut resolved, &[], MAX_DOCUMENTS, place, MAX_SIZE)?;
+    let path = Path {
+        places: &[],
+        more: MAX_DOCUMENTS,
+    };
+    let fitted = linked_reference(alloc, &mut resolved, &path, place, MAX_SIZE)?;
     Ok(fitted.part)
+}
+
+/// A path from the root.
+#[derive(Drop)]
+struct Path<'p> {
+    /// The places of the documents on it, the last one first.
+    places: &'p [usize],
+    /// How many documents may be added to it.
+    more: usize,
 }
 
 /// The place, where it isn't on the path already.
@@ -89,27 +102,25 @@ fn linked_policy(
     })
 }
 
-/// What a reference leads to that stands for the document at the place, at the end of the path, where at most `more` documents may be
-/// added to it.
+/// What a reference leads to that stands for the document at the place, at the end of the path.
 #[cycle(linking)]
 #[tactic(auto, using(crate::proofs::RoomLemmas::unresolved_fits))]
 fn linked_reference<'a>(
     alloc: Global,
     resolved: &mut Resolved<'a>,
-    path: &[usize],
-    more: usize,
+    path: &Path<'_>,
     place: Option<usize>,
     room: usize,
 ) -> Result<Fitted<Linked>, OrMemory<LinkError>>
-    ensures value { Gives result (fitted room (led_within more resolved.old path.now place)) }
-    ensures exact { unless_circular path.now place ≡ None → result ≡ answered (fitted room (led_within more resolved.old path.now place)) }
+    ensures value { Gives result (fitted room (led_within path.now.more resolved.old path.now.places.now place)) }
+    ensures exact { unless_circular path.now.places.now place ≡ None → result ≡ answered (fitted room (led_within path.now.more resolved.old path.now.places.now place)) }
     ensures kept { resolved.new ≡ resolved.old }
 {
-    if more == 0 {
+    if path.more == 0 {
         return Ok(leaf(room));
     }
-    match unless_circular(path, place) {
-        Some(place) => linked_active(alloc, resolved, path, more - 1, place, room),
+    match unless_circular(path.places, place) {
+        Some(place) => linked_active(alloc, resolved, path, place, room),
         None => Ok(leaf(room)),
     }
 }
@@ -119,19 +130,23 @@ fn linked_reference<'a>(
 fn linked_active<'a>(
     alloc: Global,
     resolved: &mut Resolved<'a>,
-    path: &[usize],
-    more: usize,
+    path: &Path<'_>,
     place: usize,
     room: usize,
 ) -> Result<Fitted<Linked>, OrMemory<LinkError>>
-    ensures value { Gives result (fitted room (replaced_in (tree_within more resolved.old (place ∷ path.now)) (slice_get resolved.old place))) }
+    requires { 1 ≤ path.now.more }
+    ensures value { Gives result (fitted room (replaced_in (tree_within (path.now.more - 1) resolved.old (place ∷ path.now.places.now)) (slice_get resolved.old place))) }
     ensures kept { resolved.new ≡ resolved.old }
 {
     let Some(document) = resolved.document_at(alloc, place)? else {
         return Ok(leaf(room));
     };
-    let path = longer_path(alloc, place, path)?;
-    linked_document(alloc, resolved, path.as_slice(), more, document.get(), room)
+    let places = longer_path(alloc, place, path.places)?;
+    let longer = Path {
+        places: places.as_slice(),
+        more: path.more - 1,
+    };
+    linked_document(alloc, resolved, &longer, document.get(), room)
 }
 
 /// The document, or a part of one, in which each reference is replaced.
@@ -139,20 +154,19 @@ fn linked_active<'a>(
 fn linked_document<'a>(
     alloc: Global,
     resolved: &mut Resolved<'a>,
-    path: &[usize],
-    more: usize,
+    path: &Path<'_>,
     document: &Placed,
     room: usize,
 ) -> Result<Fitted<Linked>, OrMemory<LinkError>>
-    ensures value { Gives result (fitted room (linked (led_within more resolved.old path.now) document.now)) }
+    ensures value { Gives result (fitted room (linked (led_within path.now.more resolved.old path.now.places.now) document.now)) }
     ensures kept { resolved.new ≡ resolved.old }
 {
     match document {
         Placed::Policy(policy) => linked_policy(policy, room),
         Placed::PolicySet(set, children) => {
-            linked_set(alloc, resolved, path, more, set, children.as_slice(), room)
+            linked_set(alloc, resolved, path, set, children.as_slice(), room)
         }
-        Placed::Reference(place) => linked_reference(alloc, resolved, path, more, *place, room),
+        Placed::Reference(place) => linked_reference(alloc, resolved, path, *place, room),
     }
 }
 
@@ -162,17 +176,16 @@ fn linked_document<'a>(
 fn linked_set<'a>(
     alloc: Global,
     resolved: &mut Resolved<'a>,
-    path: &[usize],
-    more: usize,
+    path: &Path<'_>,
     set: &Shared<PolicySet>,
     children: &[Placed],
     room: usize,
 ) -> Result<Fitted<Linked>, OrMemory<LinkError>>
-    ensures value { Gives result (set_fitted room set.now (map (linked (led_within more resolved.old path.now)) children.now)) }
+    ensures value { Gives result (set_fitted room set.now (map (linked (led_within path.now.more resolved.old path.now.places.now)) children.now)) }
     ensures kept { resolved.new ≡ resolved.old }
 {
     let room = less_one(room)?;
-    let children = linked_children(alloc, resolved, path, more, children, room)?;
+    let children = linked_children(alloc, resolved, path, children, room)?;
     Ok(Fitted {
         part: Linked::PolicySet(set.clone()?, children.part),
         room: children.room,
@@ -185,18 +198,17 @@ fn linked_set<'a>(
 fn linked_children<'a>(
     alloc: Global,
     resolved: &mut Resolved<'a>,
-    path: &[usize],
-    more: usize,
+    path: &Path<'_>,
     children: &[Placed],
     room: usize,
 ) -> Result<Fitted<Items<Linked>>, OrMemory<LinkError>>
-    ensures value { Gives result (all_fitted room (map (linked (led_within more resolved.old path.now)) children.now)) }
+    ensures value { Gives result (all_fitted room (map (linked (led_within path.now.more resolved.old path.now.places.now)) children.now)) }
     ensures kept { resolved.new ≡ resolved.old }
 {
     let mut parts = Items::from_vec(Vec::with_capacity(alloc, children.len())?);
     let mut room = room;
     for child in children {
-        let fitted = linked_document(alloc, resolved, path, more, child, room)?;
+        let fitted = linked_document(alloc, resolved, path, child, room)?;
         parts.push(fitted.part)?;
         room = fitted.room;
     }
