@@ -8,7 +8,7 @@ use Rattle.xa_expr.specs.declared.looked.Looked.{Looked}
 use Rattle.xa_expr.specs.declared.looked.Looked.TheVariants.{Nothing, Found, NotFound}
 use Rattle.xa_expr.specs.Looked.{joined, looked}
 use Rattle.xa_expr.proofs.LookedLemmas.{joined_behind}
-use Rattle.xa_decide.specs.Context.{or_outside}
+use Rattle.xa_decide.specs.Context.{or_else}
 
 -- what the looks come to, at the values of the request and at the others
 abbrev pub or_look : Looked → Bool → Looked → Looked
@@ -18,7 +18,7 @@ or_look Found unissued outside = Found
 or_look NotFound unissued outside = NotFound
 
 pub looked_or_outside : (sought : Value) (own : List Value) (unissued : Bool) (others : List Value)
-    → looked sought (or_outside own unissued others) ≡ or_look (looked sought own) unissued (looked sought others)
+    → looked sought (or_else own (cond unissued others [])) ≡ or_look (looked sought own) unissued (looked sought others)
 looked_or_outside sought [] true others = refl
 looked_or_outside sought [] false others = refl
 looked_or_outside sought (v ∷ own) unissued others = by_case (list_any (same sought) (v ∷ own)) where

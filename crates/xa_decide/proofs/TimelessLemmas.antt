@@ -27,7 +27,7 @@ use Rattle.xa_profile.specs.declared.response.ResultObject.{ResultObject}
 use Rattle.xa_profile.specs.Individuals.{individuals}
 use Rattle.xa_profile.specs.Request.{request_of}
 use Rattle.xa_decide.specs.declared.source_row.SourceRow.{SourceRow}
-use Rattle.xa_decide.specs.Context.{AskContext, clock_value, clock_value_in, entity, or_outside, or_source, outside_values, request_values, source_values, values_of}
+use Rattle.xa_decide.specs.Context.{AskContext, clock_value, clock_value_in, entity, if_any, or_else, outside_values, request_values, source_values, values_of}
 use Rattle.xa_decide.specs.Decision.{Viewed, answer, answer_to, by_tree, decided, decision, objects_at, result_of, result_without_objects, results_of, tree_of}
 use Rattle.xa_decide.specs.Timeless.{TimelessAnswersStay, are_timeless, is_timeless_answer, is_timeless_read, is_timeless_request, is_timeless_tree}
 
@@ -71,12 +71,12 @@ clock_silent moment d = by_category (bytes_eq d.category (uri_of Environment)) w
 -- what a context gives to a designator that doesn't name the clock
 without_clock : (objects : List CategoryObject) (source : List SourceRow) (moment : ℤ) (d : Designator) → names_the_clock d ≡ false
     → values_of (record { objects = objects; source = source; moment = moment }) d
-    ≡ or_outside (request_values objects d.category d.attribute_id d.data_type d.issuer) (is_none d.issuer)
-    (source_values source d.category (entity objects d.category) d.attribute_id d.data_type)
+    ≡ or_else (request_values objects d.category d.attribute_id d.data_type d.issuer)
+    (cond (is_none d.issuer) (source_values source d.category (entity objects d.category) d.attribute_id d.data_type) [])
 unfolding values_of outside_values
 without_clock objects source moment d e =
-    ap (λ given. or_outside (request_values objects d.category d.attribute_id d.data_type d.issuer) (is_none d.issuer)
-    (or_source given (source_values source d.category (entity objects d.category) d.attribute_id d.data_type))) (clock_silent moment d e)
+    ap (λ given. or_else (request_values objects d.category d.attribute_id d.data_type d.issuer)
+    (cond (is_none d.issuer) (or_else (if_any given) (source_values source d.category (entity objects d.category) d.attribute_id d.data_type)) [])) (clock_silent moment d e)
 
 -- it differs at two moments in the clock's attributes alone
 same_but_for_the_clock : (objects : List CategoryObject) (source : List SourceRow) (first second : ℤ)

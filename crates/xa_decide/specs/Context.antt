@@ -103,26 +103,28 @@ source_values rows category entity id t = map (λ row. row.value) (filter (is_ro
 
 -- ---- all of them
 
--- what the clock gives to an attribute, else what the source has
-abbrev pub or_source : Option Value → List Value → List Value
-or_source (Some v) vs = v ∷ []
-or_source None vs = vs
+-- the first values, and where there is none of them, the others
+abbrev pub or_else : List Value → List Value → List Value
+or_else [] others = others
+or_else (v ∷ vs) others = v ∷ vs
+
+-- the value, where there is one
+abbrev pub if_any : Option Value → List Value
+if_any None = []
+if_any (Some v) = v ∷ []
 
 -- the clock's attributes are the environment's
 abbrev pub clock_value_in : ℤ → List ℕ → List ℕ → DataType → Option Value
 clock_value_in moment category id t = if bytes_eq category (uri_of Environment) then clock_value moment id t else None
 
--- those that are not in the request, where no issuer is named
+-- those that are not in the request: the one that the clock gives, else those that the source has
 unfoldable pub outside_values : AskContext → Designator → List Value
 outside_values c d =
-    or_source (clock_value_in c.moment d.category d.attribute_id d.data_type)
+    or_else (if_any (clock_value_in c.moment d.category d.attribute_id d.data_type))
     (source_values c.source d.category (entity c.objects d.category) d.attribute_id d.data_type)
 
-abbrev pub or_outside : List Value → Bool → List Value → List Value
-or_outside [] true vs = vs
-or_outside [] false vs = []
-or_outside (own ∷ others) _ vs = own ∷ others
-
--- the values of a designator's bag
+-- the values of a designator's bag: those that the request has, else the others, where no issuer is named
 unfoldable pub values_of : AskContext → Designator → List Value
-values_of c d = or_outside (request_values c.objects d.category d.attribute_id d.data_type d.issuer) (is_none d.issuer) (outside_values c d)
+values_of c d =
+    or_else (request_values c.objects d.category d.attribute_id d.data_type d.issuer)
+    (if is_none d.issuer then outside_values c d else [])
