@@ -13,10 +13,11 @@ use Rattle.xa_value.specs.declared.value.Value.{Value}
 use Rattle.xa_value.specs.Order.{type_of}
 use Rattle.xa_value.specs.Types.{place_of}
 use Rattle.xa_value.specs.Types.{same_type}
+use Rattle.xa_expr.specs.declared.designator.Designator.{Designator}
 use Rattle.xa_profile.specs.declared.attribute.Attribute.{Attribute}
 use Rattle.xa_profile.specs.declared.category_object.CategoryObject.{CategoryObject}
 use Rattle.xa_decide.proofs.IndexLemmas.{compare_total, filter_within}
-use Rattle.xa_decide.specs.Context.{is_issuer, is_named, is_row}
+use Rattle.xa_decide.specs.Context.{is_issuer, is_named, is_named_by, is_row}
 use Rattle.xa_decide.specs.declared.source_row.SourceRow.{SourceRow}
 use Rattle.xa_decide.specs.indexing.Index.{Sought, compare_keys, sought, with_key}
 use Rattle.xa_decide.specs.indexing.Keys.{category_key, if_valued, issuer_key, issuer_key_of, name_key, name_key_of, object_key_of, row_key, row_key_of}
@@ -94,36 +95,49 @@ issued_name id t issuer a e =
     ap (λ o. issuer_key a.id a.values.data_type o) (same_issuer issuer a.issuer parts.2)
     ∙ ap (λ n. sought (11 + n) a.id issuer []) parts.1 ∙ ap (λ i. sought (11 + place_of t) i issuer []) parts.0
 
-pub named_found : (id : List ℕ) (t : DataType) (issuer : Option (List ℕ)) (all found : List Attribute) → issuer ≡ None
+name_found : (id : List ℕ) (t : DataType) (issuer : Option (List ℕ)) (all found : List Attribute) → issuer ≡ None
     → with_key name_key_of (issuer_key id t issuer) found ≡ with_key name_key_of (issuer_key id t issuer) all
     → flat_map (λ a. a.values.values) (filter (is_named id t issuer) found) ≡ flat_map (λ a. a.values.values) (filter (is_named id t issuer) all)
-named_found id t issuer all found none e =
+name_found id t issuer all found none e =
     values_kept (is_named id t issuer) name_key_of (name_key id t) (λ a h. ap (λ k. if_valued a.values.values k) (named_name id t issuer a h)) found all
     (subst (λ o. with_key name_key_of (issuer_key id t o) found ≡ with_key name_key_of (issuer_key id t o) all) none e)
 
-pub issued_found : (id : List ℕ) (t : DataType) (issuer : Option (List ℕ)) (all found : List Attribute) → is_some issuer ≡ true
+issuer_found : (id : List ℕ) (t : DataType) (issuer : Option (List ℕ)) (all found : List Attribute) → is_some issuer ≡ true
     → with_key issuer_key_of (issuer_key id t issuer) found ≡ with_key issuer_key_of (issuer_key id t issuer) all
     → flat_map (λ a. a.values.values) (filter (is_named id t issuer) found) ≡ flat_map (λ a. a.values.values) (filter (is_named id t issuer) all)
-issued_found id t None all found some e = absurd (true≢false (sym some))
-issued_found id t (Some issuer) all found some e =
+issuer_found id t None all found some e = absurd (true≢false (sym some))
+issuer_found id t (Some issuer) all found some e =
     values_kept (is_named id t (Some issuer)) issuer_key_of (issuer_key id t (Some issuer)) (λ a h. ap (λ k. if_valued a.values.values k) (issued_name id t issuer a h)) found all e
+
+-- those that a designator names
+pub named_found : (d : Designator) (all found : List Attribute) → d.issuer ≡ None
+    → with_key name_key_of (issuer_key d.attribute_id d.data_type d.issuer) found ≡ with_key name_key_of (issuer_key d.attribute_id d.data_type d.issuer) all
+    → flat_map (λ a. a.values.values) (filter (is_named_by d) found) ≡ flat_map (λ a. a.values.values) (filter (is_named_by d) all)
+named_found d all found none e = name_found d.attribute_id d.data_type d.issuer all found none e
+
+pub issued_found : (d : Designator) (all found : List Attribute) → is_some d.issuer ≡ true
+    → with_key issuer_key_of (issuer_key d.attribute_id d.data_type d.issuer) found ≡ with_key issuer_key_of (issuer_key d.attribute_id d.data_type d.issuer) all
+    → flat_map (λ a. a.values.values) (filter (is_named_by d) found) ≡ flat_map (λ a. a.values.values) (filter (is_named_by d) all)
+issued_found d all found some e = issuer_found d.attribute_id d.data_type d.issuer all found some e
 
 -- ---- rows
 
-row_keyed : (category entity id : List ℕ) (t : DataType) (row : SourceRow) → is_row category entity id t row ≡ true → row_key_of row ≡ row_key category entity id t
-row_keyed category entity id t row e =
-    let by_category = and_parts (bytes_eq row.category category) _ e in
+row_keyed : (entity : List ℕ) (d : Designator) (row : SourceRow) → is_row entity d row ≡ true
+    → row_key_of row ≡ row_key d.category entity d.attribute_id d.data_type
+row_keyed entity d row e =
+    let by_category = and_parts (bytes_eq row.category d.category) _ e in
     let by_entity = and_parts (bytes_eq row.entity entity) _ by_category.1 in
-    let by_id = and_parts (bytes_eq row.attribute_id id) _ by_entity.1 in
-    let one = same_text row.category category by_category.0 in
+    let by_id = and_parts (bytes_eq row.attribute_id d.attribute_id) _ by_entity.1 in
+    let one = same_text row.category d.category by_category.0 in
     let two = same_text row.entity entity by_entity.0 in
-    let three = same_text row.attribute_id id by_id.0 in
-    let type = eqb-true (place_of (type_of row.value)) (place_of t) by_id.1 in cc
+    let three = same_text row.attribute_id d.attribute_id by_id.0 in
+    let type = eqb-true (place_of (type_of row.value)) (place_of d.data_type) by_id.1 in cc
 
-pub rows_found : (category entity id : List ℕ) (t : DataType) (rows found : List SourceRow)
-    → with_key row_key_of (row_key category entity id t) found ≡ with_key row_key_of (row_key category entity id t) rows → filter (is_row category entity id t) found ≡ filter (is_row category entity id t) rows
-rows_found category entity id t rows found e =
-    kept_among (is_row category entity id t) row_key_of (row_key category entity id t) (row_keyed category entity id t) found rows e
+pub rows_found : (entity : List ℕ) (d : Designator) (rows found : List SourceRow)
+    → with_key row_key_of (row_key d.category entity d.attribute_id d.data_type) found ≡ with_key row_key_of (row_key d.category entity d.attribute_id d.data_type) rows
+    → filter (is_row entity d) found ≡ filter (is_row entity d) rows
+rows_found entity d rows found e =
+    kept_among (is_row entity d) row_key_of (row_key d.category entity d.attribute_id d.data_type) (row_keyed entity d) found rows e
 
 -- ---- Category objects
 

@@ -2,10 +2,9 @@
 use Rattle.std.proofs.Common.{◌≡◌, ℕ, Bool, true, false, cond, List, [], ◌∷◌, ◌++◌, refl, ap, ◌∙◌}
 use Rattle.std.specs.Prelude.{filter, Option, Some, None}
 use Rattle.std.specs.List.{flat_map}
-use Rattle.xa_value.specs.declared.data_type.DataType.TheVariants as type
 use Rattle.xa_value.specs.declared.value.Value.{Value}
 use Rattle.xa_profile.specs.declared.category_object.CategoryObject.{CategoryObject}
-use Rattle.xa_decide.specs.Context.{category_of, entity, named_entity, naming_id_of, object_values, only_text, request_values}
+use Rattle.xa_decide.specs.Context.{category_of, entity, named_entity, naming_id_of, object_values, only_text, request_values, strings_of}
 use Rattle.xa_decide.specs.indexing.Naming.{Said, none, one, several, both, naming_values, said, text_said, values_with}
 use Rattle.xa_decide.proofs.KeyLemmas.{of_category, same_text}
 
@@ -60,4 +59,4 @@ entity_said objects category =
     ap (λ vs. text_said (said vs)) (values_of_category (naming_id_of (category_of category)) category objects refl) ∙ by_id (naming_id_of (category_of category)) where
       by_id : (id : Option (List ℕ)) → text_said (said (flat_map (values_with id) (filter (of_category category) objects))) ≡ named_entity objects category id
       by_id None = ap (λ vs. text_said (said vs)) (nothing_named (filter (of_category category) objects))
-      by_id (Some id) = only_text_said (flat_map (object_values id type.String None) (filter (of_category category) objects))
+      by_id (Some id) = only_text_said (flat_map (object_values (strings_of category id)) (filter (of_category category) objects))

@@ -36,13 +36,17 @@ is_issuer (Some issuer) (Some own) = bytes_eq own issuer
 abbrev pub is_named : List ℕ → DataType → Option (List ℕ) → Attribute → Bool
 is_named id t issuer a = bytes_eq a.id id && (same_type a.values.data_type t && is_issuer issuer a.issuer)
 
--- the values of those attributes of a Category object
-abbrev pub object_values : List ℕ → DataType → Option (List ℕ) → CategoryObject → List Value
-object_values id t issuer o = flat_map (λ a. a.values.values) (filter (is_named id t issuer) o.attributes)
+-- an attribute that the designator names
+abbrev pub is_named_by : Designator → Attribute → Bool
+is_named_by d a = is_named d.attribute_id d.data_type d.issuer a
 
--- and of all objects of that category, in request order
-unfoldable pub request_values : List CategoryObject → List ℕ → List ℕ → DataType → Option (List ℕ) → List Value
-request_values objects category id t issuer = flat_map (object_values id t issuer) (filter (λ o. bytes_eq o.category category) objects)
+-- the values of those attributes of a Category object
+abbrev pub object_values : Designator → CategoryObject → List Value
+object_values d o = flat_map (λ a. a.values.values) (filter (is_named_by d) o.attributes)
+
+-- and of all objects of the designator's category, in request order
+unfoldable pub request_values : List CategoryObject → Designator → List Value
+request_values objects d = flat_map (object_values d) (filter (λ o. bytes_eq o.category d.category) objects)
 
 -- ---- the clock
 
@@ -80,10 +84,14 @@ only_text [] = []
 only_text (v ∷ []) = text_of v
 only_text (v ∷ w ∷ vs) = []
 
+-- the strings of that category and id, of any issuer
+abbrev pub strings_of : List ℕ → List ℕ → Designator
+strings_of category id = record { category = category; attribute_id = id; data_type = type.String; must_be_present = false; issuer = None }
+
 -- the entity of a category: the one string that the request has as the attribute that names it, and the empty text where it has none or several
 abbrev pub named_entity : List CategoryObject → List ℕ → Option (List ℕ) → List ℕ
 named_entity objects category None = []
-named_entity objects category (Some id) = only_text (request_values objects category id type.String None)
+named_entity objects category (Some id) = only_text (request_values objects (strings_of category id))
 
 abbrev pub naming_id_of : Option Category → Option (List ℕ)
 naming_id_of None = None
@@ -92,14 +100,14 @@ naming_id_of (Some category) = naming_id category
 unfoldable pub entity : List CategoryObject → List ℕ → List ℕ
 entity objects category = named_entity objects category (naming_id_of (category_of category))
 
--- a row of that category, entity, id and type
-abbrev pub is_row : List ℕ → List ℕ → List ℕ → DataType → SourceRow → Bool
-is_row category entity id t row =
-    bytes_eq row.category category && (bytes_eq row.entity entity && (bytes_eq row.attribute_id id && same_type (type_of row.value) t))
+-- a row of the entity's attribute that the designator names
+abbrev pub is_row : List ℕ → Designator → SourceRow → Bool
+is_row entity d row =
+    bytes_eq row.category d.category && (bytes_eq row.entity entity && (bytes_eq row.attribute_id d.attribute_id && same_type (type_of row.value) d.data_type))
 
 -- the values of those rows, in their order
-unfoldable pub source_values : List SourceRow → List ℕ → List ℕ → List ℕ → DataType → List Value
-source_values rows category entity id t = map (λ row. row.value) (filter (is_row category entity id t) rows)
+unfoldable pub source_values : List SourceRow → List ℕ → Designator → List Value
+source_values rows entity d = map (λ row. row.value) (filter (is_row entity d) rows)
 
 -- ---- all of them
 
@@ -114,17 +122,13 @@ if_any None = []
 if_any (Some v) = v ∷ []
 
 -- the clock's attributes are the environment's
-abbrev pub clock_value_in : ℤ → List ℕ → List ℕ → DataType → Option Value
-clock_value_in moment category id t = if bytes_eq category (uri_of Environment) then clock_value moment id t else None
+abbrev pub clock_value_in : ℤ → Designator → Option Value
+clock_value_in moment d = if bytes_eq d.category (uri_of Environment) then clock_value moment d.attribute_id d.data_type else None
 
 -- those that are not in the request: the one that the clock gives, else those that the source has
 unfoldable pub outside_values : AskContext → Designator → List Value
-outside_values c d =
-    or_else (if_any (clock_value_in c.moment d.category d.attribute_id d.data_type))
-    (source_values c.source d.category (entity c.objects d.category) d.attribute_id d.data_type)
+outside_values c d = or_else (if_any (clock_value_in c.moment d)) (source_values c.source (entity c.objects d.category) d)
 
 -- the values of a designator's bag: those that the request has, else the others, where no issuer is named
 unfoldable pub values_of : AskContext → Designator → List Value
-values_of c d =
-    or_else (request_values c.objects d.category d.attribute_id d.data_type d.issuer)
-    (if is_none d.issuer then outside_values c d else [])
+values_of c d = or_else (request_values c.objects d) (if is_none d.issuer then outside_values c d else [])

@@ -3,21 +3,20 @@ ghost use Rattle.std.specs.Prelude.{◌≡◌, IfSome};
 ghost use Rattle.xa_value.specs.Order.{type_of};
 ghost use Rattle.xa_decide.specs.Context.{clock_value, clock_value_in, moment_as};
 
-use xa_expr::is_clock_id;
+use xa_expr::{Designator, is_clock_id};
 use xa_value::{Category, DataType, Moment, Value};
 
-/// The value that the clock gives to an attribute of that category, id and type (XACML 3.0, core, section 7.3.6).
-pub(crate) fn clock_value_in(
-    moment: Moment,
-    category: &str,
-    id: &str,
-    data_type: DataType,
-) -> Option<Value>
-    ensures value { result ≡ clock_value_in moment category.now id.now data_type }
-    ensures of_type { IfSome result (λ v. type_of v ≡ data_type) }
+/// The value that the clock gives to the designator's attribute (XACML 3.0, core, section 7.3.6).
+pub(crate) fn clock_value_in(moment: Moment, designator: &Designator) -> Option<Value>
+    ensures value { result ≡ clock_value_in moment designator.now }
+    ensures of_type { IfSome result (λ v. type_of v ≡ designator.now.data_type) }
 {
-    if category == Category::Environment.uri() {
-        clock_value(moment, id, data_type)
+    if designator.category.as_str() == Category::Environment.uri() {
+        clock_value(
+            moment,
+            designator.attribute_id.as_str(),
+            designator.data_type,
+        )
     } else {
         None
     }

@@ -15,7 +15,7 @@ use std::alloc::{AllocError, Global};
 use std::marker::Model;
 use xa_bag::Bag;
 use xa_expr::{Budget, Context, Designator, Looked, STEP};
-use xa_value::{DataType, Moment, Value};
+use xa_value::{Moment, Value};
 
 /// The context of the decision on an individual request.
 #[derive(Drop)]
@@ -63,22 +63,16 @@ impl<'a> IndividualContext<'a> {
 
     /// The bag of the values that the source has.
     #[tactic(auto, unfolding(crate::specs::Context::source_values))]
-    fn source_bag(
-        &self,
-        alloc: Global,
-        category: &str,
-        id: &str,
-        data_type: DataType,
-    ) -> Result<Bag, AllocError>
-        ensures { IfOk result (λ bag. bag ≡ bag_of data_type (source_values self.now.source category.now (entity self.now.objects category.now) id.now data_type)) }
+    fn source_bag(&self, alloc: Global, designator: &Designator) -> Result<Bag, AllocError>
+        ensures { IfOk result (λ bag. bag ≡ bag_of designator.now.data_type (source_values self.now.source (entity self.now.objects designator.now.category) designator.now)) }
     {
         if self.source.is_empty() {
-            return Ok(Bag::new(alloc, data_type));
+            return Ok(Bag::new(alloc, designator.data_type));
         }
-        let entity = self.objects.entity(category);
+        let entity = self.objects.entity(designator.category.as_str());
+        let id = designator.attribute_id.as_str();
         self.budget.spend(units_of_look_up(entity, id))?;
-        self.source
-            .bag(alloc, self.budget, category, entity, id, data_type)
+        self.source.bag(alloc, self.budget, entity, designator)
     }
 
     /// The bag of the values that are not in the request.
@@ -86,19 +80,16 @@ impl<'a> IndividualContext<'a> {
     fn outside_bag(&self, alloc: Global, designator: &Designator) -> Result<Bag, AllocError>
         ensures { IfOk result (λ bag. bag ≡ bag_of designator.now.data_type (outside_values self.now designator.now)) }
     {
-        let category = designator.category.as_str();
-        let id = designator.attribute_id.as_str();
-        let data_type = designator.data_type;
-        match clock_value_in(self.moment, category, id, data_type) {
-            Some(value) => bag_of_one(alloc, data_type, value),
-            None => self.source_bag(alloc, category, id, data_type),
+        match clock_value_in(self.moment, designator) {
+            Some(value) => bag_of_one(alloc, designator.data_type, value),
+            None => self.source_bag(alloc, designator),
         }
     }
 
     /// A look at the values that the source has.
     #[tactic(auto, unfolding(crate::specs::Context::source_values))]
     fn look_in_source(&self, look: &Look<'_>) -> Result<Looked, AllocError>
-        ensures { IfOk result (λ found. found ≡ looked look.now.sought.now (source_values self.now.source look.now.designator.now.category (entity self.now.objects look.now.designator.now.category) look.now.designator.now.attribute_id look.now.designator.now.data_type)) }
+        ensures { IfOk result (λ found. found ≡ looked look.now.sought.now (source_values self.now.source (entity self.now.objects look.now.designator.now.category) look.now.designator.now)) }
     {
         if self.source.is_empty() {
             return Ok(Looked::Nothing);
@@ -114,9 +105,7 @@ impl<'a> IndividualContext<'a> {
     fn look_outside(&self, look: &Look<'_>) -> Result<Looked, AllocError>
         ensures { IfOk result (λ found. found ≡ looked look.now.sought.now (outside_values self.now look.now.designator.now)) }
     {
-        let category = look.designator.category.as_str();
-        let id = look.designator.attribute_id.as_str();
-        match clock_value_in(self.moment, category, id, look.designator.data_type) {
+        match clock_value_in(self.moment, look.designator) {
             Some(value) => look.at_clock(&value),
             None => self.look_in_source(look),
         }
@@ -130,12 +119,8 @@ impl<'a> Context for IndividualContext<'a> {
     fn bag(&self, alloc: Global, designator: &Designator) -> Result<Bag, AllocError> {
         let category = designator.category.as_str();
         let id = designator.attribute_id.as_str();
-        let data_type = designator.data_type;
-        let issuer = &designator.issuer;
         self.budget.spend(units_of_look_up(category, id))?;
-        let own = self
-            .objects
-            .bag(alloc, self.budget, category, id, data_type, issuer)?;
+        let own = self.objects.bag(alloc, self.budget, designator)?;
         if own.is_empty() && designator.issuer.is_none() {
             self.outside_bag(alloc, designator)
         } else {

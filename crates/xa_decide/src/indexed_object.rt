@@ -2,7 +2,7 @@
 ghost use Rattle.std.specs.Prelude.{◌≡◌, [], ◌++◌, bytes_eq, filter, slice_get, IfOk, if◌then◌else◌};
 ghost use Rattle.std.specs.List.{filter_map, flat_map};
 ghost use Rattle.xa_bag.specs.Bag.{bag_of};
-ghost use Rattle.xa_decide.specs.Context.{is_named, object_values};
+ghost use Rattle.xa_decide.specs.Context.{is_named_by, object_values};
 ghost use Rattle.xa_decide.specs.indexing.Naming.{naming_values, said, said_by};
 
 use crate::attribute::push_attribute;
@@ -13,9 +13,8 @@ use crate::response_work::units_included;
 use std::alloc::{AllocError, Global};
 use std::marker::Model;
 use xa_bag::Bag;
-use xa_expr::Budget;
+use xa_expr::{Budget, Designator};
 use xa_profile::{Attribute, CategoryObject};
-use xa_value::{DataType, Text};
 
 /// A Category object, with its attributes to be found by their ids and types, and by their issuers as well, with what names its
 /// entity, and with how much work it is to write what stands of it in a result. It is made once for an object, whatever the number of the individual requests that have it.
@@ -92,37 +91,36 @@ impl<'a> IndexedObject<'a> {
         }
     }
 
-    /// Places among which are those of all attributes of that id, type and issuer that have values.
+    /// Places among which are those of all attributes that the designator names and that have values.
     #[tactic(auto, using(crate::proofs::KeyLemmas::named_found, crate::proofs::KeyLemmas::issued_found))]
-    pub(crate) fn places(&self, id: &str, data_type: DataType, issuer: &Option<Text>) -> &[usize]
-        ensures { flat_map (λ a. a.values.values) (filter (is_named id.now data_type issuer.now) (filter_map (slice_get self.now.attributes) result.now)) ≡ object_values id.now data_type issuer.now self.now }
+    pub(crate) fn places(&self, designator: &Designator) -> &[usize]
+        ensures { flat_map (λ a. a.values.values) (filter (is_named_by designator.now) (filter_map (slice_get self.now.attributes) result.now)) ≡ object_values designator.now self.now }
     {
         let attributes = self.object.attributes.as_slice();
-        let key = issuer_key(id, data_type, issuer);
-        match issuer {
+        let id = designator.attribute_id.as_str();
+        let key = issuer_key(id, designator.data_type, &designator.issuer);
+        match &designator.issuer {
             None => places_among::<ByName>(attributes, self.by_name.as_slice(), &key),
             Some(_) => places_among::<ByIssuer>(attributes, self.by_issuer.as_slice(), &key),
         }
     }
 }
 
-/// Puts the values of the object's attributes of that id, type and issuer at the end of the bag.
+/// Puts the values of the object's attributes that the designator names at the end of the bag.
 pub(crate) fn push_object(
     budget: &Budget,
     bag: &mut Bag,
-    id: &str,
-    data_type: DataType,
-    issuer: &Option<Text>,
+    designator: &Designator,
     object: &IndexedObject<'_>,
 ) -> Result<(), AllocError>
-    requires { bag.old.data_type ≡ data_type }
-    ensures { IfOk result (λ _. bag.new ≡ bag_of data_type (bag.old.values ++ object_values id.now data_type issuer.now object.now)) }
+    requires { bag.old.data_type ≡ designator.now.data_type }
+    ensures { IfOk result (λ _. bag.new ≡ bag_of designator.now.data_type (bag.old.values ++ object_values designator.now object.now)) }
 {
-    let places = object.places(id, data_type, issuer);
+    let places = object.places(designator);
     let attributes = object.attributes();
     for place in places {
         if let Some(attribute) = item_at(attributes, *place) {
-            push_attribute(budget, bag, id, data_type, issuer, attribute)?;
+            push_attribute(budget, bag, designator, attribute)?;
         }
     }
     Ok(())

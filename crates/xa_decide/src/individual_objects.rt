@@ -14,8 +14,7 @@ use crate::order::{Keying, item_at, order_of, places_among};
 use std::alloc::{AllocError, Global};
 use std::marker::{Model, PhantomData};
 use xa_bag::Bag;
-use xa_expr::Budget;
-use xa_value::{DataType, Text};
+use xa_expr::{Budget, Designator};
 
 /// Category objects by their categories.
 struct ByCategory<'a> {
@@ -101,24 +100,21 @@ impl<'a> IndividualObjects<'a> {
         self.objects.get(place).copied()
     }
 
-    /// The bag of the values that the request has of that category, id, type and issuer.
+    /// The bag of the values that the request has of the designator.
     #[tactic(auto, unfolding(crate::specs::Context::request_values))]
     pub(crate) fn bag(
         &self,
         alloc: Global,
         budget: &Budget,
-        category: &str,
-        id: &str,
-        data_type: DataType,
-        issuer: &Option<Text>,
+        designator: &Designator,
     ) -> Result<Bag, AllocError>
-        ensures { IfOk result (λ bag. bag ≡ bag_of data_type (request_values self.now category.now id.now data_type issuer.now)) }
+        ensures { IfOk result (λ bag. bag ≡ bag_of designator.now.data_type (request_values self.now designator.now)) }
     {
-        let mut bag = Bag::new(alloc, data_type);
-        let places = self.places(category);
+        let mut bag = Bag::new(alloc, designator.data_type);
+        let places = self.places(designator.category.as_str());
         for place in places {
             if let Some(object) = self.object(*place) {
-                push_of_category(budget, &mut bag, category, id, data_type, issuer, object)?;
+                push_of_category(budget, &mut bag, designator, object)?;
             }
         }
         Ok(bag)
@@ -147,21 +143,18 @@ impl<'a> IndividualObjects<'a> {
     }
 }
 
-/// Puts the values of the object's attributes of that id, type and issuer at the end of the bag, if it is of that category.
+/// Puts the values of the object's attributes that the designator names at the end of the bag, if it is of the designator's category.
 fn push_of_category(
     budget: &Budget,
     bag: &mut Bag,
-    category: &str,
-    id: &str,
-    data_type: DataType,
-    issuer: &Option<Text>,
+    designator: &Designator,
     object: &IndexedObject<'_>,
 ) -> Result<(), AllocError>
-    requires { bag.old.data_type ≡ data_type }
-    ensures { IfOk result (λ _. bag.new ≡ bag_of data_type (bag.old.values ++ (if bytes_eq object.now.category category.now then object_values id.now data_type issuer.now object.now else []))) }
+    requires { bag.old.data_type ≡ designator.now.data_type }
+    ensures { IfOk result (λ _. bag.new ≡ bag_of designator.now.data_type (bag.old.values ++ (if bytes_eq object.now.category designator.now.category then object_values designator.now object.now else []))) }
 {
-    if object.category() == category {
-        push_object(budget, bag, id, data_type, issuer, object)?;
+    if object.category() == designator.category.as_str() {
+        push_object(budget, bag, designator, object)?;
     }
     Ok(())
 }

@@ -1,9 +1,9 @@
 //! Looks for a value among those of a designator, where they are: no value is copied.
 ghost use Rattle.std.specs.Prelude.{◌≡◌, [], ◌∷◌, bytes_eq, IfOk, if◌then◌else◌};
 ghost use Rattle.xa_expr.specs.Looked.{looked};
-ghost use Rattle.xa_decide.specs.Context.{is_named, is_row, object_values, request_values, source_values};
+ghost use Rattle.xa_decide.specs.Context.{is_named_by, is_row, object_values, request_values, source_values};
 
-use crate::attribute::is_named;
+use crate::attribute::is_named_by;
 use crate::indexed_object::IndexedObject;
 use crate::individual_objects::IndividualObjects;
 use crate::order::item_at;
@@ -51,15 +51,9 @@ impl<'a> Look<'a> {
 
     /// A look at the values of the attribute, if it is one that the designator names.
     fn at_attribute(&self, attribute: &Attribute) -> Result<Looked, AllocError>
-        ensures { IfOk result (λ found. found ≡ looked self.now.sought.now (if is_named self.now.designator.now.attribute_id self.now.designator.now.data_type self.now.designator.now.issuer attribute.now then attribute.now.values.values else [])) }
+        ensures { IfOk result (λ found. found ≡ looked self.now.sought.now (if is_named_by self.now.designator.now attribute.now then attribute.now.values.values else [])) }
     {
-        let id = self.designator.attribute_id.as_str();
-        if is_named(
-            id,
-            self.designator.data_type,
-            &self.designator.issuer,
-            attribute,
-        ) {
+        if is_named_by(self.designator, attribute) {
             self.at_bag(&attribute.values)
         } else {
             Ok(Looked::Nothing)
@@ -69,10 +63,9 @@ impl<'a> Look<'a> {
     /// A look at the values of the object's attributes.
     #[tactic(auto, using(xa_expr::proofs::LookedLemmas::joined_nothing))]
     fn at_object(&self, object: &IndexedObject<'_>) -> Result<Looked, AllocError>
-        ensures { IfOk result (λ found. found ≡ looked self.now.sought.now (object_values self.now.designator.now.attribute_id self.now.designator.now.data_type self.now.designator.now.issuer object.now)) }
+        ensures { IfOk result (λ found. found ≡ looked self.now.sought.now (object_values self.now.designator.now object.now)) }
     {
-        let id = self.designator.attribute_id.as_str();
-        let places = object.places(id, self.designator.data_type, &self.designator.issuer);
+        let places = object.places(self.designator);
         let attributes = object.attributes();
         let mut so_far = Looked::Nothing;
         for place in places {
@@ -85,7 +78,7 @@ impl<'a> Look<'a> {
 
     /// A look at the values of the object's attributes, if it is of the designator's category.
     fn at_object_of_category(&self, object: &IndexedObject<'_>) -> Result<Looked, AllocError>
-        ensures { IfOk result (λ found. found ≡ looked self.now.sought.now (if bytes_eq object.now.category self.now.designator.now.category then object_values self.now.designator.now.attribute_id self.now.designator.now.data_type self.now.designator.now.issuer object.now else [])) }
+        ensures { IfOk result (λ found. found ≡ looked self.now.sought.now (if bytes_eq object.now.category self.now.designator.now.category then object_values self.now.designator.now object.now else [])) }
     {
         if object.category() == self.designator.category.as_str() {
             self.at_object(object)
@@ -97,7 +90,7 @@ impl<'a> Look<'a> {
     /// A look at the values that the request has.
     #[tactic(auto, unfolding(crate::specs::Context::request_values), using(xa_expr::proofs::LookedLemmas::joined_nothing))]
     pub(crate) fn at_objects(&self, objects: &IndividualObjects<'_>) -> Result<Looked, AllocError>
-        ensures { IfOk result (λ found. found ≡ looked self.now.sought.now (request_values objects.now self.now.designator.now.category self.now.designator.now.attribute_id self.now.designator.now.data_type self.now.designator.now.issuer)) }
+        ensures { IfOk result (λ found. found ≡ looked self.now.sought.now (request_values objects.now self.now.designator.now)) }
     {
         let places = objects.places(self.designator.category.as_str());
         let mut so_far = Looked::Nothing;
@@ -111,11 +104,9 @@ impl<'a> Look<'a> {
 
     /// A look at the row's value, if it is a row of the entity's attribute that the designator names.
     fn at_row(&self, entity: &str, row: &SourceRow) -> Result<Looked, AllocError>
-        ensures { IfOk result (λ found. found ≡ looked self.now.sought.now (if is_row self.now.designator.now.category entity.now self.now.designator.now.attribute_id self.now.designator.now.data_type row.now then row.now.value ∷ [] else [])) }
+        ensures { IfOk result (λ found. found ≡ looked self.now.sought.now (if is_row entity.now self.now.designator.now row.now then row.now.value ∷ [] else [])) }
     {
-        let category = self.designator.category.as_str();
-        let id = self.designator.attribute_id.as_str();
-        if is_row(category, entity, id, self.designator.data_type, row) {
+        if is_row(entity, self.designator, row) {
             self.budget.spend(units_of_looks(units_of(&row.value), 1))?;
             Ok(Looked::at_value(self.sought, &row.value))
         } else {
@@ -126,11 +117,9 @@ impl<'a> Look<'a> {
     /// A look at the values that the source has of the entity's attribute.
     #[tactic(auto, unfolding(crate::specs::Context::source_values), using(xa_expr::proofs::LookedLemmas::joined_nothing))]
     pub(crate) fn at_source(&self, source: &Source, entity: &str) -> Result<Looked, AllocError>
-        ensures { IfOk result (λ found. found ≡ looked self.now.sought.now (source_values source.now self.now.designator.now.category entity.now self.now.designator.now.attribute_id self.now.designator.now.data_type)) }
+        ensures { IfOk result (λ found. found ≡ looked self.now.sought.now (source_values source.now entity.now self.now.designator.now)) }
     {
-        let category = self.designator.category.as_str();
-        let id = self.designator.attribute_id.as_str();
-        let places = source.places(category, entity, id, self.designator.data_type);
+        let places = source.places(entity, self.designator);
         let rows = source.rows();
         let mut so_far = Looked::Nothing;
         for place in places {

@@ -12,8 +12,8 @@ use crate::source_row::SourceRow;
 use std::alloc::{AllocError, Global};
 use std::marker::Model;
 use xa_bag::Bag;
-use xa_expr::{Budget, units_of};
-use xa_value::{DataType, Items};
+use xa_expr::{Budget, Designator, units_of};
+use xa_value::Items;
 
 /// The rows of the source, to be found by their categories, entities, ids and types.
 #[derive(Debug, Drop)]
@@ -58,79 +58,65 @@ impl Source {
         self.rows.as_slice()
     }
 
-    /// Places among which are those of all rows of that category, entity, id and type.
+    /// Places among which are those of all rows of the entity's attribute that the designator names.
     #[tactic(auto, using(crate::proofs::KeyLemmas::rows_found))]
-    pub(crate) fn places(
-        &self,
-        category: &str,
-        entity: &str,
-        id: &str,
-        data_type: DataType,
-    ) -> &[usize]
-        ensures { filter (is_row category.now entity.now id.now data_type) (filter_map (slice_get self.now) result.now) ≡ filter (is_row category.now entity.now id.now data_type) self.now }
+    pub(crate) fn places(&self, entity: &str, designator: &Designator) -> &[usize]
+        ensures { filter (is_row entity.now designator.now) (filter_map (slice_get self.now) result.now) ≡ filter (is_row entity.now designator.now) self.now }
     {
-        let key = row_key(category, entity, id, data_type);
+        let category = designator.category.as_str();
+        let id = designator.attribute_id.as_str();
+        let key = row_key(category, entity, id, designator.data_type);
         places_among::<ByRow>(self.rows.as_slice(), self.order.as_slice(), &key)
     }
 
-    /// The bag of the values of the rows of that category, entity, id and type.
+    /// The bag of the values that the source has of the entity's attribute.
     #[tactic(auto, unfolding(crate::specs::Context::source_values))]
     pub(crate) fn bag(
         &self,
         alloc: Global,
         budget: &Budget,
-        category: &str,
         entity: &str,
-        id: &str,
-        data_type: DataType,
+        designator: &Designator,
     ) -> Result<Bag, AllocError>
-        ensures { IfOk result (λ bag. bag ≡ bag_of data_type (source_values self.now category.now entity.now id.now data_type)) }
+        ensures { IfOk result (λ bag. bag ≡ bag_of designator.now.data_type (source_values self.now entity.now designator.now)) }
     {
-        let places = self.places(category, entity, id, data_type);
+        let places = self.places(entity, designator);
         let rows = self.rows();
-        let mut bag = Bag::new(alloc, data_type);
+        let mut bag = Bag::new(alloc, designator.data_type);
         for place in places {
             if let Some(row) = item_at(rows, *place) {
-                push_row(budget, &mut bag, category, entity, id, data_type, row)?;
+                push_row(budget, &mut bag, entity, designator, row)?;
             }
         }
         Ok(bag)
     }
 }
 
-/// Puts the row's value at the end of the bag, if it is a row of that category, entity, id and type. It is paid for before it is copied.
+/// Puts the row's value at the end of the bag, if it is a row of the entity's attribute that the designator names. It is paid for before it is copied.
 fn push_row(
     budget: &Budget,
     bag: &mut Bag,
-    category: &str,
     entity: &str,
-    id: &str,
-    data_type: DataType,
+    designator: &Designator,
     row: &SourceRow,
 ) -> Result<(), AllocError>
-    requires { bag.old.data_type ≡ data_type }
-    ensures { IfOk result (λ _. bag.new ≡ bag_of data_type (bag.old.values ++ (if is_row category.now entity.now id.now data_type row.now then row.now.value ∷ [] else []))) }
+    requires { bag.old.data_type ≡ designator.now.data_type }
+    ensures { IfOk result (λ _. bag.new ≡ bag_of designator.now.data_type (bag.old.values ++ (if is_row entity.now designator.now row.now then row.now.value ∷ [] else []))) }
 {
-    if is_row(category, entity, id, data_type, row) {
+    if is_row(entity, designator, row) {
         budget.spend(units_of(&row.value))?;
         push_value(bag, &row.value)?;
     }
     Ok(())
 }
 
-/// Whether it is a row of that category, entity, id and type.
-pub(crate) fn is_row(
-    category: &str,
-    entity: &str,
-    id: &str,
-    data_type: DataType,
-    row: &SourceRow,
-) -> bool
-    ensures value { result ≡ is_row category.now entity.now id.now data_type row.now }
-    ensures of_type { result ≡ true → type_of row.now.value ≡ data_type }
+/// Whether it is a row of the entity's attribute that the designator names.
+pub(crate) fn is_row(entity: &str, designator: &Designator, row: &SourceRow) -> bool
+    ensures value { result ≡ is_row entity.now designator.now row.now }
+    ensures of_type { result ≡ true → type_of row.now.value ≡ designator.now.data_type }
 {
-    row.category.as_str() == category
+    row.category.as_str() == designator.category.as_str()
         && row.entity.as_str() == entity
-        && row.attribute_id.as_str() == id
-        && row.value.data_type().is_same(data_type)
+        && row.attribute_id.as_str() == designator.attribute_id.as_str()
+        && row.value.data_type().is_same(designator.data_type)
 }

@@ -1,11 +1,10 @@
 -- What names the entity of a Category object: none, one or several values of the attribute that names it.
 use Rattle.std.specs.Prelude.{ℕ, List, [], ◌∷◌, Option, Some, None}
-use Rattle.xa_value.specs.declared.data_type.DataType.TheVariants as type
 use Rattle.xa_value.specs.declared.value.Value.{Value}
 use Rattle.xa_profile.specs.declared.category_object.CategoryObject.{CategoryObject}
 use Rattle.xa_decide.specs.declared.naming.Naming.{Naming}
 use Rattle.xa_decide.specs.declared.naming.Naming.TheVariants.{Nobody, One, Several}
-use Rattle.xa_decide.specs.Context.{category_of, naming_id_of, object_values, text_of}
+use Rattle.xa_decide.specs.Context.{category_of, naming_id_of, object_values, strings_of, text_of}
 
 -- what values say
 pub data Said : Type 0 where
@@ -41,7 +40,7 @@ said_by Several = several
 -- the values of an object's naming attribute, which its category decides
 abbrev pub values_with : Option (List ℕ) → CategoryObject → List Value
 values_with None o = []
-values_with (Some id) o = object_values id type.String None o
+values_with (Some id) o = object_values (strings_of o.category id) o
 
 abbrev pub naming_values : CategoryObject → List Value
 naming_values o = values_with (naming_id_of (category_of o.category)) o

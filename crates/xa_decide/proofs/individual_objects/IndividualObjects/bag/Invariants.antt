@@ -7,6 +7,6 @@ use Rattle.xa_decide.proofs.individual_objects.IndividualObjects.bag.Given as go
 -- the values so far, before those of the objects at the places that are left
 abbrev pub invariant-loop-place : goal.invariant-loop-place
 invariant-loop-place l =
-    (l.bag.data_type ≡ l.data_type)
-    × (l.bag.values ++ flat_map (object_values l.id l.data_type l.issuer) (filter (λ o. bytes_eq o.category l.category) (filter_map (slice_get l.self) (drop l.place-index l.places)))
-    ≡ flat_map (object_values l.id l.data_type l.issuer) (filter (λ o. bytes_eq o.category l.category) (filter_map (slice_get l.self) l.places)))
+    (l.bag.data_type ≡ l.designator.data_type)
+    × (l.bag.values ++ flat_map (object_values l.designator) (filter (λ o. bytes_eq o.category l.designator.category) (filter_map (slice_get l.self) (drop l.place-index l.places)))
+    ≡ flat_map (object_values l.designator) (filter (λ o. bytes_eq o.category l.designator.category) (filter_map (slice_get l.self) l.places)))

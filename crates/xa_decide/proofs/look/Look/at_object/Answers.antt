@@ -1,4 +1,4 @@
-use Rattle.xa_decide.specs.Context.{is_named}
+use Rattle.xa_decide.specs.Context.{is_named_by}
 use Rattle.xa_decide.proofs.LookLemmas.{item_looked_at, nothing_looked_at, passed}
 use Rattle.std.proofs.Common.{◌∙◌}
 use Rattle.std.specs.Prelude.{if◌then◌else◌, [], filter}
@@ -9,7 +9,7 @@ use Rattle.xa_decide.proofs.look.Look.at_object.Goals as goal
 pub loop-place-preserved : goal.loop-place-preserved
 loop-place-preserved c =
     let d = c.args.self.now.designator.now in
-    let named = is_named d.attribute_id d.data_type d.issuer in
+    let named = is_named_by d in
     let each = passed named (λ a. a.values.values) in elim c.match-item_at.branch [
       | in-Some+in_ok-at_attribute w ↦
           item_looked_at (λ a. if named a then a.values.values else []) (λ xs. flat_map (λ a. a.values.values) (filter named xs)) each c.args.self.now.sought.now c.attributes-attributes.result.now

@@ -9,7 +9,7 @@ use Rattle.xa_decide.proofs.look.Look.at_objects.Goals as goal
 pub loop-place-preserved : goal.loop-place-preserved
 loop-place-preserved c =
     let d = c.args.self.now.designator.now in
-    let values = object_values d.attribute_id d.data_type d.issuer in
+    let values = object_values d in
     let each = passed (λ o. bytes_eq o.category d.category) values in elim c.match-object.branch [
       | in-Some+in_ok-at_object_of_category w ↦
           item_looked_at (λ o. if bytes_eq o.category d.category then values o else []) (λ xs. flat_map values (filter (λ o. bytes_eq o.category d.category) xs)) each c.args.self.now.sought.now c.args.objects.now

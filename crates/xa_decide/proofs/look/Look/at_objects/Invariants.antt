@@ -8,5 +8,5 @@ use Rattle.xa_decide.proofs.look.Look.at_objects.Given as goal
 -- the look so far, and one at the values of the objects at the places that are left
 abbrev pub invariant-loop-place : goal.invariant-loop-place
 invariant-loop-place l =
-    joined l.so_far (looked l.self.sought.now (flat_map (object_values l.self.designator.now.attribute_id l.self.designator.now.data_type l.self.designator.now.issuer) (filter (λ o. bytes_eq o.category l.self.designator.now.category) (filter_map (slice_get l.objects) (drop l.place-index l.places)))))
-    ≡ looked l.self.sought.now (flat_map (object_values l.self.designator.now.attribute_id l.self.designator.now.data_type l.self.designator.now.issuer) (filter (λ o. bytes_eq o.category l.self.designator.now.category) (filter_map (slice_get l.objects) l.places)))
+    joined l.so_far (looked l.self.sought.now (flat_map (object_values l.self.designator.now) (filter (λ o. bytes_eq o.category l.self.designator.now.category) (filter_map (slice_get l.objects) (drop l.place-index l.places)))))
+    ≡ looked l.self.sought.now (flat_map (object_values l.self.designator.now) (filter (λ o. bytes_eq o.category l.self.designator.now.category) (filter_map (slice_get l.objects) l.places)))

@@ -8,7 +8,7 @@ use Rattle.xa_decide.proofs.look.Look.at_source.Goals as goal
 pub loop-place-preserved : goal.loop-place-preserved
 loop-place-preserved c =
     let d = c.args.self.now.designator.now in
-    let found = is_row d.category c.args.entity.now d.attribute_id d.data_type in
+    let found = is_row c.args.entity.now d in
     let each = passed_one found (λ r. r.value) in elim c.match-item_at.branch [
       | in-Some+in_ok-at_row w ↦
           item_looked_at (λ r. if found r then r.value ∷ [] else []) (λ xs. map (λ r. r.value) (filter found xs)) each c.args.self.now.sought.now c.rows-rows.result.now

@@ -8,5 +8,5 @@ use Rattle.xa_decide.proofs.look.Look.at_source.Given as goal
 -- the look so far, and one at the values of the rows at the places that are left
 abbrev pub invariant-loop-place : goal.invariant-loop-place
 invariant-loop-place l =
-    joined l.so_far (looked l.self.sought.now (map (λ r. r.value) (filter (is_row l.self.designator.now.category l.entity l.self.designator.now.attribute_id l.self.designator.now.data_type) (filter_map (slice_get l.rows) (drop l.place-index l.places)))))
-    ≡ looked l.self.sought.now (map (λ r. r.value) (filter (is_row l.self.designator.now.category l.entity l.self.designator.now.attribute_id l.self.designator.now.data_type) (filter_map (slice_get l.rows) l.places)))
+    joined l.so_far (looked l.self.sought.now (map (λ r. r.value) (filter (is_row l.entity l.self.designator.now) (filter_map (slice_get l.rows) (drop l.place-index l.places)))))
+    ≡ looked l.self.sought.now (map (λ r. r.value) (filter (is_row l.entity l.self.designator.now) (filter_map (slice_get l.rows) l.places)))

@@ -7,6 +7,6 @@ use Rattle.xa_decide.proofs.source.Source.bag.Given as goal
 -- the values so far, before those of the rows at the places that are left
 abbrev pub invariant-loop-place : goal.invariant-loop-place
 invariant-loop-place l =
-    (l.bag.data_type ≡ l.data_type)
-    × (l.bag.values ++ map (λ r. r.value) (filter (is_row l.category l.entity l.id l.data_type) (filter_map (slice_get l.rows) (drop l.place-index l.places)))
-    ≡ map (λ r. r.value) (filter (is_row l.category l.entity l.id l.data_type) (filter_map (slice_get l.rows) l.places)))
+    (l.bag.data_type ≡ l.designator.data_type)
+    × (l.bag.values ++ map (λ r. r.value) (filter (is_row l.entity l.designator) (filter_map (slice_get l.rows) (drop l.place-index l.places)))
+    ≡ map (λ r. r.value) (filter (is_row l.entity l.designator) (filter_map (slice_get l.rows) l.places)))
