@@ -2,9 +2,12 @@ pub mod ArgumentLemmas
 pub mod CheckLemmas
 pub mod DesignatorLemmas
 pub mod FunctionLemmas
+pub mod GivenBagLemmas
+pub mod GivenLemmas
 pub mod KindLemmas
 pub mod LookedLemmas
 pub mod MatchLemmas
+pub mod MisfitLemmas
 pub mod PlaceLemmas
 pub mod TargetLemmas
 pub mod TimelessLemmas

@@ -4,6 +4,7 @@ pub mod Evaluation
 pub mod Fault
 pub mod Looked
 pub mod Match
+pub mod Misfits
 pub mod Results
 pub mod Target
 pub mod Timeless
