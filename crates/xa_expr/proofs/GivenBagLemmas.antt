@@ -1,10 +1,9 @@
 -- What bag functions and higher-order functions give is of the kinds that they say, for arguments of the kinds that they take.
-use Rattle.std.proofs.Common.{◌≡◌, refl, ap, sym, ◌∙◌, subst, ℕ, Bool, true, false, cond, List, [], ◌∷◌, ◌++◌, map}
+use Rattle.std.proofs.Common.{◌≡◌, refl, ap, sym, ◌∙◌, subst, Bool, true, false, cond, List, [], ◌∷◌, ◌++◌, map}
 use Rattle.std.specs.Prelude.{filter, flat_map, not, Result, Ok, Err}
 use Rattle.xa_value.specs.declared.data_type.DataType.{DataType}
 use Rattle.xa_value.specs.declared.data_type.DataType.TheVariants as type
 use Rattle.xa_value.specs.declared.value.Value.{Value}
-use Rattle.xa_value.specs.declared.value.Value.TheVariants as value
 use Rattle.xa_value.specs.Order.{same, type_of}
 use Rattle.xa_func.specs.declared.fault.FuncFault.{FuncFault}
 use Rattle.xa_func.specs.declared.func_id.BagFunction.{BagFunction}
@@ -15,7 +14,7 @@ use Rattle.xa_func.specs.declared.func_id.HigherOrder.TheVariants as higher
 use Rattle.xa_func.specs.declared.signature.Kind.{Kind}
 use Rattle.xa_func.specs.declared.signature.Kind.TheVariants as kind
 use Rattle.xa_func.specs.Application as func
-use Rattle.xa_func.specs.Signature.{AcceptsKinds, Every, TakesKinds, bag_signature, kind_of, of_each, result_type_of, signature_of, type_of_kind}
+use Rattle.xa_func.specs.Signature.{AcceptsKinds, Every, TakesKinds, bag_signature, kind_of, result_type_of, signature_of, type_of_kind}
 use Rattle.xa_bag.specs.declared.fault.BagFault.{BagFault}
 use Rattle.xa_bag.specs.declared.value_or_bag.ValueOrBag.{ValueOrBag}
 use Rattle.xa_bag.specs.declared.value_or_bag.ValueOrBag.TheVariants as given
@@ -25,7 +24,7 @@ use Rattle.xa_bag.specs.HigherOrder.{as_bag, choices, collected, outcome, with_f
 use Rattle.xa_bag.specs.LogicAtOnce.{EachOfItsType}
 use Rattle.xa_bag.specs.Sets.{all_values, distinct, one_and_only}
 use Rattle.xa_bag.specs.ValueOrBag.{kind_of_argument, kind_of_each, type_of_each, values_of}
-use Rattle.xa_expr.specs.Misfits.{Answers, AnswersEach, IsOf}
+use Rattle.xa_expr.specs.Misfits.{AnswersEach, IsOf}
 use Rattle.xa_expr.specs.Typed.{result_kind}
 use Rattle.xa_expr.proofs.GivenLemmas.{applied_result, applied_type}
 

@@ -1,6 +1,6 @@
 -- No wrong type is met where an expression is evaluated that has a kind under the kinds of its variables.
 use Rattle.std.proofs.Common.{◌≡◌, refl, ap, sym, ◌∙◌, subst, ℕ, zero, suc, Bool, true, false, ◌&&◌, List, [], ◌∷◌, ◌++◌, map, slice_get, Option, Some, None, append_assoc, append-nil}
-use Rattle.std.specs.Prelude.{IsTrue, if◌then◌else◌, Result, Ok, Err}
+use Rattle.std.specs.Prelude.{if◌then◌else◌, Result, Ok, Err}
 use Rattle.xa_value.specs.declared.data_type.DataType.TheVariants as type
 use Rattle.xa_value.specs.declared.value.Value.{Value}
 use Rattle.xa_func.specs.declared.fault.FuncFault.{FuncFault}
@@ -15,22 +15,19 @@ use Rattle.xa_func.specs.Signature.{AcceptsKinds, TakesKinds, kind_of, of_each, 
 use Rattle.xa_func.specs.Table.{is_scalar}
 use Rattle.xa_bag.specs.declared.fault.BagFault.{BagFault}
 use Rattle.xa_bag.specs.declared.value_or_bag.ValueOrBag.{ValueOrBag}
-use Rattle.xa_bag.specs.declared.value_or_bag.ValueOrBag.TheVariants as given
 use Rattle.xa_bag.specs.Applying.{as_argument, as_boolean, kind_given}
-use Rattle.xa_bag.specs.Bag.{OfType}
 use Rattle.xa_bag.specs.HigherOrder.{collected, with_first}
 use Rattle.xa_bag.specs.LogicAtOnce.{EachOfItsType}
-use Rattle.xa_bag.specs.ValueOrBag.{kind_of_argument, kind_of_each, type_of_each, values_of}
+use Rattle.xa_bag.specs.ValueOrBag.{kind_of_argument}
 use Rattle.xa_expr.specs.declared.designator.Designator.{Designator}
 use Rattle.xa_expr.specs.declared.fault.Fault.{Fault}
-use Rattle.xa_expr.specs.declared.fault.Fault.TheVariants.{MissingAttribute}
-use Rattle.xa_expr.specs.declared.typed.Typed.{Typed, every-Typed}
+use Rattle.xa_expr.specs.declared.typed.Typed.{Typed}
 use Rattle.xa_expr.specs.declared.typed.Typed.TheFolds.{every_made-Typed, fold-roll-Typed, ind-Typed, map-Typed}
 use Rattle.xa_expr.specs.declared.typed.Typed.TheOpen.{Typed-F}
 use Rattle.xa_expr.specs.declared.variables.Definition.{Definition}
 use Rattle.xa_expr.specs.Evaluation.{Attributes, Outcome, applied, applied_to_values, attribute, higher_applied, is_empty, outcome, outcome_step, outcomes, outcomes_after, result_at, value_in}
 use Rattle.xa_expr.specs.Fault.{of_bag_function, of_function}
-use Rattle.xa_expr.specs.Misfits.{AnswersChoices, AreTaken, ComesTo, DefinitionsFit, EachComesTo, Fits, FitsThroughout, IsOf, IsThere, KeepsTypes, MeetsNoMisfit}
+use Rattle.xa_expr.specs.Misfits.{AnswersChoices, ComesTo, DefinitionsFit, EachComesTo, Fits, FitsThroughout, IsOf, IsThere, KeepsTypes, MeetsNoMisfit}
 use Rattle.xa_expr.specs.Typed.{accepted, all_there, gives_boolean, has_bags, higher_accepted, kind_of_typed, kind_under, kind_where, put_first, result_kind, under_step, variable_kind, same_kind}
 use Rattle.xa_expr.specs.Variables.{AreTyped, AreTypedAfter, kinds}
 use Rattle.xa_expr.proofs.ArgumentLemmas.{kinds_of_each}
@@ -300,11 +297,11 @@ definitions_fit source keeps before rs fit (d ∷ ds) typed =
     (last_comes before rs k (outcome source rs d.expression) fit (comes d.expression k typed.0)) ds typed.1 in
     record {
       fit = (expression_fits source before rs fit comes d.expression k typed.0, rest.fit);
-      come = subst (λ ks. EachComesTo ks (outcomes_after source (rs ++ outcome source rs d.expression ∷ []) ds)) (append_assoc before (k ∷ []) (kinds ds)) rest.come
+      come = subst (λ ks. EachComesTo ks (outcomes_after source (rs ++ outcome source rs d.expression ∷ []) ds)) (append_assoc before (k ∷ []) (kinds ds)) rest.come;
     }
 
 -- no wrong type is met
-pub meets_none : (source : Attributes) (ds : List Definition) (t : Typed) (k : Kind) → AreTyped ds → kind_under (kinds ds) t ≡ Some k → KeepsTypes source → MeetsNoMisfit source ds t
-meets_none source ds t k typed e keeps =
+pub meets_no_misfit : (source : Attributes) (ds : List Definition) (t : Typed) (k : Kind) → AreTyped ds → kind_under (kinds ds) t ≡ Some k → KeepsTypes source → MeetsNoMisfit source ds t
+meets_no_misfit source ds t k typed e keeps =
     let defined = definitions_fit source keeps [] [] tt ds typed in
     record { variables = defined.fit; itself = expression_fits source (kinds ds) (outcomes source ds) defined.come (outcome_comes source (kinds ds) (outcomes source ds) keeps defined.come) t k e }

@@ -2,7 +2,7 @@
 -- 7.3.5 and 7.4, appendix A.3). The definitions of values are total, so they answer something for arguments of other kinds too, by words like
 -- `misfit`. Of an expression that a type check gives a kind, none of these lines is ever reached: that is what `MeetsNoMisfit` says of one
 -- expression, and clause `fits` of `Evaluator::value` of all.
-use Rattle.std.specs.Prelude.{◌≡◌, Bool, ◌&&◌, IsTrue, List, [], ◌∷◌, ◌++◌, map, slice_get, Option, Some, None, Result, Ok, Err}
+use Rattle.std.specs.Prelude.{◌≡◌, ◌&&◌, IsTrue, List, [], ◌∷◌, ◌++◌, map, slice_get, Option, Some, None, Result, Ok, Err}
 use Rattle.xa_value.specs.declared.value.Value.{Value}
 use Rattle.xa_func.specs.declared.func_id.FuncId.{FuncId}
 use Rattle.xa_func.specs.declared.signature.Kind.{Kind}

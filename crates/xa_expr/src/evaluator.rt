@@ -3,6 +3,7 @@ ghost use Rattle.std.specs.Prelude.{◌≡◌, max, min, length, Some, IfOk};
 ghost use Rattle.xa_value.specs.Gives.{Gives};
 ghost use Rattle.xa_bag.specs.ValueOrBag.{kind_of_argument};
 ghost use Rattle.xa_expr.specs.Evaluation.{value_of};
+ghost use Rattle.xa_expr.specs.Misfits.{KeepsTypes, MeetsNoMisfit};
 ghost use Rattle.xa_expr.specs.Results.{AreFirst, reach};
 ghost use Rattle.xa_expr.specs.Typed.{kind_of_typed, kind_under};
 ghost use Rattle.xa_expr.specs.Variables.{AreTyped, kinds};
@@ -107,7 +108,8 @@ impl<'a, C: Context> Evaluator<'a, C> {
         self.context.spend(units)
     }
 
-    /// What the expression comes to. After want of memory nothing that was worked out is lost.
+    /// What the expression comes to. After want of memory nothing that was worked out is lost. Clause `fits`: no wrong type is met, neither
+    /// in the expression nor in the definitions of the variables.
     pub fn value(
         &mut self,
         alloc: Global,
@@ -116,6 +118,7 @@ impl<'a, C: Context> Evaluator<'a, C> {
         requires { kind_under (kinds self.old.1) expression.now ≡ Some (kind_of_typed expression.now) }
         ensures value { Gives result (value_of (C.values_of self.old.0) self.old.1 expression.now) }
         ensures typed { IfOk result (λ given. Some (kind_of_argument given) ≡ kind_under (kinds self.old.1) expression.now) }
+        ensures fits { KeepsTypes (C.values_of self.old.0) → MeetsNoMisfit (C.values_of self.old.0) self.old.1 expression.now }
         ensures kept { self.new ≡ self.old }
     {
         let definitions = self.variables.definitions();
@@ -139,6 +142,7 @@ pub fn value<C: Context>(
     requires { kind_under (kinds variables.now) expression.now ≡ Some (kind_of_typed expression.now) }
     ensures value { Gives result (value_of (C.values_of context.now) variables.now expression.now) }
     ensures typed { IfOk result (λ given. Some (kind_of_argument given) ≡ kind_under (kinds variables.now) expression.now) }
+    ensures fits { KeepsTypes (C.values_of context.now) → MeetsNoMisfit (C.values_of context.now) variables.now expression.now }
 {
     Evaluator::new(alloc, context, variables).value(alloc, expression)
 }
