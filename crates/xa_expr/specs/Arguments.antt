@@ -1,17 +1,17 @@
 -- The arguments of a function, as checked expressions.
-use Rattle.std.specs.Prelude.{◌≡◌, List, [], ◌∷◌, Some, Result, Ok, Err}
+use Rattle.std.specs.Prelude.{List, [], ◌∷◌, Result, Ok, Err}
 use Rattle.xa_value.specs.declared.value.Value.{Value}
 use Rattle.xa_func.specs.declared.signature.Kind.{Kind}
 use Rattle.xa_func.specs.declared.signature.Kind.TheVariants as kind
 use Rattle.xa_expr.specs.declared.fault.Fault.{Fault}
 use Rattle.xa_expr.specs.declared.typed.Typed.{Typed}
 use Rattle.xa_expr.specs.Evaluation.{Outcome, value_in}
-use Rattle.xa_expr.specs.Typed.{kind_under, kind_of_typed}
+use Rattle.xa_expr.specs.Typed.{IsTyped}
 
 -- each has its kind under variables of these kinds
 abbrev pub AreTypedUnder : List Kind → List Typed → Type 0
 AreTypedUnder variables [] = Unit {0}
-AreTypedUnder variables (t ∷ ts) = (kind_under variables t ≡ Some (kind_of_typed t)) × AreTypedUnder variables ts
+AreTypedUnder variables (t ∷ ts) = IsTyped variables t × AreTypedUnder variables ts
 
 -- none is of a bag's kind
 abbrev pub IsValueKind : Kind → Type 0

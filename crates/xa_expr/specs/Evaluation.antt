@@ -42,19 +42,33 @@ attribute values_of d =
     if is_empty (values_of d) && d.must_be_present then Err MissingAttribute
     else Ok (given.Bag (bag_of d.data_type (values_of d)))
 
+-- What is answered of arguments of other kinds than a function takes, and of a variable that isn't there: a value, a boolean, a number and a fault. Evaluation
+-- never comes to one of these words, of an expression that a type check gives a kind: that is a law (`MeetsNoMisfit` of `specs/Misfits`).
+abbrev pub misfit_value : Value
+misfit_value = value.Boolean false
+
+abbrev pub misfit_truth : Bool
+misfit_truth = false
+
+abbrev pub misfit_number : ℤ
+misfit_number = pos 0
+
+abbrev pub misfit : {X : Type 0} → Result X Fault
+misfit = Err ProcessingError
+
 -- the value of an argument that can only be a value
 abbrev pub value_in : ValueOrBag → Value
 value_in (given.Value v) = v
-value_in (given.Bag b) = value.Boolean false
+value_in (given.Bag b) = misfit_value
 
 -- the boolean and the number that an argument is, where a type check let no other through
 abbrev pub truth : ValueOrBag → Bool
 truth (given.Value (value.Boolean b)) = b
-truth _ = false
+truth _ = misfit_truth
 
 abbrev pub number : ValueOrBag → ℤ
 number (given.Value (value.Integer n)) = n
-number _ = pos 0
+number _ = misfit_number
 
 -- the place of a boolean argument: True, False or a fault
 abbrev pub place : Outcome → Result Bool Fault
@@ -63,7 +77,7 @@ place (Err fault) = Err fault
 
 -- n-of: the number first, then the places of the others
 abbrev pub n_of_places : List Outcome → Result Bool Fault
-n_of_places [] = Err ProcessingError
+n_of_places [] = misfit
 n_of_places (Ok n ∷ rs) = n_of ProcessingError (number n) (map place rs)
 n_of_places (Err fault ∷ rs) = Err fault
 
@@ -86,7 +100,7 @@ higher_applied h f rs = collected rs >>= (λ given. of_bag_function (higher_orde
 -- the result of the variable at a place; a type check lets through no place that none is at
 abbrev pub result_at : Option Outcome → Outcome
 result_at (Some r) = r
-result_at None = Err ProcessingError
+result_at None = misfit
 
 -- each expression, by what those in it come to, where the variables come to these
 abbrev pub outcome_step : Attributes → List Outcome → Typed-F Outcome → Outcome

@@ -1,5 +1,5 @@
 -- The kind of a checked expression, and what makes it right under variables (XACML 3.0, core, appendix A.3).
-use Rattle.std.specs.Prelude.{ℕ, suc, Bool, true, false, ◌&&◌, ◌==◌, nat_le, if◌then◌else◌, List, [], ◌∷◌, map, length, slice_get, Option, Some, None}
+use Rattle.std.specs.Prelude.{◌≡◌, ℕ, suc, Bool, true, false, ◌&&◌, ◌==◌, nat_le, if◌then◌else◌, List, [], ◌∷◌, map, length, slice_get, Option, Some, None}
 use Rattle.std.specs.List.{list_all}
 use Rattle.xa_value.specs.declared.data_type.DataType.TheVariants as type
 use Rattle.xa_value.specs.Types.{same_type}
@@ -131,3 +131,7 @@ under_step variables (Typed-F.HigherOrder h f ks) = kind_where (λ given. is_sca
 
 abbrev pub kind_under : List Kind → Typed → Option Kind
 kind_under variables = fold-Typed (Option Kind) (under_step variables)
+
+-- the expression has its kind under variables of these kinds
+abbrev pub IsTyped : List Kind → Typed → Type 0
+IsTyped variables t = kind_under variables t ≡ Some (kind_of_typed t)

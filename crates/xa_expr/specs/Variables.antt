@@ -1,5 +1,5 @@
 -- The variables of a policy (XACML 3.0, core, sections 5.23 and 7.8).
-use Rattle.std.specs.Prelude.{◌≡◌, ℕ, Bool, true, false, bytes_eq, if◌then◌else◌, List, [], ◌∷◌, ◌++◌, map, Option, Some, is_some, Result, Ok, Err}
+use Rattle.std.specs.Prelude.{ℕ, Bool, true, false, bytes_eq, if◌then◌else◌, List, [], ◌∷◌, ◌++◌, map, Option, is_some, Result, Ok, Err}
 use Rattle.std.specs.List.{position}
 use Rattle.xa_value.specs.Gives.{◌>>=◌}
 use Rattle.xa_func.specs.declared.signature.Kind.{Kind}
@@ -7,7 +7,7 @@ use Rattle.xa_expr.specs.declared.check_error.CheckError.{CheckError}
 use Rattle.xa_expr.specs.declared.expr.Expr.{Expr}
 use Rattle.xa_expr.specs.declared.typed.Typed.{Typed}
 use Rattle.xa_expr.specs.declared.variables.Definition.{Definition}
-use Rattle.xa_expr.specs.Typed.{kind_of_typed, kind_under}
+use Rattle.xa_expr.specs.Typed.{IsTyped, kind_of_typed}
 use Rattle.xa_expr.specs.Typing.{checked}
 
 -- the kinds of variables, by their definitions
@@ -17,7 +17,7 @@ kinds definitions = map (λ d. kind_of_typed d.expression) definitions
 -- each definition has its kind under those before it, these kinds being before all
 abbrev pub AreTypedAfter : List Kind → List Definition → Type 0
 AreTypedAfter before [] = Unit {0}
-AreTypedAfter before (d ∷ ds) = (kind_under before d.expression ≡ Some (kind_of_typed d.expression)) × AreTypedAfter (before ++ kind_of_typed d.expression ∷ []) ds
+AreTypedAfter before (d ∷ ds) = IsTyped before d.expression × AreTypedAfter (before ++ kind_of_typed d.expression ∷ []) ds
 
 abbrev pub AreTyped : List Definition → Type 0
 AreTyped definitions = AreTypedAfter [] definitions

@@ -5,7 +5,7 @@ ghost use Rattle.xa_func.specs.Names.{function_named};
 ghost use Rattle.xa_func.specs.Signature.{of_each, signature_of};
 ghost use Rattle.xa_func.specs.Table.{is_scalar};
 ghost use Rattle.xa_expr.specs.declared.variables.Definition.{Definition as Defined};
-ghost use Rattle.xa_expr.specs.Typed.{kind_of_typed, kind_under, counted, accepted, higher_counted, bag_count, are_two_bags, has_bags, gives_boolean, higher_accepted, all_there};
+ghost use Rattle.xa_expr.specs.Typed.{IsTyped, kind_of_typed, kind_under, counted, accepted, higher_counted, bag_count, are_two_bags, has_bags, gives_boolean, higher_accepted, all_there};
 ghost use Rattle.xa_expr.specs.Typing.{at_depth, judged, arguments as arguments_of, apply, first_order, applied, higher_order, higher_applied, inner_named, known_inner, checked};
 ghost use Rattle.xa_expr.specs.Variables.{kinds};
 
@@ -29,7 +29,7 @@ pub fn check(
     variables: &Variables,
 ) -> Result<Typed, OrMemory<CheckError>>
     ensures value { Gives result (checked variables.now expression.now) }
-    ensures typed { IfOk result (λ t. kind_under (kinds variables.now) t ≡ Some (kind_of_typed t)) }
+    ensures typed { IfOk result (IsTyped (kinds variables.now)) }
 {
     check_at(alloc, expression, variables, 1)
 }
@@ -43,7 +43,7 @@ fn check_at(
     depth: usize,
 ) -> Result<Typed, OrMemory<CheckError>>
     ensures value { Gives result ((judged variables.now expression.now).argument depth) }
-    ensures typed { IfOk result (λ t. kind_under (kinds variables.now) t ≡ Some (kind_of_typed t)) }
+    ensures typed { IfOk result (IsTyped (kinds variables.now)) }
 {
     if depth > MAX_DEPTH {
         return Err(OrMemory::Error(CheckError::TooDeep));
@@ -69,7 +69,7 @@ fn check_apply(
     depth: usize,
 ) -> Result<Typed, OrMemory<CheckError>>
     ensures value { Gives result (apply (function_named name.now) depth (map (judged variables.now) arguments.now)) }
-    ensures typed { IfOk result (λ t. kind_under (kinds variables.now) t ≡ Some (kind_of_typed t)) }
+    ensures typed { IfOk result (IsTyped (kinds variables.now)) }
 {
     match FuncId::from_uri(name.as_str()) {
         None => Err(OrMemory::Error(CheckError::UnknownFunction)),
@@ -90,7 +90,7 @@ fn check_first_order(
     depth: usize,
 ) -> Result<Typed, OrMemory<CheckError>>
     ensures value { Gives result (first_order function depth (map (judged variables.now) arguments.now)) }
-    ensures typed { IfOk result (λ t. kind_under (kinds variables.now) t ≡ Some (kind_of_typed t)) }
+    ensures typed { IfOk result (IsTyped (kinds variables.now)) }
 {
     let arguments = check_each(alloc, arguments, variables, depth)?;
     Ok(apply_function(function, arguments)?)
@@ -106,7 +106,7 @@ fn check_higher_order(
     depth: usize,
 ) -> Result<Typed, OrMemory<CheckError>>
     ensures value { Gives result (higher_order function depth (map (judged variables.now) arguments.now)) }
-    ensures typed { IfOk result (λ t. kind_under (kinds variables.now) t ≡ Some (kind_of_typed t)) }
+    ensures typed { IfOk result (IsTyped (kinds variables.now)) }
 {
     let [first, others @ ..] = arguments else {
         return Err(OrMemory::Error(CheckError::WrongCount));
@@ -125,7 +125,7 @@ fn check_function_and_others(
     depth: usize,
 ) -> Result<Typed, OrMemory<CheckError>>
     ensures value { Gives result (higher_order function depth (map (judged variables.now) (first.now ∷ others.now))) }
-    ensures typed { IfOk result (λ t. kind_under (kinds variables.now) t ≡ Some (kind_of_typed t)) }
+    ensures typed { IfOk result (IsTyped (kinds variables.now)) }
 {
     let inner = inner_function(first, depth)?;
     let others = check_each(alloc, others, variables, depth)?;

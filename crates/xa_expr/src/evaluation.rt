@@ -12,7 +12,7 @@ ghost use Rattle.xa_expr.specs.declared.fault.Fault.TheVariants.{ProcessingError
 ghost use Rattle.xa_expr.specs.Arguments.{AreTypedUnder, AreValueKinds, value_result};
 ghost use Rattle.xa_expr.specs.Evaluation.{applied, applied_to_values, higher_applied, n_of_places, number, outcome, place, truth, value_in};
 ghost use Rattle.xa_expr.specs.Results.{AreOfKinds};
-ghost use Rattle.xa_expr.specs.Typed.{kind_of_typed, kind_under, result_kind};
+ghost use Rattle.xa_expr.specs.Typed.{IsTyped, kind_of_typed, result_kind};
 ghost use Rattle.xa_expr.specs.Variables.{kinds};
 
 use crate::context::Context;
@@ -35,7 +35,7 @@ pub(crate) fn evaluate<'a, C: Context>(
     expression: &Typed,
 ) -> Result<ValueOrBag, OrMemory<Fault>>
     requires right { AreOfKinds (kinds scope.now.definitions.now) scope.now.results.now }
-    requires typed { kind_under (kinds scope.now.definitions.now) expression.now ≡ Some (kind_of_typed expression.now) }
+    requires typed { IsTyped (kinds scope.now.definitions.now) expression.now }
     ensures value { Gives result (outcome (C.values_of scope.now.context.now) scope.now.results.now expression.now) }
     ensures typed { IfOk result (λ given. kind_of_argument given ≡ kind_of_typed expression.now) }
 {

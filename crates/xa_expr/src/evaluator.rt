@@ -5,7 +5,7 @@ ghost use Rattle.xa_bag.specs.ValueOrBag.{kind_of_argument};
 ghost use Rattle.xa_expr.specs.Evaluation.{value_of};
 ghost use Rattle.xa_expr.specs.Misfits.{KeepsTypes, MeetsNoMisfit};
 ghost use Rattle.xa_expr.specs.Results.{AreFirst, reach};
-ghost use Rattle.xa_expr.specs.Typed.{kind_of_typed, kind_under};
+ghost use Rattle.xa_expr.specs.Typed.{IsTyped, kind_of_typed, kind_under};
 ghost use Rattle.xa_expr.specs.Variables.{AreTyped, kinds};
 
 use crate::context::Context;
@@ -77,7 +77,7 @@ fn value_with<C: Context>(
 ) -> Result<ValueOrBag, OrMemory<Fault>>
     requires right { AreFirst (C.values_of context.now) definitions.now results.old.items }
     requires variables { AreTyped definitions.now }
-    requires typed { kind_under (kinds definitions.now) expression.now ≡ Some (kind_of_typed expression.now) }
+    requires typed { IsTyped (kinds definitions.now) expression.now }
     ensures value { Gives result (value_of (C.values_of context.now) definitions.now expression.now) }
     ensures typed { IfOk result (λ given. kind_of_argument given ≡ kind_of_typed expression.now) }
     ensures right { AreFirst (C.values_of context.now) definitions.now results.new.items }
@@ -115,7 +115,7 @@ impl<'a, C: Context> Evaluator<'a, C> {
         alloc: Global,
         expression: &Typed,
     ) -> Result<ValueOrBag, OrMemory<Fault>>
-        requires { kind_under (kinds self.old.1) expression.now ≡ Some (kind_of_typed expression.now) }
+        requires { IsTyped (kinds self.old.1) expression.now }
         ensures value { Gives result (value_of (C.values_of self.old.0) self.old.1 expression.now) }
         ensures typed { IfOk result (λ given. Some (kind_of_argument given) ≡ kind_under (kinds self.old.1) expression.now) }
         ensures fits { KeepsTypes (C.values_of self.old.0) → MeetsNoMisfit (C.values_of self.old.0) self.old.1 expression.now }
@@ -139,7 +139,7 @@ pub fn value<C: Context>(
     variables: &Variables,
     expression: &Typed,
 ) -> Result<ValueOrBag, OrMemory<Fault>>
-    requires { kind_under (kinds variables.now) expression.now ≡ Some (kind_of_typed expression.now) }
+    requires { IsTyped (kinds variables.now) expression.now }
     ensures value { Gives result (value_of (C.values_of context.now) variables.now expression.now) }
     ensures typed { IfOk result (λ given. Some (kind_of_argument given) ≡ kind_under (kinds variables.now) expression.now) }
     ensures fits { KeepsTypes (C.values_of context.now) → MeetsNoMisfit (C.values_of context.now) variables.now expression.now }

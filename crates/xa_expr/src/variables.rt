@@ -1,7 +1,7 @@
 //! The variables of a policy, by their definitions.
 ghost use Rattle.std.specs.Prelude.{◌≡◌, false, [], ◌∷◌, ◌++◌, Some, IfOk, IsTrue, OnOk, OnErr};
 ghost use Rattle.xa_value.specs.Gives.{Gives};
-ghost use Rattle.xa_expr.specs.Typed.{kind_of_typed, kind_under};
+ghost use Rattle.xa_expr.specs.Typed.{IsTyped};
 ghost use Rattle.xa_expr.specs.Typing.{variable_named};
 ghost use Rattle.xa_expr.specs.Variables.{AreTyped, kinds, is_defined, may_be_defined, defined};
 
@@ -71,7 +71,7 @@ impl Variables {
     /// The variable of the name, with its kind.
     pub(crate) fn reference(&self, name: &Text) -> Result<Typed, CheckError>
         ensures value { result ≡ variable_named self.now name.now }
-        ensures typed { IfOk result (λ t. kind_under (kinds self.now) t ≡ Some (kind_of_typed t)) }
+        ensures typed { IfOk result (IsTyped (kinds self.now)) }
     {
         let Some(place) = self.places.get(name) else {
             return Err(CheckError::UnknownVariable);
@@ -104,7 +104,7 @@ impl Variables {
     /// Puts a definition at the end, whose name no other has. Without memory nothing changes.
     fn put(&mut self, name: Text, expression: Typed) -> Result<(), AllocError>
         requires other { is_defined self.old name ≡ false }
-        requires typed { kind_under (kinds self.old) expression ≡ Some (kind_of_typed expression) }
+        requires typed { IsTyped (kinds self.old) expression }
         ensures ok { OnOk result (self.new ≡ self.old ++ record { name = name; expression = expression } ∷ []) }
         ensures err { OnErr result (self.new ≡ self.old) }
     {
