@@ -1,5 +1,5 @@
 -- What each bag, set and higher-order function gives for its arguments (XACML 3.0, core, appendix A.3.10 to A.3.12).
--- The rows are total: for arguments of other kinds they say NotOne. A bag function is never given such arguments, since its
+-- The rows are total: for arguments of other kinds they say `misfit`, which is NotOne. A bag function is never given such arguments, since its
 -- caller shows that its signature takes them: of a bag function NotOne is the answer of one-and-only alone.
 use Rattle.std.specs.Prelude.{◌≡◌, Bool, true, false, List, [], ◌∷◌, length, pos, Result, Ok, Err}
 use Rattle.xa_value.specs.declared.data_type.DataType.{DataType}
@@ -42,18 +42,22 @@ abbrev pub as_bag_argument : {F : Type 0} → Result Contents F → Result Value
 as_bag_argument (Ok b) = Ok (given.Bag b)
 as_bag_argument (Err e) = Err e
 
+-- arguments of other kinds than the function takes. Of expressions a law says that evaluation never comes to this word (`MeetsNoMisfit` of `xa_expr/specs/Misfits`)
+abbrev pub misfit : {X F : Type 0} → Result X (BagFault F)
+misfit = Err NotOne
+
 -- the answer for one bag, for a value and a bag, and for two bags
 abbrev pub of_bag : {F : Type 0} → (Contents → Result ValueOrBag (BagFault F)) → List ValueOrBag → Result ValueOrBag (BagFault F)
 of_bag answer (given.Bag b ∷ []) = answer b
-of_bag answer _ = Err NotOne
+of_bag answer _ = misfit
 
 abbrev pub of_value_and_bag : {F : Type 0} → (Value → Contents → Result ValueOrBag (BagFault F)) → List ValueOrBag → Result ValueOrBag (BagFault F)
 of_value_and_bag answer (given.Value v ∷ given.Bag b ∷ []) = answer v b
-of_value_and_bag answer _ = Err NotOne
+of_value_and_bag answer _ = misfit
 
 abbrev pub of_bags : {F : Type 0} → (Contents → Contents → Result ValueOrBag (BagFault F)) → List ValueOrBag → Result ValueOrBag (BagFault F)
 of_bags answer (given.Bag a ∷ given.Bag b ∷ []) = answer a b
-of_bags answer _ = Err NotOne
+of_bags answer _ = misfit
 
 -- the table of the bag and set functions of a type
 abbrev pub bag_applied : {F : Type 0} → BagFunction → DataType → List ValueOrBag → Result ValueOrBag (BagFault F)

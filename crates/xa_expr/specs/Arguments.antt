@@ -1,5 +1,5 @@
 -- The arguments of a function, as checked expressions.
-use Rattle.std.specs.Prelude.{List, [], ◌∷◌, Result, Ok, Err}
+use Rattle.std.specs.Prelude.{◌≡◌, List, [], ◌∷◌, Some, Result, Ok, Err}
 use Rattle.xa_value.specs.declared.value.Value.{Value}
 use Rattle.xa_func.specs.declared.signature.Kind.{Kind}
 use Rattle.xa_func.specs.declared.signature.Kind.TheVariants as kind

@@ -1,5 +1,5 @@
 -- The variables of a policy (XACML 3.0, core, sections 5.23 and 7.8).
-use Rattle.std.specs.Prelude.{ℕ, Bool, true, false, bytes_eq, if◌then◌else◌, List, [], ◌∷◌, ◌++◌, map, Option, is_some, Result, Ok, Err}
+use Rattle.std.specs.Prelude.{◌≡◌, ℕ, Bool, true, false, bytes_eq, if◌then◌else◌, List, [], ◌∷◌, ◌++◌, map, Option, Some, is_some, Result, Ok, Err}
 use Rattle.std.specs.List.{position}
 use Rattle.xa_value.specs.Gives.{◌>>=◌}
 use Rattle.xa_func.specs.declared.signature.Kind.{Kind}
