@@ -1,5 +1,5 @@
 -- From what a message asks for to the message itself.
-use Rattle.std.proofs.Common.{◌≡◌, ℕ, ℤ, List, Option, Some, None, Result, Ok, Err, refl, sym, subst}
+use Rattle.std.proofs.Common.{◌≡◌, ℕ, ℤ, List, Option, Some, None, Result, Ok, Err, refl}
 use Rattle.xa_value.specs.declared.or_memory.OrMemory.{OrMemory}
 use Rattle.xa_value.specs.declared.or_memory.OrMemory.TheVariants as or_memory
 use Rattle.xa_value.specs.Gives.{Gives}
@@ -9,12 +9,9 @@ use Rattle.xa_http.specs.declared.route.RouteFault.{RouteFault}
 use Rattle.xa_http.specs.Routes.{route_of}
 use Rattle.xa_records.specs.Kept.{Kept}
 use Rattle.xa_server.specs.declared.stop.Stop.{Stop}
-use Rattle.xa_server.specs.declared.stop.Stop.TheVariants.{Code, Failed}
-use Rattle.xa_server.specs.Growth.{Grows}
 use Rattle.xa_server.specs.Handling.{AnswersMessage, AnswersRoute}
 use Rattle.xa_server.specs.Machine.{answer, general_answer}
 use Rattle.xa_server.specs.Stop.{stop_of_route}
-use Rattle.xa_server.proofs.GrowthLemmas.{same_grows}
 
 -- what the message asks for is answered
 pub asked : (operator : List ℕ) (old new : Kept) (named : Option (List ℕ)) (message : Message) (moment : ℤ) (route : Route) (result : Result (List ℕ) Stop)
@@ -31,16 +28,3 @@ unasked operator kept None message moment or_memory.Memory gives = refl
 unasked operator kept None message moment (or_memory.Error fault) gives = rw gives (refl, refl)
 unasked operator kept (Some name) message moment or_memory.Memory gives = refl
 unasked operator kept (Some name) message moment (or_memory.Error fault) gives = rw gives (refl, refl)
-
--- numbers and epochs have gone on
-same_grown : (old new : Kept) → new ≡ old → Grows old new
-same_grown old new same = subst (Grows old) (sym same) (same_grows old)
-
-pub grown : (operator : List ℕ) (old new : Kept) (named : Option (List ℕ)) (message : Message) (moment : ℤ) (result : Result (List ℕ) Stop)
-    → AnswersMessage operator old new named message moment result → Grows old new
-grown operator old new None message moment (Ok bytes) answers = same_grown old new answers.1
-grown operator old new None message moment (Err (Code code)) answers = same_grown old new answers.1
-grown operator old new None message moment (Err (Failed failure)) answers = same_grown old new answers
-grown operator old new (Some name) message moment (Ok bytes) answers = answers.2.grows
-grown operator old new (Some name) message moment (Err (Code code)) answers = same_grown old new answers.1
-grown operator old new (Some name) message moment (Err (Failed failure)) answers = same_grown old new answers
