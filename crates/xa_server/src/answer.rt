@@ -164,6 +164,29 @@ fn administered<R: Records>(
     by_domain_command(alloc, records, name, command, message.body.as_slice())
 }
 
+/// Answers a message to one of the paths of the domain of that name.
+fn named_domain_route<R: Records>(
+    alloc: Global,
+    resources: &mut Resources,
+    records: &mut R,
+    name: &Text,
+    message: &Message,
+    moment: Moment,
+    command: DomainCommand,
+) -> Result<Items<u8>, Stop>
+    ensures answers { (operator part : List ℕ) → name_if part ≡ Some name.now → AllStand (R.kept records.old) resources.old → R.sound records.new → AnswersRoute operator (R.kept records.old) (R.kept records.new) (name_if part) message.now moment (to.Domain part command) result }
+    ensures works { (part : List ℕ) → name_if part ≡ Some name.now → AllStand (R.kept records.old) resources.old → R.sound records.new → WorksRoute (R.kept records.old) message.now moment (to.Domain part command) result resources.old.tally resources.new.tally }
+    ensures stands { AllStand (R.kept records.old) resources.old → R.sound records.new → AllStand (R.kept records.new) resources.new }
+    ensures room { OnErr result (resources.new.room ≡ resources.old.room) }
+    ensures sound { R.sound records.new → R.sound records.old }
+    ensures counts { Counts (R.faults records.old) (R.faults records.new) result }
+{
+    match command {
+        DomainCommand::Decide => asked(alloc, resources, records, name, message, moment),
+        _ => administered(alloc, resources, records, name, message, command),
+    }
+}
+
 /// Answers a message to one of a domain's paths.
 fn domain_route<R: Records>(
     alloc: Global,
@@ -182,10 +205,7 @@ fn domain_route<R: Records>(
     ensures counts { Counts (R.faults records.old) (R.faults records.new) result }
 {
     let name = name_if(domain).ok_or(ErrorCode::Unauthorized)?;
-    match command {
-        DomainCommand::Decide => asked(alloc, resources, records, &name, message, moment),
-        _ => administered(alloc, resources, records, &name, message, command),
-    }
+    named_domain_route(alloc, resources, records, &name, message, moment, command)
 }
 
 /// Answers a message to the path of a document. Once it is let in the domain's gate is forgotten, since it may change.
