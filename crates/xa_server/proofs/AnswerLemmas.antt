@@ -1,20 +1,21 @@
 -- From what a message asks for to the message itself.
-use Rattle.std.proofs.Common.{◌≡◌, ℕ, ℤ, List, Option, Some, None, Result, Ok, Err, refl, sym, subst}
+use Rattle.std.proofs.Common.{◌≡◌, ◌≢◌, ℕ, ℤ, List, Option, Some, None, Result, Ok, Err, refl}
 use Rattle.xa_value.specs.declared.or_memory.OrMemory.{OrMemory}
 use Rattle.xa_value.specs.declared.or_memory.OrMemory.TheVariants as or_memory
 use Rattle.xa_value.specs.Gives.{Gives}
+use Rattle.xa_http.specs.declared.command.DomainCommand.{DomainCommand}
+use Rattle.xa_http.specs.declared.command.DomainCommand.TheVariants as in_domain
 use Rattle.xa_http.specs.declared.message.Message.{Message}
 use Rattle.xa_http.specs.declared.route.Route.{Route}
+use Rattle.xa_http.specs.declared.route.Route.TheVariants as to
 use Rattle.xa_http.specs.declared.route.RouteFault.{RouteFault}
 use Rattle.xa_http.specs.Routes.{route_of}
 use Rattle.xa_records.specs.Kept.{Kept}
 use Rattle.xa_server.specs.declared.stop.Stop.{Stop}
-use Rattle.xa_server.specs.declared.stop.Stop.TheVariants.{Code, Failed}
-use Rattle.xa_server.specs.Growth.{Grows}
-use Rattle.xa_server.specs.Handling.{AnswersMessage, AnswersRoute}
+use Rattle.xa_server.specs.Handling.{AnswersMessage, AnswersRoute, WorksRoute}
 use Rattle.xa_server.specs.Machine.{answer, general_answer}
 use Rattle.xa_server.specs.Stop.{stop_of_route}
-use Rattle.xa_server.proofs.GrowthLemmas.{same_grows}
+use Rattle.xa_server.specs.Tally.{Tally}
 
 -- what the message asks for is answered
 pub asked : (operator : List ℕ) (old new : Kept) (named : Option (List ℕ)) (message : Message) (moment : ℤ) (route : Route) (result : Result (List ℕ) Stop)
@@ -32,15 +33,12 @@ unasked operator kept None message moment (or_memory.Error fault) gives = rw giv
 unasked operator kept (Some name) message moment or_memory.Memory gives = refl
 unasked operator kept (Some name) message moment (or_memory.Error fault) gives = rw gives (refl, refl)
 
--- numbers and epochs have gone on
-same_grown : (old new : Kept) → new ≡ old → Grows old new
-same_grown old new same = subst (Grows old) (sym same) (same_grows old)
-
-pub grown : (operator : List ℕ) (old new : Kept) (named : Option (List ℕ)) (message : Message) (moment : ℤ) (result : Result (List ℕ) Stop)
-    → AnswersMessage operator old new named message moment result → Grows old new
-grown operator old new None message moment (Ok bytes) answers = same_grown old new answers.1
-grown operator old new None message moment (Err (Code code)) answers = same_grown old new answers.1
-grown operator old new None message moment (Err (Failed failure)) answers = same_grown old new answers
-grown operator old new (Some name) message moment (Ok bytes) answers = answers.2.grows
-grown operator old new (Some name) message moment (Err (Code code)) answers = same_grown old new answers.1
-grown operator old new (Some name) message moment (Err (Failed failure)) answers = same_grown old new answers
+-- a message that asks for no decision moves nothing of what is held of decisions
+pub asks_no_decision : (kept : Kept) (message : Message) (moment : ℤ) (part : List ℕ) (command : DomainCommand) (result : Result (List ℕ) Stop) (old new : Tally)
+    → command ≢ in_domain.Decide → new ≡ old → WorksRoute kept message moment (to.Domain part command) result old new
+asks_no_decision kept message moment part in_domain.Decide result old new other same = absurd (other refl)
+asks_no_decision kept message moment part in_domain.Upload result old new other same = same
+asks_no_decision kept message moment part in_domain.List result old new other same = same
+asks_no_decision kept message moment part in_domain.SetRoot result old new other same = same
+asks_no_decision kept message moment part in_domain.SetSource result old new other same = same
+asks_no_decision kept message moment part in_domain.Source result old new other same = same

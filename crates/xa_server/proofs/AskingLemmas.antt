@@ -12,16 +12,17 @@ use Rattle.xa_decide.specs.Decision.{Viewed}
 use Rattle.xa_decide.specs.Timeless.{is_timeless_answer}
 use Rattle.xa_http.specs.declared.command.DomainCommand.TheVariants as domain
 use Rattle.xa_notation.specs.declared.notation_error.NotationError.TheVariants.{NotJson}
-use Rattle.xa_records.specs.declared.gate.Gate.{Gate}
 use Rattle.xa_records.specs.declared.refusal.Refusal.TheVariants.{Absent}
 use Rattle.xa_records.specs.DomainState.{DomainState}
 use Rattle.xa_records.specs.Kept.{Domain, Kept, state_of}
-use Rattle.xa_records.specs.Readings.{gate_of, gate_of_domain}
+use Rattle.xa_records.specs.Readings.{gate_of_domain}
 use Rattle.xa_server.specs.declared.error_code.ErrorCode.{ErrorCode}
 use Rattle.xa_server.specs.declared.error_code.ErrorCode.TheVariants as error
+use Rattle.xa_server.specs.declared.opened.Opened.{Opened}
 use Rattle.xa_server.specs.declared.stop.Stop.{Stop}
 use Rattle.xa_server.specs.declared.stop.Stop.TheVariants.{Code, Failed}
-use Rattle.xa_server.specs.Handling.{Answers, IsFresh, IsReplied, Tells, key_by_gate, reply_told, response_told, view_told, worked_in}
+use Rattle.xa_server.specs.Gates.{opened_by, opened_of}
+use Rattle.xa_server.specs.Handling.{Answers, IsFresh, IsReplied, Tells, key_opened, reply_told, response_told, view_told, worked_in}
 use Rattle.xa_server.specs.Machine.{by_domain_command, response_to}
 use Rattle.xa_server.specs.Replies.{decision_reply}
 use Rattle.xa_server.specs.Tally.{Tally}
@@ -30,7 +31,7 @@ use Rattle.xa_server.specs.View.{view_of}
 use Rattle.xa_server.specs.Work.{body_held, response_of}
 use Rattle.xa_server.proofs.GrowthLemmas.{stays}
 use Rattle.xa_server.proofs.ValidLemmas.{found_right}
-use Rattle.xa_server.proofs.WorkLemmas.{opened}
+use Rattle.xa_server.proofs.WorkLemmas.{domain_opened}
 
 -- ---- what was responded
 
@@ -109,6 +110,12 @@ answers old new name body moment (Err (Code code)) (meant, same) =
     (machine_tells (state_of name old) body moment ∙ ap (λ told. told >>= λ bs. Ok (bs, state_of name old)) meant, same)
 answers old new name body moment (Err (Failed failure)) same = same
 
+-- nothing has changed
+pub told_same : (old new : Kept) (result : Result (List ℕ) Stop) (meant : Result (List ℕ) ErrorCode) → Tells old new result meant → new ≡ old
+told_same old new (Ok bytes) meant told = told.1
+told_same old new (Err (Code code)) meant told = told.1
+told_same old new (Err (Failed failure)) meant same = same
+
 -- ---- a decision that is held
 
 held_is : (key : Key) (body decided : List ℕ) (tally : Tally) → body_held key body tally ≡ Some decided → found key tally.held ≡ Some decided
@@ -118,10 +125,10 @@ held_is key body decided tally is = by_size (nat_le (length body) 16_384) is whe
   by_size false is = absurd cc
 
 -- the machine tells it
-pub hit : (kept : Kept) (name body decided : List ℕ) (moment : ℤ) (gate : Gate) (tally : Tally) → gate_of name kept ≡ Some gate → AreValid kept tally.held
-    → body_held (key_by_gate gate body) body tally ≡ Some decided → reply_told body moment (state_of name kept) ≡ Ok (decision_reply decided)
+pub hit : (kept : Kept) (name body decided : List ℕ) (moment : ℤ) (opened : Opened) (tally : Tally) → opened_of name kept ≡ Some opened → AreValid kept tally.held
+    → body_held (key_opened opened body) body tally ≡ Some decided → reply_told body moment (state_of name kept) ≡ Ok (decision_reply decided)
 unfolding response_body_at response_of
-hit kept name body decided moment gate tally opens valid held = by_gate (opened kept name gate opens) where
+hit kept name body decided moment opened tally opens valid held = by_gate (domain_opened kept name opened opens) where
   by_answer : (state : DomainState) → response_body_at state body moment ≡ Some decided → (answered : Option decision.Answered) → decision.answer (view_of state) body moment ≡ answered
       → reply_told body moment (Some state) ≡ Ok (decision_reply decided)
   by_answer state right None e = let none : None ≡ Some decided = rw e at right in absurd cc
@@ -129,21 +136,21 @@ hit kept name body decided moment gate tally opens valid held = by_gate (opened 
       let same : Some (decision.body_of answered) ≡ Some decided = rw e at right in
       let body_is : decision.body_of answered ≡ decided = cc in rw e (ap (λ b. Ok (decision_reply b)) body_is)
 
-  by_gate : ((d : Domain) × (get kept.domains name ≡ Some d) × (gate_of_domain d ≡ gate)) → reply_told body moment (state_of name kept) ≡ Ok (decision_reply decided)
+  by_gate : ((d : Domain) × (get kept.domains name ≡ Some d) × (opened_by (gate_of_domain d) ≡ opened)) → reply_told body moment (state_of name kept) ≡ Ok (decision_reply decided)
   by_gate (d, there, is) =
-      let key : found (key_by_gate (gate_of_domain d) body) tally.held ≡ Some decided =
-      subst (λ g. found (key_by_gate g body) tally.held ≡ Some decided) (sym is) (held_is (key_by_gate gate body) body decided tally held) in
+      let key : found (key_opened (opened_by (gate_of_domain d)) body) tally.held ≡ Some decided =
+      subst (λ o. found (key_opened o body) tally.held ≡ Some decided) (sym is) (held_is (key_opened opened body) body decided tally held) in
       let right = found_right kept name d tally.held body decided moment valid there key in
       rw there (by_answer d.state right (decision.answer (view_of d.state) body moment) refl)
 
 -- the reply by it is the machine's
-pub hit_reply : (kept : Kept) (name body : List ℕ) (moment : ℤ) (gate : Gate) (tally : Tally) (reply : List ℕ) → gate_of name kept ≡ Some gate → AreValid kept tally.held
-    → Some reply ≡ option_map decision_reply (body_held (key_by_gate gate body) body tally)
+pub hit_reply : (kept : Kept) (name body : List ℕ) (moment : ℤ) (opened : Opened) (tally : Tally) (reply : List ℕ) → opened_of name kept ≡ Some opened → AreValid kept tally.held
+    → Some reply ≡ option_map decision_reply (body_held (key_opened opened body) body tally)
     → Answers kept kept name (Ok reply) (by_domain_command domain.Decide body moment (state_of name kept))
-hit_reply kept name body moment gate tally reply opens valid is = by_held (body_held (key_by_gate gate body) body tally) refl is where
-  by_held : (held : Option (List ℕ)) → body_held (key_by_gate gate body) body tally ≡ held → Some reply ≡ option_map decision_reply held
+hit_reply kept name body moment opened tally reply opens valid is = by_held (body_held (key_opened opened body) body tally) refl is where
+  by_held : (held : Option (List ℕ)) → body_held (key_opened opened body) body tally ≡ held → Some reply ≡ option_map decision_reply held
       → Answers kept kept name (Ok reply) (by_domain_command domain.Decide body moment (state_of name kept))
   by_held None e is = absurd cc
   by_held (Some decided) e is =
       let same : reply ≡ decision_reply decided = cc in
-      answers kept kept name body moment (Ok reply) (hit kept name body decided moment gate tally opens valid e ∙ ap Ok (sym same), refl)
+      answers kept kept name body moment (Ok reply) (hit kept name body decided moment opened tally opens valid e ∙ ap Ok (sym same), refl)

@@ -64,7 +64,7 @@ state_after next (Some before) (Some state) new (epoch, is, becomes) = rw become
 pub moves : (old new : Kept) (name : List ℕ) (state : Option DomainState) → IsChanged old new name state → IsMoved old new name state
 moves old new name state changed = record {
   here = state_after old.next (get old.domains name) state (get new.domains name) changed.domain;
-  others = λ other apart. ap (option_map (λ d. d.state)) (changed.others other apart);
+  others = changed.others;
   grows = grows old new name state changed;
 }
 
@@ -72,6 +72,6 @@ moves old new name state changed = record {
 pub stays : (old new : Kept) (name : List ℕ) → new ≡ old → IsMoved old new name (state_of name old)
 stays old new name same = record {
   here = ap (state_of name) same;
-  others = λ other apart. ap (state_of other) same;
+  others = λ other apart. ap (λ k. get k.domains other) same;
   grows = subst (Grows old) (sym same) (same_grows old);
 }

@@ -4,6 +4,7 @@ pub mod AskingLemmas
 pub mod AuthorizationLemmas
 pub mod ConnectionLemmas
 pub mod DrivingLemmas
+pub mod GateLemmas
 pub mod GrowthLemmas
 pub mod IsolationLemmas
 pub mod NameLemmas

@@ -5,12 +5,13 @@ use Rattle.std.specs.FinMap.{get}
 use Rattle.std.specs.Map.{lookup}
 use Rattle.std.proofs.lemmas.Bool.{eqb-true}
 use Rattle.xa_decide.specs.Decision.{Viewed}
-use Rattle.xa_records.specs.declared.gate.Gate.{Gate}
 use Rattle.xa_records.specs.DomainState.{DomainState}
 use Rattle.xa_records.specs.Kept.{DecidesAlike, Domain, IsNumbered, Kept, state_of}
-use Rattle.xa_records.specs.Readings.{gate_of, gate_of_domain}
+use Rattle.xa_records.specs.Readings.{gate_of_domain}
 use Rattle.xa_shelf.proofs.EntryLemmas.{all_promoted, all_removed, all_taken, value_found}
+use Rattle.xa_server.specs.declared.opened.Opened.{Opened}
 use Rattle.xa_server.specs.declared.ready.Ready.{Ready}
+use Rattle.xa_server.specs.Gates.{opened_by, opened_of}
 use Rattle.xa_server.specs.Growth.{Grows}
 use Rattle.xa_server.specs.Handling.{view_told}
 use Rattle.xa_server.specs.Standing.{Stands}
@@ -18,7 +19,7 @@ use Rattle.xa_server.specs.Stock.{AreReady, IsReady}
 use Rattle.xa_server.specs.View.{view_of}
 use Rattle.xa_server.specs.Views.{Room, fitting, in_front, touched, view_ready, with_view, without}
 use Rattle.xa_server.proofs.StandingLemmas.{all_implied, made_stands, stands_on}
-use Rattle.xa_server.proofs.WorkLemmas.{opened}
+use Rattle.xa_server.proofs.WorkLemmas.{domain_opened}
 
 -- that a view is that of a state
 abbrev IsViewOf : Viewed → DomainState → Type 0
@@ -54,14 +55,14 @@ found_entry kept views number epoch view ready found = by_lookup (lookup (nat_eq
       let on = value_found (IsReady kept) (nat_eq number) views entry ready e in
       by_epoch entry (nat_eq entry.epoch epoch) refl (subst (λ n. IsReady kept (n, entry)) (sym (eqb-true number on.0 on.2)) on.1) (rw e at found)
 
--- it is what decides in the domain of that gate
-pub ready_found : (kept : Kept) (name : List ℕ) (gate : Gate) (views : List (ℕ × Ready)) (view : Viewed) → gate_of name kept ≡ Some gate → AreReady kept views
-    → view_ready gate.number gate.epoch views ≡ Some view → view_told (state_of name kept) ≡ Ok view
-ready_found kept name gate views view opens ready found = by_gate (opened kept name gate opens) where
-  by_gate : ((d : Domain) × (get kept.domains name ≡ Some d) × (gate_of_domain d ≡ gate)) → view_told (state_of name kept) ≡ Ok view
+-- it is what decides in the domain of that number and epoch
+pub ready_found : (kept : Kept) (name : List ℕ) (opened : Opened) (views : List (ℕ × Ready)) (view : Viewed) → opened_of name kept ≡ Some opened → AreReady kept views
+    → view_ready opened.number opened.epoch views ≡ Some view → view_told (state_of name kept) ≡ Ok view
+ready_found kept name opened views view opens ready found = by_gate (domain_opened kept name opened opens) where
+  by_gate : ((d : Domain) × (get kept.domains name ≡ Some d) × (opened_by (gate_of_domain d) ≡ opened)) → view_told (state_of name kept) ≡ Ok view
   by_gate (d, there, is) =
-      let stands = found_entry kept views gate.number gate.epoch view ready found in
-      let holds : view_of d.state ≡ view = (stands.1 name d there (ap (λ g. g.number) is)).1 (sym (ap (λ g. g.epoch) is)) in
+      let stands = found_entry kept views opened.number opened.epoch view ready found in
+      let holds : view_of d.state ≡ view = (stands.1 name d there (ap (λ o. o.number) is)).1 (sym (ap (λ o. o.epoch) is)) in
       rw there (ap Ok holds)
 
 -- ---- a view that was made
@@ -69,15 +70,15 @@ ready_found kept name gate views view opens ready found = by_gate (opened kept n
 told_view : (state : DomainState) (view : Viewed) → view_told (Some state) ≡ Ok view → view_of state ≡ view
 told_view state view told = cc
 
-pub made_ready : (kept : Kept) (name : List ℕ) (gate : Gate) (ready : Ready) → IsNumbered kept → gate_of name kept ≡ Some gate → view_told (state_of name kept) ≡ Ok ready.view
-    → ready.epoch ≡ gate.epoch → IsReady kept (gate.number, ready)
-made_ready kept name gate ready numbered opens told epoch = by_gate (opened kept name gate opens) where
-  by_gate : ((d : Domain) × (get kept.domains name ≡ Some d) × (gate_of_domain d ≡ gate)) → IsReady kept (gate.number, ready)
+pub made_ready : (kept : Kept) (name : List ℕ) (opened : Opened) (ready : Ready) → IsNumbered kept → opened_of name kept ≡ Some opened → view_told (state_of name kept) ≡ Ok ready.view
+    → ready.epoch ≡ opened.epoch → IsReady kept (opened.number, ready)
+made_ready kept name opened ready numbered opens told epoch = by_gate (domain_opened kept name opened opens) where
+  by_gate : ((d : Domain) × (get kept.domains name ≡ Some d) × (opened_by (gate_of_domain d) ≡ opened)) → IsReady kept (opened.number, ready)
   by_gate (d, there, is) =
       let holds = told_view d.state ready.view (rw there at told) in
       let stands = made_stands (IsViewOf ready.view) kept name d numbered there holds in
-      subst (λ n. Stands kept n ready.epoch (IsViewOf ready.view)) (ap (λ g. g.number) is)
-      (subst (λ e. Stands kept d.number e (IsViewOf ready.view)) (ap (λ g. g.epoch) is ∙ sym epoch) stands)
+      subst (λ n. Stands kept n ready.epoch (IsViewOf ready.view)) (ap (λ o. o.number) is)
+      (subst (λ e. Stands kept d.number e (IsViewOf ready.view)) (ap (λ o. o.epoch) is ∙ sym epoch) stands)
 
 -- ---- what is kept after a use, and after a view was kept
 

@@ -1,5 +1,6 @@
 -- What one message does, by its owner.
 use Rattle.std.proofs.Common.{◌≡◌, ℕ, ℤ, List, [], ◌∷◌, ◌++◌, Option, Some, None, Result, Ok, Err, inl, inr, refl, ap, sym, ◌∙◌, subst}
+use Rattle.std.specs.Prelude.{option_map}
 use Rattle.xa_http.specs.declared.message.Message.{Message}
 use Rattle.xa_records.specs.declared.refusal.Failure.TheVariants.{Memory, Store}
 use Rattle.xa_records.specs.Kept.{state_of}
@@ -28,7 +29,7 @@ sent old new None message moment bytes answered operator =
 sent old new (Some name) message moment bytes (after, meant, moved) operator = record {
   reply = sym (ap (λ a. (reply_and_state (state name old) a).0) meant);
   next = moved.here ∙ sym (ap (λ a. (reply_and_state (state name old) a).1) meant);
-  others = moved.others;
+  others = λ other apart. ap (option_map (λ d. d.state)) (moved.others other apart);
   operator = operator;
 }
 

@@ -2,46 +2,46 @@
 use Rattle.std.proofs.Common.{◌≡◌, ℕ, ℤ, Bool, true, false, List, refl, sym, subst}
 use Rattle.std.specs.Prelude.{Ok, Option, Some, Result}
 use Rattle.xa_cache.specs.declared.key.Key.{Key}
-use Rattle.xa_records.specs.declared.gate.Gate.{Gate}
 use Rattle.xa_records.specs.Kept.{IsNumbered, Kept, state_of}
-use Rattle.xa_records.specs.Readings.{gate_of}
+use Rattle.xa_server.specs.declared.opened.Opened.{Opened}
 use Rattle.xa_server.specs.declared.ready.Ready.{Ready}
 use Rattle.xa_server.specs.declared.stop.Stop.{Stop}
-use Rattle.xa_server.specs.Handling.{IsFresh, IsLookedUp, key_by_gate, view_told, worked_in}
-use Rattle.xa_server.specs.Stock.{AllStand, AreReady, Stock}
+use Rattle.xa_server.specs.Gates.{opened_of}
+use Rattle.xa_server.specs.Handling.{IsFresh, IsLookedUp, key_opened, view_told, worked_in}
+use Rattle.xa_server.specs.Stock.{AllStand, AreGates, AreReady, Stock}
 use Rattle.xa_server.specs.Views.{touched, with_view, without}
 use Rattle.xa_server.proofs.ReadyLemmas.{made_ready, ready_touched, ready_with, ready_without}
 use Rattle.xa_server.proofs.ValidLemmas.{fresh_valid, looked_valid}
 
 -- after a look-up of a decision
-pub looked_stands : (kept : Kept) (held : Option (List ℕ)) (key : Key) (old new : Stock) → IsLookedUp held key old.tally new.tally → new.room ≡ old.room → AllStand kept old → AllStand kept new
-looked_stands kept held key old new moved room stand =
-    record { held = looked_valid kept held key old.tally new.tally moved stand.held; views = subst (λ r. AreReady kept r.views) (sym room) stand.views }
+pub looked_stands : (kept : Kept) (held : Option (List ℕ)) (key : Key) (old new : Stock) → IsLookedUp held key old.tally new.tally → new.room ≡ old.room → new.gates ≡ old.gates → AllStand kept old → AllStand kept new
+looked_stands kept held key old new moved room gates stand =
+    record { held = looked_valid kept held key old.tally new.tally moved stand.held; views = subst (λ r. AreReady kept r.views) (sym room) stand.views; gates = subst (AreGates kept) (sym gates) stand.gates }
 
-module _ (kept : Kept) (name body : List ℕ) (moment : ℤ) (gate : Gate) (numbered : IsNumbered kept) (opens : gate_of name kept ≡ Some gate) where
+module _ (kept : Kept) (name body : List ℕ) (moment : ℤ) (opened : Opened) (numbered : IsNumbered kept) (opens : opened_of name kept ≡ Some opened) where
   -- after a decision was worked out, where the views stand
-  fresh_stands : (result : Result (List ℕ) Stop) (old new : Stock) → IsFresh (key_by_gate gate body) (worked_in (state_of name kept) body moment) result old.tally new.tally
-      → AreReady kept new.room.views → AllStand kept old → AllStand kept new
-  fresh_stands result old new work views stand =
-      record { held = fresh_valid kept name body moment gate result old.tally new.tally numbered opens work stand.held; views = views }
+  fresh_stands : (result : Result (List ℕ) Stop) (old new : Stock) → IsFresh (key_opened opened body) (worked_in (state_of name kept) body moment) result old.tally new.tally
+      → AreReady kept new.room.views → new.gates ≡ old.gates → AllStand kept old → AllStand kept new
+  fresh_stands result old new work views gates stand =
+      record { held = fresh_valid kept name body moment opened result old.tally new.tally numbered opens work stand.held; views = views; gates = subst (AreGates kept) (sym gates) stand.gates }
 
   -- the views are as they were
-  pub left_stands : (result : Result (List ℕ) Stop) (old new : Stock) → IsFresh (key_by_gate gate body) (worked_in (state_of name kept) body moment) result old.tally new.tally
-      → new.room ≡ old.room → AllStand kept old → AllStand kept new
-  left_stands result old new work room stand = fresh_stands result old new work (subst (λ r. AreReady kept r.views) (sym room) stand.views) stand
+  pub left_stands : (result : Result (List ℕ) Stop) (old new : Stock) → IsFresh (key_opened opened body) (worked_in (state_of name kept) body moment) result old.tally new.tally
+      → new.room ≡ old.room → new.gates ≡ old.gates → AllStand kept old → AllStand kept new
+  left_stands result old new work room gates stand = fresh_stands result old new work (subst (λ r. AreReady kept r.views) (sym room) stand.views) gates stand
 
   -- one of them was used
-  pub touched_stands : (result : Result (List ℕ) Stop) (old new : Stock) → IsFresh (key_by_gate gate body) (worked_in (state_of name kept) body moment) result old.tally new.tally
-      → new.room ≡ touched gate.number old.room → AllStand kept old → AllStand kept new
-  touched_stands result old new work room stand =
-      fresh_stands result old new work (subst (λ r. AreReady kept r.views) (sym room) (ready_touched kept gate.number old.room stand.views)) stand
+  pub touched_stands : (result : Result (List ℕ) Stop) (old new : Stock) → IsFresh (key_opened opened body) (worked_in (state_of name kept) body moment) result old.tally new.tally
+      → new.room ≡ touched opened.number old.room → new.gates ≡ old.gates → AllStand kept old → AllStand kept new
+  touched_stands result old new work room gates stand =
+      fresh_stands result old new work (subst (λ r. AreReady kept r.views) (sym room) (ready_touched kept opened.number old.room stand.views)) gates stand
 
   -- one was made, and kept or not
   pub kept_stands : (result : Result (List ℕ) Stop) (ready : Ready) (is_kept : Bool) (old new : Stock)
-      → IsFresh (key_by_gate gate body) (worked_in (state_of name kept) body moment) result old.tally new.tally → view_told (state_of name kept) ≡ Ok ready.view → ready.epoch ≡ gate.epoch
-      → (is_kept ≡ true → new.room ≡ with_view gate.number ready old.room) → (is_kept ≡ false → new.room ≡ without gate.number old.room) → AllStand kept old → AllStand kept new
-  kept_stands result ready true old new work told epoch was wasnt stand =
+      → IsFresh (key_opened opened body) (worked_in (state_of name kept) body moment) result old.tally new.tally → view_told (state_of name kept) ≡ Ok ready.view → ready.epoch ≡ opened.epoch
+      → (is_kept ≡ true → new.room ≡ with_view opened.number ready old.room) → (is_kept ≡ false → new.room ≡ without opened.number old.room) → new.gates ≡ old.gates → AllStand kept old → AllStand kept new
+  kept_stands result ready true old new work told epoch was wasnt gates stand =
       fresh_stands result old new work
-      (subst (λ r. AreReady kept r.views) (sym (was refl)) (ready_with kept gate.number ready old.room (made_ready kept name gate ready numbered opens told epoch) stand.views)) stand
-  kept_stands result ready false old new work told epoch was wasnt stand =
-      fresh_stands result old new work (subst (λ r. AreReady kept r.views) (sym (wasnt refl)) (ready_without kept gate.number old.room stand.views)) stand
+      (subst (λ r. AreReady kept r.views) (sym (was refl)) (ready_with kept opened.number ready old.room (made_ready kept name opened ready numbered opens told epoch) stand.views)) gates stand
+  kept_stands result ready false old new work told epoch was wasnt gates stand =
+      fresh_stands result old new work (subst (λ r. AreReady kept r.views) (sym (wasnt refl)) (ready_without kept opened.number old.room stand.views)) gates stand

@@ -1,24 +1,22 @@
 -- How the code answers a message: words that only contracts of private functions cite.
 use Rattle.std.specs.Option.{ok_or}
+use Rattle.std.specs.FinMap.{get}
 use Rattle.std.specs.Prelude.{◌≡◌, ◌≢◌, ◌⊎◌, ℕ, ℤ, Bool, List, Option, Some, None, option_and_then, option_map, Result, Ok, Err}
 use Rattle.xa_value.specs.Gives.{◌>>=◌}
 use Rattle.xa_notation.specs.declared.notation_error.NotationError.{NotationError}
 use Rattle.xa_notation.specs.declared.notation_error.NotationError.TheVariants.{NotJson}
 use Rattle.xa_records.specs.declared.refusal.Refusal.TheVariants.{Absent}
 use Rattle.xa_decide.specs.declared.decision.Responded.{Responded}
-use Rattle.xa_http.specs.declared.command.DomainCommand.{DomainCommand}
-use Rattle.xa_http.specs.declared.command.DomainCommand.TheVariants as domain
 use Rattle.xa_http.specs.declared.message.Message.{Message}
 use Rattle.xa_http.specs.declared.route.Route.{Route}
 use Rattle.xa_http.specs.Routes.{route_of}
 use Rattle.xa_records.specs.declared.refusal.Failure.TheVariants.{Memory, Store}
 use Rattle.xa_records.specs.DomainState.{DomainState}
 use Rattle.xa_records.specs.Keeper.{IsOneMore}
-use Rattle.xa_records.specs.declared.gate.Gate.{Gate}
 use Rattle.xa_records.specs.Kept.{Domain, Kept, names_of, state_of}
-use Rattle.xa_records.specs.Readings.{gate_of}
 use Rattle.xa_server.specs.declared.error_code.ErrorCode.{ErrorCode}
 use Rattle.xa_server.specs.declared.error_code.ErrorCode.TheVariants as error
+use Rattle.xa_server.specs.declared.opened.Opened.{Opened}
 use Rattle.xa_server.specs.declared.ready.Ready.{Ready}
 use Rattle.xa_server.specs.declared.stop.Stop.{Stop}
 use Rattle.xa_server.specs.declared.stop.Stop.TheVariants.{Code, Failed}
@@ -32,16 +30,16 @@ use Rattle.xa_decide.specs.Decision.{Viewed}
 use Rattle.xa_server.specs.Tally.{Tally}
 use Rattle.xa_server.specs.View.{view_of}
 use Rattle.xa_server.specs.Work.{IsWorkedOut, body_held, domain_of_message, domain_of_route, key_in, looked_up, worked_out}
-use Rattle.xa_server.specs.Machine.{Answer, answer, by_route, general_answer, general_by_route, or_body_fault}
+use Rattle.xa_server.specs.Machine.{Answer, answer, by_route, general_answer, general_by_route, or_body_fault, permitted}
 
 -- what is made of what a body says, or its fault
 abbrev pub by_body : {X : Type 0} → (X → Option DomainState → Answer) → Result X NotationError → Option DomainState → Answer
 by_body answer given state = or_body_fault given >>= (λ x. answer x state)
 
--- the domain of that name is in that state, every other domain is in the state in which it was, and numbers and epochs have gone on
+-- the domain of that name is in that state, every other domain is as it was, and numbers and epochs have gone on
 pub record IsMoved (old new : Kept) (name : List ℕ) (after : Option DomainState) : Type 0 where
   pub here : state_of name new ≡ after
-  pub others : (other : List ℕ) → other ≢ name → state_of other new ≡ state_of other old
+  pub others : (other : List ℕ) → other ≢ name → get new.domains other ≡ get old.domains other
   pub grows : Grows old new
 
 -- a message of the domain of that name was answered as its machine answers it, or it failed; nothing has changed but by a reply
@@ -56,11 +54,18 @@ Tells old new (Ok x) meant = (meant ≡ Ok x) × (new ≡ old)
 Tells old new (Err (Code code)) meant = (meant ≡ Err code) × (new ≡ old)
 Tells old new (Err (Failed failure)) meant = new ≡ old
 
--- a message was let in: then that is the gate of the domain of that name
-abbrev pub Opens : Kept → Kept → List ℕ → Result Gate Stop → Result (Unit {0}) ErrorCode → Type 0
-Opens old new name (Ok gate) meant = (gate_of name old ≡ Some gate) × (meant ≡ Ok tt) × (new ≡ old)
-Opens old new name (Err (Code code)) meant = (meant ≡ Err code) × (new ≡ old)
-Opens old new name (Err (Failed failure)) meant = new ≡ old
+-- a message was let in: then that is what is there, as the gate of the domain of that name
+abbrev pub Opens : {X : Type 0} → Kept → Kept → Option X → Result X Stop → Result (Unit {0}) ErrorCode → Type 0
+Opens old new there (Ok x) meant = (there ≡ Some x) × (meant ≡ Ok tt) × (new ≡ old)
+Opens old new there (Err (Code code)) meant = (meant ≡ Err code) × (new ≡ old)
+Opens old new there (Err (Failed failure)) meant = new ≡ old
+
+-- whether a domain lets a message in that shows a token of that digest
+abbrev pub admitted_by : Bool → Option DomainState → Option (List ℕ) → Result (Unit {0}) ErrorCode
+admitted_by for_decisions state shown = do
+  domain ← ok_or state error.Unauthorized
+  role ← ok_or (option_and_then (get domain.tokens) shown) error.Unauthorized
+  permitted role for_decisions
 
 -- a message that asks for this was answered, by the domain that its path names, if it names one
 abbrev pub AnswersRoute : List ℕ → Kept → Kept → Option (List ℕ) → Message → ℤ → Route → Result (List ℕ) Stop → Type 0
@@ -127,9 +132,9 @@ MakesReady old new epoch (Err (Failed failure)) meant = new ≡ old
 abbrev pub reply_told : List ℕ → ℤ → Option DomainState → Result (List ℕ) ErrorCode
 reply_told body moment state = response_told body moment state >>= (λ response. Ok (decision_reply response.0))
 
--- under which key a decision is held, by the domain's gate
-abbrev pub key_by_gate : Gate → List ℕ → Key
-key_by_gate gate body = record { number = gate.number; epoch = gate.epoch; body = body }
+-- under which key a decision is held, by the number and the epoch of the domain that lets the message in
+abbrev pub key_opened : Opened → List ℕ → Key
+key_opened opened body = record { number = opened.number; epoch = opened.epoch; body = body }
 
 -- the decision was worked out, with success; by an error answer nothing was there to be worked out, and a failure has left all
 abbrev pub IsFresh : Key → Option (List ℕ × Bool) → Result (List ℕ) Stop → Tally → Tally → Type 0
@@ -150,16 +155,6 @@ IsAsked key (Some body) worked (Err (Failed failure)) old new = (new ≡ old) �
 IsAsked key None worked result old new = IsFresh key worked result old new
 
 -- ---- what was done to what is held of decisions
-
--- by a command in a domain that was let in
-abbrev pub WorksCommand : DomainCommand → Gate → List ℕ → Option DomainState → ℤ → Result (List ℕ) Stop → Tally → Tally → Type 0
-WorksCommand domain.Decide gate body state moment result old new =
-    IsAsked (key_by_gate gate body) (body_held (key_by_gate gate body) body old) (worked_in state body moment) result old new
-WorksCommand domain.Upload gate body state moment result old new = new ≡ old
-WorksCommand domain.List gate body state moment result old new = new ≡ old
-WorksCommand domain.SetRoot gate body state moment result old new = new ≡ old
-WorksCommand domain.SetSource gate body state moment result old new = new ≡ old
-WorksCommand domain.Source gate body state moment result old new = new ≡ old
 
 -- by a message, by the domain that it asks
 abbrev pub WorksOf : Option Domain → List ℕ → ℤ → Result (List ℕ) Stop → Tally → Tally → Type 0

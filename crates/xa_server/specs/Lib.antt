@@ -14,8 +14,9 @@ pub mod Standing
 pub mod ValidCache
 pub mod Work
 pub mod Views
-pub mod Stock
 pub mod Tokens
+pub mod Gates
+pub mod Stock
 pub mod Growth
 pub mod Stop
 pub mod Handling

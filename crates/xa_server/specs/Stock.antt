@@ -1,22 +1,26 @@
 -- What a server holds for all domains, and that it still stands: words that only private functions and the server's invariant cite.
-use Rattle.std.specs.Prelude.{◌≡◌, ℕ, List, []}
+use Rattle.std.specs.Prelude.{◌≡◌, ℕ, List, [], Some}
 use Rattle.std.specs.List.{AllByRecursion}
+use Rattle.xa_records.specs.declared.gate.Gate.{Gate}
 use Rattle.xa_records.specs.Kept.{Kept}
+use Rattle.xa_records.specs.Readings.{gate_of}
 use Rattle.xa_server.specs.declared.ready.Ready.{Ready}
+use Rattle.xa_server.specs.Gates.{used, with_gate, without_gate}
 use Rattle.xa_server.specs.Standing.{Stands}
 use Rattle.xa_server.specs.Tally.{Tally, nothing_held}
 use Rattle.xa_server.specs.ValidCache.{AreValid}
 use Rattle.xa_server.specs.View.{view_of}
 use Rattle.xa_server.specs.Views.{Room}
 
--- decisions with their counts, and views that are kept ready
+-- decisions with their counts, views that are kept ready, and gates that are remembered
 pub record Stock : Type 0 where
   pub tally : Tally
   pub room : Room
+  pub gates : List (List ℕ × Gate)
 
 -- as a server begins
 abbrev pub empty_stock : Stock
-empty_stock = record { tally = nothing_held; room = record { views = []; most = 128 } }
+empty_stock = record { tally = nothing_held; room = record { views = []; most = 128 }; gates = [] }
 
 -- the view is that of the domain of that number, wherever it is still there and of the view's epoch
 abbrev pub IsReady : Kept → ℕ × Ready → Type 0
@@ -25,7 +29,27 @@ IsReady kept entry = Stands kept entry.0 entry.1.epoch (λ state. view_of state 
 abbrev pub AreReady : Kept → List (ℕ × Ready) → Type 0
 AreReady kept views = AllByRecursion (IsReady kept) views
 
--- each decision that is held may be given again, and each view that is kept ready may decide
+-- the gate is that of the domain of that name
+abbrev pub IsGate : Kept → List ℕ × Gate → Type 0
+IsGate kept entry = gate_of entry.0 kept ≡ Some entry.1
+
+abbrev pub AreGates : Kept → List (List ℕ × Gate) → Type 0
+AreGates kept gates = AllByRecursion (IsGate kept) gates
+
+-- each decision that is held may be given again, each view that is kept ready may decide, and each gate that is remembered is its domain's
 pub record AllStand (kept : Kept) (stock : Stock) : Type 0 where
   pub held : AreValid kept stock.tally.held
   pub views : AreReady kept stock.room.views
+  pub gates : AreGates kept stock.gates
+
+-- after a use of the gate under that name
+abbrev pub using_gate : List ℕ → Stock → Stock
+using_gate name stock = record stock { gates = used name stock.gates }
+
+-- with that gate under that name
+abbrev pub remembering : List ℕ → Gate → Stock → Stock
+remembering name gate stock = record stock { gates = with_gate name gate stock.gates }
+
+-- with no gate under that name
+abbrev pub forgetting : List ℕ → Stock → Stock
+forgetting name stock = record stock { gates = without_gate name stock.gates }

@@ -1,12 +1,17 @@
 //! Who may ask: 401 and 403.
-ghost use Rattle.std.specs.Prelude.{◌≡◌};
+ghost use Rattle.std.specs.Prelude.{◌≡◌, true, Some};
 ghost use Rattle.xa_records.specs.Kept.{state_of};
-ghost use Rattle.xa_server.specs.Handling.{Counts, Opens, Tells};
+ghost use Rattle.xa_records.specs.Readings.{gate_of};
+ghost use Rattle.xa_server.specs.Gates.{opened_of};
+ghost use Rattle.xa_server.specs.Handling.{Counts, Opens, Tells, admitted_by};
 ghost use Rattle.xa_server.specs.Machine.{admitted, by_operator, digest_shown, is_decision, permitted};
+ghost use Rattle.xa_server.specs.Stock.{AllStand};
 ghost use Rattle.xa_server.specs.Tokens.{role_in};
 
 use crate::authorization::token_in;
 use crate::error_code::ErrorCode;
+use crate::opened::Opened;
+use crate::resources::Resources;
 use crate::stop::Stop;
 use std::alloc::Global;
 use xa_http::{DomainCommand, Message};
@@ -35,11 +40,11 @@ pub(crate) fn by_operator(operator: Digest, message: &Message) -> Result<(), Err
 }
 
 /// The role of the token of that digest, among these.
-fn role_in(tokens: &[Token], digest: Digest) -> Option<Role>
-    ensures { result ≡ role_in digest tokens.now }
+pub(crate) fn role_in(tokens: &[Token], digest: &Digest) -> Option<Role>
+    ensures { result ≡ role_in digest.now tokens.now }
 {
     for token in tokens {
-        if token.digest == digest {
+        if token.digest == *digest {
             return Some(token.role);
         }
     }
@@ -63,24 +68,22 @@ pub(crate) fn is_decision(command: DomainCommand) -> bool
     matches!(command, DomainCommand::Decide)
 }
 
-/// The domain's gate where the domain is there, and the message shows one of its tokens, whose role may ask for that. An absent domain costs what a wrong
-/// token does: one look-up and one digest.
+/// The domain's gate where the domain is there, and the digest is that of one of its tokens, whose role may ask for that. An absent domain costs what a wrong
+/// token does: one look-up.
 #[tactic(auto, using(crate::proofs::AdmissionLemmas::role_is))]
-pub(crate) fn gate_opened<R: Records>(
+fn gate_opened<R: Records>(
     alloc: Global,
     records: &mut R,
     name: &Text,
     for_decisions: bool,
-    message: &Message,
+    digest: &Digest,
 ) -> Result<Gate, Stop>
-    ensures tells { R.sound records.new → Opens (R.kept records.old) (R.kept records.new) name.now result (admitted for_decisions (state_of name.now (R.kept records.old)) message.now) }
+    ensures tells { R.sound records.new → Opens (R.kept records.old) (R.kept records.new) (gate_of name.now (R.kept records.old)) result (admitted_by for_decisions (state_of name.now (R.kept records.old)) (Some digest.now)) }
     ensures sound { R.sound records.new → R.sound records.old }
     ensures counts { Counts (R.faults records.old) (R.faults records.new) result }
 {
-    let shown = digest_shown(message);
     let gate = records.gate(alloc, name)?;
     let gate = gate.ok_or(ErrorCode::Unauthorized)?;
-    let digest = shown.ok_or(ErrorCode::Unauthorized)?;
     let role = role_in(gate.tokens.as_slice(), digest).ok_or(ErrorCode::Unauthorized)?;
     permitted(role, for_decisions)?;
     Ok(gate)
@@ -98,6 +101,37 @@ pub(crate) fn admitted<R: Records>(
     ensures sound { R.sound records.new → R.sound records.old }
     ensures counts { Counts (R.faults records.old) (R.faults records.new) result }
 {
-    gate_opened(alloc, records, name, for_decisions, message)?;
+    let digest = digest_shown(message).ok_or(ErrorCode::Unauthorized)?;
+    gate_opened(alloc, records, name, for_decisions, &digest)?;
     Ok(())
+}
+
+/// The number and the epoch of the domain where it lets a message in that asks for a decision: by the gate that is remembered, or else by the keeper's, which is
+/// remembered then. The remembered gate is asked only whether it has the token: where it hasn't, the keeper is asked as for an absent domain, so that the time which an
+/// answer takes doesn't tell a stranger which domains there are.
+pub(crate) fn entered<R: Records>(
+    alloc: Global,
+    resources: &mut Resources,
+    records: &mut R,
+    name: &Text,
+    message: &Message,
+) -> Result<Opened, Stop>
+    ensures tells { AllStand (R.kept records.old) resources.old → R.sound records.new → Opens (R.kept records.old) (R.kept records.new) (opened_of name.now (R.kept records.old)) result (admitted true (state_of name.now (R.kept records.old)) message.now) }
+    ensures stands { AllStand (R.kept records.old) resources.old → R.sound records.new → AllStand (R.kept records.old) resources.new }
+    ensures tally { resources.new.tally ≡ resources.old.tally }
+    ensures room { resources.new.room ≡ resources.old.room }
+    ensures sound { R.sound records.new → R.sound records.old }
+    ensures counts { Counts (R.faults records.old) (R.faults records.new) result }
+{
+    let digest = digest_shown(message).ok_or(ErrorCode::Unauthorized)?;
+    if let Some(opened) = resources.opened(name, &digest) {
+        return Ok(opened);
+    }
+    let gate = gate_opened(alloc, records, name, true, &digest)?;
+    let opened = Opened {
+        number: gate.number,
+        epoch: gate.epoch,
+    };
+    resources.remember(name, gate);
+    Ok(opened)
 }

@@ -1,17 +1,18 @@
 //! The answer to one message: the questions in their order, and then what the message asks for.
-ghost use Rattle.std.specs.Prelude.{◌≡◌, ℕ, ℤ, IsTrue, List, OnErr, Some};
+ghost use Rattle.std.specs.Prelude.{◌≡◌, ◌≢◌, ℕ, ℤ, IsTrue, List, OnErr, Some};
+ghost use Rattle.xa_http.specs.declared.command.DomainCommand.TheVariants as in_domain;
 ghost use Rattle.xa_http.specs.Routes.{named_by};
 ghost use Rattle.xa_http.specs.declared.route.Route.TheVariants as to;
 ghost use Rattle.xa_records.specs.DomainName.{is_domain_name};
 ghost use Rattle.xa_records.specs.Kept.{state_of};
-ghost use Rattle.xa_server.specs.Handling.{Answers, AnswersMessage, AnswersRoute, Counts, WorksCommand, WorksMessage, WorksRoute};
+ghost use Rattle.xa_server.specs.Handling.{Answers, AnswersMessage, AnswersRoute, Counts, WorksMessage, WorksOf, WorksRoute};
 ghost use Rattle.xa_server.specs.Machine.{by_document_command, by_domain_command, by_operator_command};
 ghost use Rattle.xa_server.specs.Owner.{name_if, owner};
 ghost use Rattle.xa_server.specs.Stock.{AllStand};
-ghost use Rattle.xa_records.specs.Readings.{gate_of};
+ghost use Rattle.xa_server.specs.Work.{domain_asked};
 ghost use Rattle.std.specs.Option.{option_and_then};
 
-use crate::admission::{admitted, by_operator, gate_opened, is_decision};
+use crate::admission::{admitted, by_operator, entered, is_decision};
 use crate::asking::decide;
 use crate::changes::{
     create, delete, drop_token, put_token, remove, set_active, set_root, set_source, upload,
@@ -27,7 +28,7 @@ use xa_http::{
     DocumentCommand, DocumentParts, DomainCommand, Message, OperatorCommand, Route, Routes,
 };
 use xa_policy::DocumentKey;
-use xa_records::{Digest, Gate, Records, Refusal};
+use xa_records::{Digest, Records, Refusal};
 use xa_value::{Items, Moment, Text};
 
 /// Does what the operator asks for of a domain.
@@ -51,26 +52,21 @@ fn by_operator_command<R: Records>(
     }
 }
 
-/// Does what is asked for in a domain.
+/// Does what is asked for in a domain, unless that is a decision.
 fn by_domain_command<R: Records>(
     alloc: Global,
-    resources: &mut Resources,
     records: &mut R,
     name: &Text,
-    gate: &Gate,
     command: DomainCommand,
     body: &[u8],
-    moment: Moment,
 ) -> Result<Items<u8>, Stop>
-    ensures answers { gate_of name.now (R.kept records.old) ≡ Some gate.now → AllStand (R.kept records.old) resources.old → R.sound records.new → Answers (R.kept records.old) (R.kept records.new) name.now result (by_domain_command command body.now moment (state_of name.now (R.kept records.old))) }
-    ensures works { gate_of name.now (R.kept records.old) ≡ Some gate.now → AllStand (R.kept records.old) resources.old → R.sound records.new → WorksCommand command gate.now body.now (state_of name.now (R.kept records.old)) moment result resources.old.tally resources.new.tally }
-    ensures stands { gate_of name.now (R.kept records.old) ≡ Some gate.now → AllStand (R.kept records.old) resources.old → R.sound records.new → AllStand (R.kept records.old) resources.new }
-    ensures room { OnErr result (resources.new.room ≡ resources.old.room) }
+    requires { command ≢ in_domain.Decide }
+    ensures answers { (moment : ℤ) → R.sound records.new → Answers (R.kept records.old) (R.kept records.new) name.now result (by_domain_command command body.now moment (state_of name.now (R.kept records.old))) }
     ensures sound { R.sound records.new → R.sound records.old }
     ensures counts { Counts (R.faults records.old) (R.faults records.new) result }
 {
     match command {
-        DomainCommand::Decide => decide(alloc, resources, records, name, gate, body, moment),
+        DomainCommand::Decide => unreachable!(),
         DomainCommand::Upload => upload(alloc, records, name, body),
         DomainCommand::List => list(alloc, records, name),
         DomainCommand::SetRoot => set_root(alloc, records, name, body),
@@ -99,22 +95,96 @@ fn by_document_command<R: Records>(
     }
 }
 
-/// Answers a message to one of the operator's paths of a domain.
+/// Answers a message to one of the operator's paths of a domain. Once it is let in the domain's gate is forgotten, since it may change.
+#[tactic(auto, using(crate::proofs::GateLemmas::changed_stands))]
 fn operator_route<R: Records>(
     alloc: Global,
     operator: Digest,
+    resources: &mut Resources,
     records: &mut R,
     message: &Message,
     domain: Items<u8>,
     command: OperatorCommand,
 ) -> Result<Items<u8>, Stop>
     ensures answers { (moment : ℤ) → R.sound records.new → AnswersRoute operator (R.kept records.old) (R.kept records.new) (name_if domain) message.now moment (to.Operator domain command) result }
+    ensures stands { AllStand (R.kept records.old) resources.old → R.sound records.new → AllStand (R.kept records.new) resources.new }
+    ensures tally { resources.new.tally ≡ resources.old.tally }
+    ensures room { resources.new.room ≡ resources.old.room }
     ensures sound { R.sound records.new → R.sound records.old }
     ensures counts { Counts (R.faults records.old) (R.faults records.new) result }
 {
     by_operator(operator, message)?;
     let name = name_if(domain).ok_or(ErrorCode::BadDomain)?;
+    resources.forget(&name);
     by_operator_command(alloc, records, &name, command, message.body.as_slice())
+}
+
+/// Answers a message that asks for a decision in the domain.
+#[tactic(auto, using(crate::proofs::GateLemmas::same_stands))]
+fn asked<R: Records>(
+    alloc: Global,
+    resources: &mut Resources,
+    records: &mut R,
+    name: &Text,
+    message: &Message,
+    moment: Moment,
+) -> Result<Items<u8>, Stop>
+    ensures answers { (operator part : List ℕ) → AllStand (R.kept records.old) resources.old → R.sound records.new → AnswersRoute operator (R.kept records.old) (R.kept records.new) (Some name.now) message.now moment (to.Domain part in_domain.Decide) result }
+    ensures works { AllStand (R.kept records.old) resources.old → R.sound records.new → WorksOf (domain_asked (R.kept records.old) message.now name.now) message.now.body moment result resources.old.tally resources.new.tally }
+    ensures stands { AllStand (R.kept records.old) resources.old → R.sound records.new → AllStand (R.kept records.new) resources.new }
+    ensures room { OnErr result (resources.new.room ≡ resources.old.room) }
+    ensures sound { R.sound records.new → R.sound records.old }
+    ensures counts { Counts (R.faults records.old) (R.faults records.new) result }
+{
+    let opened = entered(alloc, resources, records, name, message)?;
+    let body = message.body.as_slice();
+    decide(alloc, resources, records, name, opened, body, moment)
+}
+
+/// Answers a message to one of a domain's paths that asks for no decision. Once it is let in the domain's gate is forgotten, since it may change.
+#[tactic(auto, using(crate::proofs::GateLemmas::changed_stands))]
+fn administered<R: Records>(
+    alloc: Global,
+    resources: &mut Resources,
+    records: &mut R,
+    name: &Text,
+    message: &Message,
+    command: DomainCommand,
+) -> Result<Items<u8>, Stop>
+    requires { command ≢ in_domain.Decide }
+    ensures answers { (operator part : List ℕ) (moment : ℤ) → R.sound records.new → AnswersRoute operator (R.kept records.old) (R.kept records.new) (Some name.now) message.now moment (to.Domain part command) result }
+    ensures stands { AllStand (R.kept records.old) resources.old → R.sound records.new → AllStand (R.kept records.new) resources.new }
+    ensures tally { resources.new.tally ≡ resources.old.tally }
+    ensures room { resources.new.room ≡ resources.old.room }
+    ensures sound { R.sound records.new → R.sound records.old }
+    ensures counts { Counts (R.faults records.old) (R.faults records.new) result }
+{
+    admitted(alloc, records, name, is_decision(command), message)?;
+    resources.forget(name);
+    by_domain_command(alloc, records, name, command, message.body.as_slice())
+}
+
+/// Answers a message to one of the paths of the domain of that name.
+fn named_domain_route<R: Records>(
+    alloc: Global,
+    resources: &mut Resources,
+    records: &mut R,
+    name: &Text,
+    message: &Message,
+    moment: Moment,
+    command: DomainCommand,
+) -> Result<Items<u8>, Stop>
+    ensures answers { (operator part : List ℕ) → name_if part ≡ Some name.now → AllStand (R.kept records.old) resources.old → R.sound records.new → AnswersRoute operator (R.kept records.old) (R.kept records.new) (name_if part) message.now moment (to.Domain part command) result }
+    ensures works { (part : List ℕ) → name_if part ≡ Some name.now → AllStand (R.kept records.old) resources.old → R.sound records.new → WorksRoute (R.kept records.old) message.now moment (to.Domain part command) result resources.old.tally resources.new.tally }
+    ensures stands { AllStand (R.kept records.old) resources.old → R.sound records.new → AllStand (R.kept records.new) resources.new }
+    ensures room { OnErr result (resources.new.room ≡ resources.old.room) }
+    ensures sound { R.sound records.new → R.sound records.old }
+    ensures counts { Counts (R.faults records.old) (R.faults records.new) result }
+{
+    match command {
+        DomainCommand::Decide => asked(alloc, resources, records, name, message, moment),
+        _ => administered(alloc, resources, records, name, message, command),
+    }
 }
 
 /// Answers a message to one of a domain's paths.
@@ -129,28 +199,20 @@ fn domain_route<R: Records>(
 ) -> Result<Items<u8>, Stop>
     ensures answers { (operator : List ℕ) → AllStand (R.kept records.old) resources.old → R.sound records.new → AnswersRoute operator (R.kept records.old) (R.kept records.new) (name_if domain) message.now moment (to.Domain domain command) result }
     ensures works { AllStand (R.kept records.old) resources.old → R.sound records.new → WorksRoute (R.kept records.old) message.now moment (to.Domain domain command) result resources.old.tally resources.new.tally }
-    ensures stands { AllStand (R.kept records.old) resources.old → R.sound records.new → AllStand (R.kept records.old) resources.new }
+    ensures stands { AllStand (R.kept records.old) resources.old → R.sound records.new → AllStand (R.kept records.new) resources.new }
     ensures room { OnErr result (resources.new.room ≡ resources.old.room) }
     ensures sound { R.sound records.new → R.sound records.old }
     ensures counts { Counts (R.faults records.old) (R.faults records.new) result }
 {
     let name = name_if(domain).ok_or(ErrorCode::Unauthorized)?;
-    let gate = gate_opened(alloc, records, &name, is_decision(command), message)?;
-    by_domain_command(
-        alloc,
-        resources,
-        records,
-        &name,
-        &gate,
-        command,
-        message.body.as_slice(),
-        moment,
-    )
+    named_domain_route(alloc, resources, records, &name, message, moment, command)
 }
 
-/// Answers a message to the path of a document.
+/// Answers a message to the path of a document. Once it is let in the domain's gate is forgotten, since it may change.
+#[tactic(auto, using(crate::proofs::GateLemmas::changed_stands))]
 fn document_route<R: Records>(
     alloc: Global,
+    resources: &mut Resources,
     records: &mut R,
     message: &Message,
     domain: Items<u8>,
@@ -158,12 +220,16 @@ fn document_route<R: Records>(
     command: DocumentCommand,
 ) -> Result<Items<u8>, Stop>
     ensures answers { (operator : List ℕ) (moment : ℤ) → R.sound records.new → AnswersRoute operator (R.kept records.old) (R.kept records.new) (name_if domain) message.now moment (to.Document domain parts command) result }
+    ensures stands { AllStand (R.kept records.old) resources.old → R.sound records.new → AllStand (R.kept records.new) resources.new }
+    ensures tally { resources.new.tally ≡ resources.old.tally }
+    ensures room { resources.new.room ≡ resources.old.room }
     ensures sound { R.sound records.new → R.sound records.old }
     ensures counts { Counts (R.faults records.old) (R.faults records.new) result }
 {
     let name = name_if(domain).ok_or(ErrorCode::Unauthorized)?;
     admitted(alloc, records, &name, false, message)?;
     let key = key_of_parts(parts).ok_or(ErrorCode::Refused(Refusal::Absent))?;
+    resources.forget(&name);
     by_document_command(alloc, records, &name, command, &key)
 }
 
@@ -179,7 +245,7 @@ fn answer_route<R: Records>(
 ) -> Result<Items<u8>, Stop>
     ensures answers { AllStand (R.kept records.old) resources.old → R.sound records.new → AnswersRoute operator (R.kept records.old) (R.kept records.new) (option_and_then name_if (named_by route)) message.now moment route result }
     ensures works { AllStand (R.kept records.old) resources.old → R.sound records.new → WorksRoute (R.kept records.old) message.now moment route result resources.old.tally resources.new.tally }
-    ensures stands { AllStand (R.kept records.old) resources.old → R.sound records.new → AllStand (R.kept records.old) resources.new }
+    ensures stands { AllStand (R.kept records.old) resources.old → R.sound records.new → AllStand (R.kept records.new) resources.new }
     ensures room { OnErr result (resources.new.room ≡ resources.old.room) }
     ensures sound { R.sound records.new → R.sound records.old }
     ensures counts { Counts (R.faults records.old) (R.faults records.new) result }
@@ -190,7 +256,9 @@ fn answer_route<R: Records>(
             domains(alloc, records)
         }
         Route::Operator { domain, command } => {
-            operator_route(alloc, operator, records, message, domain, command)
+            operator_route(
+                alloc, operator, resources, records, message, domain, command,
+            )
         }
         Route::Domain { domain, command } => {
             domain_route(alloc, resources, records, message, moment, domain, command)
@@ -199,7 +267,7 @@ fn answer_route<R: Records>(
             domain,
             parts,
             command,
-        } => document_route(alloc, records, message, domain, parts, command),
+        } => document_route(alloc, resources, records, message, domain, parts, command),
     }
 }
 
@@ -215,7 +283,7 @@ pub(crate) fn answer<R: Records>(
 ) -> Result<Items<u8>, Stop>
     ensures answers { AllStand (R.kept records.old) resources.old → R.sound records.new → AnswersMessage operator (R.kept records.old) (R.kept records.new) (owner message.now) message.now moment result }
     ensures works { AllStand (R.kept records.old) resources.old → R.sound records.new → WorksMessage (R.kept records.old) message.now moment result resources.old.tally resources.new.tally }
-    ensures stands { AllStand (R.kept records.old) resources.old → R.sound records.new → AllStand (R.kept records.old) resources.new }
+    ensures stands { AllStand (R.kept records.old) resources.old → R.sound records.new → AllStand (R.kept records.new) resources.new }
     ensures room { OnErr result (resources.new.room ≡ resources.old.room) }
     ensures sound { R.sound records.new → R.sound records.old }
     ensures counts { Counts (R.faults records.old) (R.faults records.new) result }

@@ -3,14 +3,15 @@
 ghost use Rattle.std.specs.Prelude.{◌≡◌, Some, OnErr};
 ghost use Rattle.xa_http.specs.declared.command.DomainCommand.TheVariants as domain;
 ghost use Rattle.xa_records.specs.Kept.{state_of};
-ghost use Rattle.xa_records.specs.Readings.{gate_of};
-ghost use Rattle.xa_server.specs.Handling.{Answers, Counts, IsAsked, IsFresh, IsReplied, IsResponse, MakesReady, Tells, key_by_gate, reply_told, view_told, worked_in};
+ghost use Rattle.xa_server.specs.Gates.{opened_of};
+ghost use Rattle.xa_server.specs.Handling.{Answers, Counts, IsAsked, IsFresh, IsReplied, IsResponse, MakesReady, Tells, key_opened, reply_told, view_told, worked_in};
 ghost use Rattle.xa_server.specs.Machine.{by_domain_command};
 ghost use Rattle.xa_server.specs.Stock.{AllStand};
 ghost use Rattle.xa_server.specs.Work.{body_held, response_of};
 
 use crate::decisions::Decisions;
 use crate::error_code::ErrorCode;
+use crate::opened::Opened;
 use crate::ready::{Ready, bytes_of_tree, bytes_of_view};
 use crate::replies::decision_reply;
 use crate::resources::Resources;
@@ -20,7 +21,7 @@ use std::alloc::Global;
 use xa_cache::Key;
 use xa_decide::{Responded, View, respond};
 use xa_notation::NotationError;
-use xa_records::{Gate, Records, Refusal};
+use xa_records::{Records, Refusal};
 use xa_shelf::Shelf;
 use xa_value::{Items, Moment, Text};
 
@@ -86,15 +87,15 @@ fn reply_by_kept<R: Records>(
     resources: &mut Resources,
     records: &mut R,
     name: &Text,
-    gate: &Gate,
+    opened: Opened,
     key: Key,
     body: &[u8],
     moment: Moment,
 ) -> Result<Items<u8>, Stop>
-    requires { key ≡ key_by_gate gate.now body.now }
+    requires { key ≡ key_opened opened body.now }
     ensures tells { R.sound records.new → Tells (R.kept records.old) (R.kept records.new) result (reply_told body.now moment (state_of name.now (R.kept records.old))) }
     ensures works { R.sound records.new → IsFresh key (worked_in (state_of name.now (R.kept records.old)) body.now moment) result resources.old.tally resources.new.tally }
-    ensures stands { gate_of name.now (R.kept records.old) ≡ Some gate.now → AllStand (R.kept records.old) resources.old → R.sound records.new → AllStand (R.kept records.old) resources.new }
+    ensures stands { opened_of name.now (R.kept records.old) ≡ Some opened → AllStand (R.kept records.old) resources.old → R.sound records.new → AllStand (R.kept records.old) resources.new }
     ensures room { OnErr result (resources.new.room ≡ resources.old.room) }
     ensures sound { R.sound records.new → R.sound records.old }
     ensures counts { Counts (R.faults records.old) (R.faults records.new) result }
@@ -104,7 +105,7 @@ fn reply_by_kept<R: Records>(
         &mut resources.shelf,
         records,
         name,
-        gate.epoch,
+        opened.epoch,
         resources.limit,
     )?;
     let reply = reply_by(
@@ -115,7 +116,7 @@ fn reply_by_kept<R: Records>(
         body,
         moment,
     )?;
-    resources.views.keep(gate.number, ready);
+    resources.views.keep(opened.number, ready);
     Ok(reply)
 }
 
@@ -125,48 +126,49 @@ fn fresh_reply<R: Records>(
     resources: &mut Resources,
     records: &mut R,
     name: &Text,
-    gate: &Gate,
+    opened: Opened,
     key: Key,
     body: &[u8],
     moment: Moment,
 ) -> Result<Items<u8>, Stop>
-    requires { key ≡ key_by_gate gate.now body.now }
-    ensures tells { gate_of name.now (R.kept records.old) ≡ Some gate.now → AllStand (R.kept records.old) resources.old → R.sound records.new → Tells (R.kept records.old) (R.kept records.new) result (reply_told body.now moment (state_of name.now (R.kept records.old))) }
-    ensures works { gate_of name.now (R.kept records.old) ≡ Some gate.now → AllStand (R.kept records.old) resources.old → R.sound records.new → IsFresh key (worked_in (state_of name.now (R.kept records.old)) body.now moment) result resources.old.tally resources.new.tally }
-    ensures stands { gate_of name.now (R.kept records.old) ≡ Some gate.now → AllStand (R.kept records.old) resources.old → R.sound records.new → AllStand (R.kept records.old) resources.new }
+    requires { key ≡ key_opened opened body.now }
+    ensures tells { opened_of name.now (R.kept records.old) ≡ Some opened → AllStand (R.kept records.old) resources.old → R.sound records.new → Tells (R.kept records.old) (R.kept records.new) result (reply_told body.now moment (state_of name.now (R.kept records.old))) }
+    ensures works { opened_of name.now (R.kept records.old) ≡ Some opened → AllStand (R.kept records.old) resources.old → R.sound records.new → IsFresh key (worked_in (state_of name.now (R.kept records.old)) body.now moment) result resources.old.tally resources.new.tally }
+    ensures stands { opened_of name.now (R.kept records.old) ≡ Some opened → AllStand (R.kept records.old) resources.old → R.sound records.new → AllStand (R.kept records.old) resources.new }
     ensures room { OnErr result (resources.new.room ≡ resources.old.room) }
     ensures sound { R.sound records.new → R.sound records.old }
     ensures counts { Counts (R.faults records.old) (R.faults records.new) result }
 {
-    if let Some(view) = resources.views.find(gate.number, gate.epoch) {
+    if let Some(view) = resources.views.find(opened.number, opened.epoch) {
         let reply = reply_by(alloc, &mut resources.decisions, key, view, body, moment)?;
-        resources.views.touch(gate.number);
+        resources.views.touch(opened.number);
         return Ok(reply);
     }
-    reply_by_kept(alloc, resources, records, name, gate, key, body, moment)
+    reply_by_kept(alloc, resources, records, name, opened, key, body, moment)
 }
 
 /// The reply to the request of the body by the domain's policies: by the decision that is held, where one is, and else by one that is worked out.
-#[tactic(auto, using(crate::proofs::AskingLemmas::answers))]
+#[tactic(auto, using(crate::proofs::AskingLemmas::answers, crate::proofs::AskingLemmas::told_same))]
 pub(crate) fn decide<R: Records>(
     alloc: Global,
     resources: &mut Resources,
     records: &mut R,
     name: &Text,
-    gate: &Gate,
+    opened: Opened,
     body: &[u8],
     moment: Moment,
 ) -> Result<Items<u8>, Stop>
-    ensures answers { gate_of name.now (R.kept records.old) ≡ Some gate.now → AllStand (R.kept records.old) resources.old → R.sound records.new → Answers (R.kept records.old) (R.kept records.new) name.now result (by_domain_command domain.Decide body.now moment (state_of name.now (R.kept records.old))) }
-    ensures works { gate_of name.now (R.kept records.old) ≡ Some gate.now → AllStand (R.kept records.old) resources.old → R.sound records.new → IsAsked (key_by_gate gate.now body.now) (body_held (key_by_gate gate.now body.now) body.now resources.old.tally) (worked_in (state_of name.now (R.kept records.old)) body.now moment) result resources.old.tally resources.new.tally }
-    ensures stands { gate_of name.now (R.kept records.old) ≡ Some gate.now → AllStand (R.kept records.old) resources.old → R.sound records.new → AllStand (R.kept records.old) resources.new }
+    ensures answers { opened_of name.now (R.kept records.old) ≡ Some opened → AllStand (R.kept records.old) resources.old → R.sound records.new → Answers (R.kept records.old) (R.kept records.new) name.now result (by_domain_command domain.Decide body.now moment (state_of name.now (R.kept records.old))) }
+    ensures same { opened_of name.now (R.kept records.old) ≡ Some opened → AllStand (R.kept records.old) resources.old → R.sound records.new → R.kept records.new ≡ R.kept records.old }
+    ensures works { opened_of name.now (R.kept records.old) ≡ Some opened → AllStand (R.kept records.old) resources.old → R.sound records.new → IsAsked (key_opened opened body.now) (body_held (key_opened opened body.now) body.now resources.old.tally) (worked_in (state_of name.now (R.kept records.old)) body.now moment) result resources.old.tally resources.new.tally }
+    ensures stands { opened_of name.now (R.kept records.old) ≡ Some opened → AllStand (R.kept records.old) resources.old → R.sound records.new → AllStand (R.kept records.old) resources.new }
     ensures room { OnErr result (resources.new.room ≡ resources.old.room) }
     ensures sound { R.sound records.new → R.sound records.old }
     ensures counts { Counts (R.faults records.old) (R.faults records.new) result }
 {
-    let key = Key::new(alloc, gate.number, gate.epoch, body)?;
+    let key = Key::new(alloc, opened.number, opened.epoch, body)?;
     if let Some(reply) = resources.decisions.held_reply(alloc, &key, body)? {
         return Ok(reply);
     }
-    fresh_reply(alloc, resources, records, name, gate, key, body, moment)
+    fresh_reply(alloc, resources, records, name, opened, key, body, moment)
 }

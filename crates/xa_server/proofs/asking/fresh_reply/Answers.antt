@@ -12,7 +12,7 @@ pub returns-in_err-reply-clause-tells : goal.returns-in_err-reply-clause-tells
 returns-in_err-reply-clause-tells g c = λ opens stand sound.
     let kept = g.R.Records.kept c.args.records.now in
     let old = subst (AllStand kept) (sym c.resources.view_is) stand in
-    let told = ready_found kept c.args.name.now c.args.gate.now c.resources.inside.views.views c.in-Some.view.now opens old.views (sym c.in-Some.ensures) in
+    let told = ready_found kept c.args.name.now c.args.opened c.resources.inside.views.views c.in-Some.view.now opens old.views (sym c.in-Some.ensures) in
     let stopped : c.from_residual.result ≡ Err c.in_err-reply.field-0.0 = search rules in
     rw stopped (replied kept kept c.args.name.now c.args.body.now c.args.moment c.in-Some.view.now (Err c.in_err-reply.field-0.0) told c.in_err-reply.ensures.tells refl)
 
@@ -20,7 +20,7 @@ pub returns-in_err-reply-clause-works : goal.returns-in_err-reply-clause-works
 returns-in_err-reply-clause-works g c = λ opens stand sound.
     let kept = g.R.Records.kept c.args.records.now in
     let old = subst (AllStand kept) (sym c.resources.view_is) stand in
-    let told = ready_found kept c.args.name.now c.args.gate.now c.resources.inside.views.views c.in-Some.view.now opens old.views (sym c.in-Some.ensures) in
+    let told = ready_found kept c.args.name.now c.args.opened c.resources.inside.views.views c.in-Some.view.now opens old.views (sym c.in-Some.ensures) in
     let stopped : c.from_residual.result ≡ Err c.in_err-reply.field-0.0 = search rules in
     rw (← c.resources.view_is, stopped)
     (works_by (state_of c.args.name.now kept) c.in-Some.view.now c.args.body.now c.args.moment c.args.key (Err c.in_err-reply.field-0.0) _ _ told c.in_err-reply.ensures.works)
@@ -29,14 +29,14 @@ pub returns-in-Some-clause-tells : goal.returns-in-Some-clause-tells
 returns-in-Some-clause-tells g c = λ opens stand sound.
     let kept = g.R.Records.kept c.args.records.now in
     let old = subst (AllStand kept) (sym c.resources.view_is) stand in
-    let told = ready_found kept c.args.name.now c.args.gate.now c.resources.inside.views.views c.in-Some.view.now opens old.views (sym c.in-Some.ensures) in
+    let told = ready_found kept c.args.name.now c.args.opened c.resources.inside.views.views c.in-Some.view.now opens old.views (sym c.in-Some.ensures) in
     replied kept kept c.args.name.now c.args.body.now c.args.moment c.in-Some.view.now (Ok c.in_ok-reply.reply) told c.in_ok-reply.ensures.tells refl
 
 pub returns-in-Some-clause-works : goal.returns-in-Some-clause-works
 returns-in-Some-clause-works g c = λ opens stand sound.
     let kept = g.R.Records.kept c.args.records.now in
     let old = subst (AllStand kept) (sym c.resources.view_is) stand in
-    let told = ready_found kept c.args.name.now c.args.gate.now c.resources.inside.views.views c.in-Some.view.now opens old.views (sym c.in-Some.ensures) in
+    let told = ready_found kept c.args.name.now c.args.opened c.resources.inside.views.views c.in-Some.view.now opens old.views (sym c.in-Some.ensures) in
     rw (← c.resources.view_is)
     (works_by (state_of c.args.name.now kept) c.in-Some.view.now c.args.body.now c.args.moment c.args.key (Ok c.in_ok-reply.reply) _ _ told c.in_ok-reply.ensures.works)
 
@@ -45,9 +45,9 @@ returns-in-Some-clause-stands g c = λ opens stand sound.
     let kept = g.R.Records.kept c.args.records.now in
     let state = state_of c.args.name.now kept in
     let old = subst (AllStand kept) (sym c.resources.view_is) stand in
-    let told = ready_found kept c.args.name.now c.args.gate.now c.resources.inside.views.views c.in-Some.view.now opens old.views (sym c.in-Some.ensures) in
+    let told = ready_found kept c.args.name.now c.args.opened c.resources.inside.views.views c.in-Some.view.now opens old.views (sym c.in-Some.ensures) in
     let work = works_by state c.in-Some.view.now c.args.body.now c.args.moment c.args.key c.reply_by.result _ _ told c.reply_by.ensures.works in
-    touched_stands kept c.args.name.now c.args.body.now c.args.moment c.args.gate.now (g.met.R.Records.numbered c.args.records.now sound) opens c.reply_by.result
-    (record { tally = c.resources.inside.decisions; room = c.resources.inside.views }) (record { tally = c.reply_by.new.decisions; room = c.touch.new.self })
+    touched_stands kept c.args.name.now c.args.body.now c.args.moment c.args.opened (g.met.R.Records.numbered c.args.records.now sound) opens c.reply_by.result
+    (record { tally = c.resources.inside.decisions; room = c.resources.inside.views; gates = c.resources.inside.gates }) (record { tally = c.reply_by.new.decisions; room = c.touch.new.self; gates = c.resources.inside.gates })
     (subst (λ k. IsFresh k (worked_in state c.args.body.now c.args.moment) c.reply_by.result c.resources.inside.decisions c.reply_by.new.decisions) c.requires work)
-    c.touch.ensures old
+    c.touch.ensures refl old

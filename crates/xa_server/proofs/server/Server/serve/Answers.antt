@@ -1,8 +1,5 @@
 use Rattle.std.proofs.Common.{refl}
-use Rattle.xa_server.specs.Owner.{owner}
-use Rattle.xa_server.proofs.AnswerLemmas.{grown}
 use Rattle.xa_server.proofs.ServedLemmas.{counted, served}
-use Rattle.xa_server.proofs.ValidLemmas.{all_grown}
 use Rattle.xa_server.proofs.WorkLemmas.{work_of}
 use Rattle.xa_server.proofs.server.Server.serve.Goals as goal
 
@@ -20,8 +17,4 @@ returns-clause-work g c = λ sound.
     rw (← c.self.view_is) (work_of _ c.args.message.now.body _ c.answer-answered.result _ _ _ (c.answer-answered.ensures.works stand sound) c.reply_of.ensures)
 
 pub invariant_of-self : goal.invariant_of-self
-invariant_of-self g c = λ sound.
-    let stand = c.self.invariant (c.answer-answered.ensures.sound sound) in
-    all_grown (g.R.Records.kept c.self.inside.records) (g.R.Records.kept c.answer-answered.new.records) c.answer-answered.new.resources
-    (grown _ _ _ (owner c.args.message.now) c.args.message.now c.args.moment c.answer-answered.result (c.answer-answered.ensures.answers stand sound))
-    (c.answer-answered.ensures.stands stand sound)
+invariant_of-self g c = λ sound. c.answer-answered.ensures.stands (c.self.invariant (c.answer-answered.ensures.sound sound)) sound

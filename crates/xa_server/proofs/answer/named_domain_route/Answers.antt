@@ -1,0 +1,30 @@
+-- By the command: a decision is asked for, or something else.
+use Rattle.std.proofs.Common.{rules, ◌≡◌, Some, sym, subst}
+use Rattle.xa_http.specs.declared.route.Route.TheVariants as to
+use Rattle.xa_server.specs.Handling.{AnswersRoute}
+use Rattle.xa_server.proofs.AnswerLemmas.{asks_no_decision}
+use Rattle.xa_server.proofs.answer.named_domain_route.Goals as goal
+
+pub returns-in-Decide-clause-answers : goal.returns-in-Decide-clause-answers
+returns-in-Decide-clause-answers g c = λ operator part named stand sound.
+    let old = g.R.Records.kept c.args.records.now in
+    let new = g.R.Records.kept c.asked.new.records in
+    subst (λ n. AnswersRoute operator old new n c.args.message.now c.args.moment (to.Domain part c.args.command) c.asked.result) (sym named)
+    (subst (λ k. AnswersRoute operator old new (Some c.args.name.now) c.args.message.now c.args.moment (to.Domain part k) c.asked.result) (sym c.in-Decide.is)
+    (c.asked.ensures.answers operator part stand sound))
+
+pub returns-in_default : goal.returns-in_default
+returns-in_default g c = record {
+  answers = λ operator part named stand sound.
+      let old = g.R.Records.kept c.args.records.now in
+      let new = g.R.Records.kept c.administered.new.records in
+      subst (λ n. AnswersRoute operator old new n c.args.message.now c.args.moment (to.Domain part c.args.command) c.administered.result) (sym named)
+      (c.administered.ensures.answers operator part c.args.moment sound);
+  works = λ part named stand sound.
+      asks_no_decision (g.R.Records.kept c.args.records.now) c.args.message.now c.args.moment part c.args.command c.administered.result c.args.resources.now.tally c.administered.new.resources.tally
+      c.in_default.not-Decide c.administered.ensures.tally;
+  stands = search (rules, c.administered.ensures.stands);
+  room = search (rules, c.administered.ensures.room);
+  sound = search (rules, c.administered.ensures.sound);
+  counts = search (rules, c.administered.ensures.counts);
+}

@@ -1,0 +1,37 @@
+-- Gates that are remembered, each under its domain's name, the one that was used last first: words that only private functions and the server's invariant cite.
+use Rattle.std.specs.Prelude.{ℕ, List, Option, option_and_then, option_map, bytes_eq}
+use Rattle.std.specs.Map.{lookup, remove_entry}
+use Rattle.lru.specs.LruCache.{lru_cache, promoted, put_entries}
+use Rattle.xa_records.specs.declared.gate.Gate.{Gate}
+use Rattle.xa_records.specs.Kept.{Kept}
+use Rattle.xa_records.specs.Readings.{gate_of}
+use Rattle.xa_server.specs.declared.opened.Opened.{Opened}
+use Rattle.xa_server.specs.Tokens.{role_in}
+
+-- the number and the epoch of a gate's domain
+abbrev pub opened_by : Gate → Opened
+opened_by gate = record { number = gate.number; epoch = gate.epoch }
+
+-- those of the domain of that name, if there is one
+abbrev pub opened_of : List ℕ → Kept → Option Opened
+opened_of name kept = option_map opened_by (gate_of name kept)
+
+-- those of a gate's domain, where one of its tokens has that digest
+abbrev pub opened_with : List ℕ → Gate → Option Opened
+opened_with digest gate = option_map (λ _. opened_by gate) (role_in digest gate.tokens)
+
+-- by the gate that is remembered under that name, if there is one
+abbrev pub opened_in : List ℕ → List ℕ → List (List ℕ × Gate) → Option Opened
+opened_in name digest gates = option_and_then (opened_with digest) (lookup (bytes_eq name) gates)
+
+-- after a use of the gate under that name
+abbrev pub used : List ℕ → List (List ℕ × Gate) → List (List ℕ × Gate)
+used name gates = promoted (bytes_eq name) gates
+
+-- with that gate under that name; of 512 others the one that was not used for longest goes
+abbrev pub with_gate : List ℕ → Gate → List (List ℕ × Gate) → List (List ℕ × Gate)
+with_gate name gate gates = put_entries bytes_eq (lru_cache gates 512) name gate
+
+-- with nothing under that name
+abbrev pub without_gate : List ℕ → List (List ℕ × Gate) → List (List ℕ × Gate)
+without_gate name gates = remove_entry (bytes_eq name) gates

@@ -1,0 +1,89 @@
+//! The gates that are remembered: of each domain at most one, under its name.
+ghost use Rattle.std.specs.Prelude.{◌≡◌, ◌⊎◌, [], IfOk, None, bytes_eq};
+ghost use Rattle.std.specs.Map.{lookup};
+ghost use Rattle.xa_server.specs.Gates.{opened_in, used, with_gate, without_gate};
+
+use crate::admission::role_in;
+use crate::opened::Opened;
+use lru::LruCache;
+use std::alloc::{AllocError, Global};
+use std::marker::Model;
+use std::num::NonZeroUsize;
+use xa_records::{Digest, Gate};
+use xa_value::Text;
+
+/// The most gates that are remembered.
+const MAX_GATES: usize = 512;
+
+/// Gates that are remembered, each under its domain's name.
+#[derive(Drop)]
+pub(crate) struct Gates {
+    gates: LruCache<Text, Gate>,
+}
+
+impl Model for Gates {
+    ghost use Rattle.std.specs.Prelude.{◌≡◌, List, ℕ};
+    ghost use Rattle.std.specs.Coded.{codes};
+    ghost use Rattle.xa_records.specs.contracts.gate.Gate.{the_row as gate_row};
+    ghost use Rattle.xa_records.specs.declared.gate.Gate as gate;
+
+    ghost Value = { List (List ℕ × gate.Gate) };
+
+    ghost coded = { Prim.hlevel (codes, gate_row.coded) };
+
+    ghost view = { λ g. g.gates.entries };
+
+    ghost invariant = { λ g. g.gates.cap ≡ 512 };
+}
+
+impl Gates {
+    /// No gates, and room for 512.
+    pub(crate) fn new(alloc: Global) -> Result<Gates, AllocError>
+        ensures { IfOk result (λ gates. gates ≡ []) }
+    {
+        let size = NonZeroUsize::new(MAX_GATES).unwrap();
+        Ok(Gates {
+            gates: LruCache::new(alloc, size)?,
+        })
+    }
+
+    /// The number and the epoch of the domain of that name, where its gate is remembered and one of its tokens has that digest: one look-up.
+    pub(crate) fn find(&self, name: &Text, digest: &Digest) -> Option<Opened>
+        ensures { result ≡ opened_in name.now digest.now self.now }
+    {
+        let gate = self.gates.peek(name)?;
+        match role_in(gate.tokens.as_slice(), digest) {
+            Some(_) => Some(Opened {
+                number: gate.number,
+                epoch: gate.epoch,
+            }),
+            None => None,
+        }
+    }
+
+    /// Makes the gate under that name the one that was used last: one look-up.
+    pub(crate) fn touch(&mut self, name: &Text)
+        ensures { self.new ≡ used name.now self.old }
+    {
+        self.gates.promote(name);
+    }
+
+    /// Remembers the gate under a copy of that name, as the one that was used last, where there is memory. The 513th goes.
+    pub(crate) fn remember(&mut self, name: &Text, gate: Gate)
+        ensures { (self.new ≡ with_gate name.now gate self.old) ⊎ (self.new ≡ self.old) }
+    {
+        if let Ok(name) = name.clone() {
+            let _put = self.gates.put(name, gate);
+        }
+    }
+
+    /// Forgets the gate under that name.
+    #[tactic(auto, using(crate::proofs::GateLemmas::gone))]
+    pub(crate) fn forget(&mut self, name: &Text)
+        ensures forgotten { self.new ≡ without_gate name.now self.old }
+        ensures gone { lookup (bytes_eq name.now) self.new ≡ None }
+    {
+        let _length = self.gates.len();
+        self.gates.pop(name);
+    }
+}
