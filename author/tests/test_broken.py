@@ -13,7 +13,7 @@ from .desk_tests import PROGRAM, check, faults, lints, positions, together
 from desk import ask, asking, cases, contradictions, coverage, explain, kinds, laid_out, made, names, setting, shapes, tracing  # noqa: E402, F401
 from desk.model import policies  # noqa: E402
 
-HALF = 60
+HALF, SEEDS = 60, range(3, 9)
 
 
 def nothing(*_: object, **__: object) -> None:
@@ -21,9 +21,9 @@ def nothing(*_: object, **__: object) -> None:
 
 
 def misses() -> bool:
-    """Whether the test of random documents finds something."""
+    """Whether the test of random documents finds something, with one seed after another: a rare kind of fault isn't among the documents of the first."""
     try:
-        return any(missed for _, _, missed in test_random_documents.share(3, HALF))
+        return any(missed for seed in SEEDS for _, _, missed in test_random_documents.share(seed, HALF))
     except check.Disagreement:
         return True
 

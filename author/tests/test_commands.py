@@ -306,22 +306,13 @@ class Cases(DeskTest):
 
 
 class Examples(DeskTest):
-    """The examples of the repository, and what its pages show."""
+    """The examples of the repository, and what the desk's page shows."""
 
-    def test_what_the_pages_show(self) -> None:
+    def test_what_the_page_shows(self) -> None:
         slipped = edited((TOP / "examples" / "ward" / "policy.json").read_text(encoding="utf-8"), ('"Condition"', '"Condtion"'))
         written = run("check", "@policy.json", files={"policy.json": slipped})[1]
         page = (TOP / "author" / "README.md").read_text(encoding="utf-8")
         self.assertIn("".join(f"    {line}\n" for line in written.split("\n\n")[0].split("\n")), page)
-        front = (TOP / "README.md").read_text(encoding="utf-8").split("\n")
-        shown = [line[4:]
-                 for line in front[next(place for place,
-                                        line in enumerate(front) if line.startswith("    $ author/policy check")):]
-                                        if line.startswith("    ")]
-        self.assertEqual(shown[1:3],
-                         ["examples/ward/" + line if place == 0 else line for place, line in enumerate(written.split("\n")[:2])])
-        ran = executed(*shown[3].removeprefix("$ author/policy ").split(), *([] if PROGRAM else ["--program", "none"]))
-        self.assertEqual(ran.stdout.split("\n")[0], shown[4])
 
     def test_the_examples(self) -> None:
         program = [] if PROGRAM else ["--program", "none"]
