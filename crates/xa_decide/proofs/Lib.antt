@@ -3,3 +3,4 @@ mod KeyLemmas
 mod LookLemmas
 mod NamingLemmas
 pub mod TimelessLemmas
+mod TypeLemmas

@@ -128,6 +128,11 @@ impl<'a> Context for IndividualContext<'a> {
         }
     }
 
+    #[tactic(auto, using(crate::proofs::TypeLemmas::keeps_types))]
+    fn keeps_types(&self) {
+        self.objects.are_of_types();
+    }
+
     #[tactic(auto, unfolding(crate::specs::Context::values_of), using(crate::proofs::LookLemmas::looked_or_outside))]
     fn look_for(
         &self,

@@ -1,9 +1,10 @@
 //! Category objects, with their attributes to be found.
 ghost use Rattle.std.specs.Prelude.{◌≡◌, [], ◌++◌, bytes_eq, filter, slice_get, IfOk, if◌then◌else◌};
-ghost use Rattle.std.specs.List.{filter_map, flat_map};
+ghost use Rattle.std.specs.List.{All, filter_map, flat_map};
 ghost use Rattle.xa_bag.specs.Bag.{bag_of};
 ghost use Rattle.xa_decide.specs.Context.{is_named_by, object_values};
 ghost use Rattle.xa_decide.specs.indexing.Naming.{naming_values, said, said_by};
+ghost use Rattle.xa_decide.specs.indexing.Types.{IsOfType, IsOfTypes};
 
 use crate::attribute::push_attribute;
 use crate::keys::{ByIssuer, ByName, issuer_key};
@@ -33,12 +34,29 @@ impl<'a> Model for IndexedObject<'a> {
     ghost use Rattle.xa_decide.specs.indexing.Index.{IsOrder};
     ghost use Rattle.xa_decide.specs.indexing.Keys.{name_key_of, issuer_key_of};
     ghost use Rattle.xa_decide.specs.indexing.Naming.{naming_values, said, said_by};
+    ghost use Rattle.xa_decide.specs.indexing.Types.{IsOfTypes};
 
     ghost Value = { Object };
 
     ghost view = { λ o. o.object.now };
 
-    ghost invariant = { λ o. IsOrder name_key_of o.object.now.attributes o.by_name.items × IsOrder issuer_key_of o.object.now.attributes o.by_issuer.items × (said_by o.naming ≡ said (naming_values o.object.now)) };
+    ghost invariant = { λ o. IsOrder name_key_of o.object.now.attributes o.by_name.items × IsOrder issuer_key_of o.object.now.attributes o.by_issuer.items × (said_by o.naming ≡ said (naming_values o.object.now)) × IsOfTypes o.object.now };
+}
+
+/// The values of the attribute are of its type: a law.
+fn is_of_type(attribute: &Attribute)
+    ensures { IsOfType attribute.now }
+{
+    attribute.values.values();
+}
+
+/// The values of each attribute are of its type: a law, whose loop does nothing.
+fn are_of_types(attributes: &[Attribute])
+    ensures { All IsOfType attributes.now }
+{
+    for attribute in attributes {
+        is_of_type(attribute);
+    }
 }
 
 impl<'a> IndexedObject<'a> {
@@ -50,6 +68,7 @@ impl<'a> IndexedObject<'a> {
         ensures { IfOk result (λ indexed. indexed ≡ object.now) }
     {
         let attributes = object.attributes.as_slice();
+        are_of_types(attributes);
         let by_name = order_of::<ByName>(alloc, attributes)?;
         let by_issuer = order_of::<ByIssuer>(alloc, attributes)?;
         Ok(IndexedObject {
@@ -59,6 +78,13 @@ impl<'a> IndexedObject<'a> {
             naming: naming_of(object),
             units_included: units_included(object),
         })
+    }
+
+    /// The values of each of the object's attributes are of its type: a law.
+    pub(crate) fn is_of_types(&self)
+        ensures { IsOfTypes self.now }
+    {
+        let _ = &self.object;
     }
 
     /// The units of writing what stands of the object in a result.

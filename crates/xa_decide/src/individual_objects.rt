@@ -1,10 +1,11 @@
 //! The Category objects of an individual request.
 ghost use Rattle.std.specs.Prelude.{◌≡◌, [], ◌++◌, map, filter, bytes_eq, option_map, slice_get, IfOk, if◌then◌else◌};
-ghost use Rattle.std.specs.List.{filter_map, flat_map};
+ghost use Rattle.std.specs.List.{All, filter_map, flat_map};
 ghost use Rattle.xa_bag.specs.Bag.{bag_of};
 ghost use Rattle.xa_decide.specs.Context.{entity, object_values, request_values};
 ghost use Rattle.xa_decide.specs.Decision.{objects_at};
 ghost use Rattle.xa_decide.specs.indexing.Naming.{naming_values, said, said_by};
+ghost use Rattle.xa_decide.specs.indexing.Types.{IsOfTypes};
 
 use crate::indexed_object::{IndexedObject, push_object};
 use crate::key::Key;
@@ -42,15 +43,17 @@ pub(crate) struct IndividualObjects<'a> {
 
 impl<'a> Model for IndividualObjects<'a> {
     ghost use Rattle.std.specs.Prelude.{List, map};
+    ghost use Rattle.std.specs.List.{All};
     ghost use Rattle.xa_profile.specs.declared.category_object.CategoryObject.{CategoryObject as Object};
     ghost use Rattle.xa_decide.specs.indexing.Index.{IsOrder};
     ghost use Rattle.xa_decide.specs.indexing.Keys.{object_key_of};
+    ghost use Rattle.xa_decide.specs.indexing.Types.{IsOfTypes};
 
     ghost Value = { List Object };
 
     ghost view = { λ o. map (λ x. x.now) o.objects.items };
 
-    ghost invariant = { λ o. IsOrder object_key_of o.objects.items o.order.items };
+    ghost invariant = { λ o. IsOrder object_key_of o.objects.items o.order.items × All (λ x. IsOfTypes x.now) o.objects.items };
 }
 
 /// The objects that have these places.
@@ -70,6 +73,15 @@ fn objects_at<'a>(
     Ok(chosen)
 }
 
+/// The values of each attribute of the objects are of its type: a law, whose loop does nothing.
+fn are_of_types(objects: &[&IndexedObject<'_>])
+    ensures { All (λ o. IsOfTypes o.now) objects.now }
+{
+    for object in objects {
+        object.is_of_types();
+    }
+}
+
 impl<'a> IndividualObjects<'a> {
     /// The objects that have these places, put in order.
     pub(crate) fn new(
@@ -80,8 +92,16 @@ impl<'a> IndividualObjects<'a> {
         ensures { IfOk result (λ chosen. chosen ≡ objects_at objects.now places.now) }
     {
         let objects = objects_at(alloc, objects, places)?;
+        are_of_types(objects.as_slice());
         let order = order_of::<ByCategory<'a>>(alloc, objects.as_slice())?;
         Ok(IndividualObjects { objects, order })
+    }
+
+    /// The values of each attribute of the objects are of its type: a law.
+    pub(crate) fn are_of_types(&self)
+        ensures { All IsOfTypes self.now }
+    {
+        let _ = &self.order;
     }
 
     /// Places among which are those of all objects of that category.

@@ -1,4 +1,5 @@
 pub mod Arguments
+pub mod Defining
 pub mod Designators
 pub mod Evaluation
 pub mod Fault

@@ -4,6 +4,7 @@ ghost use Rattle.xa_value.specs.declared.value.Value.{Value};
 ghost use Rattle.xa_bag.specs.Bag.{bag_of};
 ghost use Rattle.xa_expr.specs.declared.designator.Designator.{Designator};
 ghost use Rattle.xa_expr.specs.Looked.{looked};
+ghost use Rattle.xa_expr.specs.Misfits.{KeepsTypes};
 
 use crate::designator::Designator;
 use crate::looked::Looked;
@@ -20,6 +21,10 @@ pub trait Context {
     /// The bag of the designator, whether or not it must be present.
     fn bag(&self, alloc: Global, designator: &Designator) -> Result<Bag, AllocError>
         ensures { IfOk result (λ bag. bag ≡ bag_of designator.now.data_type (values_of self.now designator.now)) };
+
+    /// The bag that a designator gives is of its data type (core, section 7.3.5): a law, which each context has by an empty body.
+    fn keeps_types(&self)
+        ensures { KeepsTypes (values_of self.now) };
 
     /// What a look for the value in the designator's bag comes to. A context that has the values itself looks at them where they are; by
     /// default the bag is asked for. Either way it takes the units of the bag, as where that is asked for, and those of a look at it.

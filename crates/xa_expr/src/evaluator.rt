@@ -3,7 +3,7 @@ ghost use Rattle.std.specs.Prelude.{◌≡◌, max, min, length, Some, IfOk};
 ghost use Rattle.xa_value.specs.Gives.{Gives};
 ghost use Rattle.xa_bag.specs.ValueOrBag.{kind_of_argument};
 ghost use Rattle.xa_expr.specs.Evaluation.{value_of};
-ghost use Rattle.xa_expr.specs.Misfits.{KeepsTypes, MeetsNoMisfit};
+ghost use Rattle.xa_expr.specs.Misfits.{MeetsNoMisfit};
 ghost use Rattle.xa_expr.specs.Results.{AreFirst, reach};
 ghost use Rattle.xa_expr.specs.Typed.{IsTyped, kind_of_typed, kind_under};
 ghost use Rattle.xa_expr.specs.Variables.{AreTyped, kinds};
@@ -118,9 +118,10 @@ impl<'a, C: Context> Evaluator<'a, C> {
         requires { IsTyped (kinds self.old.1) expression.now }
         ensures value { Gives result (value_of (C.values_of self.old.0) self.old.1 expression.now) }
         ensures typed { IfOk result (λ given. Some (kind_of_argument given) ≡ kind_under (kinds self.old.1) expression.now) }
-        ensures fits { KeepsTypes (C.values_of self.old.0) → MeetsNoMisfit (C.values_of self.old.0) self.old.1 expression.now }
+        ensures fits { MeetsNoMisfit (C.values_of self.old.0) self.old.1 expression.now }
         ensures kept { self.new ≡ self.old }
     {
+        self.context.keeps_types();
         let definitions = self.variables.definitions();
         value_with(
             alloc,
@@ -142,7 +143,7 @@ pub fn value<C: Context>(
     requires { IsTyped (kinds variables.now) expression.now }
     ensures value { Gives result (value_of (C.values_of context.now) variables.now expression.now) }
     ensures typed { IfOk result (λ given. Some (kind_of_argument given) ≡ kind_under (kinds variables.now) expression.now) }
-    ensures fits { KeepsTypes (C.values_of context.now) → MeetsNoMisfit (C.values_of context.now) variables.now expression.now }
+    ensures fits { MeetsNoMisfit (C.values_of context.now) variables.now expression.now }
 {
     Evaluator::new(alloc, context, variables).value(alloc, expression)
 }

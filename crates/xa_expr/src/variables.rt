@@ -1,9 +1,10 @@
 //! The variables of a policy, by their definitions.
 ghost use Rattle.std.specs.Prelude.{◌≡◌, false, [], ◌∷◌, ◌++◌, Some, IfOk, IsTrue, OnOk, OnErr};
 ghost use Rattle.xa_value.specs.Gives.{Gives};
+ghost use Rattle.xa_expr.specs.Defining.{defined, may_be_defined};
 ghost use Rattle.xa_expr.specs.Typed.{IsTyped};
 ghost use Rattle.xa_expr.specs.Typing.{variable_named};
-ghost use Rattle.xa_expr.specs.Variables.{AreTyped, kinds, is_defined, may_be_defined, defined};
+ghost use Rattle.xa_expr.specs.Variables.{AreTyped, kinds, is_defined};
 
 use crate::check_error::CheckError;
 use crate::checking::check;

@@ -8,7 +8,8 @@ use Rattle.xa_expr.specs.declared.target.Target.{Target}
 use Rattle.xa_expr.specs.declared.typed.Typed.{Typed}
 use Rattle.xa_expr.specs.declared.variables.Definition.{Definition}
 use Rattle.xa_expr.specs.Typing.{checked}
-use Rattle.xa_expr.specs.Variables.{defined, is_defined, may_be_defined, with_last}
+use Rattle.xa_expr.specs.Defining.{defined, may_be_defined, with_last}
+use Rattle.xa_expr.specs.Variables.{is_defined}
 use Rattle.xa_policy.specs.declared.duty.DutyExpressions.{DutyExpressions}
 use Rattle.xa_policy.specs.declared.rule.Rule.{Rule}
 use Rattle.xa_policy.specs.Adding.{duties_set, no_expressions, set_duties_set, set_with_duties, with_rules}

@@ -2,10 +2,11 @@
 use Rattle.std.specs.Prelude.{List, [], ◌∷◌, ◌++◌}
 use Rattle.xa_func.specs.declared.signature.Kind.{Kind}
 use Rattle.xa_expr.specs.declared.typed.Typed.{Typed}
+use Rattle.xa_expr.specs.Typed.{IsTyped}
 use Rattle.xa_policy.specs.declared.duty.AttributeAssignmentExpression.{AttributeAssignmentExpression}
 use Rattle.xa_policy.specs.declared.duty.DutyExpression.{DutyExpression}
 use Rattle.xa_policy.specs.declared.rule.Rule.{Rule}
-use Rattle.xa_policy.specs.Policy.{IsTyped, AreAssignments, AreDuties, IsTypedRule, AreTypedRules}
+use Rattle.xa_policy.specs.Policy.{AreAssignments, AreDuties, IsTypedRule, AreTypedRules}
 
 pub one_more_assignment : (vs : List Kind) (done : List (AttributeAssignmentExpression Typed)) (a : AttributeAssignmentExpression Typed)
     → AreAssignments vs done → IsTyped vs a.expression → AreAssignments vs (done ++ a ∷ [])

@@ -11,6 +11,7 @@ use Rattle.xa_func.specs.declared.signature.Kind.{Kind}
 use Rattle.xa_expr.specs.declared.fault.Fault.{Fault}
 use Rattle.xa_expr.specs.declared.typed.Typed.{Typed}
 use Rattle.xa_expr.specs.Evaluation.{Outcome}
+use Rattle.xa_expr.specs.Typed.{IsTyped}
 use Rattle.xa_expr.proofs.ArgumentLemmas.{next_fault, no_more}
 use Rattle.xa_expr.proofs.CheckLemmas.{fault_first, passed_on}
 use Rattle.xa_policy.specs.declared.decision.Effect.{Effect}
@@ -19,7 +20,7 @@ use Rattle.xa_policy.specs.declared.duty.AttributeAssignmentExpression.{Attribut
 use Rattle.xa_policy.specs.declared.duty.Duty.{Duty}
 use Rattle.xa_policy.specs.declared.duty.DutyExpression.{DutyExpression}
 use Rattle.xa_policy.specs.Duties.{assigned, duty, same_effect, with_value}
-use Rattle.xa_policy.specs.Policy.{AreAssignments, AreDuties, IsTyped}
+use Rattle.xa_policy.specs.Policy.{AreAssignments, AreDuties}
 
 -- assignments, and behind them those of the expressions
 abbrev pub then_all : List AttributeAssignment → List (List AttributeAssignment) → Result (List AttributeAssignment) Fault

@@ -6,7 +6,7 @@ use Rattle.xa_func.specs.declared.signature.Kind.TheVariants as kind
 use Rattle.xa_expr.specs.declared.target.Target.{Target}
 use Rattle.xa_expr.specs.declared.typed.Typed.{Typed}
 use Rattle.xa_expr.specs.declared.variables.Definition.{Definition}
-use Rattle.xa_expr.specs.Typed.{kind_of_typed, kind_under}
+use Rattle.xa_expr.specs.Typed.{IsTyped, kind_of_typed}
 use Rattle.xa_expr.specs.Variables.{kinds}
 use Rattle.xa_policy.specs.declared.combining.Alg.{Alg}
 use Rattle.xa_policy.specs.declared.duty.AttributeAssignmentExpression.{AttributeAssignmentExpression}
@@ -28,11 +28,7 @@ pub record SetParts : Type 0 where
   pub target : Target
   pub duties : DutyExpressions Typed
 
--- the expression has its kind under variables of these kinds
-abbrev pub IsTyped : List Kind → Typed → Type 0
-IsTyped variables e = kind_under variables e ≡ Some (kind_of_typed e)
-
--- a condition has, too, and it is a boolean
+-- a condition has its kind under variables of these kinds, and it is a boolean
 abbrev pub IsCondition : List Kind → Option Typed → Type 0
 IsCondition variables None = Unit {0}
 IsCondition variables (Some e) = IsTyped variables e × (kind_of_typed e ≡ kind.Value type.Boolean)

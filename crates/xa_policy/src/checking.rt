@@ -3,9 +3,10 @@ ghost use Rattle.std.specs.Prelude.{◌≡◌, map, IfOk};
 ghost use Rattle.xa_value.specs.declared.data_type.DataType.TheVariants as type;
 ghost use Rattle.xa_value.specs.Gives.{Gives};
 ghost use Rattle.xa_bag.specs.HigherOrder.{collected};
+ghost use Rattle.xa_expr.specs.Typed.{IsTyped};
 ghost use Rattle.xa_expr.specs.Variables.{kinds};
 ghost use Rattle.xa_policy.specs.Checking.{checked_assignment, checked_condition, checked_duties, checked_duty, checked_rule};
-ghost use Rattle.xa_policy.specs.Policy.{AreAssignments, AreDuties, AreTypedDuties, IsCondition, IsTyped, IsTypedRule};
+ghost use Rattle.xa_policy.specs.Policy.{AreAssignments, AreDuties, AreTypedDuties, IsCondition, IsTypedRule};
 
 use crate::duty::{AttributeAssignmentExpression, DutyExpression, DutyExpressions};
 use crate::rule::Rule;

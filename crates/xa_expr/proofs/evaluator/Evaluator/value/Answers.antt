@@ -14,7 +14,7 @@ pub returns-clause-fits : goal.returns-clause-fits
 returns-clause-fits g c =
     let typed = subst AreTyped c.definitions-definitions.ensures.value c.definitions-definitions.ensures.typed in
     let requires = rw (← c.self.view_is) at c.requires in
-    rw (← c.self.view_is) (λ keeps. meets_no_misfit (g.C.Context.values_of c.self.inside.context.now) c.self.inside.variables.now c.args.expression.now (kind_of_typed c.args.expression.now) typed requires keeps)
+    rw (← c.self.view_is) (meets_no_misfit (g.C.Context.values_of c.self.inside.context.now) c.self.inside.variables.now c.args.expression.now (kind_of_typed c.args.expression.now) typed requires c.keeps_types.ensures)
 
 pub invariant_of-self : goal.invariant_of-self
 invariant_of-self g c = rw c.definitions-definitions.ensures.value at c.value_with.ensures.right
