@@ -124,4 +124,7 @@ impl Context for Attributes {
     fn bag(&self, alloc: Global, designator: &Designator) -> Result<Bag, AllocError> {
         bag_of(alloc, designator, self.held.as_slice())
     }
+
+    #[tactic(auto, using(crate::proofs::AttributesLemmas::keeps_types))]
+    fn keeps_types(&self) {}
 }
