@@ -22,7 +22,7 @@ pub trait Context {
     fn bag(&self, alloc: Global, designator: &Designator) -> Result<Bag, AllocError>
         ensures { IfOk result (λ bag. bag ≡ bag_of designator.now.data_type (values_of self.now designator.now)) };
 
-    /// The bag that a designator gives is of its data type (core, section 7.3.5): a law, which each context has by an empty body.
+    /// The bag that a designator gives is of its data type (core, section 7.3.5): a law, which each context proves. It does nothing when it runs.
     fn keeps_types(&self)
         ensures { KeepsTypes (values_of self.now) };
 
