@@ -32,13 +32,10 @@ both_of_type t (v ∷ vs) ws some others = (some.0, both_of_type t vs ws some.1 
 each_of_type : {X : Type 0} (P : X → Type 0) (t : DataType) (passes : X → Bool) (values : X → List Value) → ((x : X) → passes x ≡ true → P x → OfType t (values x))
     → (xs : List X) → All P xs → OfType t (flat_map values (filter passes xs))
 each_of_type P t passes values each [] all = tt
-each_of_type P t passes values each (x ∷ xs) all = by_case (passes x) refl where
-  rest : OfType t (flat_map values (filter passes xs))
-  rest = each_of_type P t passes values each xs (All-tail P x xs all)
-
-  by_case : (b : Bool) → passes x ≡ b → OfType t (flat_map values (cond b (x ∷ filter passes xs) (filter passes xs)))
-  by_case true e = both_of_type t (values x) (flat_map values (filter passes xs)) (each x e (All-head P x xs all)) rest
-  by_case false e = rest
+each_of_type P t passes values each (x ∷ xs) all = by_case (passes x) refl (each_of_type P t passes values each xs (All-tail P x xs all)) where
+  by_case : (b : Bool) → passes x ≡ b → OfType t (flat_map values (filter passes xs)) → OfType t (flat_map values (cond b (x ∷ filter passes xs) (filter passes xs)))
+  by_case true e rest = both_of_type t (values x) (flat_map values (filter passes xs)) (each x e (All-head P x xs all)) rest
+  by_case false e rest = rest
 
 named_type : (d : Designator) (a : Attribute) → is_named_by d a ≡ true → a.values.data_type ≡ d.data_type
 named_type d a e =
@@ -64,11 +61,11 @@ row_type entity d row e =
 
 rows_of_type : (rows : List SourceRow) (entity : List ℕ) (d : Designator) → OfType d.data_type (map (λ row. row.value) (filter (is_row entity d) rows))
 rows_of_type [] entity d = tt
-rows_of_type (row ∷ rows) entity d = by_case (is_row entity d row) refl where
-  by_case : (b : Bool) → is_row entity d row ≡ b
+rows_of_type (row ∷ rows) entity d = by_case (is_row entity d row) refl (rows_of_type rows entity d) where
+  by_case : (b : Bool) → is_row entity d row ≡ b → OfType d.data_type (map (λ (row : SourceRow). row.value) (filter (is_row entity d) rows))
       → OfType d.data_type (map (λ (row : SourceRow). row.value) (cond b (row ∷ filter (is_row entity d) rows) (filter (is_row entity d) rows)))
-  by_case true e = (row_type entity d row e, rows_of_type rows entity d)
-  by_case false e = rows_of_type rows entity d
+  by_case true e rest = (row_type entity d row e, rest)
+  by_case false e rest = rest
 
 source_of_type : (rows : List SourceRow) (entity : List ℕ) (d : Designator) → OfType d.data_type (source_values rows entity d)
 unfolding source_values

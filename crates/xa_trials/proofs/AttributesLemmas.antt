@@ -20,10 +20,11 @@ named_type d h e =
 
 named_of_type : (d : Designator) (held : List Held) → OfType d.data_type (named_values d held)
 named_of_type d [] = tt
-named_of_type d (h ∷ held) = by_case (is_named d h) refl where
-  by_case : (b : Bool) → is_named d h ≡ b → OfType d.data_type (map (λ (h : Held). h.value) (cond b (h ∷ filter (is_named d) held) (filter (is_named d) held)))
-  by_case true e = (named_type d h e, named_of_type d held)
-  by_case false e = named_of_type d held
+named_of_type d (h ∷ held) = by_case (is_named d h) refl (named_of_type d held) where
+  by_case : (b : Bool) → is_named d h ≡ b → OfType d.data_type (named_values d held)
+      → OfType d.data_type (map (λ (h : Held). h.value) (cond b (h ∷ filter (is_named d) held) (filter (is_named d) held)))
+  by_case true e rest = (named_type d h e, rest)
+  by_case false e rest = rest
 
 pub keeps_types : (attributes : Attributes) → KeepsTypes (values_of attributes)
 keeps_types attributes d = named_of_type d attributes.held
