@@ -1,6 +1,6 @@
 -- The type check of expressions (XACML 3.0, core, sections 5.25, 5.27 to 5.29, 5.31 and 7.4, appendix A.3): from an expression as a policy has it to one
 -- whose functions and variables are found, or its first fault.
-use Rattle.std.specs.Prelude.{ℕ, suc, not, nat_lt, bytes_eq, if◌then◌else◌, List, [], ◌∷◌, map, length, Option, Some, None, Result, Ok, Err}
+use Rattle.std.specs.Prelude.{◌≡◌, ℕ, suc, not, nat_lt, bytes_eq, if◌then◌else◌, List, [], ◌∷◌, map, length, Option, Some, None, Result, Ok, Err}
 use Rattle.xa_value.specs.Gives.{◌>>=◌}
 use Rattle.xa_func.specs.declared.func_id.FuncId.{FuncId}
 use Rattle.xa_func.specs.declared.func_id.FuncId.TheVariants as function
@@ -11,7 +11,7 @@ use Rattle.xa_func.specs.Table.{is_scalar}
 use Rattle.xa_bag.specs.HigherOrder.{collected}
 use Rattle.xa_expr.specs.declared.check_error.CheckError.{CheckError}
 use Rattle.xa_expr.specs.declared.check_error.CheckError.TheVariants.{UnknownFunction, WrongCount, WrongType, UnknownVariable, TooDeep}
-use Rattle.xa_expr.specs.declared.expr.Expr.{Expr, fold-Expr}
+use Rattle.xa_expr.specs.declared.expr.Expr.{Expr, fold-Expr, out-Expr}
 use Rattle.xa_expr.specs.declared.expr.Expr.TheOpen.{Expr-F}
 use Rattle.xa_expr.specs.declared.typed.Typed.{Typed}
 use Rattle.xa_expr.specs.declared.typed.Typed.TheVariants as typed
@@ -92,6 +92,17 @@ judged_step variables (Expr-F.Variable name) = argument (λ depth. variable_name
 
 abbrev pub judged : List Definition → Expr → Judged
 judged variables = fold-Expr Judged (judged_step variables)
+
+-- an Apply of a function that there isn't, so that its arguments aren't looked at
+abbrev pub NamesNone : Expr-F Expr → Type 0
+NamesNone (Expr-F.Apply name arguments) = function_named name ≡ None
+NamesNone (Expr-F.Value v) = ⊥
+NamesNone (Expr-F.Designator d) = ⊥
+NamesNone (Expr-F.Function name) = ⊥
+NamesNone (Expr-F.Variable name) = ⊥
+
+abbrev pub AppliesNone : Expr → Type 0
+AppliesNone expression = NamesNone (out-Expr expression)
 
 -- the checked expression, or the first fault, where the expression stands in no other and these variables are defined before it
 abbrev pub checked : List Definition → Expr → Result Typed CheckError

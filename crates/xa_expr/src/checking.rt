@@ -1,12 +1,14 @@
 //! The type check of expressions.
-ghost use Rattle.std.specs.Prelude.{◌≡◌, ◌&&◌, List, ◌∷◌, map, Some, IsTrue, IfOk};
+ghost use Rattle.std.specs.Prelude.{◌≡◌, ◌≤◌, ◌&&◌, List, ◌∷◌, map, None, Some, Err, IsTrue, IfOk};
 ghost use Rattle.xa_value.specs.Gives.{Gives};
+ghost use Rattle.xa_value.specs.declared.or_memory.OrMemory.TheVariants.{Error};
 ghost use Rattle.xa_func.specs.Names.{function_named};
 ghost use Rattle.xa_func.specs.Signature.{of_each, signature_of};
 ghost use Rattle.xa_func.specs.Table.{is_scalar};
+ghost use Rattle.xa_expr.specs.declared.check_error.CheckError.TheVariants.{UnknownFunction};
 ghost use Rattle.xa_expr.specs.declared.variables.Definition.{Definition as Defined};
 ghost use Rattle.xa_expr.specs.Typed.{IsTyped, kind_of_typed, kind_under, counted, accepted, higher_counted, bag_count, are_two_bags, has_bags, gives_boolean, higher_accepted, all_there};
-ghost use Rattle.xa_expr.specs.Typing.{at_depth, judged, arguments as arguments_of, apply, first_order, applied, higher_order, higher_applied, inner_named, known_inner, checked};
+ghost use Rattle.xa_expr.specs.Typing.{at_depth, judged, arguments as arguments_of, apply, first_order, applied, higher_order, higher_applied, inner_named, known_inner, AppliesNone, checked};
 ghost use Rattle.xa_expr.specs.Variables.{kinds};
 
 use crate::check_error::CheckError;
@@ -22,7 +24,8 @@ const MAX_DEPTH: usize = 24;
 
 /// The expression with its functions and variables found, or its first fault (core, sections 5.25, 5.27 to 5.29, 5.31 and appendix A.3): of an
 /// Apply that its function is unknown, then the faults of its arguments from the first to the last, then their number, then their
-/// kinds. At most 24 expressions may stand inside one another. Clause `typed`: what passes has its kind under those of the variables.
+/// kinds. At most 24 expressions may stand inside one another. Clause `typed`: what passes has its kind under those of the variables;
+/// `unknown`: that the function of an Apply is unknown is told whatever memory there is.
 pub fn check(
     alloc: Global,
     expression: &Expr,
@@ -30,6 +33,7 @@ pub fn check(
 ) -> Result<Typed, OrMemory<CheckError>>
     ensures value { Gives result (checked variables.now expression.now) }
     ensures typed { IfOk result (IsTyped (kinds variables.now)) }
+    ensures unknown { AppliesNone expression.now → result ≡ Err (Error UnknownFunction) }
 {
     check_at(alloc, expression, variables, 1)
 }
@@ -44,6 +48,7 @@ fn check_at(
 ) -> Result<Typed, OrMemory<CheckError>>
     ensures value { Gives result ((judged variables.now expression.now).argument depth) }
     ensures typed { IfOk result (IsTyped (kinds variables.now)) }
+    ensures unknown { depth ≤ 24 → AppliesNone expression.now → result ≡ Err (Error UnknownFunction) }
 {
     if depth > MAX_DEPTH {
         return Err(OrMemory::Error(CheckError::TooDeep));
@@ -70,6 +75,7 @@ fn check_apply(
 ) -> Result<Typed, OrMemory<CheckError>>
     ensures value { Gives result (apply (function_named name.now) depth (map (judged variables.now) arguments.now)) }
     ensures typed { IfOk result (IsTyped (kinds variables.now)) }
+    ensures unknown { function_named name.now ≡ None → result ≡ Err (Error UnknownFunction) }
 {
     match FuncId::from_uri(name.as_str()) {
         None => Err(OrMemory::Error(CheckError::UnknownFunction)),
