@@ -113,6 +113,12 @@ class Client:
         self.close()
 
 
+def processor_seconds_of(pid):
+    """The processor seconds, user and system, of a process of one thread, to the nanosecond while it sleeps."""
+    with open(f"/proc/{pid}/schedstat") as line:
+        return int(line.read().split()[0]) / 1e9
+
+
 class Served:
     """The program over a file, for so many connections. It is killed, if it still runs, at the end of the `with` statement."""
 
@@ -147,9 +153,7 @@ class Served:
             return int(next(line for line in lines if line.startswith("VmHWM")).split()[1])
 
     def processor_seconds(self):
-        with open(f"/proc/{self.process.pid}/stat") as line:
-            fields = line.read().rpartition(")")[2].split()
-        return (int(fields[11]) + int(fields[12])) / os.sysconf("SC_CLK_TCK")
+        return processor_seconds_of(self.process.pid)
 
     def __enter__(self):
         return self
