@@ -1,15 +1,10 @@
 """Transcripts for pdpd, and the processor time and the instructions that it takes to answer them."""
-import array
-import fcntl
 import os
-import pathlib
 import re
 import resource
 import subprocess
 import sys
 import tempfile
-import termios
-import time
 
 TOP = os.path.dirname(os.path.dirname(os.path.abspath(__file__)))
 PROGRAM = sys.argv[1] if len(sys.argv) > 1 else os.path.join(TOP, "build/pdpd")
@@ -68,37 +63,3 @@ def instructions(messages):
     """Instructions that the program takes to answer them, as valgrind counts them."""
     said = run(messages, ["valgrind", "--tool=cachegrind", "--cache-sim=no", "--cachegrind-out-file=/dev/null"]).stderr
     return int(re.search(rb"I\s+refs:\s+([\d,]+)", said).group(1).replace(b",", b""))
-
-
-class Running:
-    """The program at its transcript, which is sent to it piece by piece."""
-
-    def __enter__(self):
-        self.program = subprocess.Popen([PROGRAM, "replay", OPERATOR], stdin=subprocess.PIPE, stdout=subprocess.DEVNULL)
-        self.state = pathlib.Path("/proc", str(self.program.pid))
-        return self
-
-    def __exit__(self, *_):
-        self.program.stdin.close()
-        if self.program.wait() != 0:
-            raise SystemExit(f"pdpd ended with status {self.program.returncode}")
-
-    def is_waiting(self):
-        """Whether it has read all that was sent, and sleeps."""
-        unread = array.array("i", [0])
-        fcntl.ioctl(self.program.stdin, termios.FIONREAD, unread)
-        return unread[0] == 0 and (self.state / "stat").read_text().rsplit(")", 1)[1].split()[0] == "S"
-
-    def spent(self):
-        """Processor seconds so far."""
-        return int((self.state / "schedstat").read_text().split()[0]) / 1e9
-
-    def answer(self, messages):
-        """Processor seconds that it takes to answer the messages."""
-        entries = transcript(messages)
-        before = self.spent()
-        self.program.stdin.write(entries)
-        self.program.stdin.flush()
-        while not self.is_waiting():
-            time.sleep(0.001)
-        return self.spent() - before

@@ -4,11 +4,13 @@ import selectors
 import socket
 import struct
 import subprocess
+import threading
 import time
 
 OPERATOR = "operator-token-1"
 MOST_CONNECTIONS = 1_000_000
 PATIENCE = 30
+PIECE = 100  # messages that are sent together
 
 
 def message(method, path, token, body=None, more=""):
@@ -161,6 +163,26 @@ class Served:
     def __exit__(self, *what):
         if self.process.poll() is None:
             self.kill()
+
+
+def answered(served, messages):
+    """Sends the messages in pieces, and reads all replies; answers the first twelve bytes of the last."""
+    with served.client() as client:
+        held = []
+
+        def read():
+            while client.more():
+                if len(client.held) > 1_000_000:
+                    client.held = client.held[-1_000:]
+            held.append(client.rest())
+        reader = threading.Thread(target=read)
+        reader.start()
+        for at in range(0, len(messages), PIECE):
+            client.send(b"".join(messages[at:at + PIECE]))
+        client.ends_writing()
+        reader.join()
+        last = held[0].rfind(b"HTTP/1.1 ")
+        return held[0][last:last + 12].decode()
 
 
 class Checks:
