@@ -1,5 +1,5 @@
 -- How keys are hashed: by the value of a polynomial at a secret point, modulo the prime 2^61 - 1. Nothing rests on it but time.
-use Rattle.std.specs.Prelude.{ℕ, ◌+◌, ◌*◌, ◌/◌, ◌%◌, ◌^◌, List, length, drop}
+use Rattle.std.specs.Prelude.{ℕ, ◌+◌, ◌*◌, ◌/◌, ◌%◌, ◌^◌, List, [], ◌∷◌, length, drop, map, sum, zip}
 use Rattle.std.specs.List.{fold}
 use Rattle.std.specs.Simd.{first_chunks}
 use Rattle.xa_cache.specs.declared.seeded.Polynomial.{Polynomial}
@@ -24,8 +24,23 @@ part bytes = fold next_byte 1 bytes
 abbrev pub valued : ℕ → ℕ → List (List ℕ) → ℕ
 valued point value parts = fold (λ v bytes. term point v (part bytes)) value parts
 
--- the hasher once bytes were written: in parts of seven, and then the rest
+-- the powers of the point by which a value and four parts behind it are multiplied
+abbrev pub powers : Polynomial → List ℕ
+powers hasher = hasher.fourth ∷ hasher.cube ∷ hasher.square ∷ hasher.point ∷ 1 ∷ []
+
+-- the value once four parts were written at once
+abbrev pub terms : Polynomial → ℕ → List (List ℕ) → ℕ
+terms hasher value parts = folded (folded (sum (map (λ p. folded (p.1 * p.0)) (zip (powers hasher) (value ∷ map part parts)))))
+
+-- the value once so many times four parts were written
+abbrev pub valued_by_four : Polynomial → List (List (List ℕ)) → ℕ
+valued_by_four hasher fours = fold (terms hasher) hasher.value fours
+
+-- the hasher once bytes were written: in parts of seven, four at once as long as there are four, and then the rest
 abbrev pub hashed : Polynomial → List ℕ → Polynomial
 hashed hasher bytes =
     let whole = length bytes / 7 in
-    record { point = hasher.point; value = term hasher.point (valued hasher.point hasher.value (first_chunks 7 whole bytes)) (part (drop (whole * 7) bytes)) }
+    let parts = first_chunks 7 whole bytes in
+    let fours = length parts / 4 in
+    let value = valued hasher.point (valued_by_four hasher (first_chunks 4 fours parts)) (drop (fours * 4) parts) in
+    record { point = hasher.point; square = hasher.square; cube = hasher.cube; fourth = hasher.fourth; value = term hasher.point value (part (drop (whole * 7) bytes)) }

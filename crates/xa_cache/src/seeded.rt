@@ -1,6 +1,6 @@
 //! How keys are hashed: a body's parts of seven bytes are the coefficients of a polynomial, whose value at a secret point is the hash.
 ghost use Rattle.std.specs.Prelude.{◌≡◌, ◌+◌, ◌*◌, ◌<◌, ◌^◌, fold, drop};
-ghost use Rattle.xa_cache.specs.Hashing.{folded, hashed, term, valued, part};
+ghost use Rattle.xa_cache.specs.Hashing.{folded, hashed, term, terms, valued, valued_by_four, part};
 
 use std::hash::{BuildHasher, DefaultHasher, Hasher};
 
@@ -13,10 +13,13 @@ pub(crate) struct Seeded {
     start: Polynomial,
 }
 
-/// A hasher: the point, and the polynomial's value there as far as it was written.
+/// A hasher: the point and its powers, by which four parts are taken at once, and the polynomial's value there as far as it was written.
 #[derive(Clone, Copy)]
 pub(crate) struct Polynomial {
     point: u64,
+    square: u64,
+    cube: u64,
+    fourth: u64,
     value: u64,
 }
 
@@ -28,10 +31,7 @@ impl Seeded {
         let mut value = point;
         value.write(secret);
         Seeded {
-            start: Polynomial {
-                point: point.finish() / 8,
-                value: value.finish() / 8,
-            },
+            start: Polynomial::at(point.finish() / 8, value.finish() / 8),
         }
     }
 }
@@ -46,6 +46,45 @@ impl BuildHasher for Seeded {
     }
 }
 
+impl Polynomial {
+    /// The hasher at the point that begins with the value.
+    fn at(point: u64, value: u64) -> Polynomial {
+        let square = term(point, point, 0);
+        let cube = term(point, square, 0);
+        Polynomial {
+            point,
+            square,
+            cube,
+            fourth: term(point, cube, 0),
+            value,
+        }
+    }
+
+    /// The value once four parts and a value before them were written: each is multiplied by its power of the point, none of which waits for another.
+    fn terms(&self, value: u64, parts: &[[u8; 7]; 4]) -> u64
+        ensures { result ≡ terms self.now value parts.now }
+    {
+        let [a, b, c, d] = parts;
+        let sum = product(value, self.fourth)
+            + product(whole_part(a), self.cube)
+            + product(whole_part(b), self.square)
+            + product(whole_part(c), self.point)
+            + product(whole_part(d), 1);
+        folded(folded(sum)) as u64
+    }
+
+    /// The value once so many times four parts were written.
+    fn valued_by_four(&self, fours: &[[[u8; 7]; 4]]) -> u64
+        ensures { result ≡ valued_by_four self.now fours.now }
+    {
+        let mut value = self.value;
+        for parts in fours {
+            value = self.terms(value, parts);
+        }
+        value
+    }
+}
+
 impl Hasher for Polynomial {
     ghost write = { hashed };
 
@@ -57,7 +96,9 @@ impl Hasher for Polynomial {
 
     fn write(&mut self, bytes: &[u8]) {
         let (parts, rest) = bytes.as_chunks::<7>();
-        let value = valued(self.point, self.value, parts);
+        let (fours, parts) = parts.as_chunks::<4>();
+        let value = self.valued_by_four(fours);
+        let value = valued(self.point, value, parts);
         self.value = term(self.point, value, part(rest));
     }
 }
@@ -68,7 +109,7 @@ fn valued(point: u64, value: u64, parts: &[[u8; 7]]) -> u64
 {
     let mut value = value;
     for bytes in parts {
-        value = term(point, value, part(bytes.as_slice()));
+        value = term(point, value, whole_part(bytes));
     }
     value
 }
@@ -77,9 +118,29 @@ fn valued(point: u64, value: u64, parts: &[[u8; 7]]) -> u64
 fn term(point: u64, value: u64, part: u64) -> u64
     ensures { result ≡ term point value part }
 {
-    let sum = value as u128 * point as u128 + part as u128;
-    let once = sum % WHOLE + sum / WHOLE;
-    (once % WHOLE + once / WHOLE) as u64
+    folded(folded(value as u128 * point as u128 + part as u128)) as u64
+}
+
+/// The product of the two, folded once.
+fn product(number: u64, power: u64) -> u128
+    ensures { result ≡ folded (number * power) }
+{
+    folded(number as u128 * power as u128)
+}
+
+/// The same number modulo the prime, and a shorter one.
+fn folded(number: u128) -> u128
+    ensures { result ≡ folded number }
+{
+    number % WHOLE + number / WHOLE
+}
+
+/// A part of seven bytes as a number: as below, at once.
+fn whole_part(bytes: &[u8; 7]) -> u64
+    ensures { result ≡ part bytes.now }
+{
+    let [a, b, c, d, e, f, g] = *bytes;
+    u64::from_be_bytes([1, a, b, c, d, e, f, g])
 }
 
 /// A part of at most seven bytes as a number below 2^57. That it begins with a one tells parts of different lengths apart.
