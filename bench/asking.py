@@ -4,16 +4,17 @@ import json
 from transcripts import OPERATOR, TOKEN, message
 
 RULES = "urn:oasis:names:tc:xacml:3.0:rule-combining-algorithm:deny-overrides"
-IDS = "urn:oasis:names:tc:xacml:1.0:"
+ID = "urn:oasis:names:tc:xacml:1.0:"
 
 
 def rule(number):
-    match = {"MatchId": IDS + "function:string-equal", "AttributeValue": {"DataType": "string", "Value": f"read-{number}"},
-             "AttributeDesignator": {"Category": "Action", "AttributeId": IDS + "action:action-id", "DataType": "string", "MustBePresent": False}}
+    match = {"MatchId": ID + "function:string-equal", "AttributeValue": {"DataType": "string", "Value": f"read-{number}"},
+             "AttributeDesignator": {"Category": "Action", "AttributeId": ID + "action:action-id", "DataType": "string", "MustBePresent": False}}
     return {"RuleId": str(number), "Effect": "Permit", "Target": {"AnyOf": [{"AllOf": [{"Match": [match]}]}]}}
 
 
 def policy(**members):
+    """The text of a policy of ten rules, of which the last permits, with these members besides."""
     return json.dumps({"Policy": {"PolicyId": "urn:p", "Version": "1.0", "RuleCombiningAlgId": RULES, "Rule": [rule(number) for number in range(10)], **members}})
 
 
@@ -26,8 +27,12 @@ def domain(name, text):
             message("PUT", f"{at}/root", TOKEN, json.dumps({"PolicyIdReference": {"Id": "urn:p"}}))]
 
 
-def ask(name, number, token=TOKEN):
-    """An ask with three attributes, whose subject has the number."""
+def request(number):
+    """The body of an ask with three attributes, whose subject has the number."""
     found = [("AccessSubject", "subject:subject-id", f"person-{number:06}"), ("Resource", "resource:resource-id", "a-document"), ("Action", "action:action-id", "read-9")]
-    request = {category: {"Attribute": [{"AttributeId": IDS + name, "Value": value}]} for category, name, value in found}
-    return message("POST", f"/domains/{name}/pdp", token, json.dumps({"Request": request}, separators=(",", ":")))
+    objects = {category: {"Attribute": [{"AttributeId": ID + name, "Value": value}]} for category, name, value in found}
+    return json.dumps({"Request": objects}, separators=(",", ":"))
+
+
+def ask(name, number, token=TOKEN):
+    return message("POST", f"/domains/{name}/pdp", token, request(number))

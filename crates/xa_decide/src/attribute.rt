@@ -3,7 +3,7 @@ ghost use Rattle.std.specs.Prelude.{◌≡◌, true, [], ◌++◌, IfOk, if◌th
 ghost use Rattle.xa_bag.specs.Bag.{bag_of};
 ghost use Rattle.xa_decide.specs.Context.{is_issuer, is_named, is_named_by};
 
-use crate::bag::push_all;
+use crate::bag::append;
 use std::alloc::AllocError;
 use xa_bag::Bag;
 use xa_expr::{Budget, Designator, units_of_bag};
@@ -55,7 +55,7 @@ pub(crate) fn push_attribute(
 {
     if is_named_by(designator, attribute) {
         budget.spend(units_of_bag(&attribute.values))?;
-        push_all(bag, attribute.values.values())?;
+        append(bag, &attribute.values)?;
     }
     Ok(())
 }

@@ -17,7 +17,7 @@ pub(crate) fn push_value(bag: &mut Bag, value: &Value) -> Result<(), AllocError>
 }
 
 /// Puts copies of the values, which are of the bag's type, at the end of the bag.
-pub(crate) fn push_all(bag: &mut Bag, values: &[Value]) -> Result<(), AllocError>
+fn push_all(bag: &mut Bag, values: &[Value]) -> Result<(), AllocError>
     requires { OfType bag.old.data_type values.now }
     ensures { IfOk result (λ _. bag.new ≡ bag_of bag.old.data_type (bag.old.values ++ values.now)) }
 {
@@ -25,6 +25,19 @@ pub(crate) fn push_all(bag: &mut Bag, values: &[Value]) -> Result<(), AllocError
         push_value(bag, value)?;
     }
     Ok(())
+}
+
+/// Puts copies of the other bag's values at the end of the bag, which is of their type; at once, where nothing is in it yet.
+pub(crate) fn append(bag: &mut Bag, other: &Bag) -> Result<(), AllocError>
+    requires { bag.old.data_type ≡ other.now.data_type }
+    ensures { IfOk result (λ _. bag.new ≡ bag_of bag.old.data_type (bag.old.values ++ other.now.values)) }
+{
+    if bag.is_empty() {
+        *bag = other.clone()?;
+        Ok(())
+    } else {
+        push_all(bag, other.values())
+    }
 }
 
 /// The bag of the one value.
