@@ -1,4 +1,4 @@
-"""A domain of one policy of ten rules, and asks for its decisions."""
+"""A domain of one policy, and asks for its decisions."""
 import json
 
 from transcripts import OPERATOR, TOKEN, message
@@ -8,14 +8,15 @@ ID = "urn:oasis:names:tc:xacml:1.0:"
 
 
 def rule(number):
-    match = {"MatchId": ID + "function:string-equal", "AttributeValue": {"DataType": "string", "Value": f"read-{number}"},
+    match = {"MatchId": ID + "function:string-equal", "AttributeValue": {"DataType": "string", "Value": f"read-{number:03}"},
              "AttributeDesignator": {"Category": "Action", "AttributeId": ID + "action:action-id", "DataType": "string", "MustBePresent": False}}
     return {"RuleId": str(number), "Effect": "Permit", "Target": {"AnyOf": [{"AllOf": [{"Match": [match]}]}]}}
 
 
-def policy(**members):
-    """The text of a policy of ten rules, of which the last permits, with these members besides."""
-    return json.dumps({"Policy": {"PolicyId": "urn:p", "Version": "1.0", "RuleCombiningAlgId": RULES, "Rule": [rule(number) for number in range(10)], **members}})
+def policy(rules=10, **members):
+    """The text of a policy of so many rules, of which the last permits what is asked for, with these members besides."""
+    held = {"PolicyId": "urn:p", "Version": "1.0", "RuleCombiningAlgId": RULES, "Rule": [rule(number) for number in reversed(range(rules))], **members}
+    return json.dumps({"Policy": held}, separators=(",", ":"))
 
 
 def domain(name, text):
@@ -29,7 +30,7 @@ def domain(name, text):
 
 def request(number):
     """The body of an ask with three attributes, whose subject has the number."""
-    found = [("AccessSubject", "subject:subject-id", f"person-{number:06}"), ("Resource", "resource:resource-id", "a-document"), ("Action", "action:action-id", "read-9")]
+    found = [("AccessSubject", "subject:subject-id", f"person-{number:06}"), ("Resource", "resource:resource-id", "a-document"), ("Action", "action:action-id", "read-000")]
     objects = {category: {"Attribute": [{"AttributeId": ID + name, "Value": value}]} for category, name, value in found}
     return json.dumps({"Request": objects}, separators=(",", ":"))
 

@@ -140,6 +140,9 @@ fn write_results(
     out.end_array()
 }
 
+/// An ordinary response, of one result without obligations, fits into this many bytes.
+const BODY_ROOM: usize = 256;
+
 impl<'a> Response<'a> {
     /// Writes the response.
     #[tactic(auto, unfolding(crate::specs::Response::response_data))]
@@ -158,7 +161,7 @@ impl<'a> Response<'a> {
     pub fn to_body(&self, alloc: Global) -> Result<Vec<u8>, AllocError>
         ensures { IfOk result (λ body. body.items ≡ response_body self.now.objects.now self.now.results) }
     {
-        let mut out = Writer::new(Vec::new(alloc));
+        let mut out = Writer::new(Vec::with_capacity(alloc, BODY_ROOM)?);
         self.write(alloc, &mut out)?;
         Ok(out.into_inner())
     }
