@@ -10,6 +10,7 @@ pub mod MirrorLemmas
 pub mod OnlyOneLemmas
 pub mod OverridingLemmas
 pub mod PartLemmas
+pub mod PastLemmas
 pub mod PatternLemmas
 pub mod PatternRoundTrip
 pub mod RoomLemmas

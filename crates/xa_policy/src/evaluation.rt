@@ -133,7 +133,7 @@ fn combine_rules<'a, C: Context>(
     }
 }
 
-/// What an algorithm that goes by decisions makes of the rules.
+/// What an algorithm that goes by decisions makes of the rules. One whose target doesn't match is passed.
 fn walk_rules<'a, C: Context>(
     alloc: Global,
     algorithm: Alg,
@@ -149,6 +149,9 @@ fn walk_rules<'a, C: Context>(
     let mut so_far = Combination::new(alloc, algorithm);
     for rule in rules {
         let target = target_of_rule(alloc, rule, context)?;
+        if target == Matching::NoMatch {
+            continue;
+        }
         let child = evaluate_rule(alloc, evaluator, rule, target)?;
         context.spend(child.duties.units_of_moving())?;
         if so_far.add(child)? {
@@ -248,7 +251,7 @@ fn combine_children<C: Context>(
     }
 }
 
-/// What an algorithm that goes by decisions makes of the children.
+/// What an algorithm that goes by decisions makes of the children. One whose target doesn't match is passed.
 #[cycle(evaluation)]
 fn walk_children<C: Context>(
     alloc: Global,
@@ -261,6 +264,9 @@ fn walk_children<C: Context>(
     let mut so_far = Combination::new(alloc, algorithm);
     for child in children {
         let target = target_of(alloc, child, context)?;
+        if target == Matching::NoMatch {
+            continue;
+        }
         let child = evaluate_linked(alloc, child, target, context)?;
         context.spend(child.duties.units_of_moving())?;
         if so_far.add(child)? {

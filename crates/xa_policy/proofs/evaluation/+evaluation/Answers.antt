@@ -1,7 +1,10 @@
+use Rattle.std.proofs.Common.{◌≡◌, rules, sym, ◌∙◌}
 use Rattle.std.proofs.lemmas.List.{drop_all}
 use Rattle.xa_bag.proofs.SetLemmas as list
 use Rattle.xa_policy.specs.Evaluation.{evaluated}
 use Rattle.xa_policy.proofs.EvaluationLemmas.{child_ends, child_goes_on, child_passed, child_open, other_passed, other_open, other_applies, no_other}
+use Rattle.xa_expr.specs.declared.matching.Matching.TheVariants.{NoMatch}
+use Rattle.xa_policy.proofs.PastLemmas.{passed, linked_past}
 use Rattle.xa_policy.proofs.TidyLemmas.{linked_alone}
 use Rattle.xa_policy.proofs.evaluation.+evaluation.Goals as goal
 
@@ -46,3 +49,10 @@ pub walk_children-loop-child-preserved : goal.walk_children-loop-child-preserved
 walk_children-loop-child-preserved g t c =
     let at = list.walked c.args.children.now c.loop-child.child-index c.child-item.result c.child-item.is c.loop-child-test.true in
     child_goes_on (evaluated (g.C.Context.values_of c.args.context.now)) c.args.algorithm c.loop-child.so_far _ _ _ _ c.in_ok-child.child _ c.in_ok-add.field-0 at c.in_ok-child.ensures c.in_ok-add.ensures.ok c.in_ok-add.ensures.ended c.if-branch.false c.loop-child.invariant
+
+pub walk_children-loop-child-preserved-then-eq : goal.walk_children-loop-child-preserved-then-eq
+walk_children-loop-child-preserved-then-eq g t c =
+    let at = list.walked c.args.children.now c.loop-child.child-index c.child-item.result c.child-item.is c.loop-child-test.true in
+    let none : c.in_ok-target.target ≡ NoMatch = search (rules, c.eq.ensures, c.if-eq.true) in
+    let values_of = g.C.Context.values_of c.args.context.now in
+    (c.loop-child.invariant.0, passed (evaluated values_of) c.loop-child.so_far _ _ _ _ at (linked_past values_of c.child-item.result (sym c.in_ok-target.ensures ∙ none)) c.loop-child.invariant.1)
