@@ -7,3 +7,4 @@ pub mod ObjectLemmas
 pub mod PlaceLemmas
 pub mod RepetitionLemmas
 pub mod TokenLemmas
+pub mod TreeLemmas

@@ -1,2 +1,3 @@
 -- How the code reads: words that only contracts of private functions cite.
 pub mod Json
+pub mod Tree

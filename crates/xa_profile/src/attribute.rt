@@ -3,19 +3,20 @@ ghost use Rattle.std.specs.Prelude.{◌≡◌, option_map, option_and_then, IfOk
 ghost use Rattle.std.specs.List.{list_all};
 ghost use Rattle.std.specs.Option.{ok_or};
 ghost use Rattle.serde_json.specs.Find.{as_str};
-ghost use Rattle.serde_json.specs.View.{view, items_view};
 ghost use Rattle.xa_value.specs.Gives.{Gives};
 ghost use Rattle.xa_value.specs.Order.{type_of};
 ghost use Rattle.xa_value.specs.Types.{type_named, same_type};
 ghost use Rattle.xa_profile.specs.Attribute.{plain_of, kind, is_one_kind, type_of_values, named_type, bag, value, values, attribute};
 ghost use Rattle.xa_profile.specs.Json.{items_if_any, each};
+ghost use Rattle.xa_profile.specs.parsing.Tree.{view, items_view};
 
 use crate::member::Member;
+use crate::number::number;
 use crate::reading::{
     Reader, each, flag, holds_or_not_profile, items_if_any, member_at, needed_text, optional_text,
 };
 use crate::request_error::RequestError;
-use serde_json::Value as Json;
+use json::Value as Json;
 use std::alloc::Global;
 use xa_bag::Bag;
 use xa_value::{DataType, Items, OrMemory, Plain, Text, TextRef, Value};
@@ -34,13 +35,13 @@ pub struct Attribute {
 }
 
 /// A text, a boolean or a whole number.
-fn plain_of(value: &Json) -> Option<Plain<TextRef<'_>>>
+fn plain_of<'a>(value: &Json<'a>) -> Option<Plain<TextRef<'a>>>
     ensures { result ≡ plain_of (view value.now) }
 {
     match value {
-        Json::String(text) => Some(Plain::Text(TextRef::new(text.as_str()))),
+        Json::String(text) => Some(Plain::Text(TextRef::new(*text))),
         Json::Bool(value) => Some(Plain::Boolean(*value)),
-        Json::Number(number) => Some(Plain::Integer(number.as_i128()?)),
+        Json::Number(text) => Some(Plain::Integer(number(text)?.as_i128()?)),
         _ => None,
     }
 }
@@ -55,7 +56,7 @@ impl Reader for KindReader {
     ghost reads = { λ _ d. kind d };
 
     #[tactic(auto, unfolding(crate::specs::Attribute::kind))]
-    fn read(&self, _alloc: Global, value: &Json) -> Result<DataType, OrMemory<RequestError>> {
+    fn read(&self, _alloc: Global, value: &Json<'_>) -> Result<DataType, OrMemory<RequestError>> {
         match plain_of(value) {
             Some(plain) => Ok(plain.data_type()),
             None => Err(OrMemory::Error(RequestError::NotProfile)),
@@ -97,7 +98,7 @@ fn type_of_values(named: Option<DataType>, kinds: &[DataType]) -> DataType
 }
 
 /// The type that is named, if one is.
-fn named_type(value: Option<&Json>) -> Result<Option<DataType>, RequestError>
+fn named_type(value: Option<&Json<'_>>) -> Result<Option<DataType>, RequestError>
     ensures { result ≡ named_type (option_map (λ v. view v.now) value.entry) }
 {
     match value {
@@ -107,7 +108,7 @@ fn named_type(value: Option<&Json>) -> Result<Option<DataType>, RequestError>
 }
 
 /// The type that a text names.
-fn data_type(value: &Json) -> Result<DataType, RequestError>
+fn data_type(value: &Json<'_>) -> Result<DataType, RequestError>
     ensures { result ≡ ok_or (option_and_then type_named (as_str (view value.now))) RequestError.NotProfile }
 {
     match value.as_str() {
@@ -121,7 +122,7 @@ fn data_type(value: &Json) -> Result<DataType, RequestError>
 fn value_of(
     alloc: Global,
     data_type: DataType,
-    json: &Json,
+    json: &Json<'_>,
 ) -> Result<Value, OrMemory<RequestError>>
     ensures value { Gives result (value data_type (view json.now)) }
     ensures of_type { IfOk result (λ v. type_of v ≡ data_type) }
@@ -140,7 +141,7 @@ fn value_of(
 fn bag_of(
     alloc: Global,
     data_type: DataType,
-    values: &[Json],
+    values: &[Json<'_>],
 ) -> Result<Bag, OrMemory<RequestError>>
     ensures { Gives result (bag data_type (items_view values.now)) }
 {
@@ -156,7 +157,7 @@ fn bag_of(
 fn values_of(
     alloc: Global,
     named: Option<DataType>,
-    items: &[Json],
+    items: &[Json<'_>],
 ) -> Result<Bag, OrMemory<RequestError>>
     ensures { Gives result (values named (items_view items.now)) }
 {
@@ -175,7 +176,7 @@ impl Reader for AttributeReader {
     ghost reads = { λ _ d. attribute d };
 
     #[tactic(auto, unfolding(crate::specs::Attribute::attribute))]
-    fn read(&self, alloc: Global, value: &Json) -> Result<Attribute, OrMemory<RequestError>> {
+    fn read(&self, alloc: Global, value: &Json<'_>) -> Result<Attribute, OrMemory<RequestError>> {
         let id = needed_text(alloc, member_at(value, Member::AttributeId))?;
         let issuer = optional_text(alloc, member_at(value, Member::Issuer))?;
         let include_in_result = flag(member_at(value, Member::IncludeInResult))?;
@@ -194,7 +195,7 @@ impl Reader for AttributeReader {
 /// The attributes of a member, and none where it is left out.
 pub(crate) fn attributes_of(
     alloc: Global,
-    member: Option<&Json>,
+    member: Option<&Json<'_>>,
 ) -> Result<Items<Attribute>, OrMemory<RequestError>>
     ensures { Gives result (each attribute (items_if_any (option_map (λ v. view v.now) member.entry))) }
 {

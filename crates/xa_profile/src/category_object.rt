@@ -1,9 +1,9 @@
 //! Category objects of a request.
 ghost use Rattle.std.specs.Prelude.{◌≡◌, option_map};
-ghost use Rattle.serde_json.specs.View.{view};
 ghost use Rattle.xa_value.specs.Gives.{Gives};
 ghost use Rattle.xa_profile.specs.Json.{each, items_if_any};
 ghost use Rattle.xa_profile.specs.parsing.Json.{behind};
+ghost use Rattle.xa_profile.specs.parsing.Tree.{view};
 ghost use Rattle.xa_profile.specs.Request.{named_category, category_of, category_object, under_shorthands, all_objects};
 
 use crate::attribute::{Attribute, attributes_of};
@@ -12,7 +12,7 @@ use crate::reading::{
     Reader, check_object, each_behind, items_if_any, member_at, optional_text, shorthand_at,
 };
 use crate::request_error::RequestError;
-use serde_json::Value as Json;
+use json::Value as Json;
 use std::alloc::Global;
 use xa_value::{Category, Items, OrMemory, Text, category_uri};
 
@@ -28,7 +28,7 @@ pub struct CategoryObject {
 }
 
 /// The category that an object names.
-fn category_named(alloc: Global, value: Option<&Json>) -> Result<Text, OrMemory<RequestError>>
+fn category_named(alloc: Global, value: Option<&Json<'_>>) -> Result<Text, OrMemory<RequestError>>
     ensures { Gives result (named_category (option_map (λ v. view v.now) value.entry)) }
 {
     match value.and_then(Json::as_str) {
@@ -41,7 +41,7 @@ fn category_named(alloc: Global, value: Option<&Json>) -> Result<Text, OrMemory<
 fn category_of(
     alloc: Global,
     shorthand: Option<Category>,
-    value: &Json,
+    value: &Json<'_>,
 ) -> Result<Text, OrMemory<RequestError>>
     ensures { Gives result (category_of shorthand (view value.now)) }
 {
@@ -63,7 +63,11 @@ impl Reader for ObjectReader {
     ghost reads = { λ reader d. category_object reader.shorthand d };
 
     #[tactic(auto, unfolding(crate::specs::Request::category_object))]
-    fn read(&self, alloc: Global, value: &Json) -> Result<CategoryObject, OrMemory<RequestError>> {
+    fn read(
+        &self,
+        alloc: Global,
+        value: &Json<'_>,
+    ) -> Result<CategoryObject, OrMemory<RequestError>> {
         check_object(value)?;
         let category = category_of(alloc, self.shorthand, value)?;
         let id = optional_text(alloc, member_at(value, Member::Id))?;
@@ -81,7 +85,7 @@ fn with_objects(
     alloc: Global,
     objects: Items<CategoryObject>,
     shorthand: Option<Category>,
-    value: Option<&Json>,
+    value: Option<&Json<'_>>,
 ) -> Result<Items<CategoryObject>, OrMemory<RequestError>>
     ensures { Gives result (behind objects (each (category_object shorthand) (items_if_any (option_map (λ v. view v.now) value.entry)))) }
 {
@@ -94,7 +98,7 @@ fn with_shorthands(
     alloc: Global,
     mut objects: Items<CategoryObject>,
     shorthands: &[Category],
-    value: &Json,
+    value: &Json<'_>,
 ) -> Result<Items<CategoryObject>, OrMemory<RequestError>>
     ensures { Gives result (behind objects (under_shorthands shorthands.now (view value.now))) }
 {
@@ -109,7 +113,7 @@ fn with_shorthands(
 #[tactic(auto, unfolding(crate::specs::Request::all_objects))]
 pub(crate) fn all_objects(
     alloc: Global,
-    value: &Json,
+    value: &Json<'_>,
 ) -> Result<Items<CategoryObject>, OrMemory<RequestError>>
     ensures { Gives result (all_objects (view value.now)) }
 {

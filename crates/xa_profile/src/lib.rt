@@ -8,12 +8,14 @@ mod grouping;
 mod included;
 mod individuals;
 mod member;
+mod number;
 mod objects_by_id;
 mod reading;
 mod repetition;
 mod request;
 mod request_error;
 mod response;
+mod tree;
 mod writing;
 
 pub use attribute::Attribute;

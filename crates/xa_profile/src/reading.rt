@@ -1,42 +1,30 @@
 //! How members are read from JSON.
-ghost use Rattle.std.specs.Prelude.{◌≡◌, List, Result, option_map, MatchResult};
+ghost use Rattle.std.specs.Prelude.{◌≡◌, Result, option_map};
 ghost use Rattle.serde_json.specs.Data.{Data};
 ghost use Rattle.serde_json.specs.Find.{get};
-ghost use Rattle.serde_json.specs.View.{view, items_view};
 ghost use Rattle.xa_value.specs.Category.{shorthand_of};
 ghost use Rattle.xa_value.specs.Gives.{Gives};
 ghost use Rattle.xa_profile.specs.declared.request_error.RequestError.{RequestError as ReadFault};
-ghost use Rattle.xa_profile.specs.Json.{json, at, text, check_object, holds_or_not_profile, needed_text, optional_text, flag, items_or_itself, items_if_any, each};
+ghost use Rattle.xa_profile.specs.Json.{at, text, check_object, holds_or_not_profile, needed_text, optional_text, flag, items_or_itself, items_if_any, each};
 ghost use Rattle.xa_profile.specs.parsing.Json.{behind};
+ghost use Rattle.xa_profile.specs.parsing.Tree.{view, items_view};
 
 use crate::member::Member;
 use crate::request_error::RequestError;
-use serde_json::Value as Json;
+use json::Value as Json;
 use std::alloc::Global;
 use std::slice;
 use xa_value::{Category, Items, OrMemory, Text};
 
-/// The JSON of a body.
-#[tactic(auto, unfolding(crate::specs::Json::json))]
-pub(crate) fn json(alloc: Global, body: &[u8]) -> Result<Json, OrMemory<RequestError>>
-    ensures { MatchResult result (λ v. json body.now ≡ Ok (view v)) (λ e. Gives (Err e) (json body.now)) }
-{
-    match Json::from_slice(alloc, body) {
-        Ok(value) => Ok(value),
-        Err(error) if error.is_memory() => Err(OrMemory::Memory),
-        Err(_) => Err(OrMemory::Error(RequestError::NotJson)),
-    }
-}
-
 /// The member of that name.
-pub(crate) fn member_at(value: &Json, name: Member) -> Option<&Json>
+pub(crate) fn member_at<'v, 'a>(value: &'v Json<'a>, name: Member) -> Option<&'v Json<'a>>
     ensures { option_map (λ v. view v.now) result ≡ at name (view value.now) }
 {
     value.get(name.name())
 }
 
 /// The member of the name that is the category's shorthand.
-pub(crate) fn shorthand_at(value: &Json, category: Category) -> Option<&Json>
+pub(crate) fn shorthand_at<'v, 'a>(value: &'v Json<'a>, category: Category) -> Option<&'v Json<'a>>
     ensures { option_map (λ v. view v.now) result ≡ get (shorthand_of category) (view value.now) }
 {
     value.get(category.shorthand())
@@ -54,14 +42,14 @@ pub(crate) fn holds_or_not_profile(holds: bool) -> Result<(), RequestError>
 }
 
 /// Nothing, of an object.
-pub(crate) fn check_object(value: &Json) -> Result<(), RequestError>
+pub(crate) fn check_object(value: &Json<'_>) -> Result<(), RequestError>
     ensures { result ≡ check_object (view value.now) }
 {
-    holds_or_not_profile(value.is_object())
+    holds_or_not_profile(matches!(value, Json::Object(_)))
 }
 
 /// A copy of a text.
-pub(crate) fn text(alloc: Global, value: &Json) -> Result<Text, OrMemory<RequestError>>
+pub(crate) fn text(alloc: Global, value: &Json<'_>) -> Result<Text, OrMemory<RequestError>>
     ensures { Gives result (text (view value.now)) }
 {
     match value.as_str() {
@@ -73,7 +61,7 @@ pub(crate) fn text(alloc: Global, value: &Json) -> Result<Text, OrMemory<Request
 /// A copy of a text that has to be there.
 pub(crate) fn needed_text(
     alloc: Global,
-    value: Option<&Json>,
+    value: Option<&Json<'_>>,
 ) -> Result<Text, OrMemory<RequestError>>
     ensures { Gives result (needed_text (option_map (λ v. view v.now) value.entry)) }
 {
@@ -86,7 +74,7 @@ pub(crate) fn needed_text(
 /// A copy of a text that may be left out.
 pub(crate) fn optional_text(
     alloc: Global,
-    value: Option<&Json>,
+    value: Option<&Json<'_>>,
 ) -> Result<Option<Text>, OrMemory<RequestError>>
     ensures { Gives result (optional_text (option_map (λ v. view v.now) value.entry)) }
 {
@@ -97,7 +85,7 @@ pub(crate) fn optional_text(
 }
 
 /// True or false, and false where it is left out.
-pub(crate) fn flag(value: Option<&Json>) -> Result<bool, RequestError>
+pub(crate) fn flag(value: Option<&Json<'_>>) -> Result<bool, RequestError>
     ensures { result ≡ flag (option_map (λ v. view v.now) value.entry) }
 {
     match value {
@@ -107,22 +95,22 @@ pub(crate) fn flag(value: Option<&Json>) -> Result<bool, RequestError>
 }
 
 /// An array's items; anything else stands for an array of itself.
-pub(crate) fn items_or_itself(value: &Json) -> &[Json]
+pub(crate) fn items_or_itself<'v, 'a>(value: &'v Json<'a>) -> &'v [Json<'a>]
     ensures { items_view result.now ≡ items_or_itself (view value.now) }
 {
-    match value.as_array() {
-        Some(items) => items.as_slice(),
-        None => slice::from_ref(value),
+    match value {
+        Json::Array(items) => items.as_slice(),
+        _ => slice::from_ref(value),
     }
 }
 
 /// The items of a member, and none where it is left out.
-pub(crate) fn items_if_any<'a>(value: Option<&'a Json>) -> &'a [Json]
+pub(crate) fn items_if_any<'v, 'a>(value: Option<&'v Json<'a>>) -> &'v [Json<'a>]
     ensures { items_view result.now ≡ items_if_any (option_map (λ v. view v.now) value.entry) }
 {
     match value {
         Some(value) => items_or_itself(value),
-        None => &[],
+        None => Default::default(),
     }
 }
 
@@ -134,7 +122,7 @@ pub(crate) trait Reader {
     /// What the value stands for.
     ghost reads: { Self → Data → Result Self.Output ReadFault };
 
-    fn read(&self, alloc: Global, value: &Json) -> Result<Self::Output, OrMemory<RequestError>>
+    fn read(&self, alloc: Global, value: &Json<'_>) -> Result<Self::Output, OrMemory<RequestError>>
         ensures { Gives result (reads self.now (view value.now)) };
 }
 
@@ -143,7 +131,7 @@ pub(crate) fn each_behind<R: Reader>(
     alloc: Global,
     mut items: Items<R::Output>,
     reader: &R,
-    values: &[Json],
+    values: &[Json<'_>],
 ) -> Result<Items<R::Output>, OrMemory<RequestError>>
 where
     R::Output: Drop,
@@ -160,7 +148,7 @@ where
 pub(crate) fn each<R: Reader>(
     alloc: Global,
     reader: &R,
-    values: &[Json],
+    values: &[Json<'_>],
 ) -> Result<Items<R::Output>, OrMemory<RequestError>>
 where
     R::Output: Drop,

@@ -1,18 +1,19 @@
 //! Requests.
 ghost use Rattle.std.specs.Prelude.{◌≡◌, map, option_map, IfOk};
-ghost use Rattle.serde_json.specs.View.{view};
 ghost use Rattle.xa_value.specs.Gives.{Gives};
 ghost use Rattle.xa_profile.specs.Json.{text};
 ghost use Rattle.xa_profile.specs.Request.{has_twice, ids_of, reference, references_in, all_references, request, request_of};
+ghost use Rattle.xa_profile.specs.parsing.Tree.{view};
 
 use crate::category_object::{CategoryObject, all_objects};
 use crate::member::Member;
 use crate::reading::{
-    Reader, check_object, each, flag, holds_or_not_profile, items_or_itself, json, member_at, text,
+    Reader, check_object, each, flag, holds_or_not_profile, items_or_itself, member_at, text,
 };
 use crate::repetition::has_twice;
 use crate::request_error::RequestError;
-use serde_json::Value as Json;
+use crate::tree::json;
+use json::{Scratch, Value as Json};
 use std::alloc::{AllocError, Global};
 use xa_value::{Items, OrMemory, Text};
 
@@ -38,7 +39,7 @@ impl Reader for TextReader {
 
     ghost reads = { λ _ d. text d };
 
-    fn read(&self, alloc: Global, value: &Json) -> Result<Text, OrMemory<RequestError>> {
+    fn read(&self, alloc: Global, value: &Json<'_>) -> Result<Text, OrMemory<RequestError>> {
         text(alloc, value)
     }
 }
@@ -53,7 +54,7 @@ impl Reader for ReferenceReader {
     ghost reads = { λ _ d. reference d };
 
     #[tactic(auto, unfolding(crate::specs::Request::reference))]
-    fn read(&self, alloc: Global, value: &Json) -> Result<Items<Text>, OrMemory<RequestError>> {
+    fn read(&self, alloc: Global, value: &Json<'_>) -> Result<Items<Text>, OrMemory<RequestError>> {
         match member_at(value, Member::ReferenceId) {
             Some(ids) => each(alloc, &TextReader, items_or_itself(ids)),
             None => Err(OrMemory::Error(RequestError::NotProfile)),
@@ -63,7 +64,10 @@ impl Reader for ReferenceReader {
 
 /// The requests of MultiRequests.
 #[tactic(auto, unfolding(crate::specs::Request::references_in))]
-fn references_in(alloc: Global, value: &Json) -> Result<Items<Items<Text>>, OrMemory<RequestError>>
+fn references_in(
+    alloc: Global,
+    value: &Json<'_>,
+) -> Result<Items<Items<Text>>, OrMemory<RequestError>>
     ensures { Gives result (references_in (view value.now)) }
 {
     match member_at(value, Member::RequestReference) {
@@ -75,7 +79,7 @@ fn references_in(alloc: Global, value: &Json) -> Result<Items<Items<Text>>, OrMe
 /// The requests of MultiRequests, and none where it is left out.
 fn all_references(
     alloc: Global,
-    value: Option<&Json>,
+    value: Option<&Json<'_>>,
 ) -> Result<Items<Items<Text>>, OrMemory<RequestError>>
     ensures { Gives result (all_references (option_map (λ v. view v.now) value.entry)) }
 {
@@ -108,7 +112,7 @@ fn has_id_twice(alloc: Global, objects: &[CategoryObject]) -> Result<bool, Alloc
 
 /// The request that the JSON is.
 #[tactic(auto, unfolding(crate::specs::Request::request))]
-fn request_from(alloc: Global, value: &Json) -> Result<Request, OrMemory<RequestError>>
+fn request_from(alloc: Global, value: &Json<'_>) -> Result<Request, OrMemory<RequestError>>
     ensures { Gives result (request (view value.now)) }
 {
     check_object(value)?;
@@ -131,7 +135,8 @@ impl Request {
     pub fn read(alloc: Global, body: &[u8]) -> Result<Request, OrMemory<RequestError>>
         ensures { Gives result (request_of body.now) }
     {
-        let value = json(alloc, body)?;
+        let mut scratch = Scratch::new(alloc);
+        let value = json(alloc, body, &mut scratch)?;
         match member_at(&value, Member::Request) {
             Some(member) => request_from(alloc, member),
             None => Err(OrMemory::Error(RequestError::NotProfile)),

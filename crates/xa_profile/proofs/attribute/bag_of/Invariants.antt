@@ -1,5 +1,5 @@
 use Rattle.std.proofs.Common.{◌≡◌, drop}
-use Rattle.serde_json.specs.View.{items_view}
+use Rattle.xa_profile.specs.parsing.Tree.{items_view}
 use Rattle.xa_profile.specs.Attribute.{value}
 use Rattle.xa_profile.specs.Json.{each}
 use Rattle.xa_profile.specs.parsing.Json.{behind}

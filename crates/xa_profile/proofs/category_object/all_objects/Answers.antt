@@ -1,5 +1,5 @@
 use Rattle.std.proofs.Common.{subst}
-use Rattle.serde_json.specs.View.{view}
+use Rattle.xa_profile.specs.parsing.Tree.{view}
 use Rattle.xa_value.specs.Gives.{Gives}
 use Rattle.xa_profile.proofs.ObjectLemmas.{all_objects_are}
 use Rattle.xa_profile.proofs.category_object.all_objects.Goals as goal

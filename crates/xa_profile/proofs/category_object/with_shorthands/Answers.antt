@@ -1,5 +1,5 @@
 use Rattle.std.proofs.Common.{◌∙◌}
-use Rattle.serde_json.specs.View.{view}
+use Rattle.xa_profile.specs.parsing.Tree.{view}
 use Rattle.xa_profile.proofs.ObjectLemmas.{shorthands_next}
 use Rattle.xa_profile.proofs.category_object.with_shorthands.Goals as goal
 

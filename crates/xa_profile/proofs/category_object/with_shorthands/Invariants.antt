@@ -1,5 +1,5 @@
 use Rattle.std.proofs.Common.{◌≡◌, drop}
-use Rattle.serde_json.specs.View.{view}
+use Rattle.xa_profile.specs.parsing.Tree.{view}
 use Rattle.xa_profile.specs.Request.{under_shorthands}
 use Rattle.xa_profile.specs.parsing.Json.{behind}
 use Rattle.xa_profile.proofs.category_object.with_shorthands.Given as goal
