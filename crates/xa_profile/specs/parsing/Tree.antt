@@ -1,5 +1,5 @@
 -- What a tree of JSON stands for in which numbers are texts.
-use Rattle.std.specs.Prelude.{ℕ, List, Bool, true, ◌&&◌, Option, Some, None, is_some}
+use Rattle.std.specs.Prelude.{List, Bool, true, ◌&&◌, Option, Some, None, is_some}
 use Rattle.json.specs.Json as json
 use Rattle.json.specs.Value.{value_view}
 use Rattle.json.specs.Value as tree
@@ -48,6 +48,7 @@ abbrev mutual
   data_of_members json.no_members found = found
   data_of_members (json.member k j ms) found = data_of_members ms (put k (data_of j) found)
 
+-- what a tree of the code stands for, and several of them
 abbrev pub view : {A : Type 0} → Value A → Data
 view v = data_of (value_view v)
 
