@@ -6,4 +6,5 @@ pub mod ListLemmas
 pub mod ObjectLemmas
 pub mod PlaceLemmas
 pub mod RepetitionLemmas
+pub mod SingleLemmas
 pub mod TokenLemmas
