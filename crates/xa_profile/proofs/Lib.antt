@@ -6,5 +6,6 @@ pub mod ListLemmas
 pub mod ObjectLemmas
 pub mod PlaceLemmas
 pub mod RepetitionLemmas
+pub mod SingleLemmas
 pub mod TokenLemmas
 pub mod TreeLemmas

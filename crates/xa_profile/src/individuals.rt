@@ -1,5 +1,5 @@
 //! The individual requests that a request stands for.
-ghost use Rattle.std.specs.Prelude.{◌≡◌, true, Some, None, map, length, nat_lt, option_map, if◌then◌else◌, IfOk, IsTrue};
+ghost use Rattle.std.specs.Prelude.{◌≡◌, [], ◌∷◌, true, Some, None, map, length, nat_lt, option_map, if◌then◌else◌, IfOk, IsTrue};
 ghost use Rattle.std.specs.List.{range_with_len, slice_set};
 ghost use Rattle.xa_value.specs.Gives.{Gives, answered};
 ghost use Rattle.xa_value.specs.declared.or_memory.OrMemory.TheVariants.{Error as AnError};
@@ -8,6 +8,7 @@ ghost use Rattle.xa_profile.specs.Individuals.{has_unknown, places_named, is_cho
 
 use crate::category_object::CategoryObject;
 use crate::combinations::combinations;
+use crate::distinct::are_few_and_distinct;
 use crate::grouping::places_by_category;
 use crate::objects_by_id::ObjectsById;
 use crate::repetition::has_twice;
@@ -179,7 +180,28 @@ fn individuals_named(
     Ok(individuals)
 }
 
-/// The individuals of all combinations of one object a category.
+/// The places of that many objects, in order.
+#[tactic(auto, using(crate::proofs::SingleLemmas::one_more_place))]
+fn all_places(alloc: Global, count: usize) -> Result<Items<usize>, AllocError>
+    ensures { IfOk result (λ places. places ≡ range_with_len 0 count) }
+{
+    let mut places = Vec::with_capacity(alloc, count)?;
+    for place in 0..count {
+        places.push(place)?;
+    }
+    Ok(Items::from_vec(places))
+}
+
+/// The one individual of that many objects.
+fn individual_of_all(alloc: Global, count: usize) -> Result<Items<Individual>, AllocError>
+    ensures { IfOk result (λ individuals. individuals ≡ Places (range_with_len 0 count) ∷ []) }
+{
+    let mut individuals = Vec::with_capacity(alloc, 1)?;
+    individuals.push(Individual::Places(all_places(alloc, count)?))?;
+    Ok(Items::from_vec(individuals))
+}
+
+/// The individuals of all combinations of one object a category. Few objects of different categories are the only combination.
 #[tactic(auto, unfolding(crate::specs::Individuals::all_combinations), using(crate::proofs::CombinationLemmas::combined_few, crate::proofs::CombinationLemmas::combined_many))]
 fn individuals_combined(
     alloc: Global,
@@ -187,6 +209,9 @@ fn individuals_combined(
 ) -> Result<Items<Individual>, OrMemory<TooMany>>
     ensures { Gives result (at_most_64 (map (λ combination. Places (in_request_order objects.now combination)) (all_combinations objects.now))) }
 {
+    if are_few_and_distinct(objects) {
+        return Ok(individual_of_all(alloc, objects.len())?);
+    }
     let groups = places_by_category(alloc, objects)?;
     let combinations = combinations(alloc, groups.as_slice())?;
     let mut individuals = Items::new(alloc);

@@ -4,6 +4,7 @@
 mod attribute;
 mod category_object;
 mod combinations;
+mod distinct;
 mod grouping;
 mod included;
 mod individuals;
