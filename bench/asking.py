@@ -7,16 +7,25 @@ RULES = "urn:oasis:names:tc:xacml:3.0:rule-combining-algorithm:deny-overrides"
 ID = "urn:oasis:names:tc:xacml:1.0:"
 
 
-def rule(number):
-    match = {"MatchId": ID + "function:string-equal", "AttributeValue": {"DataType": "string", "Value": f"read-{number:03}"},
-             "AttributeDesignator": {"Category": "Action", "AttributeId": ID + "action:action-id", "DataType": "string", "MustBePresent": False}}
-    return {"RuleId": str(number), "Effect": "Permit", "Target": {"AnyOf": [{"AllOf": [{"Match": [match]}]}]}}
+def match(number):
+    return {"MatchId": ID + "function:string-equal", "AttributeValue": {"DataType": "string", "Value": f"read-{number:03}"},
+            "AttributeDesignator": {"Category": "Action", "AttributeId": ID + "action:action-id", "DataType": "string", "MustBePresent": False}}
+
+
+def rule(number, *alternatives):
+    """A rule that permits one of these actions."""
+    return {"RuleId": str(number), "Effect": "Permit", "Target": {"AnyOf": [{"AllOf": [{"Match": [match(at)]} for at in alternatives or (number,)]}]}}
 
 
 def policy(rules=10, **members):
     """The text of a policy of so many rules, of which the last permits what is asked for, with these members besides."""
     held = {"PolicyId": "urn:p", "Version": "1.0", "RuleCombiningAlgId": RULES, "Rule": [rule(number) for number in reversed(range(rules))], **members}
     return json.dumps({"Policy": held}, separators=(",", ":"))
+
+
+def alternatives(count):
+    """The text of a policy of one rule, whose target has so many alternatives of one match, of which the last is true of what is asked for."""
+    return policy(Rule=[rule(0, *reversed(range(count)))])
 
 
 def domain(name, text):
