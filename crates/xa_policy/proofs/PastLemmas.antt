@@ -2,7 +2,6 @@
 use Rattle.std.proofs.Common.{◌≡◌, false, List, [], ◌∷◌, map, Option, Some, None, refl, ap, sym, subst, ◌∙◌}
 use Rattle.std.specs.Option.{option_or}
 use Rattle.xa_func.specs.declared.status.Status.{Status}
-use Rattle.xa_expr.specs.declared.matching.Matching.{Matching}
 use Rattle.xa_expr.specs.declared.matching.Matching.TheVariants.{NoMatch}
 use Rattle.xa_expr.specs.declared.typed.Typed.{Typed}
 use Rattle.xa_expr.specs.declared.variables.Definition.{Definition}

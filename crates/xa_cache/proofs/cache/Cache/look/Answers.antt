@@ -1,4 +1,4 @@
-use Rattle.std.proofs.Common.{rules, ◌≡◌, refl, sym, ap, ◌∙◌}
+use Rattle.std.proofs.Common.{rules, refl, ap, ◌∙◌}
 use Rattle.xa_cache.specs.Bodies.{looked}
 use Rattle.xa_cache.proofs.BodyLemmas.{promoted_looked}
 use Rattle.xa_cache.proofs.cache.Cache.look.Goals as goal
