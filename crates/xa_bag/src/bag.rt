@@ -4,23 +4,28 @@ ghost use Rattle.xa_value.specs.Order.{type_of};
 
 use std::alloc::{AllocError, Global};
 use std::marker::Model;
-use xa_value::{DataType, Value};
+use xa_value::{DataType, Shared, Value};
 
-/// A bag: any number of values of one data type, in order (XACML 3.0, core, section 7.3.2).
+/// From how many values on those of a bag are lent.
+const MANY: usize = 8;
+
+/// A bag: any number of values of one data type, in order (XACML 3.0, core, section 7.3.2). They are its own, or those that are lent to it.
 #[derive(Debug, Drop)]
 pub struct Bag {
     data_type: DataType,
-    values: Vec<Value>,
+    own: Vec<Value>,
+    lent: Option<Shared<Vec<Value>>>,
 }
 
 impl Model for Bag {
+    ghost use Rattle.std.specs.Option.{option_map_or};
     ghost use Rattle.xa_bag.specs.Bag.{Contents, OfType};
 
     ghost Value = { Contents };
 
-    ghost view = { λ b. record { data_type = b.data_type; values = b.values.items } };
+    ghost view = { λ b. record { data_type = b.data_type; values = option_map_or (λ values. values.items) b.lent b.own.items } };
 
-    ghost invariant = { λ b. OfType b.data_type b.values.items };
+    ghost invariant = { λ b. OfType b.data_type (option_map_or (λ values. values.items) b.lent b.own.items) };
 }
 
 impl Bag {
@@ -32,8 +37,24 @@ impl Bag {
     {
         Bag {
             data_type,
-            values: Vec::new(alloc),
+            own: Vec::new(alloc),
+            lent: None,
         }
+    }
+
+    /// The same bag. From eight values on they are lent from now on: a copy of the bag takes no time, however many there are.
+    pub fn lent(self) -> Result<Bag, AllocError>
+        ensures { IfOk result (λ bag. bag ≡ self) }
+    {
+        if self.len() < MANY || self.lent.is_some() {
+            return Ok(self);
+        }
+        let alloc = self.allocator();
+        Ok(Bag {
+            data_type: self.data_type,
+            own: Vec::new(alloc),
+            lent: Some(Shared::new(alloc, self.own)?),
+        })
     }
 
     /// The type of the values.
@@ -48,12 +69,15 @@ impl Bag {
         ensures values { result.now ≡ self.now.values }
         ensures of_type { OfType self.now.data_type result.now }
     {
-        self.values.as_slice()
+        match &self.lent {
+            Some(values) => values.get().as_slice(),
+            None => self.own.as_slice(),
+        }
     }
 
     /// The allocator that the bag was made with.
     pub(crate) fn allocator(&self) -> Global {
-        *self.values.allocator()
+        *self.own.allocator()
     }
 
     /// How many values there are.
@@ -61,14 +85,14 @@ impl Bag {
         ensures value { result ≡ length self.now.values }
         ensures bound { result < 2 ^ 63 }
     {
-        self.values.len()
+        self.values().len()
     }
 
     /// Whether there are none.
     pub fn is_empty(&self) -> bool
         ensures { IsTrue result ↔ (self.now.values ≡ []) }
     {
-        self.values.is_empty()
+        self.values().is_empty()
     }
 
     /// Whether the value is of the bag's type.
@@ -84,8 +108,17 @@ impl Bag {
         ensures ok { OnOk result (self.new ≡ bag_of self.old.data_type (self.old.values ++ value ∷ [])) }
         ensures err { OnErr result (self.new ≡ self.old) }
     {
-        self.values.push(value)?;
-        Ok(())
+        match &self.lent {
+            Some(values) => {
+                self.own = with_value(values.get(), value)?;
+                self.lent = None;
+                Ok(())
+            }
+            None => {
+                self.own.push(value)?;
+                Ok(())
+            }
+        }
     }
 
     /// Puts the value at the end and answers true, if it is of the bag's type; else answers false, and nothing is changed.
@@ -103,13 +136,30 @@ impl Bag {
     }
 }
 
+/// A copy of the values, with one more behind them.
+fn with_value(values: &Vec<Value>, value: Value) -> Result<Vec<Value>, AllocError>
+    ensures { IfOk result (λ all. all.items ≡ values.now.items ++ value ∷ []) }
+{
+    let mut all = values.clone()?;
+    all.push(value)?;
+    Ok(all)
+}
+
 impl Clone for Bag {
     ghost is_clone = { λ bag copy. copy ≡ bag };
 
     fn clone(&self) -> Result<Bag, AllocError> {
-        Ok(Bag {
-            data_type: self.data_type,
-            values: self.values.clone()?,
-        })
+        match &self.lent {
+            Some(values) => Ok(Bag {
+                data_type: self.data_type,
+                own: Vec::new(self.allocator()),
+                lent: Some(values.clone()?),
+            }),
+            None => Ok(Bag {
+                data_type: self.data_type,
+                own: self.own.clone()?,
+                lent: None,
+            }),
+        }
     }
 }

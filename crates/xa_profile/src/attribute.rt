@@ -137,7 +137,7 @@ fn value_of(
     }
 }
 
-/// The bag of the values.
+/// The bag of the values. Where they are many they are lent to whoever copies the bag.
 fn bag_of(
     alloc: Global,
     data_type: DataType,
@@ -149,7 +149,7 @@ fn bag_of(
     for value in values {
         bag.push(value_of(alloc, data_type, value)?)?;
     }
-    Ok(bag)
+    Ok(bag.lent()?)
 }
 
 /// The values of an attribute, under the type that it names or by their kind.
