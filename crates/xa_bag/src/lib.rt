@@ -19,6 +19,7 @@ pub use apply::{apply_bag_function, apply_higher_order};
 pub use bag::Bag;
 pub use fault::BagFault;
 pub use inner::Inner;
+pub use members::Members;
 pub use sets::{
     at_least_one_member_of, bag_size, intersection, is_in, one_and_only, set_equals, subset,
 };

@@ -1,5 +1,5 @@
 //! The values of a bag, to be searched many times.
-ghost use Rattle.std.specs.Prelude.{◌≡◌, ◌↔◌, map, IsTrue, IfOk};
+ghost use Rattle.std.specs.Prelude.{◌≡◌, ◌↔◌, [], map, IsTrue, IfOk};
 ghost use Rattle.std.specs.BTreeSet.{IsFromIterResult};
 ghost use Rattle.xa_value.specs.Order.{type_of, key_of, compare_keys};
 ghost use Rattle.xa_bag.specs.Sets.{is_among};
@@ -13,9 +13,10 @@ use xa_value::{DataType, SortKey, Value};
 /// From this many values and this many searches on, the values are ordered by their keys; fewer are faster one after another.
 pub(crate) const ORDERED_FROM: usize = 32;
 
-/// The values of a bag, to be searched. Where there is no memory to order them, they are searched one after another.
+/// The values of a bag, to be searched: of many that are searched often the order is made once, and then a search takes the logarithm of their
+/// number. Where there is no memory for that, they are searched one after another.
 #[derive(Drop)]
-pub(crate) struct Members<'a> {
+pub struct Members<'a> {
     data_type: DataType,
     values: &'a [Value],
     keys: Option<BTreeSet<SortKey<'a>>>,
@@ -36,7 +37,7 @@ impl<'a> Model for Members<'a> {
 
 impl<'a> Members<'a> {
     /// The values of the bag, for this many searches.
-    pub(crate) fn new(bag: &'a Bag, searches: usize) -> Members<'a>
+    pub fn new(bag: &'a Bag, searches: usize) -> Members<'a>
         ensures { result ≡ bag.now }
     {
         let values = bag.values();
@@ -52,6 +53,13 @@ impl<'a> Members<'a> {
         }
     }
 
+    /// Whether there are no values.
+    pub fn is_empty(&self) -> bool
+        ensures { IsTrue result ↔ (self.now.values ≡ []) }
+    {
+        self.values.is_empty()
+    }
+
     /// Whether the value is of the type of the values.
     fn takes(&self, value: &Value) -> bool
         ensures { IsTrue result ↔ (type_of value.now ≡ self.now.data_type) }
@@ -60,7 +68,7 @@ impl<'a> Members<'a> {
     }
 
     /// Whether one of the values is the value.
-    pub(crate) fn contains(&self, value: &'a Value) -> bool
+    pub fn contains(&self, value: &'a Value) -> bool
         ensures { result ≡ is_among self.now.values value.now }
     {
         match &self.keys {

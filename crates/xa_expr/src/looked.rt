@@ -4,7 +4,7 @@ ghost use Rattle.xa_expr.specs.Looked.{joined, looked, match_by};
 
 use crate::fault::Fault;
 use crate::matching::Matching;
-use xa_bag::{Bag, is_in};
+use xa_bag::{Bag, Members, is_in};
 use xa_value::Value;
 
 /// What a look for a value among those of a bag comes to. Of looks at parts of the bag, one after another, `and` makes that at all of it.
@@ -26,6 +26,19 @@ impl Looked {
         if bag.is_empty() {
             Looked::Nothing
         } else if is_in(sought, bag) {
+            Looked::Found
+        } else {
+            Looked::NotFound
+        }
+    }
+
+    /// A look at the values of a bag that are made ready to be searched.
+    pub fn among<'a>(sought: &'a Value, members: &Members<'a>) -> Looked
+        ensures { result ≡ looked sought.now members.now.values }
+    {
+        if members.is_empty() {
+            Looked::Nothing
+        } else if members.contains(sought) {
             Looked::Found
         } else {
             Looked::NotFound
