@@ -1,12 +1,11 @@
 //! The values of a bag, to be searched many times.
 ghost use Rattle.std.specs.Prelude.{◌≡◌, ◌↔◌, [], map, IsTrue, IfOk};
-ghost use Rattle.std.specs.BTreeSet.{IsFromIterResult};
+ghost use Rattle.std.specs.List.Sorted.{IsPermutation, IsSorted};
 ghost use Rattle.xa_value.specs.Order.{type_of, key_of, compare_keys};
 ghost use Rattle.xa_bag.specs.Sets.{is_among};
 
 use crate::bag::Bag;
 use std::alloc::{AllocError, Global};
-use std::collections::BTreeSet;
 use std::marker::Model;
 use xa_value::{DataType, SortKey, Value};
 
@@ -19,12 +18,12 @@ pub(crate) const ORDERED_FROM: usize = 32;
 pub struct Members<'a> {
     data_type: DataType,
     values: &'a [Value],
-    keys: Option<BTreeSet<SortKey<'a>>>,
+    keys: Option<Vec<SortKey<'a>>>,
 }
 
 impl<'a> Model for Members<'a> {
     ghost use Rattle.std.specs.Prelude.{IfSome, map};
-    ghost use Rattle.std.specs.BTreeSet.{IsFromIterResult};
+    ghost use Rattle.std.specs.List.Sorted.{IsPermutation, IsSorted};
     ghost use Rattle.xa_value.specs.Order.{key_of, compare_keys};
     ghost use Rattle.xa_bag.specs.Bag.{Contents, OfType, bag_of};
 
@@ -32,7 +31,7 @@ impl<'a> Model for Members<'a> {
 
     ghost view = { λ m. bag_of m.data_type m.values.now };
 
-    ghost invariant = { λ m. OfType m.data_type m.values.now × IfSome m.keys (λ keys. IsFromIterResult compare_keys (map key_of m.values.now) keys) };
+    ghost invariant = { λ m. OfType m.data_type m.values.now × IfSome m.keys (λ keys. IsPermutation (map key_of m.values.now) keys.items × IsSorted compare_keys keys.items) };
 }
 
 impl<'a> Members<'a> {
@@ -44,7 +43,7 @@ impl<'a> Members<'a> {
         let keys = if values.len().min(searches) < ORDERED_FROM {
             None
         } else {
-            keys_of(bag.allocator(), values).ok()
+            ordered_keys_of(bag.allocator(), values).ok()
         };
         Members {
             data_type: bag.data_type(),
@@ -68,11 +67,14 @@ impl<'a> Members<'a> {
     }
 
     /// Whether one of the values is the value.
-    pub fn contains(&self, value: &'a Value) -> bool
+    pub fn contains(&self, value: &Value) -> bool
         ensures { result ≡ is_among self.now.values value.now }
     {
         match &self.keys {
-            Some(keys) => self.takes(value) && keys.contains(&value.sort_key()),
+            Some(keys) => {
+                let keys = keys.as_slice();
+                self.takes(value) && keys.binary_search(&value.sort_key()).is_ok()
+            }
             None => is_among(self.values, value),
         }
     }
@@ -85,8 +87,21 @@ pub(crate) fn is_among(values: &[Value], value: &Value) -> bool
     values.iter().any(|other| value.same(other))
 }
 
-fn keys_of<'a>(alloc: Global, values: &'a [Value]) -> Result<BTreeSet<SortKey<'a>>, AllocError>
-    ensures { IfOk result (λ keys. IsFromIterResult compare_keys (map key_of values.now) keys) }
+/// The keys of the values.
+fn keys_of<'a>(alloc: Global, values: &'a [Value]) -> Result<Vec<SortKey<'a>>, AllocError>
+    ensures { IfOk result (λ keys. keys.items ≡ map key_of values.now) }
 {
     values.iter().map(|value| value.sort_key()).collect(alloc)
+}
+
+/// The keys of the values, in order.
+fn ordered_keys_of<'a>(
+    alloc: Global,
+    values: &'a [Value],
+) -> Result<Vec<SortKey<'a>>, AllocError>
+    ensures { IfOk result (λ keys. IsPermutation (map key_of values.now) keys.items × IsSorted compare_keys keys.items) }
+{
+    let mut keys = keys_of(alloc, values)?;
+    keys.sort_unstable();
+    Ok(keys)
 }

@@ -11,10 +11,11 @@ use crate::indexed_object::IndexedObject;
 use crate::individual_objects::IndividualObjects;
 use crate::look::Look;
 use crate::source::Source;
+use crate::work::Work;
 use std::alloc::{AllocError, Global};
 use std::marker::Model;
 use xa_bag::Bag;
-use xa_expr::{Budget, Context, Designator, Looked, STEP};
+use xa_expr::{Context, Designator, Looked, STEP};
 use xa_value::{Moment, Value};
 
 /// The context of the decision on an individual request.
@@ -23,7 +24,7 @@ pub(crate) struct IndividualContext<'a> {
     objects: IndividualObjects<'a>,
     source: &'a Source,
     moment: Moment,
-    budget: &'a Budget,
+    work: &'a Work,
 }
 
 impl<'a> Model for IndividualContext<'a> {
@@ -48,7 +49,7 @@ impl<'a> IndividualContext<'a> {
         places: &[usize],
         source: &'a Source,
         moment: Moment,
-        budget: &'a Budget,
+        work: &'a Work,
     ) -> Result<IndividualContext<'a>, AllocError>
         ensures { IfOk result (λ context. context ≡ record { objects = objects_at objects.now places.now; source = source.now; moment = moment }) }
     {
@@ -57,7 +58,7 @@ impl<'a> IndividualContext<'a> {
             objects,
             source,
             moment,
-            budget,
+            work,
         })
     }
 
@@ -71,8 +72,9 @@ impl<'a> IndividualContext<'a> {
         }
         let entity = self.objects.entity(designator.category.as_str());
         let id = designator.attribute_id.as_str();
-        self.budget.spend(units_of_look_up(entity, id))?;
-        self.source.bag(alloc, self.budget, entity, designator)
+        self.work.spend(units_of_look_up(entity, id))?;
+        self.source
+            .bag(alloc, self.work.budget(), entity, designator)
     }
 
     /// The bag of the values that are not in the request.
@@ -96,7 +98,7 @@ impl<'a> IndividualContext<'a> {
         }
         let entity = self.objects.entity(look.designator.category.as_str());
         let id = look.designator.attribute_id.as_str();
-        self.budget.spend(units_of_look_up(entity, id))?;
+        self.work.spend(units_of_look_up(entity, id))?;
         look.at_source(self.source, entity)
     }
 
@@ -119,8 +121,8 @@ impl<'a> Context for IndividualContext<'a> {
     fn bag(&self, alloc: Global, designator: &Designator) -> Result<Bag, AllocError> {
         let category = designator.category.as_str();
         let id = designator.attribute_id.as_str();
-        self.budget.spend(units_of_look_up(category, id))?;
-        let own = self.objects.bag(alloc, self.budget, designator)?;
+        self.work.spend(units_of_look_up(category, id))?;
+        let own = self.objects.bag(alloc, self.work.budget(), designator)?;
         if own.is_empty() && designator.issuer.is_none() {
             self.outside_bag(alloc, designator)
         } else {
@@ -142,9 +144,9 @@ impl<'a> Context for IndividualContext<'a> {
     ) -> Result<Looked, AllocError> {
         let category = designator.category.as_str();
         let id = designator.attribute_id.as_str();
-        self.budget.spend(units_of_look_up(category, id))?;
+        self.work.spend(units_of_look_up(category, id))?;
         let look = Look {
-            budget: self.budget,
+            work: self.work,
             designator,
             sought,
         };
@@ -157,6 +159,6 @@ impl<'a> Context for IndividualContext<'a> {
     }
 
     fn spend(&self, units: u64) -> Result<(), AllocError> {
-        self.budget.spend(units)
+        self.work.spend(units)
     }
 }

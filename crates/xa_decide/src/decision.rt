@@ -11,8 +11,9 @@ use crate::context::IndividualContext;
 use crate::indexed_object::IndexedObject;
 use crate::response_work::units_of_result;
 use crate::view::View;
+use crate::work::Work;
 use std::alloc::{AllocError, Global};
-use xa_expr::{Budget, Context, Fault, STEP};
+use xa_expr::{Context, Fault, STEP};
 use xa_func::Status;
 use xa_link::LinkError;
 use xa_policy::{Decision, Evaluated, Linked, evaluate, undecided_result};
@@ -98,7 +99,7 @@ struct Deciding<'a> {
     view: &'a View,
     objects: &'a [IndexedObject<'a>],
     moment: Moment,
-    budget: &'a Budget,
+    work: &'a Work,
 }
 
 impl<'a> Deciding<'a> {
@@ -110,7 +111,7 @@ impl<'a> Deciding<'a> {
     ) -> Result<IndividualContext<'a>, AllocError>
         ensures { IfOk result (λ context. context ≡ record { objects = objects_at self.now.objects.now places.now; source = self.now.view.now.source; moment = self.now.moment }) }
     {
-        self.budget.spend(STEP.saturating_mul(places.len() as u64))?;
+        self.work.spend(STEP.saturating_mul(places.len() as u64))?;
         let source = self.view.source();
         IndividualContext::new(
             alloc,
@@ -118,7 +119,7 @@ impl<'a> Deciding<'a> {
             places,
             source,
             self.moment,
-            self.budget,
+            self.work,
         )
     }
 
@@ -130,7 +131,7 @@ impl<'a> Deciding<'a> {
         let chosen = places.as_slice();
         let context = self.context_at(alloc, chosen)?;
         let evaluated = by_tree(alloc, self.view.tree(), &context)?;
-        self.budget
+        self.work
             .spend(units_of_result(self.objects, chosen, &evaluated))?;
         Ok(ResultObject { evaluated, places })
     }
@@ -139,7 +140,7 @@ impl<'a> Deciding<'a> {
     fn result_of(&self, alloc: Global, individual: Individual) -> Result<ResultObject, AllocError>
         ensures { IfOk result (λ r. r ≡ result_of self.now.view.now self.now.objects.now self.now.moment individual) }
     {
-        self.budget.spend(STEP)?;
+        self.work.spend(STEP)?;
         match individual {
             Individual::Places(places) => self.result_at(alloc, places),
             Individual::BadReference => Ok(result_without_objects(alloc, Fault::SyntaxError)),
@@ -165,35 +166,36 @@ impl<'a> Deciding<'a> {
 /// The objects, each with its attributes put in order.
 fn indexed_objects<'a>(
     alloc: Global,
+    work: &Work,
     objects: &'a [CategoryObject],
 ) -> Result<Vec<IndexedObject<'a>>, AllocError>
     ensures { IfOk result (λ indexed. indexed.items ≡ objects.now) }
 {
     let mut indexed = Vec::new(alloc);
     for object in objects {
-        indexed.push(IndexedObject::new(alloc, object)?)?;
+        indexed.push(IndexedObject::new(alloc, work, object)?)?;
     }
     Ok(indexed)
 }
 
 /// What comes of the individual requests. Each object is put in order once for all of them.
-fn outcome_of_individuals(
+fn outcome_of_individuals<'x>(
     alloc: Global,
-    view: &View,
+    view: &'x View,
     objects: &[CategoryObject],
     moment: Moment,
+    work: &'x Work,
     individuals: Items<Individual>,
 ) -> Result<Outcome, AllocError>
     ensures results { IfOk result (λ outcome. outcome.results ≡ map (result_of view.now objects.now moment) individuals) }
     ensures timeless { IfOk result (λ outcome. outcome.timeless ≡ is_timeless_tree (tree_of view.now.active view.now.root)) }
 {
-    let indexed = indexed_objects(alloc, objects)?;
-    let budget = view.budget();
+    let indexed = indexed_objects(alloc, work, objects)?;
     let deciding = Deciding {
         view,
         objects: indexed.as_slice(),
         moment,
-        budget: &budget,
+        work,
     };
     let results = deciding.results_of(alloc, individuals)?;
     Ok(Outcome {
@@ -202,13 +204,14 @@ fn outcome_of_individuals(
     })
 }
 
-/// What comes of the request.
+/// What comes of the request, with this work.
 #[tactic(auto, unfolding(crate::specs::Decision::decided, crate::specs::Timeless::is_timeless_request))]
-fn outcome_of_request(
+fn outcome_by(
     alloc: Global,
     view: &View,
     request: &Request,
     moment: Moment,
+    work: &Work,
 ) -> Result<Outcome, AllocError>
     ensures results { IfOk result (λ outcome. outcome.results ≡ decided view.now request.now moment) }
     ensures timeless { IfOk result (λ outcome. outcome.timeless ≡ is_timeless_request view.now request.now) }
@@ -219,10 +222,30 @@ fn outcome_of_request(
     match request.individuals(alloc) {
         Ok(individuals) => {
             let objects = request.objects.as_slice();
-            outcome_of_individuals(alloc, view, objects, moment, individuals)
+            outcome_of_individuals(alloc, view, objects, moment, work, individuals)
         },
         Err(OrMemory::Memory) => Err(AllocError),
         Err(OrMemory::Error(_)) => one_outcome(alloc, Fault::ProcessingError),
+    }
+}
+
+/// What comes of the request. Where its large bags are searched so often that it takes no longer to put their values in order, that is done, and the
+/// request is decided again from the start, with what is left of the work.
+fn outcome_of_request(
+    alloc: Global,
+    view: &View,
+    request: &Request,
+    moment: Moment,
+) -> Result<Outcome, AllocError>
+    ensures results { IfOk result (λ outcome. outcome.results ≡ decided view.now request.now moment) }
+    ensures timeless { IfOk result (λ outcome. outcome.timeless ≡ is_timeless_request view.now request.now) }
+{
+    let work = Work::new(view.budget(), request.objects.as_slice());
+    match outcome_by(alloc, view, request, moment, &work) {
+        Err(_) if work.wants_order() => {
+            outcome_by(alloc, view, request, moment, &work.ordered())
+        },
+        outcome => outcome,
     }
 }
 

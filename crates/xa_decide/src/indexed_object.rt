@@ -1,5 +1,5 @@
 //! Category objects, with their attributes to be found.
-ghost use Rattle.std.specs.Prelude.{◌≡◌, [], ◌++◌, bytes_eq, filter, slice_get, IfOk, if◌then◌else◌};
+ghost use Rattle.std.specs.Prelude.{◌≡◌, [], ◌++◌, bytes_eq, filter, slice_get, Some, IfOk, IfSome, if◌then◌else◌};
 ghost use Rattle.std.specs.List.{All, filter_map, flat_map};
 ghost use Rattle.xa_bag.specs.Bag.{bag_of};
 ghost use Rattle.xa_decide.specs.Context.{is_named_by, object_values};
@@ -11,25 +11,28 @@ use crate::keys::{ByIssuer, ByName, issuer_key};
 use crate::naming::{Naming, naming_of};
 use crate::order::{item_at, order_of, places_among};
 use crate::response_work::units_included;
+use crate::work::Work;
 use std::alloc::{AllocError, Global};
 use std::marker::Model;
-use xa_bag::Bag;
+use xa_bag::{Bag, Members};
 use xa_expr::{Budget, Designator};
 use xa_profile::{Attribute, CategoryObject};
 
-/// A Category object, with its attributes to be found by their ids and types, and by their issuers as well, with what names its
-/// entity, and with how much work it is to write what stands of it in a result. It is made once for an object, whatever the number of the individual requests that have it.
+/// A Category object, with its attributes to be found by their ids and types, and by their issuers as well, with their values to be searched
+/// where that is asked for often, with what names its entity, and with how much work it is to write what stands of it in a result. It is made
+/// once for an object, whatever the number of the individual requests that have it.
 #[derive(Drop)]
 pub(crate) struct IndexedObject<'a> {
     object: &'a CategoryObject,
     by_name: Vec<usize>,
     by_issuer: Vec<usize>,
+    members: Option<Vec<Members<'a>>>,
     naming: Naming<'a>,
     units_included: u64,
 }
 
 impl<'a> Model for IndexedObject<'a> {
-    ghost use Rattle.std.specs.Prelude.{◌≡◌};
+    ghost use Rattle.std.specs.Prelude.{◌≡◌, map, IfSome};
     ghost use Rattle.xa_profile.specs.declared.category_object.CategoryObject.{CategoryObject as Object};
     ghost use Rattle.xa_decide.specs.indexing.Index.{IsOrder};
     ghost use Rattle.xa_decide.specs.indexing.Keys.{name_key_of, issuer_key_of};
@@ -40,7 +43,7 @@ impl<'a> Model for IndexedObject<'a> {
 
     ghost view = { λ o. o.object.now };
 
-    ghost invariant = { λ o. IsOrder name_key_of o.object.now.attributes o.by_name.items × IsOrder issuer_key_of o.object.now.attributes o.by_issuer.items × (said_by o.naming ≡ said (naming_values o.object.now)) × IsOfTypes o.object.now };
+    ghost invariant = { λ o. IsOrder name_key_of o.object.now.attributes o.by_name.items × IsOrder issuer_key_of o.object.now.attributes o.by_issuer.items × IfSome o.members (λ members. members.items ≡ map (λ a. a.values) o.object.now.attributes) × (said_by o.naming ≡ said (naming_values o.object.now)) × IsOfTypes o.object.now };
 }
 
 /// The values of the attribute are of its type: a law.
@@ -63,6 +66,7 @@ impl<'a> IndexedObject<'a> {
     /// The object, with its attributes put in order.
     pub(crate) fn new(
         alloc: Global,
+        work: &Work,
         object: &'a CategoryObject,
     ) -> Result<IndexedObject<'a>, AllocError>
         ensures { IfOk result (λ indexed. indexed ≡ object.now) }
@@ -75,6 +79,7 @@ impl<'a> IndexedObject<'a> {
             object,
             by_name,
             by_issuer,
+            members: work.members(alloc, attributes)?,
             naming: naming_of(object),
             units_included: units_included(object),
         })
@@ -104,6 +109,17 @@ impl<'a> IndexedObject<'a> {
         ensures { result.now ≡ self.now.attributes }
     {
         self.object.attributes.as_slice()
+    }
+
+    /// The values of the attribute, which has the place, to be searched; none, where they are looked at one by one.
+    pub(crate) fn members(&self, place: usize, attribute: &Attribute) -> Option<&Members<'a>>
+        requires { Some attribute.now ≡ slice_get self.now.attributes place }
+        ensures { IfSome result (λ members. members.now ≡ attribute.now.values) }
+    {
+        match &self.members {
+            Some(members) => item_at(members.as_slice(), place),
+            None => None,
+        }
     }
 
     /// What names the object's entity, if the object is of the category.

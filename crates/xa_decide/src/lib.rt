@@ -20,6 +20,7 @@ mod source;
 mod source_row;
 mod timeless;
 mod view;
+mod work;
 
 pub use decision::{Decided, Responded, answer, decide, respond};
 pub use rows::{read_rows, write_rows};

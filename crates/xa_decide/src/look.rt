@@ -1,5 +1,5 @@
 //! Looks for a value among those of a designator, where they are: no value is copied.
-ghost use Rattle.std.specs.Prelude.{◌≡◌, [], ◌∷◌, bytes_eq, IfOk, if◌then◌else◌};
+ghost use Rattle.std.specs.Prelude.{◌≡◌, [], ◌∷◌, bytes_eq, IfOk, IfSome, if◌then◌else◌};
 ghost use Rattle.xa_expr.specs.Looked.{looked};
 ghost use Rattle.xa_decide.specs.Context.{is_named_by, is_row, object_values, request_values, source_values};
 
@@ -9,17 +9,18 @@ use crate::individual_objects::IndividualObjects;
 use crate::order::item_at;
 use crate::source::{Source, is_row};
 use crate::source_row::SourceRow;
+use crate::work::{Work, is_large};
 use std::alloc::AllocError;
-use xa_bag::Bag;
-use xa_expr::{Budget, Designator, LOOK, Looked, units_of, units_of_bag};
+use xa_bag::{Bag, Members};
+use xa_expr::{Designator, LOOK, Looked, units_of, units_of_bag};
 use xa_profile::Attribute;
 use xa_value::Value;
 
 /// A look for a value among those of a designator. It takes the units of the values that it comes to twice, as the designator's bag does,
-/// once where it is made and once where it is given, and those of a look at each.
+/// once where it is made and once where it is given, and those of a look at each; where the values are in order, those of a search.
 #[derive(Drop)]
 pub(crate) struct Look<'a> {
-    pub(crate) budget: &'a Budget,
+    pub(crate) work: &'a Work,
     pub(crate) designator: &'a Designator,
     pub(crate) sought: &'a Value,
 }
@@ -36,25 +37,54 @@ impl<'a> Look<'a> {
     fn at_bag(&self, bag: &Bag) -> Result<Looked, AllocError>
         ensures { IfOk result (λ found. found ≡ looked self.now.sought.now bag.now.values) }
     {
-        self.budget
+        self.work.scan(bag)?;
+        self.work
             .spend(units_of_looks(units_of_bag(bag), bag.len()))?;
         Ok(Looked::in_bag(self.sought, bag))
+    }
+
+    /// A search of the values by their order.
+    fn among(&self, members: &Members<'_>) -> Result<Looked, AllocError>
+        ensures { IfOk result (λ found. found ≡ looked self.now.sought.now members.now.values) }
+    {
+        self.work.search(self.sought)?;
+        Ok(Looked::among(self.sought, members))
+    }
+
+    /// A look at the values of the attribute: by their order, where they are many and are put in order, and else at one after another.
+    fn at_values(
+        &self,
+        attribute: &Attribute,
+        members: Option<&Members<'_>>,
+    ) -> Result<Looked, AllocError>
+        requires { IfSome members (λ members. members.now ≡ attribute.now.values) }
+        ensures { IfOk result (λ found. found ≡ looked self.now.sought.now attribute.now.values.values) }
+    {
+        match members {
+            Some(members) if is_large(&attribute.values) => self.among(members),
+            _ => self.at_bag(&attribute.values),
+        }
     }
 
     /// A look at the value that the clock gives, of which no copy would be made.
     pub(crate) fn at_clock(&self, value: &Value) -> Result<Looked, AllocError>
         ensures { IfOk result (λ found. found ≡ looked self.now.sought.now (value.now ∷ [])) }
     {
-        self.budget.spend(units_of(value).saturating_add(LOOK))?;
+        self.work.spend(units_of(value).saturating_add(LOOK))?;
         Ok(Looked::at_value(self.sought, value))
     }
 
     /// A look at the values of the attribute, if it is one that the designator names.
-    fn at_attribute(&self, attribute: &Attribute) -> Result<Looked, AllocError>
+    fn at_attribute(
+        &self,
+        attribute: &Attribute,
+        members: Option<&Members<'_>>,
+    ) -> Result<Looked, AllocError>
+        requires { IfSome members (λ members. members.now ≡ attribute.now.values) }
         ensures { IfOk result (λ found. found ≡ looked self.now.sought.now (if is_named_by self.now.designator.now attribute.now then attribute.now.values.values else [])) }
     {
         if is_named_by(self.designator, attribute) {
-            self.at_bag(&attribute.values)
+            self.at_values(attribute, members)
         } else {
             Ok(Looked::Nothing)
         }
@@ -70,7 +100,8 @@ impl<'a> Look<'a> {
         let mut so_far = Looked::Nothing;
         for place in places {
             if let Some(attribute) = item_at(attributes, *place) {
-                so_far = so_far.and(self.at_attribute(attribute)?);
+                let members = object.members(*place, attribute);
+                so_far = so_far.and(self.at_attribute(attribute, members)?);
             }
         }
         Ok(so_far)
@@ -107,7 +138,7 @@ impl<'a> Look<'a> {
         ensures { IfOk result (λ found. found ≡ looked self.now.sought.now (if is_row entity.now self.now.designator.now row.now then row.now.value ∷ [] else [])) }
     {
         if is_row(entity, self.designator, row) {
-            self.budget.spend(units_of_looks(units_of(&row.value), 1))?;
+            self.work.spend(units_of_looks(units_of(&row.value), 1))?;
             Ok(Looked::at_value(self.sought, &row.value))
         } else {
             Ok(Looked::Nothing)

@@ -33,7 +33,7 @@ impl Looked {
     }
 
     /// A look at the values of a bag that are made ready to be searched.
-    pub fn among<'a>(sought: &'a Value, members: &Members<'a>) -> Looked
+    pub fn among(sought: &Value, members: &Members<'_>) -> Looked
         ensures { result ≡ looked sought.now members.now.values }
     {
         if members.is_empty() {

@@ -1,0 +1,181 @@
+//! The work of one message: how much it may ask for, and how the large bags of its request are searched.
+ghost use Rattle.std.specs.Prelude.{◌≡◌, map, IfOk, IfSome};
+
+use std::alloc::{AllocError, Global};
+use std::cell::Cell;
+use xa_bag::{Bag, Members};
+use xa_expr::{Budget, LOOK, units_of, units_of_bag};
+use xa_profile::{Attribute, CategoryObject};
+use xa_value::Value;
+
+/// From how many values on a bag is large.
+const LARGE: usize = 256;
+
+/// How often all large bags of a request may be gone through, value by value, before their values are put in order, which takes about as long.
+const SCANS: u64 = 16;
+
+/// With how many values another is compared at most that is searched for among values in order, and each where they are put in order.
+const COMPARISONS: u64 = 32;
+
+/// How many more values of large bags may be looked at one after another, and whether more were asked for. No clause speaks of it: a look that is
+/// refused ends the decision like want of memory, and then the request is decided again with the values in order.
+#[derive(Drop)]
+pub(crate) struct Scans {
+    left: Cell<u64>,
+    are_exceeded: Cell<bool>,
+}
+
+impl Scans {
+    /// So many values.
+    fn of(values: u64) -> Scans {
+        Scans {
+            left: Cell::new(values),
+            are_exceeded: Cell::new(false),
+        }
+    }
+
+    /// Takes so many values from those that are left.
+    fn take(&self, values: u64) -> Result<(), AllocError> {
+        match self.left.get().checked_sub(values) {
+            Some(left) => {
+                self.left.set(left);
+                Ok(())
+            }
+            None => {
+                self.are_exceeded.set(true);
+                Err(AllocError)
+            }
+        }
+    }
+}
+
+/// How the large bags of a request are searched.
+#[derive(Drop)]
+enum Search {
+    /// Value by value, a number of times.
+    Scanning(Scans),
+    /// By the order of their values.
+    Ordered,
+}
+
+/// The work of one message.
+#[derive(Drop)]
+pub(crate) struct Work {
+    budget: Budget,
+    search: Search,
+}
+
+impl Work {
+    /// The work of a message whose request has these objects: at first their large bags are searched value by value.
+    pub(crate) fn new(budget: Budget, objects: &[CategoryObject]) -> Work {
+        let values = large_values(objects).saturating_mul(SCANS);
+        Work {
+            budget,
+            search: Search::Scanning(Scans::of(values)),
+        }
+    }
+
+    /// What is left of it, with the values of large bags in order.
+    pub(crate) fn ordered(self) -> Work {
+        let mut work = self;
+        work.search = Search::Ordered;
+        work
+    }
+
+    /// Whether it was left because large bags were searched too often.
+    pub(crate) fn wants_order(&self) -> bool {
+        match &self.search {
+            Search::Scanning(scans) => scans.are_exceeded.get(),
+            Search::Ordered => false,
+        }
+    }
+
+    /// What the message may ask for.
+    pub(crate) fn budget(&self) -> &Budget {
+        &self.budget
+    }
+
+    /// Takes the units from what the message may ask for.
+    pub(crate) fn spend(&self, units: u64) -> Result<(), AllocError> {
+        self.budget.spend(units)
+    }
+
+    /// Takes a look at each value of the bag from what may be looked at one after another.
+    pub(crate) fn scan(&self, bag: &Bag) -> Result<(), AllocError> {
+        match &self.search {
+            Search::Scanning(scans) if is_large(bag) => scans.take(bag.len() as u64),
+            _ => Ok(()),
+        }
+    }
+
+    /// Takes the units of a search for the value among values in order.
+    pub(crate) fn search(&self, sought: &Value) -> Result<(), AllocError> {
+        let units = units_of(sought).saturating_add(LOOK);
+        self.spend(units.saturating_mul(COMPARISONS))
+    }
+
+    /// The values of each attribute, to be searched by their order; none, where they are searched one by one.
+    pub(crate) fn members<'a>(
+        &self,
+        alloc: Global,
+        attributes: &'a [Attribute],
+    ) -> Result<Option<Vec<Members<'a>>>, AllocError>
+        ensures { IfOk result (λ made. IfSome made (λ members. members.items ≡ map (λ a. a.values) attributes.now)) }
+    {
+        match &self.search {
+            Search::Scanning(_) => Ok(None),
+            Search::Ordered => Ok(Some(self.ordered_members(alloc, attributes)?)),
+        }
+    }
+
+    /// The values of each attribute, in order where they are many.
+    fn ordered_members<'a>(
+        &self,
+        alloc: Global,
+        attributes: &'a [Attribute],
+    ) -> Result<Vec<Members<'a>>, AllocError>
+        ensures { IfOk result (λ members. members.items ≡ map (λ a. a.values) attributes.now) }
+    {
+        let mut members = Vec::new(alloc);
+        for attribute in attributes {
+            members.push(self.members_of(&attribute.values)?)?;
+        }
+        Ok(members)
+    }
+
+    /// The values of the bag, in order where they are many, which is paid for before.
+    fn members_of<'a>(&self, bag: &'a Bag) -> Result<Members<'a>, AllocError>
+        ensures { IfOk result (λ members. members ≡ bag.now) }
+    {
+        if !is_large(bag) {
+            return Ok(Members::new(bag, 0));
+        }
+        self.spend(units_of_bag(bag).saturating_mul(COMPARISONS))?;
+        Ok(Members::new(bag, bag.len()))
+    }
+}
+
+/// Whether the bag has many values.
+pub(crate) fn is_large(bag: &Bag) -> bool {
+    bag.len() >= LARGE
+}
+
+/// How many values there are in large bags of the attributes.
+fn large_values_of(attributes: &[Attribute]) -> u64 {
+    let mut count = 0u64;
+    for attribute in attributes {
+        if is_large(&attribute.values) {
+            count = count.saturating_add(attribute.values.len() as u64);
+        }
+    }
+    count
+}
+
+/// How many values there are in large bags of the objects.
+fn large_values(objects: &[CategoryObject]) -> u64 {
+    let mut count = 0u64;
+    for object in objects {
+        count = count.saturating_add(large_values_of(object.attributes.as_slice()));
+    }
+    count
+}
