@@ -14,8 +14,9 @@ const LARGE: usize = 256;
 /// How often all large bags of a request may be gone through, value by value, before their values are put in order, which takes about as long.
 const SCANS: u64 = 16;
 
-/// With how many values another is compared at most that is searched for among values in order, and each where they are put in order.
-const COMPARISONS: u64 = 32;
+/// With how many values another is compared at most that is searched for among values in order, and each where they are put in order: a request
+/// has fewer than two to this.
+const COMPARISONS: u64 = 18;
 
 /// How many more values of large bags may be looked at one after another, and whether more were asked for. No clause speaks of it: a look that is
 /// refused ends the decision like want of memory, and then the request is decided again with the values in order.
