@@ -46,10 +46,10 @@ searched keys k (Ok i) up at below = sym (list_any_at (eq_by_cmp compare_keys k)
 searched keys k (Err i) up at below =
     let parts = at (searchable_from_sorted keys_ordered (λ j. j) keys k up) in
     sym (list_any_none (eq_by_cmp compare_keys k) keys (All-from_all_within (λ j. eq_by_cmp compare_keys k j ≡ false) keys (λ n d low high.
-      tied_back k (get_or keys n d) ∙ elim (either n) [
-        | inl before ↦ ap is_eq (parts.0 n d low before)
-        | inr behind ↦ ap is_eq (parts.1 n d behind high)
-      ]))) where
+    tied_back k (get_or keys n d) ∙ elim (either n) [
+      | inl before ↦ ap is_eq (parts.0 n d low before)
+      | inr behind ↦ ap is_eq (parts.1 n d behind high)
+    ]))) where
       either : (n : ℕ) → (n < i) ⊎ (i ≤ n)
       either n = grind arith
 

@@ -95,10 +95,7 @@ fn keys_of<'a>(alloc: Global, values: &'a [Value]) -> Result<Vec<SortKey<'a>>, A
 }
 
 /// The keys of the values, in order.
-fn ordered_keys_of<'a>(
-    alloc: Global,
-    values: &'a [Value],
-) -> Result<Vec<SortKey<'a>>, AllocError>
+fn ordered_keys_of<'a>(alloc: Global, values: &'a [Value]) -> Result<Vec<SortKey<'a>>, AllocError>
     ensures { IfOk result (λ keys. IsPermutation (map key_of values.now) keys.items × IsSorted compare_keys keys.items) }
 {
     let mut keys = keys_of(alloc, values)?;

@@ -113,14 +113,7 @@ impl<'a> Deciding<'a> {
     {
         self.work.spend(STEP.saturating_mul(places.len() as u64))?;
         let source = self.view.source();
-        IndividualContext::new(
-            alloc,
-            self.objects,
-            places,
-            source,
-            self.moment,
-            self.work,
-        )
+        IndividualContext::new(alloc, self.objects, places, source, self.moment, self.work)
     }
 
     /// The result of the individual request that has the objects at these places, which is paid for before it is written.

@@ -15,7 +15,7 @@ returns-then-takes c =
     let bound : IsSearchInRange c.binary_search.result (length c.as_slice-keys.result.now) = c.binary_search.ensures.bound in
     c.is_ok.ensures.value
     ∙ found_in_order c.in-Some.keys.items m.data_type m.values.now c.args.value.now c.sort_key.result c.binary_search.result
-        keys.0 keys.1 c.self.invariant.0 is c.sort_key.ensures.value (rw same at position) (rw same at bound)
+    keys.0 keys.1 c.self.invariant.0 is c.sort_key.ensures.value (rw same at position) (rw same at bound)
     ∙ ap (λ b. is_among b.values c.args.value.now) c.self.view_is
 
 pub returns-else-takes : goal.returns-else-takes
