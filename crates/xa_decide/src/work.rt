@@ -21,8 +21,8 @@ const COMPARISONS: u64 = 18;
 /// How many more values of large bags may be looked at one after another, and whether more were asked for. No clause speaks of it: a look that is
 /// refused ends the decision like want of memory, and then the request is decided again with the values in order.
 #[derive(Drop)]
-pub(crate) struct Scans {
-    left: Cell<u64>,
+struct Scans {
+    values: Budget,
     are_exceeded: Cell<bool>,
 }
 
@@ -30,23 +30,18 @@ impl Scans {
     /// So many values.
     fn of(values: u64) -> Scans {
         Scans {
-            left: Cell::new(values),
+            values: Budget::new(values),
             are_exceeded: Cell::new(false),
         }
     }
 
     /// Takes so many values from those that are left.
     fn take(&self, values: u64) -> Result<(), AllocError> {
-        match self.left.get().checked_sub(values) {
-            Some(left) => {
-                self.left.set(left);
-                Ok(())
-            }
-            None => {
-                self.are_exceeded.set(true);
-                Err(AllocError)
-            }
+        let taken = self.values.spend(values);
+        if taken.is_err() {
+            self.are_exceeded.set(true);
         }
+        taken
     }
 }
 
