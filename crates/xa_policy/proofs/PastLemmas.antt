@@ -19,8 +19,10 @@ use Rattle.xa_policy.specs.declared.linked.Linked.TheOpen.{Linked-F}
 use Rattle.xa_policy.specs.declared.rule.Rule.{Rule}
 use Rattle.xa_policy.specs.Combining.{deny_overrides, permit_overrides}
 use Rattle.xa_policy.specs.Evaluation.{ends, evaluated, linked_step, rule_child}
+use Rattle.xa_policy.specs.Mirror.{mirrored}
 use Rattle.xa_policy.specs.Status.{EvaluatedChild}
 use Rattle.xa_policy.specs.Walk.{joined_decision, walked}
+use Rattle.xa_policy.proofs.MirrorLemmas.{mirrored_twice, permit_overrides_mirrors}
 
 -- it ends nothing
 goes_on : (a : Alg) → ends a NotApplicable ≡ false
@@ -44,13 +46,7 @@ denied IndeterminateDeny = refl
 denied IndeterminateDenyPermit = refl
 
 permitted : (d : Decision) → permit_overrides (d ∷ NotApplicable ∷ []) ≡ d
-unfolding permit_overrides
-permitted Permit = refl
-permitted Deny = refl
-permitted NotApplicable = refl
-permitted IndeterminatePermit = refl
-permitted IndeterminateDeny = refl
-permitted IndeterminateDenyPermit = refl
+permitted d = permit_overrides_mirrors (d ∷ NotApplicable ∷ []) ∙ ap mirrored (denied (mirrored d)) ∙ mirrored_twice d
 
 decided_before : (a : Alg) (d : Decision) → joined_decision a d NotApplicable ≡ d
 decided_before DenyOverrides d = denied d
