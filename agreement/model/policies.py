@@ -108,8 +108,18 @@ def tree_value(values_of, tree):
     if document.form == "Policy":
         children = [rule_value(evaluation, rule) for rule in document.children]
     else:
-        children = [tree_value(values_of, child) for child in tree.children]
+        children = list(child_values(values_of, tree.children))
     return applied(evaluation, document, target, children)._replace(target=target)
+
+
+def child_values(values_of, children):
+    """What each of the children comes to; a policy that is referred to several times is worked out once."""
+    found = {}
+    for child in children:
+        key = id(child.document) if child != LEAF and child.document.form == "Policy" else id(child)
+        if key not in found:
+            found[key] = tree_value(values_of, child)
+        yield found[key]
 
 
 def applied(evaluation, document, target, children):
