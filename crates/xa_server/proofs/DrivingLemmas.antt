@@ -26,6 +26,7 @@ use Rattle.xa_server.specs.Replies.{bytes_of}
 use Rattle.xa_server.specs.Served.{IsRun, IsServed}
 use Rattle.xa_server.specs.World.{World}
 use Rattle.xa_server.proofs.ConnectionLemmas.{appends_none, appends_trans, consumes_none, consumes_trans, cuts_trans, run_trans, tells_none, tells_trans}
+use Rattle.xa_server.proofs.IsolationLemmas.{isolated}
 
 -- ---- what was answered, one after another
 
@@ -98,6 +99,9 @@ driven_after driven a b c s t u k l x y moments written first later = record {
       subst (λ (ms : List Message). Cuts s ms later.last) (sym (messages_trans first.events later.events))
       (cuts_trans s t later.last (messages_of first.events) (messages_of later.events) first.messages later.messages);
   is_run = run_trans a b c first.events later.events first.run later.run first.is_run later.is_run;
+  isolated = λ domain.
+      isolated domain a c (first.events ++ later.events) (first.run ++ later.run)
+      (run_trans a b c first.events later.events first.run later.run first.is_run later.is_run);
   stops = later.stops;
   at_moments = ap (λ (ms : List ℤ). moments_of first.events ++ ms) later.at_moments ∙ sym (moments_trans first.events later.events);
   all_written =
@@ -127,6 +131,7 @@ nothing_driven driven w s t stops written = record {
   last = s;
   messages = refl;
   is_run = refl;
+  isolated = λ domain. isolated domain w w [] [] refl;
   stops = stops;
   at_moments = refl;
   all_written = written;
@@ -171,6 +176,7 @@ one_cut_short a b s t message k l x y moment reply first served tells sent = rec
     last = t;
     messages = (t, first, refl);
     is_run = (b, served, refl);
+    isolated = λ domain. isolated domain a b ((moment, message) ∷ []) (reply ∷ []) (b, served, refl);
     stops = tt;
     at_moments = refl;
     all_written = record { whole = []; part = sent.0; rest = sent.1; all = ap (λ (bs : List ℕ). bs ∷ []) sent.2; sent = refl };
@@ -246,6 +252,7 @@ fault_became Ended w s t fault told x y is sent = record {
     last = s;
     messages = refl;
     is_run = refl;
+    isolated = λ domain. isolated domain w w [] [] refl;
     stops = is;
     at_moments = refl;
     all_written = sym (append-nil (error_reply (code_of_session_fault fault)));
@@ -264,6 +271,7 @@ fault_became WriteFault w s t fault told x y is sent = record {
     last = s;
     messages = refl;
     is_run = refl;
+    isolated = λ domain. isolated domain w w [] [] refl;
     stops = is;
     at_moments = refl;
     all_written = record { whole = []; part = sent.0; rest = sent.1; all = ap (λ (bs : List ℕ). bs ∷ []) sent.2; sent = refl };
@@ -403,6 +411,7 @@ last_answered a b s first t left rest bytes k l x y reads end feeds held = recor
     last = t;
     messages = subst (λ (u : Stream). Cuts u (messages_of held.0.events) t) feeds held.0.messages;
     is_run = held.0.is_run;
+    isolated = λ domain. isolated domain a b held.0.events held.0.run held.0.is_run;
     stops = inl held.1;
     at_moments = refl;
     all_written = ap concat (sym (append-nil (map bytes_of held.0.run)));
@@ -459,6 +468,7 @@ connection_left a b t p q k l x y first = (
     last = t;
     messages = first.answered.messages;
     is_run = first.answered.is_run;
+    isolated = λ domain. isolated domain a b first.answered.events first.answered.run first.answered.is_run;
     stops = tt;
     at_moments = refl;
     all_written = ap concat (sym (append-nil (map bytes_of first.answered.run)));

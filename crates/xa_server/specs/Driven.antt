@@ -11,6 +11,7 @@ use Rattle.xa_server.specs.declared.driven.Driven.TheVariants.{Ended, WriteFault
 use Rattle.xa_server.specs.declared.replies.Reply.{Reply}
 use Rattle.xa_server.specs.Alone.{Event}
 use Rattle.xa_server.specs.Connection.{StopsBy, all_replies, messages_of, moments_of}
+use Rattle.xa_server.specs.Isolation.{IsIsolatedBesideRefusals}
 use Rattle.xa_server.specs.Served.{IsRun}
 use Rattle.xa_server.specs.World.{World}
 
@@ -51,7 +52,8 @@ StopsAfter NoClock None last after = (message : Message) × IsFirst last message
 StopsAfter _ None last after = ⊤
 StopsAfter _ (Some fault) last after = ⊥
 
--- one run of the server answered the messages at the front of the stream, each at its moment, and that is what was written of the replies
+-- one run of the server answered the messages at the front of the stream, each at its moment, and that is what was written of the replies; each
+-- domain's replies are those of its own machine, used by it alone
 pub record IsDriven (driven : Driven) (old new : World) (stream after : Stream) (moments : List ℤ) (written : List ℕ) : Type 0 where
   pub events : List Event
   pub run : List Reply
@@ -59,6 +61,7 @@ pub record IsDriven (driven : Driven) (old new : World) (stream after : Stream) 
   pub last : Stream
   pub messages : Cuts stream (messages_of events) last
   pub is_run : IsRun old events run new
+  pub isolated : IsIsolatedBesideRefusals old new events run
   pub stops : StopsAfter driven fault last after
   pub at_moments : moments ≡ moments_of events
   pub all_written : AreWritten driven (all_replies run fault) written
