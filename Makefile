@@ -31,7 +31,7 @@ try: ## runs a crate's tests, or a program on its stored input, without proving
 check: ## proves a crate, over what earlier checks kept
 	@cd crates/$(crate); rt check
 
-test: ## the gate: every proof from nothing, the must-fail edits, the tests and the stored runs; then the real program from outside
+test: ## the gate: every proof, the must-fail edits, the tests and the stored runs; then the real program from outside
 	rt ci
 	tests/program
 	tests/api

@@ -42,7 +42,7 @@ impl Hash for Key {
 
     ghost respects_eq = { Prim.search (hashing, rules) };
 
-    // The body goes in one call, by which a hasher takes 8 bytes at a time.
+    // The body goes in one call, by which the hasher takes seven bytes at a time.
     fn hash<H: Hasher>(&self, state: &mut H) {
         state.write_u64(self.number);
         state.write_u64(self.epoch);

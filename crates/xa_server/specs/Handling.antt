@@ -1,4 +1,4 @@
--- How the code answers a message: words that only contracts of private functions cite.
+-- How the code answers a message: words that only contracts of private functions cite, but for `CountsReply`, which `Server::serve` does.
 use Rattle.std.specs.Option.{ok_or}
 use Rattle.std.specs.FinMap.{get}
 use Rattle.std.specs.Prelude.{◌≡◌, ◌≢◌, ◌⊎◌, ℕ, ℤ, Bool, List, Option, Some, None, option_and_then, option_map, Result, Ok, Err}

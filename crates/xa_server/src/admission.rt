@@ -68,8 +68,8 @@ pub(crate) fn is_decision(command: DomainCommand) -> bool
     matches!(command, DomainCommand::Decide)
 }
 
-/// The domain's gate where the domain is there, and the digest is that of one of its tokens, whose role may ask for that. An absent domain costs what a wrong
-/// token does: one look-up.
+/// The domain's gate where the domain is there, and the digest is that of one of its tokens, whose role may ask for that. An absent domain and a wrong
+/// token both cost one call of the keeper.
 #[tactic(auto, using(crate::proofs::AdmissionLemmas::role_is))]
 fn gate_opened<R: Records>(
     alloc: Global,
