@@ -46,3 +46,10 @@ def request(number):
 
 def ask(name, number, token=TOKEN):
     return message("POST", f"/domains/{name}/pdp", token, request(number))
+
+
+def ask_with_values(name, number, values):
+    """An ask of the action with that number, whose action's id has so many values, none of which a policy here names."""
+    action = {"AttributeId": ID + "action:action-id", "Value": [f"value number {at}" for at in range(values)]}
+    body = {"Request": {"AccessSubject": {"Id": f"person-{number:06}"}, "Action": {"Attribute": [action]}}}
+    return message("POST", f"/domains/{name}/pdp", TOKEN, json.dumps(body, separators=(",", ":")))
