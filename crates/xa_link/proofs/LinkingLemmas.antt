@@ -11,7 +11,7 @@ use Rattle.xa_link.specs.declared.active.Active.{Active}
 use Rattle.xa_link.specs.declared.placed.Placed.{Placed}
 use Rattle.xa_link.specs.declared.placed.Placed.TheVariants as part
 use Rattle.xa_link.proofs.placed.Placed.TheLaws.{the_size}
-use Rattle.xa_link.specs.Linking.{link, replaced_in, tree_within}
+use Rattle.xa_link.specs.Linking.{link, replaced_in, tree_at, tree_within, unless_circular}
 use Rattle.xa_link.specs.Placed.{led_within, linked, placed, placed_at}
 use Rattle.xa_link.specs.Resolution.{resolve}
 use Rattle.xa_link.specs.Room.{fitted, policy_fitted, set_fitted}
@@ -94,6 +94,20 @@ set_fits_linked below room set children d is =
 pub reference_fits_linked : (below : Option ℕ → Linked) (room : ℕ) (place : Option ℕ) (d : Placed) → d ≡ part.Reference place
     → fitted room (below place) ≡ fitted room (linked below d)
 reference_fits_linked below room place d is = ap (fitted room) (sym (ap (linked below) is ∙ linked_reference below place))
+
+-- a reference that leads to nothing: to no further document, or to none that isn't on the path
+pub no_further : (more : ℕ) (active : List Active) (path : List ℕ) (place : Option ℕ) (d : Placed) → d ≡ part.Reference place → more ≡ 0
+    → linked (led_within more active path) d ≡ Unresolved
+no_further more active path place d is end =
+    ap (linked (led_within more active path)) is ∙ linked_reference (led_within more active path) place ∙ ap (λ m. led_within m active path place) end
+
+pub nowhere : (more : ℕ) (active : List Active) (path : List ℕ) (place : Option ℕ) (d : Placed) → d ≡ part.Reference place → unless_circular path place ≡ None
+    → linked (led_within more active path) d ≡ Unresolved
+nowhere more active path place d is none =
+    ap (linked (led_within more active path)) is ∙ linked_reference (led_within more active path) place ∙ by_length more where
+      by_length : (m : ℕ) → led_within m active path place ≡ Unresolved
+      by_length zero = refl
+      by_length (suc m) = ap (tree_at (λ next. tree_within m active (next ∷ path)) active) none
 
 -- the whole tree has room for 1,000
 pub link_is_led : (active : List Active) (reference : Reference) → link active reference ≡ (fitted 1_000 (led_within 17 active [] (resolve active reference)) >>= (λ f. Ok f.part))

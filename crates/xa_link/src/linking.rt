@@ -1,7 +1,8 @@
 //! The tree that a reference leads to.
-ghost use Rattle.std.specs.Prelude.{◌≡◌, ◌≤◌, ◌-◌, ◌∷◌, map, slice_get, None, IfOk};
+ghost use Rattle.std.specs.Prelude.{◌≡◌, ◌≤◌, ◌-◌, ◌∷◌, List, map, slice_get, None, IfOk, IsTrue};
 ghost use Rattle.xa_value.specs.Gives.{Gives, answered};
 ghost use Rattle.xa_policy.specs.declared.linked.Linked.TheVariants.{Unresolved};
+ghost use Rattle.xa_link.specs.declared.active.Active.{Active as Document};
 ghost use Rattle.xa_link.specs.Linking.{link, replaced_in, tree_within, unless_circular};
 ghost use Rattle.xa_link.specs.Placed.{led_within, linked};
 ghost use Rattle.xa_link.specs.Resolution.{resolve};
@@ -63,6 +64,19 @@ fn unless_circular(path: &[usize], place: Option<usize>) -> Option<usize>
         return None;
     }
     Some(place)
+}
+
+/// Whether the part of a document is a reference that leads to nothing at the end of the path: to no document, back to one on the path, or one too far.
+#[tactic(auto, using(crate::proofs::LinkingLemmas::no_further, crate::proofs::LinkingLemmas::nowhere))]
+fn leads_nowhere(path: &Path<'_>, part: &Placed) -> bool
+    ensures { IsTrue result → (active : List Document) → linked (led_within path.now.more active path.now.places.now) part.now ≡ Unresolved }
+{
+    match part {
+        Placed::Reference(place) => {
+            path.more == 0 || unless_circular(path.places, *place).is_none()
+        }
+        Placed::Policy(_) | Placed::PolicySet(_, _) => false,
+    }
 }
 
 /// The path with one more document.
@@ -208,9 +222,13 @@ fn linked_children<'a>(
     let mut parts = Items::from_vec(Vec::with_capacity(alloc, children.len())?);
     let mut room = room;
     for child in children {
-        let fitted = linked_document(alloc, resolved, path, child, room)?;
-        parts.push(fitted.part)?;
-        room = fitted.room;
+        if leads_nowhere(path, child) {
+            parts.push(Linked::Unresolved)?;
+        } else {
+            let fitted = linked_document(alloc, resolved, path, child, room)?;
+            parts.push(fitted.part)?;
+            room = fitted.room;
+        }
     }
     Ok(Fitted { part: parts, room })
 }

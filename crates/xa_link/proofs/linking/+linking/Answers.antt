@@ -1,10 +1,12 @@
-use Rattle.std.proofs.Common.{rules, map, drop, drop-cons, add-one, suc, Err, ◌≡◌, ◌∷◌, ◌+◌, ◌-◌, ◌≤◌, Some, None, Ok, sym, ap, subst, ◌∙◌, arith}
+use Rattle.std.proofs.Common.{rules, [], ◌++◌, map, drop, drop-cons, add-one, suc, Err, ◌≡◌, ◌∷◌, ◌+◌, ◌-◌, ◌≤◌, Some, None, Ok, sym, ap, subst, ◌∙◌, arith}
 use Rattle.xa_value.specs.Gives.{Gives}
+use Rattle.xa_policy.specs.declared.linked.Linked.TheVariants.{Unresolved}
 use Rattle.xa_link.specs.Placed.{led_within, linked, placed_at}
 use Rattle.xa_link.specs.Room.{all_fitted, fitted, fitted_behind}
 use Rattle.xa_link.proofs.placed.Placed.TheLaws.{the_size}
 use Rattle.xa_link.proofs.LinkingLemmas.{at_greatest, further, greatest_depth, linked_where_found, none_at, policy_fits_linked, set_fits_linked}
 use Rattle.xa_link.proofs.RoomLemmas.{no_room_behind, room_behind, unresolved_fits}
+use Rattle.xa_link.proofs.linking.+linking.Goals.{linked_children-then-leads_nowhere+in_ok-push, linked_children-else-leads_nowhere+in_ok-fitted+in_ok-push-2}
 use Rattle.xa_link.proofs.linking.+linking.Goals as goal
 
 pub linked_active-returns-in_default-clause-value : goal.linked_active-returns-in_default-clause-value
@@ -52,13 +54,24 @@ pub linked_children-loop-child-preserved : goal.linked_children-loop-child-prese
 linked_children-loop-child-preserved t c =
     let next : drop c.loop-child.child-index c.args.children.now ≡ c.child-item.result ∷ drop (c.loop-child.child-index + 1) c.args.children.now =
     rw add-one (drop-cons c.args.children.now c.loop-child.child-index c.child-item.result c.loop-child-test.true ∙ ap (λ y. y ∷ drop (suc c.loop-child.child-index) c.args.children.now) (sym c.child-item.is)) in
-    let step : fitted_behind c.push.new.self (all_fitted c.in_ok-fitted.fitted.room (map (linked (led_within c.args.path.now.more c.loop-child.resolved c.args.path.now.places.now)) (drop (c.loop-child.child-index + 1) c.args.children.now)))
-    ≡ all_fitted c.args.room (map (linked (led_within c.args.path.now.more c.loop-child.resolved c.args.path.now.places.now)) c.args.children.now) =
-    rw c.in_ok-push.ensures.ok (room_behind c.loop-child.parts c.loop-child.room c.args.room c.loop-child.child-index (linked (led_within c.args.path.now.more c.loop-child.resolved c.args.path.now.places.now)) c.args.children.now c.child-item.result next
-    c.loop-child.invariant.1 c.in_ok-fitted.fitted c.in_ok-fitted.ensures.value) in (
-      c.in_ok-fitted.ensures.kept ∙ c.loop-child.invariant.0,
-      subst (λ a. fitted_behind c.push.new.self (all_fitted c.in_ok-fitted.fitted.room (map (linked (led_within c.args.path.now.more a c.args.path.now.places.now)) (drop (c.loop-child.child-index + 1) c.args.children.now)))
-          ≡ all_fitted c.args.room (map (linked (led_within c.args.path.now.more a c.args.path.now.places.now)) c.args.children.now)) (sym c.in_ok-fitted.ensures.kept) step,
-      subst (λ a. fitted_behind c.push.new.self (all_fitted c.in_ok-fitted.fitted.room (map (linked (led_within c.args.path.now.more a c.args.path.now.places.now)) (drop (c.loop-child.child-index + 1) c.args.children.now)))
-          ≡ all_fitted c.args.room (map (linked (led_within c.args.path.now.more a c.args.path.now.places.now)) c.args.children.now)) c.loop-child.invariant.0 step,
-    )
+    let child = linked (led_within c.args.path.now.more c.loop-child.resolved c.args.path.now.places.now) in
+    let behind = room_behind c.loop-child.parts c.loop-child.room c.args.room c.loop-child.child-index child c.args.children.now c.child-item.result next c.loop-child.invariant.1 in
+    elim c.if-leads_nowhere.branch [
+      | linked_children-then-leads_nowhere+in_ok-push w ↦
+          let leads : child c.child-item.result ≡ Unresolved = c.leads_nowhere.ensures w.if-leads_nowhere.true c.loop-child.resolved in
+          let step = behind (record { part = Unresolved; room = c.loop-child.room }) (ap (fitted c.loop-child.room) leads ∙ unresolved_fits c.loop-child.room) in
+          rw (w.resolved-is, w.parts-is, w.room-is, w.in_ok-push.ensures.ok) (
+            c.loop-child.invariant.0,
+            step,
+            subst (λ a. fitted_behind (c.loop-child.parts ++ Unresolved ∷ []) (all_fitted c.loop-child.room (map (linked (led_within c.args.path.now.more a c.args.path.now.places.now)) (drop (c.loop-child.child-index + 1) c.args.children.now)))
+                ≡ all_fitted c.args.room (map (linked (led_within c.args.path.now.more a c.args.path.now.places.now)) c.args.children.now)) c.loop-child.invariant.0 step,
+          )
+      | linked_children-else-leads_nowhere+in_ok-fitted+in_ok-push-2 w ↦
+          let step = behind w.in_ok-fitted.fitted w.in_ok-fitted.ensures.value in
+          rw (w.resolved-is, w.parts-is, w.room-is, w.in_ok-push-2.ensures.ok, w.in_ok-fitted.ensures.kept) (
+            c.loop-child.invariant.0,
+            step,
+            subst (λ a. fitted_behind (c.loop-child.parts ++ w.in_ok-fitted.fitted.part ∷ []) (all_fitted w.in_ok-fitted.fitted.room (map (linked (led_within c.args.path.now.more a c.args.path.now.places.now)) (drop (c.loop-child.child-index + 1) c.args.children.now)))
+                ≡ all_fitted c.args.room (map (linked (led_within c.args.path.now.more a c.args.path.now.places.now)) c.args.children.now)) c.loop-child.invariant.0 step,
+          )
+    ]
