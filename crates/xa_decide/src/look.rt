@@ -47,7 +47,7 @@ impl<'a> Look<'a> {
     fn among(&self, members: &Members<'_>) -> Result<Looked, AllocError>
         ensures { IfOk result (λ found. found ≡ looked self.now.sought.now members.now.values) }
     {
-        self.work.search(self.sought)?;
+        self.work.spend_on_search(self.sought)?;
         Ok(Looked::among(self.sought, members))
     }
 

@@ -105,7 +105,7 @@ impl Work {
     }
 
     /// Takes the units of a search for the value among values in order.
-    pub(crate) fn search(&self, sought: &Value) -> Result<(), AllocError> {
+    pub(crate) fn spend_on_search(&self, sought: &Value) -> Result<(), AllocError> {
         let units = units_of(sought).saturating_add(LOOK);
         self.spend(units.saturating_mul(COMPARISONS))
     }

@@ -27,7 +27,8 @@ pub trait Context {
         ensures { KeepsTypes (values_of self.now) };
 
     /// What a look for the value in the designator's bag comes to. A context that has the values itself looks at them where they are; by
-    /// default the bag is asked for. Either way it takes the units of the bag, as where that is asked for, and those of a look at it.
+    /// default the bag is asked for. That takes the units of the bag and those of a look at each value; a context that searches the values by
+    /// their order takes those of its search.
     fn look_for(
         &self,
         alloc: Global,
