@@ -76,7 +76,9 @@ fn tree_of(
 #[cycle(places)]
 fn places_of(tree: &Linked) -> usize {
     match tree {
-        Linked::PolicySet(_, children) => places_of_all(children.as_slice()).saturating_add(1),
+        Linked::PolicySet(_, children) => {
+            places_of_all(children.get().as_slice()).saturating_add(1)
+        }
         Linked::Policy(_) | Linked::Unresolved => 1,
     }
 }

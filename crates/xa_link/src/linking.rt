@@ -16,7 +16,7 @@ use crate::resolved::Resolved;
 use crate::room::{Fitted, less_one};
 use std::alloc::{AllocError, Global};
 use xa_policy::{Linked, Policy, PolicySet, Reference};
-use xa_value::{Items, OrMemory, Shared};
+use xa_value::{Boxed, Items, OrMemory, Shared};
 
 /// How many documents may stand on a path, the first one too. The standard sets no bound; linking recurses once for each.
 const MAX_DOCUMENTS: usize = 17;
@@ -201,7 +201,7 @@ fn linked_set<'a>(
     let room = less_one(room)?;
     let children = linked_children(alloc, resolved, path, children, room)?;
     Ok(Fitted {
-        part: Linked::PolicySet(set.clone()?, children.part),
+        part: Linked::PolicySet(set.clone()?, Boxed::new(alloc, children.part)?),
         room: children.room,
     })
 }

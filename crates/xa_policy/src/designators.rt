@@ -35,7 +35,7 @@ fn tree_is_timeless(linked: &Linked) -> bool
         Linked::Unresolved => true,
         Linked::Policy(policy) => policy.get().is_timeless(),
         Linked::PolicySet(set, children) => {
-            set.get().is_timeless() && trees_are_timeless(children.as_slice())
+            set.get().is_timeless() && trees_are_timeless(children.get().as_slice())
         }
     }
 }

@@ -69,7 +69,7 @@ fn evaluate_linked<C: Context>(
         Linked::Unresolved => Ok(undecided_result(alloc, Fault::ProcessingError)),
         Linked::Policy(policy) => evaluate_policy(alloc, policy.get(), target, context),
         Linked::PolicySet(set, children) => {
-            evaluate_set(alloc, set.get(), children.as_slice(), target, context)
+            evaluate_set(alloc, set.get(), children.get().as_slice(), target, context)
         }
     }
 }

@@ -29,7 +29,7 @@ fn show(answer: &mut Answer, tree: &Linked) {
         Linked::Policy(policy) => answer.name("", &policy.get().algorithm()),
         Linked::PolicySet(set, children) => {
             answer.name("(", &set.get().algorithm());
-            show_children(answer, children.as_slice());
+            show_children(answer, children.get().as_slice());
         }
     }
 }
