@@ -228,10 +228,6 @@ pub map_after : {X Y Z : Type 0} (f : Y → Z) (g : X → Y) (h : X → Z) → (
 map_after f g h agree [] = refl
 map_after f g h agree (x ∷ xs) = rw (agree x, map_after f g h agree xs) refl
 
--- no further argument
-pub chosen_alone : {R : Type 0} (f : List Value → R) (chosen : List Value) → each_from f chosen [] ≡ f chosen ∷ []
-chosen_alone f chosen = ap (λ vs. f vs ∷ []) (append-nil chosen)
-
 -- the choices that begin with those chosen, by the value of the next argument
 chosen_next : {R : Type 0} (f : List Value → R) (chosen : List Value) (argument : ValueOrBag) (rest : List ValueOrBag)
     → flat_map (λ v. each_from f (chosen ++ v ∷ []) rest) (values_of argument) ≡ each_from f chosen (argument ∷ rest)
