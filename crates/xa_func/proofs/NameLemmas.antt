@@ -33,10 +33,6 @@ unstripped [] (c ∷ head) rest e = refl
 unstripped (d ∷ text) (c ∷ head) rest e =
     by_first (nat_eq d c) (pointwise nat_eq (take (length head) text) head) (bytes_eq text (head ++ rest)) (unstripped text head rest) (nat_eq d c) refl e
 
--- the first of two lists together is the first of the one, or else of the other
-pub find_append : {X : Type 0} (p : X → Bool) (xs ys : List X) → find p (xs ++ ys) ≡ option_or (find p xs) (find p ys)
-find_append p xs ys = find-append p xs ys
-
 -- from an item on, the first is that of the item's list, or else of the lists after it
 from_item : {X Y : Type 0} (p : Y → Bool) (g : X → List Y) (xs : List X) (i : ℕ) (d : X) → i < length xs
     → find p (flat_map g (drop i xs)) ≡ option_or (find p (g (get_or xs i d))) (find p (flat_map g (drop (i + 1) xs)))
