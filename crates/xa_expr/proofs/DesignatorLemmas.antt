@@ -79,10 +79,6 @@ pub value_same : (ds : List Definition) (a b : Attributes) → AgreeOn (designat
     → value_of a ds t ≡ value_of b ds t
 value_same ds a b defined t agree = ap (λ variables. outcome a variables t) (outcomes_rest ds [] a b defined) ∙ outcome_rests (outcomes b ds) t a b agree
 
-pub value_rests : (ds : List Definition) (t : Typed) → RestsOn (designators t ++ designators_of_definitions ds) (λ a. value_of a ds t)
-value_rests ds t a b agree =
-    value_same ds a b (agree_second (designators t) (designators_of_definitions ds) a b agree) t (agree_first (designators t) (designators_of_definitions ds) a b agree)
-
 -- a target and its parts
 match_rests : (q : Question) → RestsOn (designators_of_match q) (λ a. match_value a q)
 match_rests q a b agree = ap (match_on q) (attribute_rests q.designator a b agree)

@@ -59,9 +59,6 @@ gives_as_boolean (Err e) = λ g is. cc
 gives_bag : (t : DataType) (vs : List Value) → OfType t vs → GivesOf (kind.Bag t) (Ok (given.Bag (bag_of t vs)))
 gives_bag t vs each = gives_given (kind.Bag t) (given.Bag (bag_of t vs)) (refl, each)
 
-gives_fault : (k : Kind) (e : BagFault FuncFault) → GivesOf k (Err e)
-gives_fault k e g is = cc
-
 -- parts of lists of values of a type
 pub of_type_both : (t : DataType) (vs ws : List Value) → OfType t vs → OfType t ws → OfType t (vs ++ ws)
 of_type_both t [] ws each others = others

@@ -77,16 +77,6 @@ accepted_decides (signature.HigherOrder f) ks = (λ e. cc, λ e. absurd e)
 pub accepts_is : (b : Bool) (s : Signature) (ks : List Kind) → IsTrue b ↔ AcceptsKinds s ks → b ≡ accepted s ks
 accepts_is b s ks each = same_from_decides b (accepted s ks) (each.0, each.1) (accepted_decides s ks)
 
--- accepted arguments are those that the signature accepts, and the other way round
+-- accepted arguments are those that the signature accepts
 pub accepts_of : (s : Signature) (ks : List Kind) → accepted s ks ≡ true → AcceptsKinds s ks
 accepts_of s ks e = (accepted_decides s ks).0 e
-
-pub accepted_of : (s : Signature) (ks : List Kind) → AcceptsKinds s ks → accepted s ks ≡ true
-accepted_of s ks a = (accepted_decides s ks).1 a
-
--- what a test of two kinds and one of two types say
-pub kind_is : (b : Bool) (k l : Kind) → IsTrue b ↔ (k ≡ l) → b ≡ same_kind k l
-kind_is b k l each = same_from_decides b (same_kind k l) (each.0, each.1) (same_kind_decides k l)
-
-pub type_is : (b : Bool) (t u : DataType) → IsTrue b ↔ (t ≡ u) → b ≡ same_type t u
-type_is b t u each = same_from_decides b (same_type t u) (each.0, each.1) (same_type_decides t u)

@@ -1,6 +1,6 @@
 -- Or, and, n-of, place by place, as far as the places decide.
 use Rattle.std.proofs.Common.{◌≡◌, refl, ap, sym, ◌∙◌, ℕ, zero, suc, ◌+◌, ◌-◌, ◌<◌, ◌≤◌, arith, Bool, true, false, List, [], ◌∷◌, map, length, drop}
-use Rattle.std.specs.Prelude.{Result, Ok, Err, IsErrAnd, ℤ, pos, int_lt, unsigned_abs}
+use Rattle.std.specs.Prelude.{Result, Ok, Err, IsErrAnd}
 use Rattle.std.proofs.lemmas.List.{length-drop}
 use mathlib.Core.Bool.{beq}
 use Rattle.xa_value.specs.declared.or_memory.OrMemory.{OrMemory}
@@ -11,7 +11,7 @@ use Rattle.xa_bag.proofs.JoiningLemmas.{verdict, then_verdict, verdict_cons, sto
 use Rattle.xa_bag.specs.declared.value_or_bag.ValueOrBag.{ValueOrBag}
 use Rattle.xa_expr.specs.declared.fault.Fault.{Fault}
 use Rattle.xa_expr.specs.declared.fault.Fault.TheVariants.{ProcessingError}
-use Rattle.xa_expr.specs.Evaluation.{Outcome, place, truth, number, n_of_places}
+use Rattle.xa_expr.specs.Evaluation.{Outcome, place, truth}
 use Rattle.xa_expr.proofs.ArgumentLemmas.{fault_passed}
 
 -- the next place and those after it decide for all
@@ -95,11 +95,6 @@ n_whole v n ts enough = let same = length_places v ts in n_among_enough Processi
 
 pub n_too_few : {A : Type 0} (v : A → Outcome) (n : ℕ) (ts : List A) → length ts < n → n_among ProcessingError n (map place (map v ts)) ≡ Err ProcessingError
 n_too_few v n ts short = let same = length_places v ts in n_among_short ProcessingError n (map place (map v ts)) (omega arith)
-
--- n-of, where its number is none below nothing
-pub n_of_first : {A : Type 0} (v : A → Outcome) (ts us : List A) (t : A) (given : ValueOrBag) (n : ℤ)
-    → ts ≡ t ∷ us → v t ≡ Ok given → n ≡ number given → int_lt n (pos 0) ≡ false → n_of_places (map v ts) ≡ n_among ProcessingError (unsigned_abs n) (map place (map v us))
-n_of_first v ts us t given n whole here is more = rw (whole, here, ← is, more) refl
 
 -- how many are behind a place
 pub left_behind : {A : Type 0} (ts : List A) (i left : ℕ) → left + i ≡ length ts → 1 ≤ left → length (drop (i + 1) ts) ≡ left - 1

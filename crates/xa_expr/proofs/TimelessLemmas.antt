@@ -1,20 +1,15 @@
 -- What asks for no attribute of the clock, part by part.
-use Rattle.std.proofs.Common.{◌≡◌, ap, sym, refl, ◌∙◌, Bool, true, false, ◌&&◌, List, [], ◌∷◌, ◌++◌}
+use Rattle.std.proofs.Common.{◌≡◌, refl, Bool, true, false, ◌&&◌, List, [], ◌∷◌, ◌++◌}
 use Rattle.std.specs.Prelude.{not}
-use Rattle.std.specs.List.{flat_map, list_all}
 use Rattle.std.proofs.lemmas.List.Folds.{list_all-append}
 use Rattle.xa_expr.specs.declared.designator.Designator.{Designator}
 use Rattle.xa_expr.specs.Designators.{AgreeOn}
 use Rattle.xa_expr.specs.Evaluation.{Attributes}
 use Rattle.xa_expr.specs.Timeless.{SameButForTheClock, is_timeless, names_the_clock}
 
--- of two lists of designators, and of those of each item
+-- of two lists of designators
 pub timeless_both : (ds es : List Designator) → is_timeless (ds ++ es) ≡ (is_timeless ds && is_timeless es)
 timeless_both ds es = list_all-append (λ d. not (names_the_clock d)) ds es
-
-pub timeless_each : {X : Type 0} (held : X → List Designator) (xs : List X) → list_all (λ x. is_timeless (held x)) xs ≡ is_timeless (flat_map held xs)
-timeless_each held [] = refl
-timeless_each held (x ∷ xs) = ap (λ b. is_timeless (held x) && b) (timeless_each held xs) ∙ sym (timeless_both (held x) (flat_map held xs))
 
 -- sources that differ in the clock's attributes alone agree on designators that name none
 pub timeless_agree : (ds : List Designator) (a b : Attributes) → SameButForTheClock a b → is_timeless ds ≡ true → AgreeOn ds a b
