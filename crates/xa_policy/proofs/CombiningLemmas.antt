@@ -123,7 +123,3 @@ deny_overrides_joined IndeterminateDenyPermit NotApplicable ds = lines_joined In
 deny_overrides_joined IndeterminateDenyPermit IndeterminatePermit ds = lines_joined IndeterminateDenyPermit IndeterminatePermit (some Deny ds) (some IndeterminateDenyPermit ds) (some IndeterminateDeny ds) (some IndeterminatePermit ds) (some Permit ds)
 deny_overrides_joined IndeterminateDenyPermit IndeterminateDeny ds = lines_joined IndeterminateDenyPermit IndeterminateDeny (some Deny ds) (some IndeterminateDenyPermit ds) (some IndeterminateDeny ds) (some IndeterminatePermit ds) (some Permit ds)
 deny_overrides_joined IndeterminateDenyPermit IndeterminateDenyPermit ds = lines_joined IndeterminateDenyPermit IndeterminateDenyPermit (some Deny ds) (some IndeterminateDenyPermit ds) (some IndeterminateDeny ds) (some IndeterminatePermit ds) (some Permit ds)
-
-pub deny_overrides_after_none : (ds : List Decision) → deny_overrides (NotApplicable ∷ ds) ≡ deny_overrides ds
-unfolding deny_overrides
-deny_overrides_after_none ds = refl

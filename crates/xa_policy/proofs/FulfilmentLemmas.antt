@@ -20,7 +20,7 @@ use Rattle.xa_policy.specs.declared.duty.AttributeAssignmentExpression.{Attribut
 use Rattle.xa_policy.specs.declared.duty.Duty.{Duty}
 use Rattle.xa_policy.specs.declared.duty.DutyExpression.{DutyExpression}
 use Rattle.xa_policy.specs.Duties.{assigned, duty, same_effect, with_value}
-use Rattle.xa_policy.specs.Policy.{AreAssignments, AreDuties}
+use Rattle.xa_policy.specs.Policy.{AreAssignments}
 
 -- assignments, and behind them those of the expressions
 abbrev pub then_all : List AttributeAssignment → List (List AttributeAssignment) → Result (List AttributeAssignment) Fault
@@ -63,10 +63,6 @@ expression_fault done v ts us x e answer whole same gives walked so_far =
 pub first_typed : (vs : List Kind) (ts us : List (AttributeAssignmentExpression Typed)) (x : AttributeAssignmentExpression Typed)
     → ts ≡ x ∷ us → AreAssignments vs ts → IsTyped vs x.expression × AreAssignments vs us
 first_typed vs ts us x walked typed = rw walked at typed
-
-pub first_duty_typed : (vs : List Kind) (ts us : List (DutyExpression Typed)) (x : DutyExpression Typed)
-    → ts ≡ x ∷ us → AreDuties vs ts → AreAssignments vs x.assignments × AreDuties vs us
-first_duty_typed vs ts us x walked typed = rw walked at typed
 
 -- duties, and behind them those of the expressions that belong to the effect
 abbrev pub duties_behind : List Duty → (Typed → Outcome) → Effect → List (DutyExpression Typed) → Result (List Duty) Fault

@@ -1,12 +1,8 @@
 -- A room of eight places, as it is filled.
-use Rattle.std.proofs.Common.{◌≡◌, ℕ, ◌+◌, ◌-◌, ◌<◌, List, drop, set, refl, sym, ap, ◌∙◌, arith}
+use Rattle.std.proofs.Common.{◌≡◌, ℕ, ◌+◌, ◌-◌, ◌<◌, List, drop, set, sym, ap, ◌∙◌, arith}
 use Rattle.std.specs.Prelude.{replicate}
 use Rattle.std.proofs.lemmas.List.{length-set, drop-set-lt, drop-drop, drop-replicate}
 use Rattle.xa_policy.specs.Room.{IsRoom}
-
--- before anything is put there
-pub room_empty : {X : Type 0} (filler : X) → IsRoom filler (replicate 8 filler) 0
-room_empty filler = record { size = refl; within = omega arith; rest = refl }
 
 -- one more item in its place
 pub room_more : {X : Type 0} (filler item : X) (places : List X) (count : ℕ) → count < 8 → IsRoom filler places count → IsRoom filler (set places count item) (count + 1)

@@ -1,6 +1,5 @@
 -- The children taken one after another come to what the algorithm makes of them all.
 use Rattle.std.proofs.Common.{◌≡◌, Bool, true, false, if◌then◌else◌, List, [], ◌∷◌, map, filter, Option, is_some, refl, ap, sym, ◌∙◌}
-use Rattle.std.proofs.lemmas.Grind.{common_steps}
 use Rattle.std.specs.Option.{option_or}
 use Rattle.xa_func.specs.declared.status.Status.{Status}
 use Rattle.xa_func.specs.declared.status.Status.TheVariants.{Ok}
@@ -143,9 +142,6 @@ pub walk_is_combination : (a : Alg) (children : List EvaluatedChild) → IsByDec
 walk_is_combination a children by = walked_with_more (of_none a) children by (none_open a by) ∙ with_all a children by
 
 -- each step of the way
-pub walked_none : (so_far : Combination) → walked so_far [] ≡ decided so_far
-walked_none so_far = refl
-
 pub walked_ended : (so_far : Combination) (c : EvaluatedChild) (children : List EvaluatedChild) → ends so_far.algorithm c.value.decision ≡ true →
     walked so_far (c ∷ children) ≡ decided (with_next so_far c.value)
 walked_ended so_far c children h = rw h refl
@@ -153,6 +149,3 @@ walked_ended so_far c children h = rw h refl
 pub walked_next : (so_far : Combination) (c : EvaluatedChild) (children : List EvaluatedChild) → ends so_far.algorithm c.value.decision ≡ false →
     walked so_far (c ∷ children) ≡ walked (with_next so_far c.value) children
 walked_next so_far c children h = rw h refl
-
--- what the loops go by
-pub ruleset walk_steps = (common_steps, walk_is_combination, walked_none, walked_ended, walked_next)
