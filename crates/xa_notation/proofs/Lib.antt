@@ -2,4 +2,3 @@ pub mod AddingLemmas
 pub mod JsonLemmas
 pub mod TypingLemmas
 pub mod VariableLemmas
-pub mod TreeLemmas
