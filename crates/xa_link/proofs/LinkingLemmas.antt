@@ -1,5 +1,5 @@
 -- How far a reference can lead, which ends the recursion.
-use Rattle.std.proofs.Common.{◌≡◌, ℕ, zero, suc, ◌+◌, ◌-◌, ◌*◌, ◌≤◌, List, [], ◌∷◌, map, Option, Some, None, Ok, refl, sym, ap, ◌∙◌, arith}
+use Rattle.std.proofs.Common.{◌≡◌, ℕ, zero, suc, ◌+◌, ◌*◌, ◌≤◌, List, [], ◌∷◌, map, Option, Some, None, Ok, refl, sym, ap, ◌∙◌, arith}
 use Rattle.std.specs.Prelude.{option_map, slice_get}
 use denote.Param.Weighed.{most}
 use Rattle.xa_policy.specs.declared.linked.Linked.{Linked}
@@ -29,11 +29,6 @@ greatest_depth all = most (depth_of all) all
 abbrev pub further : List Active → ℕ → ℕ
 further active zero = 0
 further active (suc more) = further active more + (4 * greatest_depth active + 4)
-
--- one more document on the path
-pub one_further : (active : List Active) (more : ℕ) → (more ≡ 0 → ⊥) → further active more ≡ further active (more - 1) + (4 * greatest_depth active + 4)
-one_further active zero some = absurd (some refl)
-one_further active (suc more) some = ap (λ n. further active n + (4 * greatest_depth active + 4)) (let same : more ≡ suc more - 1 = omega arith in same)
 
 -- no document is deeper than the deepest
 at_most : (all active : List Active) (place : ℕ) (found : Active) → slice_get active place ≡ Some found → depth_of all found ≤ most (depth_of all) active
@@ -81,7 +76,7 @@ linked_where_found more active place path longer document is is_longer =
         ap (linked (led_within more active path)) (sym same) ∙ document_is more active path a.document.document
         ∙ sym (ap (replaced_in (tree_within more active path)) at)
 
--- a policy, a policy set and a reference, for which there is room
+-- a policy and a policy set, for which there is room
 pub policy_fits_linked : (below : Option ℕ → Linked) (room : ℕ) (policy : PolicyParts) (d : Placed) → d ≡ part.Policy policy
     → policy_fitted room policy ≡ fitted room (linked below d)
 policy_fits_linked below room policy d is = policy_fits room policy ∙ ap (fitted room) (sym (ap (linked below) is ∙ linked_policy below policy))
@@ -90,10 +85,6 @@ pub set_fits_linked : (below : Option ℕ → Linked) (room : ℕ) (set : SetPar
     → set_fitted room set (map (linked below) children) ≡ fitted room (linked below d)
 set_fits_linked below room set children d is =
     set_fits room set (map (linked below) children) ∙ ap (fitted room) (sym (ap (linked below) is ∙ linked_set below set children))
-
-pub reference_fits_linked : (below : Option ℕ → Linked) (room : ℕ) (place : Option ℕ) (d : Placed) → d ≡ part.Reference place
-    → fitted room (below place) ≡ fitted room (linked below d)
-reference_fits_linked below room place d is = ap (fitted room) (sym (ap (linked below) is ∙ linked_reference below place))
 
 -- a reference that leads to nothing: to no further document, or to none that isn't on the path
 pub no_further : (more : ℕ) (active : List Active) (path : List ℕ) (place : Option ℕ) (d : Placed) → d ≡ part.Reference place → more ≡ 0

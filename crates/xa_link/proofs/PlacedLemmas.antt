@@ -1,5 +1,5 @@
 -- A tree by the places that references stand for is the tree by the references.
-use Rattle.std.proofs.Common.{◌≡◌, ℕ, zero, suc, ◌<◌, Bool, true, false, ◌==◌, List, [], ◌∷◌, ◌++◌, map, length, get_or, refl, sym, ap, subst, ◌∙◌, arith, slice_get, slice_set, Option, Some, None}
+use Rattle.std.proofs.Common.{◌≡◌, ℕ, zero, suc, ◌<◌, Bool, true, false, ◌==◌, List, [], ◌∷◌, map, length, get_or, refl, sym, ap, subst, ◌∙◌, arith, slice_get, slice_set, Option, Some, None}
 use Rattle.std.specs.Prelude.{if◌then◌else◌}
 use Rattle.std.specs.Slice.{IsItemAt}
 use Rattle.std.proofs.lemmas.Option.{slice_get-get_or}
@@ -14,7 +14,6 @@ use Rattle.xa_policy.specs.Policy.{PolicyParts, SetParts}
 use Rattle.xa_notation.specs.declared.document.Document.{Document}
 use Rattle.xa_notation.specs.declared.document.Document.TheFolds.{fold-roll-Document, map-Document, ind-Document}
 use Rattle.xa_notation.specs.declared.document.Document.TheOpen.{Document-F}
-use Rattle.xa_notation.specs.declared.document.Document.TheVariants as document
 use Rattle.xa_link.specs.declared.active.Active.{Active}
 use Rattle.xa_link.specs.declared.placed.Placed.{Placed}
 use Rattle.xa_link.specs.declared.placed.Placed.TheFolds.{fold-roll-Placed}
@@ -24,21 +23,7 @@ use Rattle.xa_link.specs.Linking.{replaced, replaced_step, tree_within}
 use Rattle.xa_link.specs.Placed.{AreRight, HasPlaced, SamePlaced, held, led_within, linked, linked_step, placed, placed_at, placed_step}
 use Rattle.xa_link.specs.Resolution.{resolve}
 
--- ---- documents with places
-
-pub placed_policy : (place_of : Reference → Option ℕ) (policy : PolicyParts) → placed place_of (document.Policy policy) ≡ part.Policy policy
-placed_policy place_of policy = ap (placed place_of) (sym (document.rolls-Policy policy)) ∙ fold-roll-Document Placed (placed_step place_of) (Document-F.Policy policy)
-
-pub placed_set : (place_of : Reference → Option ℕ) (set : SetParts) (children : List Document)
-    → placed place_of (document.PolicySet set children) ≡ part.PolicySet set (map (placed place_of) children)
-placed_set place_of set children =
-    ap (placed place_of) (sym (document.rolls-PolicySet set children)) ∙ fold-roll-Document Placed (placed_step place_of) (Document-F.PolicySet set children)
-
-pub placed_reference : (place_of : Reference → Option ℕ) (reference : Reference) → placed place_of (document.Reference reference) ≡ part.Reference (place_of reference)
-placed_reference place_of reference =
-    ap (placed place_of) (sym (document.rolls-Reference reference)) ∙ fold-roll-Document Placed (placed_step place_of) (Document-F.Reference reference)
-
--- ---- their trees
+-- ---- trees of documents with places
 
 pub linked_policy : (below : Option ℕ → Linked) (policy : PolicyParts) → linked below (part.Policy policy) ≡ Policy policy
 linked_policy below policy = ap (linked below) (sym (part.rolls-Policy policy)) ∙ fold-roll-Placed Linked (linked_step below) (Placed-F.Policy policy)
@@ -88,15 +73,6 @@ document_is more active path = linked_is (led_within more active path) (resolve 
 
 -- ---- what is held
 
-pub room_same : (documents : List (Option Placed)) → SamePlaced documents (documents ++ None ∷ [])
-room_same [] zero = refl
-room_same [] (suc place) = refl
-room_same (o ∷ os) zero = refl
-room_same (o ∷ os) (suc place) = room_same os place
-
-pub same_again : (a b c : List (Option Placed)) → SamePlaced a b → SamePlaced b c → SamePlaced a c
-same_again a b c first second place = second place ∙ first place
-
 held_is : (documents : List (Option Placed)) (place : ℕ) → held documents place ≡ get_or documents place None
 held_is [] place = refl
 held_is (o ∷ os) zero = refl
@@ -122,10 +98,6 @@ right_put active a b place d right here has other e there = by_case (other == pl
       let put : Some e ≡ Some d = sym there ∙ has other ∙ ap (λ c. if c then Some d else held a other) same in
       ap (placed_at active) at ∙ here ∙ sym put
   by_case false differ = right other e (ap (λ c. if c then Some d else held a other) (sym differ) ∙ sym (has other) ∙ there)
-
--- nothing is held at first
-pub none_right : (active : List Active) → AreRight active []
-none_right active place d there = absurd (let f : None ≡ Some d = there in cc)
 
 -- what is looked up stands at the place
 pub found_at : (active : List Active) (place : ℕ) (looked_up : Option (Bor Active)) (found : Bor Active) → IsItemAt active place looked_up → looked_up ≡ Some found → slice_get active place ≡ Some found.now
