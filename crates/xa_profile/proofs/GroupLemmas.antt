@@ -243,9 +243,6 @@ single_last (t ∷ ts) c single none =
     let h = not_first c t (number_of ts c) none in
     (number_last ts c t ∙ rw (single.0, differs c t h.0) refl, single_last ts c single.1 h.1)
 
-one_some : (i : ℕ) → are_some ((i ∷ []) ∷ []) ≡ true
-one_some i = refl
-
 pub grouped_new : (objects : List CategoryObject) (i : ℕ) (cs groups : List (List ℕ)) (look after : List ℕ → Option ℕ) (c : List ℕ)
     → IsGrouped objects i cs groups look → category_at objects i ≡ Some c → look c ≡ None
     → ((q : List ℕ) → after q ≡ cond (bytes_eq c q) (Some (length groups)) (look q))

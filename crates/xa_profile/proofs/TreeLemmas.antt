@@ -73,18 +73,10 @@ module _ (text : List ℕ) where
   pub whole_read : (j : json.Json) → Begins j [] → is_readable j ≡ true → read text ≡ Some (data_of j)
   whole_read j e readable = reads _ e ∙ value_read j ∙ ap (λ b. only b (data_of j)) readable
 
-  -- something follows the tree
-  pub more_refused : (j : json.Json) (t : Token) (ts : List Token) → Begins j (t ∷ ts) → read text ≡ None
-  more_refused j t ts e = reads _ e
-
   -- some number is too large
   pub number_refused : (j : json.Json) (ts : List Token) → Begins j ts → is_readable j ≡ false → read text ≡ None
   number_refused j [] e readable = reads _ e ∙ value_read j ∙ ap (λ b. only b (data_of j)) readable
   number_refused j (t ∷ ts) e readable = reads _ e
-
-  -- it begins with no tree
-  pub none_refused : json.value 127 (tokens text) ≡ None → read text ≡ None
-  none_refused e = reads _ e
 
 -- ---- members
 
