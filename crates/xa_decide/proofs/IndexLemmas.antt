@@ -15,7 +15,7 @@ use Rattle.std.proofs.lemmas.List.Elements.{filter_agree, filter_passes}
 use Rattle.std.proofs.lemmas.List.Sorted.{IsNonDecreasingBy-drop}
 use Rattle.std.proofs.lemmas.Option.{slice_get-get_or}
 use Rattle.std.proofs.Math.Seq.{get_or-append_seam}
-use Rattle.xa_decide.specs.indexing.Index.{Sought, compare_keys, key_at, order_at, with_key}
+use Rattle.xa_decide.specs.indexing.Index.{Sought, compare_keys, order_at, with_key}
 
 -- ---- orderings
 

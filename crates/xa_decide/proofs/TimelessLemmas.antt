@@ -5,7 +5,6 @@ use Rattle.std.proofs.lemmas.Bool.{true≢false}
 use Rattle.xa_value.specs.declared.category.Category.TheVariants.{Environment}
 use Rattle.xa_value.specs.declared.data_type.DataType.{DataType}
 use Rattle.xa_value.specs.declared.data_type.DataType.TheVariants as type
-use Rattle.xa_value.specs.declared.value.Value.{Value}
 use Rattle.xa_value.specs.declared.value.Value.TheVariants as value
 use Rattle.xa_value.specs.Category.{uri_of}
 use Rattle.xa_value.specs.Moment.{date_of, date_time_of, time_of}
@@ -23,11 +22,10 @@ use Rattle.xa_profile.specs.declared.individuals.TooMany.{TooMany}
 use Rattle.xa_profile.specs.declared.request.Request.{Request}
 use Rattle.xa_profile.specs.declared.request_error.RequestError.{RequestError}
 use Rattle.xa_profile.specs.declared.request_error.RequestError.TheVariants.{NotJson, NotProfile}
-use Rattle.xa_profile.specs.declared.response.ResultObject.{ResultObject}
 use Rattle.xa_profile.specs.Individuals.{individuals}
 use Rattle.xa_profile.specs.Request.{request_of}
 use Rattle.xa_decide.specs.declared.source_row.SourceRow.{SourceRow}
-use Rattle.xa_decide.specs.Context.{AskContext, clock_value, clock_value_in, entity, if_any, or_else, outside_values, request_values, source_values, values_of}
+use Rattle.xa_decide.specs.Context.{clock_value, clock_value_in, entity, if_any, or_else, outside_values, request_values, source_values, values_of}
 use Rattle.xa_decide.specs.Decision.{Viewed, answer, answer_to, by_tree, decided, decision, objects_at, result_of, result_without_objects, results_of, tree_of}
 use Rattle.xa_decide.specs.Timeless.{TimelessAnswersStay, are_timeless, is_timeless_answer, is_timeless_read, is_timeless_request, is_timeless_tree}
 
