@@ -1,15 +1,13 @@
 -- What stands at the front of a stream, from what the parser says of the window.
-use Rattle.std.proofs.Common.{◌≡◌, ℕ, ◌+◌, ◌*◌, ◌<◌, ◌≤◌, List, [], ◌∷◌, ◌++◌, length, take, drop, map, refl, sym, ap, ◌∙◌, subst, arith, inr, Bool, Option, Some, None, Ok, Err, length-append, append_assoc}
-use Rattle.std.specs.Prelude.{flat_map, ◌≢◌}
+use Rattle.std.proofs.Common.{◌≡◌, ℕ, ◌+◌, ◌*◌, ◌<◌, ◌≤◌, List, [], ◌∷◌, ◌++◌, length, take, drop, map, sym, ap, ◌∙◌, subst, arith, inr, Bool, Option, Some, None, Ok, Err, length-append, append_assoc}
+use Rattle.std.specs.Prelude.{flat_map}
 use Rattle.std.proofs.lemmas.List.{take-append-drop, drop-drop, length-take, length-take-le, drop-append-le}
 use Rattle.std.proofs.lemmas.Simd.{map-map}
 use Rattle.std.proofs.Math.Seq.{drop-append_seam}
-use Rattle.httparse.specs.Grammar.{LineEnd, crlf, lf, print_end, print_field, print_section, print_blank, print_version, RequestHead, print_request, ReadsRequest, NeverHasRequest}
+use Rattle.httparse.specs.Grammar.{LineEnd, crlf, lf, print_end, print_field, print_blank, print_version, RequestHead, print_request, ReadsRequest}
 use Rattle.httparse.specs.Grammar as grammar
 use Rattle.httparse.proofs.GrammarLemmas.{ReadsRequest-append}
 use Rattle.httparse.specs.Spans.{RequestExceeds, IsRequestOf, span_bytes, header_bytes, name_and_value}
-use Rattle.httparse.specs.declared.Error.{Error}
-use Rattle.httparse.specs.declared.Error.TheVariants.{HeaderName, HeaderValue, NewLine, Status, Token, TooManyHeaders, Version}
 use Rattle.httparse.specs.declared.spans.HeaderSpan.{HeaderSpan}
 use Rattle.httparse.specs.declared.spans.RequestSpans.{RequestSpans}
 use Rattle.xa_http.specs.declared.message.Field.{Field}
@@ -58,17 +56,6 @@ too_many held room fits exceeds =
     let whole : take 16384 held ≡ front ++ rest = exceeds.2 in
     let read : front ++ print_end lf ≡ print_request h ++ [] = exceeds.4.1 in
     omega (arith, fits, head_fits h, exceeds.5, length-take 16384 held, simp length-append at (ap length whole), simp length-append at (ap length read))
-
--- so an error of the parser in that room says that no head begins like that
-pub never_a_head : (held : List ℕ) (room : ℕ) (e : Error) → 8192 ≤ room → (e ≢ TooManyHeaders → NeverHasRequest (window held))
-    → (e ≡ TooManyHeaders → RequestExceeds room (window held)) → NeverHasRequest (window held)
-never_a_head held room HeaderName fits never exceeds = never (λ e. cc)
-never_a_head held room HeaderValue fits never exceeds = never (λ e. cc)
-never_a_head held room NewLine fits never exceeds = never (λ e. cc)
-never_a_head held room Status fits never exceeds = never (λ e. cc)
-never_a_head held room Token fits never exceeds = never (λ e. cc)
-never_a_head held room TooManyHeaders fits never exceeds = absurd (too_many held room fits (exceeds refl))
-never_a_head held room Version fits never exceeds = never (λ e. cc)
 
 -- the field line of a name and a value
 field_from : List ℕ × List ℕ → Field
