@@ -10,7 +10,7 @@ use crate::no_answer::NoAnswer;
 use std::alloc::{AllocError, Global};
 use xa_bag::Bag;
 use xa_expr::{Context, Designator};
-use xa_value::{DataType, Items, Text, Value};
+use xa_value::{Items, Text, Value};
 
 /// A value of an attribute, and the designator that it has a place by.
 #[derive(Drop)]
