@@ -11,10 +11,10 @@ use crate::time::{DAY, HOUR, MINUTE, SECOND, fraction_length, fraction_nanos, pu
 use std::alloc::AllocError;
 use std::marker::Model;
 
-/// 10,000 years, in months.
+/// 10,000 years, in months: more than lie between any two dates, of the years 1 to 9999.
 const MOST_MONTHS: u128 = 120_000;
 
-/// 10,000 years of 365.25 days, in nanoseconds.
+/// 10,000 years of 365.25 days, in nanoseconds: more than lie between any two moments, of the years 1 to 9999.
 const MOST_NANOS: u128 = 315_576_000_000_000_000_000;
 
 /// A duration in years and months, as months: at most 120,000 to either side.

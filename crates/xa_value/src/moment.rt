@@ -13,7 +13,7 @@ use jiff_core::civil;
 use std::marker::Model;
 
 /// The seconds of a day.
-const DAY: i64 = 86_400;
+const SECONDS_OF_A_DAY: i64 = 86_400;
 
 /// A moment: whole seconds since 1970-01-01T00:00:00Z, from 0001-01-01T00:00:00Z to 9999-12-31T23:59:59Z.
 #[derive(Clone, Copy, Debug, PartialEq, Eq)]
@@ -89,7 +89,7 @@ impl Moment {
         ensures number { epoch_day result ≡ day_number_of self }
         ensures late { pos 1 ≤ℤ result.year }
     {
-        civil::Date::from_unix_epoch_day(self.seconds.div_euclid(DAY)).unwrap()
+        civil::Date::from_unix_epoch_day(self.seconds.div_euclid(SECONDS_OF_A_DAY)).unwrap()
     }
 
     /// The nanoseconds since the midnight that began the moment's day, by UTC.
@@ -97,6 +97,6 @@ impl Moment {
         ensures value { result ≡ nanos_of self }
         ensures within { result < day_nanos }
     {
-        self.seconds.rem_euclid(DAY) as u64 * SECOND
+        self.seconds.rem_euclid(SECONDS_OF_A_DAY) as u64 * SECOND
     }
 }

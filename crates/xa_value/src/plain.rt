@@ -36,7 +36,8 @@ impl<T> Plain<T> {
 }
 
 impl Value {
-    /// The value of the member under the type: a text is read by the type, a boolean fits boolean alone, and a whole number integer.
+    /// The value of the member under the type: a text is read by the type, a boolean fits boolean alone, and a whole number integer. NotThisType of
+    /// one that doesn't fit, and OutOfRange of a whole number that needs more than 64 bits.
     pub fn from_plain(
         alloc: Global,
         data_type: DataType,
@@ -68,6 +69,7 @@ impl Value {
     pub fn reads_back_from_plain(data_type: DataType, text: &str)
         ensures { PlainBack data_type text.now }
     {
+        // Nothing is done: the clause is for the prover, and holds of any type and text.
         let _ = (data_type, text.len());
     }
 }

@@ -28,7 +28,7 @@ impl Model for Offset {
 }
 
 impl Offset {
-    /// The greatest distance from UTC, in minutes.
+    /// The greatest distance from UTC, in minutes: 14 hours (XML Schema, part 2, section 3.2.7.3).
     const MOST: i16 = 840;
 
     /// The offset of this many minutes, where it is at most 14 hours.
