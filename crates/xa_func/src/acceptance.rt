@@ -33,7 +33,7 @@ impl HasKind for Value {
 }
 
 /// What an argument counts as, where a function's signature is asked.
-pub trait Counting {
+pub(crate) trait Counting {
     ghost counts_as: { Kind → Kind };
 
     /// The kind as which an argument of the kind counts.
@@ -42,7 +42,7 @@ pub trait Counting {
 }
 
 /// Each argument counts as what it is.
-pub struct Whole;
+pub(crate) struct Whole;
 
 impl Counting for Whole {
     ghost counts_as = { λ kind. kind };
@@ -53,7 +53,7 @@ impl Counting for Whole {
 }
 
 /// Each argument counts as one of its values.
-pub struct OneOfEach;
+pub(crate) struct OneOfEach;
 
 impl Counting for OneOfEach {
     ghost counts_as = { of_each };

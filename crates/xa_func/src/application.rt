@@ -238,7 +238,9 @@ fn is_in_range(arguments: &[Value]) -> Result<Value, FuncFault>
 }
 
 impl FuncId {
-    /// What the function of values gives, of arguments that it takes.
+    /// What the function of values gives, of arguments that it takes (XACML 3.0, core, appendix A.3), or its fault: ZeroDivisor and Overflow
+    /// of arithmetic, BadText of a string that is read as another type, Position of substring and n-of, and CalendarRange of a day that is
+    /// moved out of the years 1 to 9999. Clause `exact`: only what makes a text may want memory.
     pub fn apply(self, alloc: Global, arguments: &[Value]) -> Result<Value, OrMemory<FuncFault>>
         requires { TakesKinds self (map kind_of arguments.now) }
         ensures value { Gives result (applied self arguments.now) }

@@ -476,7 +476,7 @@ fn bag_named(functions: &[BagFunction], uri: &str) -> Option<FuncId>
 }
 
 impl FuncId {
-    /// The function that the URI names.
+    /// The function that the URI names (XACML 3.0, core, appendix A.3); none, where it names no function that is known here.
     pub fn from_uri(uri: &str) -> Option<FuncId>
         ensures each { (f : FuncId) → (result ≡ Some f) ↔ IsTrue (names uri.now f) }
         ensures named { result ≡ function_named uri.now }

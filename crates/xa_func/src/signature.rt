@@ -77,7 +77,7 @@ impl Signature {
 }
 
 impl FuncId {
-    /// What the function takes and gives.
+    /// What the function takes and gives (XACML 3.0, core, appendix A.3).
     pub fn signature(self) -> Signature
         ensures { result ≡ signature_of self }
     {
