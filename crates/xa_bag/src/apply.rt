@@ -19,7 +19,8 @@ use std::alloc::Global;
 use xa_func::{BagFunction, HigherOrder};
 use xa_value::{DataType, OrMemory, Value};
 
-/// What the function of the type gives for arguments that its signature takes.
+/// What the function of the type gives for arguments that its signature takes (XACML 3.0, core, appendix A.3.10 and A.3.11). The only fault is
+/// NotOne, of one-and-only.
 pub fn apply_bag_function<F>(
     alloc: Global,
     function: BagFunction,
@@ -171,7 +172,7 @@ fn whether_equal<F>(
 
 /// What the higher-order function gives for the inner function and the arguments after it, of each of whose values the inner
 /// function takes one. Arguments other than two bags are NotOne for all-of-any and all-of-all. Clause `law`: where one argument
-/// is a bag, the inner function is given each of its values in the bag's place.
+/// is a bag, the inner function is given each of its values in the bag's place (XACML 3.0, core, appendix A.3.12).
 #[tactic(auto, using(crate::proofs::JoiningLemmas::each_in_its_place))]
 pub fn apply_higher_order<F: Inner>(
     alloc: Global,

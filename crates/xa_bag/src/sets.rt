@@ -17,7 +17,7 @@ use crate::value_or_bag::ValueOrBag;
 use std::alloc::{AllocError, Global};
 use xa_value::{DataType, OrMemory, Value};
 
-/// The value of a bag that has exactly one.
+/// The value of a bag that has exactly one, and NotOne of any other (XACML 3.0, core, appendix A.3.10).
 pub fn one_and_only<F>(bag: &Bag) -> Result<Value, OrMemory<BagFault<F>>>
     ensures value { Gives result (one_and_only bag.now.values) }
     ensures of_type { IfOk result (λ v. type_of v ≡ bag.now.data_type) }
