@@ -43,7 +43,8 @@ impl Model for Match {
 }
 
 impl Match {
-    /// The match of the function of that name. The literal is the function's first argument, each value of the bag its second.
+    /// The match of the function of that name (core, sections 5.9 and 7.6). The literal is the function's first argument, each value of the bag its
+    /// second. UnknownFunction where no function has the name; WrongType of one that doesn't take the two, or gives no boolean.
     pub fn new(function: &str, literal: Value, designator: Designator) -> Result<Match, CheckError>
         ensures { result ≡ matched function.now literal designator }
     {

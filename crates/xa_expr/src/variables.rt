@@ -19,6 +19,7 @@ use xa_value::{OrMemory, Text};
 /// A variable's definition (core, section 5.23): its name, and the expression for which it stands.
 #[derive(Debug, Drop)]
 pub struct Definition {
+    /// The VariableId, by which expressions refer to it.
     pub name: Text,
     /// The expression, whose variables are defined before.
     pub expression: Typed,
