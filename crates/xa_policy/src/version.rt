@@ -19,7 +19,7 @@ use xa_value::{Text, is_number, number_up_to};
 /// The most numbers of a version or a pattern: a bound of this project's own, so that each takes no memory.
 pub(crate) const MOST_NUMBERS: usize = 8;
 
-/// The most digits of a number.
+/// The most digits of a number, with which it fits 32 bits.
 const MOST_DIGITS: usize = 9;
 
 /// The greatest number of this many digits.
@@ -49,7 +49,8 @@ impl Model for Version {
 }
 
 impl Version {
-    /// The version that the text writes: numbers with dots between. Leading zeros are dropped.
+    /// The version that the text writes: numbers with dots between (XACML 3.0, core, section 5.12). Leading zeros are dropped. BadText of any other
+    /// shape; TooLong of more than eight numbers, or of one of more than nine digits.
     pub fn read(text: &str) -> Result<Version, VersionError>
         ensures { result ≡ read_version text.now }
     {
@@ -91,6 +92,7 @@ impl Version {
     pub fn reads_back(self)
         ensures { read_version (version_text self) ≡ Ok self }
     {
+        // Nothing is done: by the call's clause `valid` the prover knows that these are the numbers of a version, which the law needs.
         let _ = self.numbers();
     }
 
