@@ -224,7 +224,7 @@ fn individuals_combined(
 
 impl Request {
     /// The individual requests that the request stands for: those that references name, or without any one for each combination of
-    /// one object a category. They hold the places of their objects, and copy none.
+    /// one object a category; or TooMany, of more than 64. They hold the places of their objects, and copy none.
     #[tactic(auto, unfolding(crate::specs::Individuals::individuals))]
     pub fn individuals(&self, alloc: Global) -> Result<Items<Individual>, OrMemory<TooMany>>
         ensures value { Gives result (individuals self.now) }

@@ -130,7 +130,8 @@ fn request_from(alloc: Global, value: &Json<'_>) -> Result<Request, OrMemory<Req
 }
 
 impl Request {
-    /// The request that a body is.
+    /// The request that a body is (JSON Profile, section 4): NotJson of what is no JSON in UTF-8, and NotProfile of JSON that is no object with
+    /// a member Request, or whose Request is none of the Profile: it has another shape, or two objects of one Id.
     #[tactic(auto, unfolding(crate::specs::Request::request_of))]
     pub fn read(alloc: Global, body: &[u8]) -> Result<Request, OrMemory<RequestError>>
         ensures { Gives result (request_of body.now) }

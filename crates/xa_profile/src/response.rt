@@ -28,6 +28,7 @@ pub struct ResultObject {
 pub struct Response<'a> {
     /// The Category objects of the request.
     pub objects: &'a [CategoryObject],
+    /// The results, in order: one for each individual request, or one alone where these aren't decided.
     pub results: Items<ResultObject>,
 }
 
