@@ -23,6 +23,7 @@ use xa_value::{Items, Moment, OrMemory};
 /// The response to a request, and whether it is the same at every moment.
 #[derive(Debug, Drop)]
 pub struct Decided<'a> {
+    /// The response.
     pub response: Response<'a>,
     /// Whether no attribute of the clock is asked for, so that the response is the same at every moment.
     pub timeless: bool,
@@ -243,7 +244,7 @@ fn outcome_of_request(
 }
 
 /// The response to the request at the moment: a result for each of its individual requests, by the tree that the view's root stands for,
-/// or one result where these aren't decided.
+/// or one result where these aren't decided. Want of memory is the only error; it is also what comes where the view's limit of work is reached.
 pub fn decide<'a>(
     alloc: Global,
     view: &View,
@@ -297,7 +298,7 @@ fn respond_to_request(
 }
 
 /// The body of the response to the body of a request, at the moment, and whether it is the same at every moment; none, where the body of
-/// the request is no JSON.
+/// the request is no JSON. JSON that is no request of the JSON Profile has a response, of the status syntax-error.
 #[tactic(auto, unfolding(crate::specs::Decision::answer, crate::specs::Timeless::is_timeless_answer))]
 pub fn respond(
     alloc: Global,

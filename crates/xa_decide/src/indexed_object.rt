@@ -89,6 +89,7 @@ impl<'a> IndexedObject<'a> {
     pub(crate) fn is_of_types(&self)
         ensures { IsOfTypes self.now }
     {
+        // Nothing is done: the clause is for the prover, a part of the type's invariant.
         let _ = &self.object;
     }
 

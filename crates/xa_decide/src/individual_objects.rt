@@ -101,6 +101,7 @@ impl<'a> IndividualObjects<'a> {
     pub(crate) fn are_of_types(&self)
         ensures { All IsOfTypes self.now }
     {
+        // Nothing is done: the clause is for the prover, a part of the type's invariant.
         let _ = &self.order;
     }
 

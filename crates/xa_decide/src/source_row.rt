@@ -12,5 +12,6 @@ pub struct SourceRow {
     pub entity: Text,
     /// The attribute's id.
     pub attribute_id: Text,
+    /// The value, whose data type is the attribute's.
     pub value: Value,
 }

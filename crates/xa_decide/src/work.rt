@@ -8,7 +8,7 @@ use xa_expr::{Budget, LOOK, units_of, units_of_bag};
 use xa_profile::{Attribute, CategoryObject};
 use xa_value::Value;
 
-/// From how many values on a bag is large.
+/// From how many values on a bag is large: a smaller one is looked at value by value, which takes some two microseconds.
 const LARGE: usize = 256;
 
 /// How often all large bags of a request may be gone through, value by value, before their values are put in order, which takes about as long.
