@@ -11,7 +11,7 @@ use std::num::NonZeroUsize;
 use xa_notation::{NotationError, Parsed};
 use xa_value::{OrMemory, Shared};
 
-/// The most documents that are kept.
+/// The most documents that are kept: their texts, of at most 65,536 bytes each, come to 8 MiB at most.
 const MAX_DOCUMENTS: usize = 128;
 
 /// Documents, each under its whole text. Contracts see the number of texts that were read and not found.
