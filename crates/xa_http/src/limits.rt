@@ -3,8 +3,8 @@
 /// A head has at most this many bytes, the empty lines before it included: a client can't make the server hold more of one.
 pub const MAX_HEAD_BYTES: usize = 16_384;
 
-/// A head has at most this many field lines.
+/// A head has at most this many field lines: the offsets of so many are read without memory.
 pub const MAX_FIELDS: usize = 64;
 
-/// A body has at most this many bytes.
+/// A body has at most this many bytes: a message that announces more is refused by its head, and isn't waited for.
 pub const MAX_BODY_BYTES: usize = 262_144;

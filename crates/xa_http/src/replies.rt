@@ -42,7 +42,7 @@ impl Media {
 /// Any head of a reply fits into this many bytes.
 const HEAD_ROOM: usize = 256;
 
-/// The bytes of a reply.
+/// The bytes of a reply (RFC 9112, section 4): its status line, the fields Content-Type and Content-Length and the extra one, and the body.
 #[tactic(auto, unfolding(crate::specs::Reply::http_bytes))]
 pub fn reply(
     alloc: Global,

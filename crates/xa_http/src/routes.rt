@@ -40,7 +40,7 @@ impl Routes {
     }
 
     /// What the message asks for: where its target leads, what its method asks for there, and then the media type of its body. The parts of the
-    /// path are percent-decoded once (RFC 3986, section 2.4).
+    /// path are percent-decoded once (RFC 3986, section 2.4). The faults are, in that order, NoRoute, BadMethod and BadMediaType.
     #[tactic(auto, unfolding(crate::specs::Routes::route_of))]
     pub fn route(&self, alloc: Global, message: &Message) -> Result<Route, OrMemory<RouteFault>>
         ensures route { Gives result (route_of message.now) }
