@@ -26,7 +26,7 @@ use Rattle.xa_expr.specs.declared.fault.Fault.{Fault}
 use Rattle.xa_expr.specs.Arguments.{AreValueKinds, IsValueKind, value_result}
 use Rattle.xa_expr.specs.Evaluation.{Outcome, applied_to_values, value_in}
 use Rattle.xa_expr.specs.Fault.{of_function}
-use Rattle.xa_expr.proofs.CheckLemmas.{fault_first, passed_on}
+use Rattle.xa_bag.proofs.JoiningLemmas.{fault_first, passed_on}
 
 -- a fault of a part that is one of the whole was passed on
 pub fault_passed : {X Y : Type 0} (e : OrMemory Fault) (r : Result Y (OrMemory Fault)) (here : Result X Fault) (whole : Result Y Fault)

@@ -1,12 +1,10 @@
 -- What the type check finds, step by step, is what its definition gives.
-use Rattle.std.proofs.Common.{◌≡◌, ℕ, suc, ◌+◌, ◌<◌, Bool, true, false, ◌&&◌, List, [], ◌∷◌, ◌++◌, length, map, take, drop, get_or, ◌-◌, ◌≤◌, arith, refl, sym, ap, subst, ◌∙◌, add-one, drop-cons, append-nil}
-use Rattle.std.proofs.lemmas.List.{map-append, take_rest}
-use Rattle.std.specs.Prelude.{Option, Some, None, Result, Ok, Err, IsErrAnd, ◌↔◌, IsTrue, if◌then◌else◌, not}
+use Rattle.std.proofs.Common.{◌≡◌, ℕ, ◌+◌, Bool, true, false, ◌&&◌, List, [], ◌∷◌, ◌++◌, length, map, drop, ◌-◌, refl, sym, ap, subst, ◌∙◌, append-nil}
+use Rattle.std.proofs.lemmas.List.{map-append}
+use Rattle.std.specs.Prelude.{Option, Some, None, Result, Ok, Err, ◌↔◌, IsTrue, if◌then◌else◌, not}
 use Rattle.std.proofs.lemmas.Bool.Decides.{Decides-and, same_from_decides}
 use Rattle.std.proofs.lemmas.Bool.{and_from}
-use Rattle.xa_value.specs.declared.or_memory.OrMemory.{OrMemory}
-use Rattle.xa_value.specs.declared.or_memory.OrMemory.TheVariants.{Memory, Error}
-use Rattle.xa_value.specs.Gives.{Gives, ◌>>=◌}
+use Rattle.xa_value.specs.Gives.{◌>>=◌}
 use Rattle.xa_func.specs.declared.func_id.FuncId.{FuncId}
 use Rattle.xa_func.specs.declared.func_id.HigherOrder.{HigherOrder}
 use Rattle.xa_func.specs.declared.signature.Kind.{Kind}
@@ -24,10 +22,6 @@ use Rattle.xa_expr.specs.Typed.{kind_of_typed, kind_under, kind_where, result_ki
 use Rattle.xa_expr.specs.Typing.{judged, applied, higher_applied}
 use Rattle.xa_expr.proofs.KindLemmas.{accepted_decides}
 use Rattle.xa_expr.proofs.UnderLemmas.{under_apply, under_higher_order, kind_apply, kind_higher_order}
-
--- a list from a place on is the item there, and then the rest
-pub walked : {X : Type 0} (xs : List X) (i : ℕ) (x : X) → x ≡ get_or xs i x → i < length xs → drop i xs ≡ x ∷ drop (i + 1) xs
-walked xs i x is below = rw add-one (drop-cons xs i x below ∙ ap (λ y. y ∷ drop (suc i) xs) (sym is))
 
 -- results that are all there are those, and a fault among them is what they come to
 pub collected_done : {X E : Type 0} (xs : List X) → collected {F = E} (map Ok xs) ≡ Ok xs
@@ -143,23 +137,9 @@ pub higher_typed : (vs : List Kind) (h : HigherOrder) (f : FuncId) (ts : List Ty
 higher_typed vs h f ts t scalar there e =
     higher_at vs h f ts t (higher_counted h f (length ts)) (higher_accepted h f (map kind_of_typed ts)) scalar refl there e
 
--- a fault that was passed on, and one of a part that is one of the whole
-pub passed_on : {Y E : Type 0} (e : OrMemory E) (r : Result Y (OrMemory E)) (y : Result Y E) → IsErrAnd r (λ d. d ≡ e) → Gives {X = Y} (Err e) y → Gives r y
-passed_on {Y} {E} e (Err d) y same gives = let P : OrMemory E → Type 0 = λ f. Gives {X = Y} (Err f) y in subst P (sym same) gives
-passed_on e (Ok x) y same gives = absurd same
-
-pub fault_first : {X Y E : Type 0} (e : OrMemory E) (x : Result X E) (y : Result Y E)
-    → ((d : E) → x ≡ Err d → y ≡ Err d) → Gives {X = X} (Err e) x → Gives {X = Y} (Err e) y
-fault_first Memory x y through gives = tt
-fault_first (Error d) x y through gives = through d gives
-
 -- a second step after a first that gave something, or did not
 pub then_next : {A B E : Type 0} (a : Result A E) (x : A) (next : A → Result B E) → a ≡ Ok x → (a >>= next) ≡ next x
 then_next a x next e = ap (λ r. r >>= next) e
 
 pub then_fault : {A B E : Type 0} (a : Result A E) (fault : E) (next : A → Result B E) → a ≡ Err fault → (a >>= next) ≡ Err fault
 then_fault a fault next e = ap (λ r. r >>= next) e
-
--- a list that has an item is the first and the rest
-pub first_rest : {X : Type 0} (xs : List X) (x : X) → x ≡ get_or xs 0 x → 1 ≤ length xs → xs ≡ x ∷ take (length xs - 1) (drop 1 xs)
-first_rest xs x is some = drop-cons xs 0 x (omega arith) ∙ ap (λ y. y ∷ drop 1 xs) (sym is) ∙ ap (λ ys. x ∷ ys) (sym (take_rest xs 1))

@@ -1,5 +1,6 @@
 -- No wrong type is met where an expression is evaluated that has a kind under the kinds of its variables.
 use Rattle.std.proofs.Common.{◌≡◌, refl, ap, sym, ◌∙◌, subst, ℕ, zero, suc, Bool, true, false, ◌&&◌, List, [], ◌∷◌, ◌++◌, map, slice_get, Option, Some, None, append_assoc, append-nil}
+use Rattle.std.proofs.lemmas.Bool.{and_parts}
 use Rattle.std.specs.Prelude.{if◌then◌else◌, Result, Ok, Err}
 use Rattle.xa_value.specs.declared.data_type.DataType.TheVariants as type
 use Rattle.xa_value.specs.declared.value.Value.{Value}
@@ -197,16 +198,12 @@ all_come : (source : Attributes) (vs : List Kind) (rs : List Outcome) → ((t : 
 all_come source vs rs each [] = tt
 all_come source vs rs each (t ∷ ts) = (each t, all_come source vs rs each ts)
 
-both : (a b : Bool) → (a && b) ≡ true → (a ≡ true) × (b ≡ true)
-both true b e = (refl, e)
-both false b e = cc
-
 -- an inner function takes values of the types of the arguments
 inner_takes : (h : HigherOrder) (f : FuncId) (ks : List Kind) → (is_scalar f && higher_accepted h f ks) ≡ true → TakesKinds f (map of_each ks)
 inner_takes h f ks e =
-    let scalar = both (is_scalar f) (higher_accepted h f ks) e in
-    let bags = both (has_bags h ks && accepted (signature_of f) (map of_each ks)) (gives_boolean h f) scalar.1 in
-    let taken = both (has_bags h ks) (accepted (signature_of f) (map of_each ks)) bags.0 in
+    let scalar = and_parts (is_scalar f) (higher_accepted h f ks) e in
+    let bags = and_parts (has_bags h ks && accepted (signature_of f) (map of_each ks)) (gives_boolean h f) scalar.1 in
+    let taken = and_parts (has_bags h ks) (accepted (signature_of f) (map of_each ks)) bags.0 in
     (scalar.0, accepts_of (signature_of f) (map of_each ks) taken.1)
 
 choices_fit : (h : HigherOrder) (f : FuncId) (ks : List Kind) (r : Result (List ValueOrBag) Fault) → (is_scalar f && higher_accepted h f ks) ≡ true → AllGiven ks r → AnswersChoices f r

@@ -1,5 +1,6 @@
 -- Checked expressions, layer by layer: what they come to, and what their kinds say of their arguments.
 use Rattle.std.proofs.Common.{◌≡◌, refl, ap, sym, ◌∙◌, subst, ℕ, zero, suc, ◌<◌, ◌≤◌, max, arith, Bool, true, false, List, [], ◌∷◌, map, length, get_or, slice_get, Option, Some, None}
+use Rattle.std.proofs.lemmas.Bool.{and_parts}
 use Rattle.std.specs.Prelude.{◌&&◌, if◌then◌else◌}
 use denote.Param.Weighed.{most}
 use Rattle.xa_func.specs.declared.func_id.FuncId.{FuncId}
@@ -79,18 +80,14 @@ apply_typed vs f ts l t is e =
     let typed = there_typed vs ts there.0 there.1 in
     (typed.0, subst (AcceptsKinds (signature_of f)) (sym typed.1) (accepts_of (signature_of f) there.0 there.2))
 
-both : (a b : Bool) → (a && b) ≡ true → (a ≡ true) × (b ≡ true)
-both true b e = (refl, e)
-both false b e = cc
-
 pub higher_typed : (vs : List Kind) (h : HigherOrder) (f : FuncId) (ts : List Typed) (l : Kind) (t : Typed) → t ≡ typed.HigherOrder h f ts → kind_under vs t ≡ Some l
     → AreTypedUnder vs ts × TakesKinds f (map of_each (map kind_of_typed ts))
 higher_typed vs h f ts l t is e =
     let there = where_some _ _ _ _ (sym (under_higher_order vs h f ts) ∙ ap (kind_under vs) (sym is) ∙ e) in
     let typed = there_typed vs ts there.0 there.1 in
-    let scalar = both (is_scalar f) (higher_accepted h f there.0) there.2 in
-    let bags = both (has_bags h there.0 && accepted (signature_of f) (map of_each there.0)) (gives_boolean h f) scalar.1 in
-    let taken = both (has_bags h there.0) (accepted (signature_of f) (map of_each there.0)) bags.0 in
+    let scalar = and_parts (is_scalar f) (higher_accepted h f there.0) there.2 in
+    let bags = and_parts (has_bags h there.0 && accepted (signature_of f) (map of_each there.0)) (gives_boolean h f) scalar.1 in
+    let taken = and_parts (has_bags h there.0) (accepted (signature_of f) (map of_each there.0)) bags.0 in
     (typed.0, (scalar.0, subst (λ ks. AcceptsKinds (signature_of f) (map of_each ks)) (sym typed.1) (accepts_of (signature_of f) (map of_each there.0) taken.1)))
 
 -- the kind of one argument

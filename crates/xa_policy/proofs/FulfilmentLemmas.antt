@@ -13,7 +13,7 @@ use Rattle.xa_expr.specs.declared.typed.Typed.{Typed}
 use Rattle.xa_expr.specs.Evaluation.{Outcome}
 use Rattle.xa_expr.specs.Typed.{IsTyped}
 use Rattle.xa_expr.proofs.ArgumentLemmas.{next_fault, no_more}
-use Rattle.xa_expr.proofs.CheckLemmas.{fault_first, passed_on}
+use Rattle.xa_bag.proofs.JoiningLemmas.{fault_first, passed_on}
 use Rattle.xa_policy.specs.declared.decision.Effect.{Effect}
 use Rattle.xa_policy.specs.declared.duty.AttributeAssignment.{AttributeAssignment}
 use Rattle.xa_policy.specs.declared.duty.AttributeAssignmentExpression.{AttributeAssignmentExpression}

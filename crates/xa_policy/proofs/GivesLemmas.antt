@@ -6,7 +6,9 @@ use Rattle.xa_value.specs.declared.or_memory.OrMemory.{OrMemory}
 use Rattle.xa_value.specs.Gives.{Gives, ◌>>=◌}
 use Rattle.xa_bag.specs.HigherOrder.{collected}
 use Rattle.xa_expr.proofs.ArgumentLemmas.{next_fault, next_there, no_more}
-use Rattle.xa_expr.proofs.CheckLemmas.{fault_first, passed_on, then_fault, walked}
+use Rattle.xa_bag.proofs.JoiningLemmas.{fault_first, passed_on}
+use Rattle.xa_bag.proofs.SetLemmas.{walked}
+use Rattle.xa_expr.proofs.CheckLemmas.{then_fault}
 
 -- a fault of the first step is one of both
 pub first_fault : {X Y E : Type 0} (e : OrMemory E) (answer : Result Y (OrMemory E)) (first : Result X E) (next : X → Result Y E)

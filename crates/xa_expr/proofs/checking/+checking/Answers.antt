@@ -4,7 +4,10 @@ use Rattle.xa_value.specs.declared.or_memory.OrMemory.TheVariants.{Error}
 use Rattle.xa_value.specs.Gives.{Gives}
 use Rattle.xa_expr.specs.Typing.{judged, arguments, at_depth, inner_named, higher_order, higher_applied}
 use Rattle.xa_expr.specs.Variables.{kinds}
-use Rattle.xa_expr.proofs.CheckLemmas.{walked, value_next, typed_next, fault_next, value_done, apply_typed, higher_typed, passed_on, fault_first, then_next, then_fault, first_rest}
+use Rattle.xa_bag.proofs.BagLemmas.{first_rest}
+use Rattle.xa_bag.proofs.JoiningLemmas.{passed_on, fault_first}
+use Rattle.xa_bag.proofs.SetLemmas.{walked}
+use Rattle.xa_expr.proofs.CheckLemmas.{value_next, typed_next, fault_next, value_done, apply_typed, higher_typed, then_next, then_fault}
 use Rattle.xa_expr.proofs.checking.+checking.Goals as goal
 
 pub check_each-returns-in_err-check_at-clause-value :

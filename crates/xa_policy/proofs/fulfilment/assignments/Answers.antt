@@ -1,5 +1,5 @@
 use Rattle.std.proofs.Common.{◌∙◌}
-use Rattle.xa_expr.proofs.CheckLemmas.{walked}
+use Rattle.xa_bag.proofs.SetLemmas.{walked}
 use Rattle.xa_policy.proofs.FulfilmentLemmas.{expression_assigned, expression_fault, first_typed}
 use Rattle.xa_policy.proofs.fulfilment.assignments.Goals as goal
 

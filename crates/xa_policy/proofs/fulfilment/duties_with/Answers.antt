@@ -1,6 +1,6 @@
 use Rattle.std.proofs.Common.{sym, ◌∙◌}
 use Rattle.std.proofs.lemmas.List.{drop_all}
-use Rattle.xa_expr.proofs.CheckLemmas.{walked}
+use Rattle.xa_bag.proofs.SetLemmas.{walked}
 use Rattle.xa_policy.proofs.FulfilmentLemmas.{duties_done, duty_fault}
 use Rattle.xa_policy.proofs.fulfilment.duties_with.Goals as goal
 
