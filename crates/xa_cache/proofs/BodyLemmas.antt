@@ -1,23 +1,19 @@
 -- What is kept after a look-up and after a body was put there: for who states a fact P of everything that is kept.
-use Rattle.std.proofs.Common.{◌≡◌, ℕ, zero, suc, ◌+◌, ◌≤◌, Bool, true, false, ◌&&◌, nat_eq, List, [], ◌∷◌, length, take, take_all, Option, Some, None, refl, sym, ap, subst, arith, ◌∙◌}
+use Rattle.std.proofs.Common.{◌≡◌, ℕ, zero, suc, ◌+◌, ◌≤◌, true, false, ◌&&◌, nat_eq, List, [], ◌∷◌, length, take, take_all, Option, Some, None, refl, sym, ap, subst, arith, ◌∙◌}
 use Rattle.std.specs.Cmp.Lexicographic.{pointwise, bytes_decides}
 use Rattle.std.specs.List.{AllByRecursion}
 use Rattle.std.specs.Map.{lookup_entry, remove_entry}
 use Rattle.std.specs.Option.{option_map_or}
-use Rattle.std.proofs.lemmas.Bool.{eqb-true}
+use Rattle.std.proofs.lemmas.Bool.{and_parts, eqb-true}
 use Rattle.lru.specs.LruCache.{lru_cache, promoted, put_entries}
 use Rattle.xa_cache.specs.declared.key.Key.{Key}
 use Rattle.xa_cache.specs.Bodies.{key_of, same_key, found, first, looked, kept}
 
-both : (a b : Bool) → (a && b) ≡ true → (a ≡ true) × (b ≡ true)
-both true b h = (refl, h)
-both false b h = absurd cc
-
 -- keys that compare alike are one
 pub one_key : (a b : Key) → same_key a b ≡ true → a ≡ b
 one_key a b same =
-    let outer = both (nat_eq a.number b.number) (nat_eq a.epoch b.epoch && pointwise nat_eq a.body b.body) same in
-    let inner = both (nat_eq a.epoch b.epoch) (pointwise nat_eq a.body b.body) outer.1 in
+    let outer = and_parts (nat_eq a.number b.number) (nat_eq a.epoch b.epoch && pointwise nat_eq a.body b.body) same in
+    let inner = and_parts (nat_eq a.epoch b.epoch) (pointwise nat_eq a.body b.body) outer.1 in
     let number = eqb-true a.number b.number outer.0 in
     let epoch = eqb-true a.epoch b.epoch inner.0 in
     let body = (bytes_decides a.body b.body).0 inner.1 in
