@@ -1,9 +1,9 @@
 -- How many combinations there are.
 use Rattle.std.proofs.Common.{◌≡◌, ℕ, ◌+◌, ◌*◌, ◌<◌, Bool, true, false, cond, List, [], ◌∷◌, ◌++◌, length, get_or, drop, map, refl, ap, sym, ◌∙◌, arith, length-append}
-use Rattle.std.specs.Prelude.{◌&&◌, Result, Ok, Err, nat_lt}
+use Rattle.std.specs.Prelude.{Result, Ok, Err, nat_lt}
 use Rattle.std.specs.List.{list_all, fold}
 use Rattle.std.proofs.Math.Nat.{suc-mul, zero-mul, le-mul_of_pos_right}
-use Rattle.std.proofs.lemmas.Bool.{ltb-true, lt-ltb}
+use Rattle.std.proofs.lemmas.Bool.{and_parts, ltb-true, lt-ltb}
 use Rattle.std.proofs.lemmas.List.{length-map}
 use Rattle.xa_bag.proofs.SetLemmas.{walked}
 use Rattle.xa_profile.specs.declared.individuals.TooMany.{TooMany}
@@ -23,17 +23,13 @@ length_with_each (c ∷ cs) ps =
     omega (arith, e, first, both, product)
 
 -- combinations with further places are no fewer
-some_first : (b rest : Bool) → (b && rest) ≡ true → (b ≡ true) × (rest ≡ true)
-some_first true rest e = (refl, e)
-some_first false rest e = absurd (cc)
-
 times_some : (m n : ℕ) → 64 < m → 0 < n → 64 < m * n
 times_some m n many some = let more = le-mul_of_pos_right m some in omega (arith, many, more)
 
 pub no_fewer : (lists cs : List (List ℕ)) → are_some lists ≡ true → 64 < length cs → 64 < length (fold with_each cs lists)
 no_fewer [] cs some many = many
 no_fewer (ps ∷ lists) cs some many =
-    let h = some_first (nat_lt 0 (length ps)) (are_some lists) some in
+    let h = and_parts (nat_lt 0 (length ps)) (are_some lists) some in
     let long = length_with_each cs ps in
     let more = times_some (length cs) (length ps) many (ltb-true 0 (length ps) h.0) in
     no_fewer lists (with_each cs ps) h.1 (omega (arith, long, more))
@@ -72,7 +68,7 @@ few_more cs ps few = ap (nat_lt 64) (length_with_each cs ps) ∙ few
 -- the first of the lists that are left
 some_left : (lists : List (List ℕ)) (i : ℕ) (ps : List ℕ) → ps ≡ get_or lists i ps → i < length lists → are_some (drop i lists) ≡ true → are_some (drop (i + 1) lists) ≡ true
 some_left lists i ps is within some =
-    (some_first (nat_lt 0 (length ps)) (are_some (drop (i + 1) lists)) (ap are_some (sym (walked lists i ps is within)) ∙ some)).1
+    (and_parts (nat_lt 0 (length ps)) (are_some (drop (i + 1) lists)) (ap are_some (sym (walked lists i ps is within)) ∙ some)).1
 
 -- how many combinations there would be
 product_of : (cs : List (List ℕ)) (ps : List ℕ) (m n : ℕ) (b : Bool) → m ≡ length cs → n ≡ length ps → nat_lt 64 (m * n) ≡ b → nat_lt 64 (length cs * length ps) ≡ b

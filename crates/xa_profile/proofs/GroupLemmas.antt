@@ -1,9 +1,9 @@
 -- The places of each category's objects, as they are found one object after another.
 use Rattle.std.proofs.Common.{◌≡◌, ℕ, zero, suc, ◌+◌, ◌<◌, Bool, true, false, cond, List, [], ◌∷◌, ◌++◌, length, get_or, take, map, refl, ap, sym, subst, ◌∙◌, arith, add-one, add-zero, zero-add, append-nil, length-append}
-use Rattle.std.specs.Prelude.{◌&&◌, ◌||◌, bytes_eq, filter, nat_lt, Option, Some, None, is_some, option_map, IfSome, IfNone}
+use Rattle.std.specs.Prelude.{◌||◌, bytes_eq, filter, nat_lt, Option, Some, None, is_some, option_map, IfSome, IfNone}
 use Rattle.std.specs.List.{list_any, fold, range_with_len, slice_set}
 use Rattle.std.specs.Option.{option_or}
-use Rattle.std.proofs.lemmas.Bool.{lt-ltb}
+use Rattle.std.proofs.lemmas.Bool.{and_parts, lt-ltb}
 use Rattle.std.proofs.lemmas.List.{length-map, map-append, take_more, take_all}
 use Rattle.std.proofs.lemmas.List.Elements.{filter-append}
 use Rattle.std.proofs.lemmas.List.Folds.{list_all-append}
@@ -114,15 +114,11 @@ put_at F i c (t ∷ ts) g single at = by_test (λ m e. put_at F i c ts m single.
       let next = next_of (number_of ts c) g h in
       subst goal (sym next.is) (rw (without_place F i c t (differs c t e), again next.before next.at) refl)
 
-some_first : (b rest : Bool) → (b && rest) ≡ true → (b ≡ true) × (rest ≡ true)
-some_first true rest e = (refl, e)
-some_first false rest e = absurd (cc)
-
 some_set : (groups : List (List ℕ)) (g : ℕ) (ps : List ℕ) → are_some groups ≡ true → 0 < length ps → are_some (slice_set groups g ps) ≡ true
 some_set [] g ps some long = refl
-some_set (x ∷ xs) zero ps some long = rw (lt-ltb 0 (length ps) long, (some_first (nat_lt 0 (length x)) (are_some xs) some).1) refl
+some_set (x ∷ xs) zero ps some long = rw (lt-ltb 0 (length ps) long, (and_parts (nat_lt 0 (length x)) (are_some xs) some).1) refl
 some_set (x ∷ xs) (suc g) ps some long =
-    let h = some_first (nat_lt 0 (length x)) (are_some xs) some in
+    let h = and_parts (nat_lt 0 (length x)) (are_some xs) some in
     rw (h.0, some_set xs g ps h.1 long) refl
 
 -- whether a text is among texts
