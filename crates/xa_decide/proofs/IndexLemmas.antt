@@ -15,6 +15,7 @@ use Rattle.std.proofs.lemmas.List.Elements.{filter_agree, filter_passes}
 use Rattle.std.proofs.lemmas.List.Sorted.{IsNonDecreasingBy-drop}
 use Rattle.std.proofs.lemmas.Option.{slice_get-get_or}
 use Rattle.std.proofs.Math.Seq.{get_or-append_seam}
+use Rattle.xa_value.proofs.OrderLemmas.{equal_from_is_eq}
 use Rattle.xa_decide.specs.indexing.Index.{Sought, compare_keys, order_at, with_key}
 
 -- ---- orderings
@@ -33,11 +34,6 @@ above_is_not_equal : (o : Ordering) → is_le o ≡ false → is_eq o ≡ false
 above_is_not_equal Less e = refl
 above_is_not_equal Equal e = absurd (true≢false e)
 above_is_not_equal Greater e = refl
-
-is_equal : (o : Ordering) → is_eq o ≡ true → o ≡ Equal
-is_equal Less e = absurd (true≢false (sym e))
-is_equal Equal e = refl
-is_equal Greater e = absurd (true≢false (sym e))
 
 tied : (o : Ordering) → (not (is_lt (ordering_reverse o)) && not (is_lt o)) ≡ is_eq o
 tied Less = refl
@@ -105,7 +101,7 @@ module _ {X : Type 0} (ord : X → Ordering) where
 module _ {K X : Type 0} {R : K → K → Ordering} (o : IsTotalOrder R) (key : X → K) (k : K) where
   alike : (x y : X) → is_eq (R (key x) k) ≡ true → ties (λ a b. is_lt (R (key a) (key b))) x y ≡ is_eq (R (key y) k)
   alike x y e =
-      let same : R (key x) (key y) ≡ R k (key y) = o.congr (key x) k (key y) (is_equal (R (key x) k) e) in
+      let same : R (key x) (key y) ≡ R k (key y) = o.congr (key x) k (key y) (equal_from_is_eq (R (key x) k) e) in
       let left : R (key x) (key y) ≡ ordering_reverse (R (key y) k) = same ∙ o.antisymm k (key y) in
       let right : R (key y) (key x) ≡ R (key y) k = o.antisymm (key y) (key x) ∙ ap ordering_reverse same ∙ sym (o.antisymm (key y) k) in
       ap (λ a. not (is_lt a) && not (is_lt (R (key y) (key x)))) left

@@ -1,8 +1,8 @@
 -- White space at the end of a text.
-use Rattle.std.proofs.Common.{◌≡◌, ℕ, suc, ◌-◌, ◌<◌, ◌≤◌, true, false, List, [], ◌∷◌, ◌++◌, length, take, get_or, reverse, refl, sym, ap, ◌∙◌, arith}
-use Rattle.std.proofs.Math.Seq.{take-suc}
-use Rattle.std.proofs.lemmas.List.{reverse-append, reverse-reverse, take_all}
+use Rattle.std.proofs.Common.{◌≡◌, ℕ, ◌-◌, ◌<◌, ◌≤◌, true, false, List, [], ◌∷◌, ◌++◌, length, take, get_or, reverse, refl, sym, ap, ◌∙◌, arith}
+use Rattle.std.proofs.lemmas.List.{reverse-append, reverse-reverse}
 use Rattle.httparse.specs.Grammar.{is_ows, skip_ows}
+use Rattle.xa_value.proofs.LexicalLemmas.{front_and_last}
 
 -- the text without the white space that it ends with
 abbrev pub trimmed : List ℕ → List ℕ
@@ -16,10 +16,6 @@ trimmed_blank xs b blank = rw (reverse-append xs (b ∷ []), blank) refl
 trimmed_other : (xs : List ℕ) (b : ℕ) → is_ows b ≡ false → trimmed (xs ++ b ∷ []) ≡ xs ++ b ∷ []
 trimmed_other xs b other =
     rw (reverse-append xs (b ∷ []), other) (ap reverse (sym (reverse-append xs (b ∷ []))) ∙ reverse-reverse (xs ++ b ∷ []))
-
--- a text is its front and its last character
-front_and_last : (xs : List ℕ) → 1 ≤ length xs → xs ≡ take (length xs - 1) xs ++ get_or xs (length xs - 1) 0 ∷ []
-front_and_last xs some = sym (take_all (suc (length xs - 1)) xs (omega arith)) ∙ take-suc xs (length xs - 1) 0 (omega arith)
 
 pub last_blank : (xs : List ℕ) → 1 ≤ length xs → is_ows (get_or xs (length xs - 1) 0) ≡ true → trimmed (take (length xs - 1) xs) ≡ trimmed xs
 last_blank xs some blank =

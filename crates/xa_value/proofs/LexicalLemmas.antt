@@ -21,7 +21,7 @@ unfolding trimmed_end trimmed_start
 trimmed_end_other xs b other = rw (reverse-append xs (b ∷ []), other) (ap reverse (sym (reverse-append xs (b ∷ []))) ∙ reverse-reverse (xs ++ b ∷ []))
 
 -- a text is its front and its last character
-front_and_last : (xs : List ℕ) → 1 ≤ length xs → xs ≡ take (length xs - 1) xs ++ get_or xs (length xs - 1) 0 ∷ []
+pub front_and_last : (xs : List ℕ) → 1 ≤ length xs → xs ≡ take (length xs - 1) xs ++ get_or xs (length xs - 1) 0 ∷ []
 front_and_last xs some = sym (take_all (suc (length xs - 1)) xs (omega arith)) ∙ take-suc xs (length xs - 1) 0 (omega arith)
 
 pub last_blank : (xs : List ℕ) → 1 ≤ length xs → is_blank (get_or xs (length xs - 1) 0) ≡ true → trimmed_end (take (length xs - 1) xs) ≡ trimmed_end xs

@@ -159,7 +159,7 @@ same_bytes : (a b : Value) → same a b ≡ true → bytes_of a ≡ bytes_of b
 same_bytes a b e =
     (bytes_eq-Decides (bytes_of a) (bytes_of b)).0 (and_parts (int_eq (number_of a) (number_of b)) (bytes_eq (bytes_of a) (bytes_of b)) (same_keys a b e)).1
 
-equal_from_is_eq : (o : Ordering) → is_eq o ≡ true → o ≡ Equal
+pub equal_from_is_eq : (o : Ordering) → is_eq o ≡ true → o ≡ Equal
 equal_from_is_eq Equal e = refl
 equal_from_is_eq Less e = absurd (cc)
 equal_from_is_eq Greater e = absurd (cc)
