@@ -13,7 +13,7 @@ use simdutf8::basic::from_utf8;
 use std::alloc::Global;
 use xa_value::OrMemory;
 
-/// How deep arrays and objects may nest.
+/// How deep arrays and objects may nest: as deep as `serde_json` reads them.
 const MAX_DEPTH: usize = 127;
 
 /// Whether none of the value's numbers is too large.
