@@ -4,7 +4,6 @@ mod domain;
 mod domains;
 mod raising;
 mod records;
-mod sameness;
 mod tokens;
 
 pub use records::PlainRecords;

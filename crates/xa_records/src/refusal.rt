@@ -1,5 +1,6 @@
 //! Why a keeper doesn't do what it is asked for.
 ghost use Rattle.std.specs.Prelude.{◌≡◌};
+ghost use Rattle.xa_records.specs.Keeper.{CountsChange};
 ghost use Rattle.xa_records.specs.declared.refusal.ChangeError.TheVariants.{Failed, Refused};
 ghost use Rattle.xa_records.specs.declared.refusal.Failure.TheVariants.{Memory};
 
@@ -94,5 +95,17 @@ impl From<Refusal> for ChangeError {
 
     fn from(refusal: Refusal) -> ChangeError {
         ChangeError::Refused(refusal)
+    }
+}
+
+/// Counts the change where the storage failed.
+pub fn count_failure<X>(faults: &mut u64, done: &Result<X, ChangeError>)
+    ensures { CountsChange faults.old faults.new done.now }
+{
+    match done {
+        Ok(_) => {},
+        Err(ChangeError::Refused(_)) => {},
+        Err(ChangeError::Failed(Failure::Memory)) => {},
+        Err(ChangeError::Failed(Failure::Store)) => *faults = faults.saturating_add(1),
     }
 }

@@ -5,6 +5,7 @@ ghost use Rattle.xa_records.specs.DomainState.{StoredDocument};
 ghost use Rattle.xa_records.specs.Plain.{active_among, with_activity};
 ghost use Rattle.xa_records.specs.Readings.{listed_of};
 
+use crate::limits::MAX_DOCUMENTS;
 use crate::listed::Listed;
 use std::alloc::{AllocError, Global};
 use std::collections::BTreeMap;
@@ -77,17 +78,10 @@ fn listed_as(key: &DocumentKey, document: &Document) -> Result<Listed, AllocErro
     ensures { IfOk result (λ listed. listed ≡ record { key = key.now; active = document.now.active }) }
 {
     Ok(Listed {
-        key: DocumentKey {
-            kind: key.kind,
-            id: key.id.clone()?,
-            version: key.version,
-        },
+        key: key.clone()?,
         active: document.is_active(),
     })
 }
-
-/// The most documents of a domain.
-const MAX_DOCUMENTS: usize = 256;
 
 /// The documents of a domain by their keys.
 #[derive(Drop)]

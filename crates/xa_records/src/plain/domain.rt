@@ -1,5 +1,5 @@
 //! One domain, in memory.
-ghost use Rattle.std.specs.Prelude.{◌≡◌, ◌≤◌, ◌^◌, ◌+◌, IfOk, IsErrOf, Some, length, nat_le};
+ghost use Rattle.std.specs.Prelude.{◌≡◌, ◌≤◌, ◌^◌, ◌+◌, IfOk, IsErrOf, Some};
 ghost use Rattle.xa_records.specs.declared.refusal.ChangeError.TheVariants.{Failed};
 ghost use Rattle.xa_records.specs.declared.refusal.Failure.TheVariants.{Store};
 ghost use Rattle.xa_records.specs.Changes.{activity_set, deleted, root_set, source_set, token_dropped, token_put, upload_of, uploaded};
@@ -10,12 +10,13 @@ ghost use Rattle.xa_records.specs.Readings.{gate_of_domain, listing_of_state, te
 use crate::digest::Digest;
 use crate::gate::Gate;
 use crate::kept_view::KeptView;
+use crate::limits::may_be_kept;
 use crate::listed::Listed;
 use crate::plain::documents::{Document, Documents, copy_of};
-use crate::plain::raising::raised;
-use crate::plain::sameness::{is_same_activity, is_same_root, is_same_source};
+use crate::plain::raising::next_after;
 use crate::plain::tokens::Tokens;
 use crate::refusal::{ChangeError, Refusal};
+use crate::sameness::{is_same_activity, is_same_root, is_same_source};
 use crate::upload::Upload;
 use std::alloc::{AllocError, Global};
 use std::marker::Model;
@@ -23,9 +24,6 @@ use xa_decide::SourceRow;
 use xa_notation::Role;
 use xa_policy::{DocumentKey, Reference};
 use xa_value::Items;
-
-/// The most rows of a domain's source of attributes.
-const MAX_SOURCE_ROWS: usize = 1_024;
 
 /// A domain: its number, its epoch and its state.
 #[derive(Drop)]
@@ -146,7 +144,7 @@ impl PlainDomain {
         if is_same_root(&self.root, &root) {
             return Ok(());
         }
-        self.epoch = raised(self.epoch)?;
+        self.epoch = next_after(self.epoch)?;
         self.root = root;
         Ok(())
     }
@@ -162,7 +160,7 @@ impl PlainDomain {
         if is_same_source(&self.source, &rows) {
             return Ok(());
         }
-        self.epoch = raised(self.epoch)?;
+        self.epoch = next_after(self.epoch)?;
         self.source = rows;
         Ok(())
     }
@@ -184,7 +182,7 @@ impl PlainDomain {
         if !self.documents.has_room() {
             return Err(Refusal::Quota.into());
         }
-        let epoch = raised(self.epoch)?;
+        let epoch = next_after(self.epoch)?;
         let document = Document::new(alloc, text)?;
         self.documents.put(key, document)?;
         self.epoch = epoch;
@@ -200,7 +198,7 @@ impl PlainDomain {
         if is_same_activity(before, active) {
             return Ok(());
         }
-        self.epoch = raised(self.epoch)?;
+        self.epoch = next_after(self.epoch)?;
         self.documents.set_active(key, active);
         Ok(())
     }
@@ -213,7 +211,7 @@ impl PlainDomain {
         if self.activity_of(key)? {
             return Err(Refusal::StillActive.into());
         }
-        self.epoch = raised(self.epoch)?;
+        self.epoch = next_after(self.epoch)?;
         self.documents.remove(key);
         Ok(())
     }
@@ -237,13 +235,6 @@ fn again(document: &Document, text: &[u8]) -> Result<Upload, ChangeError>
         return Err(Refusal::SameVersionOtherText.into());
     }
     Ok(Upload::Same)
-}
-
-/// Whether a domain may keep so many rows.
-fn may_be_kept(rows: &Items<SourceRow>) -> bool
-    ensures { result ≡ nat_le (length rows.now) 1_024 }
-{
-    rows.len() <= MAX_SOURCE_ROWS
 }
 
 /// A copy of the rows.

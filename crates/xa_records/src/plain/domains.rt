@@ -13,7 +13,7 @@ use crate::gate::Gate;
 use crate::kept_view::KeptView;
 use crate::listed::Listed;
 use crate::plain::domain::PlainDomain;
-use crate::plain::raising::raised;
+use crate::plain::raising::next_after;
 use crate::refusal::{ChangeError, Refusal};
 use crate::upload::Upload;
 use std::alloc::{AllocError, Global};
@@ -124,7 +124,7 @@ impl Domains {
         if self.by_name.contains_key(name) {
             return Err(ChangeError::Refused(Refusal::Exists));
         }
-        let next = raised(self.next)?;
+        let next = next_after(self.next)?;
         let domain = PlainDomain::new(alloc, self.next);
         self.by_name.insert(name.clone()?, domain)?;
         self.next = next;

@@ -4,10 +4,10 @@ ghost use Rattle.xa_records.specs.Plain.{RaisesTo};
 use crate::refusal::Failure;
 
 /// The greatest number or epoch: a signed number of 64 bits holds it, as in the columns of a table.
-const GREATEST: u64 = 9_223_372_036_854_775_807;
+const GREATEST: u64 = i64::MAX as u64;
 
-/// One more; past the greatest there is none.
-pub(crate) fn raised(number: u64) -> Result<u64, Failure>
+/// The number after this one; there is none after the greatest.
+pub(crate) fn next_after(number: u64) -> Result<u64, Failure>
     ensures { RaisesTo number result }
 {
     if number >= GREATEST {

@@ -1,6 +1,5 @@
 //! The keeper in memory.
 ghost use Rattle.std.specs.Prelude.{◌≡◌};
-ghost use Rattle.xa_records.specs.Keeper.{CountsChange};
 ghost use Rattle.xa_records.specs.Kept.{IsNumbered, nothing_kept};
 ghost use Rattle.std.proofs.Props.{props};
 
@@ -10,7 +9,7 @@ use crate::kept_view::KeptView;
 use crate::listed::Listed;
 use crate::plain::domains::Domains;
 use crate::records::Records;
-use crate::refusal::{ChangeError, Failure};
+use crate::refusal::{ChangeError, Failure, count_failure};
 use crate::upload::Upload;
 use std::alloc::Global;
 use xa_decide::SourceRow;
@@ -37,18 +36,6 @@ impl PlainRecords {
             domains: Domains::new(alloc),
             faults: 0,
         }
-    }
-}
-
-/// Counts the call where the storage failed: here, where a number or an epoch can't be raised any more.
-fn count<X>(faults: &mut u64, done: &Result<X, ChangeError>)
-    ensures { CountsChange faults.old faults.new done.now }
-{
-    match done {
-        Ok(_) => {},
-        Err(ChangeError::Refused(_)) => {},
-        Err(ChangeError::Failed(Failure::Memory)) => {},
-        Err(ChangeError::Failed(Failure::Store)) => *faults = faults.saturating_add(1),
     }
 }
 
@@ -94,13 +81,13 @@ impl Records for PlainRecords {
 
     fn create(&mut self, alloc: Global, name: &Text) -> Result<(), ChangeError> {
         let done = self.domains.create(alloc, name);
-        count(&mut self.faults, &done);
+        count_failure(&mut self.faults, &done);
         done
     }
 
     fn remove(&mut self, _alloc: Global, name: &Text) -> Result<(), ChangeError> {
         let done = self.domains.remove(name);
-        count(&mut self.faults, &done);
+        count_failure(&mut self.faults, &done);
         done
     }
 
@@ -112,7 +99,7 @@ impl Records for PlainRecords {
         role: Role,
     ) -> Result<(), ChangeError> {
         let done = self.domains.put_token(name, digest, role);
-        count(&mut self.faults, &done);
+        count_failure(&mut self.faults, &done);
         done
     }
 
@@ -123,7 +110,7 @@ impl Records for PlainRecords {
         digest: Digest,
     ) -> Result<(), ChangeError> {
         let done = self.domains.drop_token(name, digest);
-        count(&mut self.faults, &done);
+        count_failure(&mut self.faults, &done);
         done
     }
 
@@ -135,7 +122,7 @@ impl Records for PlainRecords {
         text: &[u8],
     ) -> Result<Upload, ChangeError> {
         let done = self.domains.upload(name, alloc, key, text);
-        count(&mut self.faults, &done);
+        count_failure(&mut self.faults, &done);
         done
     }
 
@@ -147,7 +134,7 @@ impl Records for PlainRecords {
         active: bool,
     ) -> Result<(), ChangeError> {
         let done = self.domains.set_active(name, key, active);
-        count(&mut self.faults, &done);
+        count_failure(&mut self.faults, &done);
         done
     }
 
@@ -158,7 +145,7 @@ impl Records for PlainRecords {
         key: &DocumentKey,
     ) -> Result<(), ChangeError> {
         let done = self.domains.delete(name, key);
-        count(&mut self.faults, &done);
+        count_failure(&mut self.faults, &done);
         done
     }
 
@@ -169,7 +156,7 @@ impl Records for PlainRecords {
         root: Option<Reference>,
     ) -> Result<(), ChangeError> {
         let done = self.domains.set_root(name, root);
-        count(&mut self.faults, &done);
+        count_failure(&mut self.faults, &done);
         done
     }
 
@@ -180,7 +167,7 @@ impl Records for PlainRecords {
         rows: Items<SourceRow>,
     ) -> Result<(), ChangeError> {
         let done = self.domains.set_source(name, rows);
-        count(&mut self.faults, &done);
+        count_failure(&mut self.faults, &done);
         done
     }
 

@@ -5,14 +5,12 @@ ghost use Rattle.xa_records.specs.Readings.{token_of};
 
 use crate::digest::Digest;
 use crate::gate::Token;
+use crate::limits::MAX_TOKENS;
 use std::alloc::{AllocError, Global};
 use std::collections::BTreeMap;
 use std::marker::Model;
 use xa_notation::Role;
 use xa_value::Items;
-
-/// The most tokens of a domain.
-const MAX_TOKENS: usize = 32;
 
 /// The tokens of a domain: their roles by their digests.
 #[derive(Drop)]

@@ -71,7 +71,7 @@ fn is_same_reference(one: &Reference, other: &Reference) -> bool
 }
 
 /// Whether the two roots are one, or there is none in either place.
-pub(crate) fn is_same_root(one: &Option<Reference>, other: &Option<Reference>) -> bool
+pub fn is_same_root(one: &Option<Reference>, other: &Option<Reference>) -> bool
     ensures { IsTrue result ↔ (one.now ≡ other.now) }
 {
     match (one, other) {
@@ -83,7 +83,7 @@ pub(crate) fn is_same_root(one: &Option<Reference>, other: &Option<Reference>) -
 }
 
 /// Whether the two values are one.
-fn is_same_value(one: &Value, other: &Value) -> bool
+pub fn is_same_value(one: &Value, other: &Value) -> bool
     ensures { IsTrue result ↔ (one.now ≡ other.now) }
 {
     one == other
@@ -114,14 +114,14 @@ fn are_same_rows(one: &[SourceRow], other: &[SourceRow]) -> bool
 }
 
 /// Whether the sources have the same rows, in the same order.
-pub(crate) fn is_same_source(one: &Items<SourceRow>, other: &Items<SourceRow>) -> bool
+pub fn is_same_source(one: &Items<SourceRow>, other: &Items<SourceRow>) -> bool
     ensures { IsTrue result ↔ (one.now ≡ other.now) }
 {
     are_same_rows(one.as_slice(), other.as_slice())
 }
 
 /// Whether references may resolve to a document both times, or neither time.
-pub(crate) fn is_same_activity(one: bool, other: bool) -> bool
+pub fn is_same_activity(one: bool, other: bool) -> bool
     ensures { IsTrue result ↔ (one ≡ other) }
 {
     one == other
