@@ -5,6 +5,5 @@ mod domains;
 mod keeping;
 mod raising;
 pub(crate) mod root;
-mod sameness;
 mod source;
 mod tokens;

@@ -15,9 +15,8 @@ ghost use Rattle.xa_store.specs.Steps.{KeyReads};
 ghost use Rattle.xa_store.specs.Turns.{IsPlanned, Turns};
 ghost use Rattle.xa_store.specs.World.{Rows, rows_of, world_of};
 
-use crate::changes::raising::raised;
+use crate::changes::raising::next_after;
 use crate::changes::root::answered;
-use crate::changes::sameness::is_same_activity;
 use crate::counts::document_count;
 use crate::document_found::DocumentFound;
 use crate::documents::document_of;
@@ -27,28 +26,14 @@ use crate::step::Step;
 use sqlite::{Alter, Connection};
 use std::alloc::{AllocError, Global};
 use xa_policy::DocumentKey;
-use xa_records::{ChangeError, Refusal, Upload};
+use xa_records::{ChangeError, MAX_DOCUMENTS, Refusal, Upload, is_same_activity};
 use xa_value::{Items, Text};
-
-/// How many documents a domain may have.
-const MOST_DOCUMENTS: usize = 256;
 
 /// Law: a key reads back from the texts of its row.
 fn key_reads_back(key: &DocumentKey)
     ensures { KeyReads key.now }
 {
     key.version.reads_back();
-}
-
-/// A copy of the key.
-fn copy_of_key(key: &DocumentKey) -> Result<DocumentKey, AllocError>
-    ensures { IfOk result (λ copy. copy ≡ key.now) }
-{
-    Ok(DocumentKey {
-        kind: key.kind,
-        id: key.id.clone()?,
-        version: key.version,
-    })
 }
 
 /// A copy of the text.
@@ -86,7 +71,7 @@ fn raising_steps(
 fn has_room(count: usize) -> bool
     ensures { result ≡ nat_lt count 256 }
 {
-    count < MOST_DOCUMENTS
+    count < MAX_DOCUMENTS
 }
 
 /// The plan for a document that isn't there.
@@ -106,7 +91,7 @@ fn plan_new<S: Alter>(
     if !has_room(count) {
         return Err(ChangeError::Refused(Refusal::Quota));
     }
-    let epoch = raised(found.epoch)?;
+    let epoch = next_after(found.epoch)?;
     let copy = copy_of_text(alloc, text)?;
     let step = Step::AddDocument(found.number, key, copy);
     Ok(raising_steps(alloc, step, found.number, epoch)?)
@@ -221,8 +206,8 @@ fn plan_activity(
     if is_same_activity(there.active, active) {
         return Ok(Items::new(alloc));
     }
-    let epoch = raised(found.epoch)?;
-    let copy = copy_of_key(key)?;
+    let epoch = next_after(found.epoch)?;
+    let copy = key.clone()?;
     let step = Step::SetActive(found.number, copy, active);
     Ok(raising_steps(alloc, step, found.number, epoch)?)
 }
@@ -295,8 +280,8 @@ fn plan_gone(
     if there.active {
         return Err(ChangeError::Refused(Refusal::StillActive));
     }
-    let epoch = raised(found.epoch)?;
-    let copy = copy_of_key(key)?;
+    let epoch = next_after(found.epoch)?;
+    let copy = key.clone()?;
     let step = Step::DropDocument(found.number, copy);
     Ok(raising_steps(alloc, step, found.number, epoch)?)
 }

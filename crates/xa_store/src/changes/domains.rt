@@ -15,7 +15,7 @@ ghost use Rattle.xa_store.specs.Steps.{is_named};
 ghost use Rattle.xa_store.specs.Turns.{IsPlanned, Turns};
 ghost use Rattle.xa_store.specs.World.{Rows, rows_of};
 
-use crate::changes::raising::raised;
+use crate::changes::raising::next_after;
 use crate::changes::root::answered;
 use crate::domain_found::{DomainFound, domain_named};
 use crate::next_number::next_number;
@@ -46,7 +46,7 @@ fn create_steps(
 fn plan_made(alloc: Global, name: &Text, number: i64) -> Result<Items<Step>, ChangeError>
     ensures plans { (rows : Rows) → AreNumbered rows → AreApart same_name rows.domains → filter (is_named name.now) rows.domains ≡ [] → IsNext rows number → IsPlanned created name.now rows result }
 {
-    let next = raised(number)?;
+    let next = next_after(number)?;
     Ok(create_steps(alloc, name, number, next)?)
 }
 

@@ -1,7 +1,6 @@
 //! The changes of the keeper.
 ghost use Rattle.std.specs.Prelude.{◌≡◌, IfOk};
 ghost use Rattle.xa_records.specs.Changes.{activity_set, created, deleted, removed, root_set, source_set, token_dropped, token_put, upload_of, uploaded, within};
-ghost use Rattle.xa_records.specs.Keeper.{CountsChange};
 ghost use Rattle.xa_records.specs.Kept.{state_of};
 ghost use Rattle.xa_store.specs.Keeper.{IsSound};
 ghost use Rattle.xa_store.specs.KeeperChange.{IsChanging};
@@ -18,20 +17,8 @@ use std::alloc::Global;
 use xa_decide::SourceRow;
 use xa_notation::Role;
 use xa_policy::{DocumentKey, Reference};
-use xa_records::{ChangeError, Digest, Failure, Upload};
+use xa_records::{ChangeError, Digest, Upload, count_failure};
 use xa_value::{Items, Text};
-
-/// Counts the change where the storage failed.
-fn count<X>(faults: &mut u64, done: &Result<X, ChangeError>)
-    ensures { CountsChange faults.old faults.new done.now }
-{
-    match done {
-        Ok(_) => {},
-        Err(ChangeError::Refused(_)) => {},
-        Err(ChangeError::Failed(Failure::Memory)) => {},
-        Err(ChangeError::Failed(Failure::Store)) => *faults = faults.saturating_add(1),
-    }
-}
 
 impl<S: Alter> SqlRecords<S> {
     /// Makes a domain in which nothing has been put yet. Refused with `Exists`.
@@ -39,7 +26,7 @@ impl<S: Alter> SqlRecords<S> {
         ensures { IsChanging S.Store self.old self.new result name.now created }
     {
         let done = create_in(&mut self.conn, alloc, name);
-        count(&mut self.faults, &done);
+        count_failure(&mut self.faults, &done);
         done
     }
 
@@ -48,7 +35,7 @@ impl<S: Alter> SqlRecords<S> {
         ensures { IsChanging S.Store self.old self.new result name.now removed }
     {
         let done = remove_in(&mut self.conn, alloc, name);
-        count(&mut self.faults, &done);
+        count_failure(&mut self.faults, &done);
         done
     }
 
@@ -63,7 +50,7 @@ impl<S: Alter> SqlRecords<S> {
         ensures { IsChanging S.Store self.old self.new result name.now (within (token_put digest role)) }
     {
         let done = put_token_in(&mut self.conn, alloc, name, digest, role);
-        count(&mut self.faults, &done);
+        count_failure(&mut self.faults, &done);
         done
     }
 
@@ -77,7 +64,7 @@ impl<S: Alter> SqlRecords<S> {
         ensures { IsChanging S.Store self.old self.new result name.now (within (token_dropped digest)) }
     {
         let done = drop_token_in(&mut self.conn, alloc, name, digest);
-        count(&mut self.faults, &done);
+        count_failure(&mut self.faults, &done);
         done
     }
 
@@ -93,7 +80,7 @@ impl<S: Alter> SqlRecords<S> {
         ensures which { IsSound S.Store self.new → IfOk result (λ u. u ≡ upload_of key (state_of name.now (kept_by S.Store self.old))) }
     {
         let done = upload_in(&mut self.conn, alloc, name, key, text);
-        count(&mut self.faults, &done);
+        count_failure(&mut self.faults, &done);
         done
     }
 
@@ -108,7 +95,7 @@ impl<S: Alter> SqlRecords<S> {
         ensures { IsChanging S.Store self.old self.new result name.now (within (activity_set key.now active)) }
     {
         let done = set_active_in(&mut self.conn, alloc, name, key, active);
-        count(&mut self.faults, &done);
+        count_failure(&mut self.faults, &done);
         done
     }
 
@@ -122,7 +109,7 @@ impl<S: Alter> SqlRecords<S> {
         ensures { IsChanging S.Store self.old self.new result name.now (within (deleted key.now)) }
     {
         let done = delete_in(&mut self.conn, alloc, name, key);
-        count(&mut self.faults, &done);
+        count_failure(&mut self.faults, &done);
         done
     }
 
@@ -136,7 +123,7 @@ impl<S: Alter> SqlRecords<S> {
         ensures { IsChanging S.Store self.old self.new result name.now (within (root_set root)) }
     {
         let done = set_root_in(&mut self.conn, alloc, name, root);
-        count(&mut self.faults, &done);
+        count_failure(&mut self.faults, &done);
         done
     }
 
@@ -151,7 +138,7 @@ impl<S: Alter> SqlRecords<S> {
         ensures { IsChanging S.Store self.old self.new result name.now (within (source_set rows)) }
     {
         let done = set_source_in(&mut self.conn, alloc, name, rows);
-        count(&mut self.faults, &done);
+        count_failure(&mut self.faults, &done);
         done
     }
 }

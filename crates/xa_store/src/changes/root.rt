@@ -16,8 +16,7 @@ ghost use Rattle.xa_store.specs.Turns.{IsPlanned, Turns, answer_of};
 ghost use Rattle.xa_store.specs.World.{Rows, root_at, rows_of};
 ghost use Rattle.sqlite_keyed.specs.Keyed.{IsKeyedBy};
 
-use crate::changes::raising::raised;
-use crate::changes::sameness::is_same_root;
+use crate::changes::raising::next_after;
 use crate::domain_found::{DomainFound, domain_named};
 use crate::root::root_of;
 use crate::run::run;
@@ -25,7 +24,7 @@ use crate::step::Step;
 use sqlite::{Alter, Connection};
 use std::alloc::{AllocError, Global};
 use xa_policy::{Pattern, Reference, Version};
-use xa_records::{ChangeError, Failure, Refusal};
+use xa_records::{ChangeError, Failure, Refusal, is_same_root};
 use xa_value::{Items, Text};
 
 /// Law: a pattern reads back from its text.
@@ -108,7 +107,7 @@ fn plan_found(
         return Ok(Items::new(alloc));
     }
     root_reads_back(&root);
-    let epoch = raised(found.epoch)?;
+    let epoch = next_after(found.epoch)?;
     Ok(root_steps(alloc, found.number, epoch, root)?)
 }
 

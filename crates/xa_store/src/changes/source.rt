@@ -1,5 +1,5 @@
 //! The source of attributes of a domain is set.
-ghost use Rattle.std.specs.Prelude.{◌≡◌, ◌≤◌, ◌++◌, ℕ, List, length, nat_le, IsTrue, IfOk, OnOk};
+ghost use Rattle.std.specs.Prelude.{◌≡◌, ◌≤◌, ◌++◌, ℕ, List, length, IsTrue, IfOk, OnOk};
 ghost use Rattle.sqlite.specs.Held.{state};
 ghost use Rattle.sqlite.specs.State.{HasCleanDisk};
 ghost use Rattle.sqlite_keyed.specs.Keyed.{IsKeyedBy};
@@ -13,9 +13,8 @@ ghost use Rattle.xa_store.specs.Steps.{ReadsBack};
 ghost use Rattle.xa_store.specs.Turns.{IsPlanned, Turns};
 ghost use Rattle.xa_store.specs.World.{Rows, rows_of, state_at};
 
-use crate::changes::raising::raised;
+use crate::changes::raising::next_after;
 use crate::changes::root::answered;
-use crate::changes::sameness::{is_same_source, is_same_value};
 use crate::domain_found::{DomainFound, domain_named};
 use crate::run::run;
 use crate::source::source_of;
@@ -23,18 +22,8 @@ use crate::step::Step;
 use sqlite::{Alter, Connection};
 use std::alloc::{AllocError, Global};
 use xa_decide::SourceRow;
-use xa_records::{ChangeError, Failure, Refusal};
+use xa_records::{ChangeError, Failure, Refusal, is_same_source, is_same_value, may_be_kept};
 use xa_value::{Items, OrMemory, Text, Value};
-
-/// The most rows of a domain's source of attributes.
-const MAX_SOURCE_ROWS: usize = 1_024;
-
-/// Whether a domain may keep so many rows.
-fn may_be_kept(rows: &Items<SourceRow>) -> bool
-    ensures { result ≡ nat_le (length rows.now) 1_024 }
-{
-    rows.len() <= MAX_SOURCE_ROWS
-}
 
 /// Answers where the value reads back from its text. One that doesn't, a URI with white space around it for one, can't be kept.
 fn check_value(alloc: Global, value: &Value) -> Result<(), Failure>
@@ -116,7 +105,7 @@ fn plan_found(
         return Ok(Items::new(alloc));
     }
     check_rows(alloc, rows.as_slice())?;
-    let epoch = raised(found.epoch)?;
+    let epoch = next_after(found.epoch)?;
     Ok(source_steps(alloc, found.number, epoch, rows)?)
 }
 

@@ -19,11 +19,8 @@ use crate::tokens::role_of;
 use sqlite::{Alter, Connection};
 use std::alloc::{AllocError, Global};
 use xa_notation::Role;
-use xa_records::{ChangeError, Digest, Refusal};
+use xa_records::{ChangeError, Digest, MAX_TOKENS, Refusal};
 use xa_value::{Items, Text};
-
-/// How many tokens a domain may have.
-const MOST_TOKENS: usize = 32;
 
 /// One step alone.
 fn one_step(alloc: Global, step: Step) -> Result<Items<Step>, AllocError>
@@ -38,7 +35,7 @@ fn one_step(alloc: Global, step: Step) -> Result<Items<Step>, AllocError>
 fn has_room(count: usize) -> bool
     ensures { result ≡ nat_lt count 32 }
 {
-    count < MOST_TOKENS
+    count < MAX_TOKENS
 }
 
 /// The plan for a token that isn't there.

@@ -9,8 +9,8 @@ ghost use Rattle.xa_store.specs.Steps.{Allows};
 ghost use Rattle.xa_store.specs.Taking.{IsInside, Took};
 ghost use Rattle.xa_store.specs.World.{rows_of};
 
+use crate::shown::kind_column;
 use crate::take::execute_in;
-use crate::take::roots::number_of_kind;
 use sqlite::types::ValueRef;
 use sqlite::{Alter, Transaction};
 use std::alloc::Global;
@@ -45,7 +45,7 @@ pub(crate) fn add_document<S: Alter>(
         "INSERT INTO policies (number, kind, id, version, body, active) VALUES (?1, ?2, ?3, ?4, ?5, 0)",
         &[
             ValueRef::Int(number),
-            ValueRef::Int(number_of_kind(key.kind)),
+            ValueRef::Int(kind_column(key.kind)),
             ValueRef::Text(key.id.as_bytes()),
             ValueRef::Text(version.as_bytes()),
             ValueRef::Blob(text),
@@ -72,7 +72,7 @@ fn set_active_at<'a, S: Alter>(
         "UPDATE policies SET active = ?5 WHERE number = ?1 AND kind = ?2 AND id = ?3 AND version = ?4",
         &[
             ValueRef::Int(number),
-            ValueRef::Int(number_of_kind(key.kind)),
+            ValueRef::Int(kind_column(key.kind)),
             ValueRef::Text(key.id.as_bytes()),
             ValueRef::Text(version.as_bytes()),
             ValueRef::Int(number_of_activity(active)),
@@ -117,7 +117,7 @@ pub(crate) fn drop_document<S: Alter>(
         "DELETE FROM policies WHERE number = ?1 AND kind = ?2 AND id = ?3 AND version = ?4",
         &[
             ValueRef::Int(number),
-            ValueRef::Int(number_of_kind(key.kind)),
+            ValueRef::Int(kind_column(key.kind)),
             ValueRef::Text(key.id.as_bytes()),
             ValueRef::Text(version.as_bytes()),
         ],

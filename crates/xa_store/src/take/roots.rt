@@ -8,26 +8,16 @@ ghost use Rattle.sqlite.specs.Values.{bound_value};
 ghost use Rattle.sqlite_value.specs.Value.{owned};
 ghost use Rattle.xa_policy.specs.Pattern.{pattern_text};
 ghost use Rattle.xa_policy.specs.Version.{version_text};
-ghost use Rattle.xa_store.specs.Rows.{kind_number};
 ghost use Rattle.xa_store.specs.Taking.{IsInside, Took, text_column};
 
+use crate::shown::kind_column;
 use crate::take::execute_in;
 use sqlite::types::ValueRef;
 use sqlite::{Alter, Transaction};
 use std::alloc::{AllocError, Global};
-use xa_policy::{DocumentKind, Pattern, Reference, Version};
+use xa_policy::{Pattern, Reference, Version};
 use xa_records::Failure;
 use xa_value::Text;
-
-/// The number of a kind of documents.
-pub(crate) fn number_of_kind(kind: DocumentKind) -> i64
-    ensures { result ≡ kind_number kind }
-{
-    match kind {
-        DocumentKind::Policy => 0,
-        DocumentKind::PolicySet => 1,
-    }
-}
 
 /// The pattern's text, if there is a pattern.
 fn text_of_pattern(alloc: Global, pattern: &Option<Pattern>) -> Result<Option<Text>, AllocError>
@@ -80,7 +70,7 @@ pub(crate) fn add_root<S: Alter>(
         "INSERT INTO roots (number, kind, id, pattern, earliest, latest) VALUES (?1, ?2, ?3, ?4, ?5, ?6)",
         &[
             ValueRef::Int(number),
-            ValueRef::Int(number_of_kind(root.kind)),
+            ValueRef::Int(kind_column(root.kind)),
             ValueRef::Text(root.id.as_bytes()),
             text_or_null(&pattern),
             text_or_null(&earliest),

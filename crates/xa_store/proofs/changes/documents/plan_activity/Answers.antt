@@ -1,4 +1,4 @@
-use Rattle.std.proofs.Common.{sym, subst, rules, SFits, w64}
+use Rattle.std.proofs.Common.{◌≡◌, sym, subst, rules, SFits, w64}
 use Rattle.std.proofs.lemmas.Int.{to_z-of_z}
 use Rattle.std.proofs.lemmas.Bool.{both_ways}
 use Rattle.xa_records.specs.Changes.{activity_set, within}
@@ -18,7 +18,8 @@ returns c =
     let fits : SFits w64 c.args.found.epoch = search rules in
     let low : SFits w64 c.args.found.number = search rules in
     let high : SFits w64 c.in_ok-epoch.epoch = search rules in
-    let steps = rw (to_z-of_z w64 c.args.found.number low, to_z-of_z w64 c.in_ok-epoch.epoch high) at (rw c.in_ok-copy.ensures at c.in_ok-raising_steps.ensures) in
+    let copy : c.in_ok-copy.copy ≡ c.args.key.now = first_of (search rules, cc) in
+    let steps = rw (to_z-of_z w64 c.args.found.number low, to_z-of_z w64 c.in_ok-epoch.epoch high) at (rw copy at c.in_ok-raising_steps.ensures) in
     record {
       plans = λ name rows are up is finds.
           subst (λ steps. Plans steps (within (activity_set c.args.key.now c.args.active)) name rows) (sym steps)

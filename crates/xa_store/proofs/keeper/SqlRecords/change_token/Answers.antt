@@ -9,5 +9,5 @@ invariant_of-self g c =
 
 pub returns : goal.returns
 returns g c =
-    is_changing_of g.S.Store g.met.S.Store.shut_if_dirty g.met.S.Store.settled c.self.inside.conn c.put_token_in-done.new.conn c.self.inside.ours c.self.inside.faults c.count.new.faults c.self.invariant
-    (within (token_put c.args.digest c.args.role)) c.args.name.now c.put_token_in-done.result c.put_token_in-done.ensures.turns c.args.self.now c.self.view_is c.count.ensures
+    is_changing_of g.S.Store g.met.S.Store.shut_if_dirty g.met.S.Store.settled c.self.inside.conn c.put_token_in-done.new.conn c.self.inside.ours c.self.inside.faults c.count_failure.new.faults c.self.invariant
+    (within (token_put c.args.digest c.args.role)) c.args.name.now c.put_token_in-done.result c.put_token_in-done.ensures.turns c.args.self.now c.self.view_is c.count_failure.ensures

@@ -21,4 +21,4 @@ returns-clause-takes g c clean inside =
     let latest = option_map version_text root.latest in
     let row : RootRow = record { number = c.args.number; kind = root.kind; id = root.id; texts = pattern ∷ earliest ∷ latest ∷ [] } in
     took_ok old new (AddRoot c.args.number root) c.execute_in.result (c.execute_in.ensures.inside clean inside.inside) (c.execute_in.ensures.runs clean inside.inside)
-    (λ ran. root_added_stepped old new inside.schema ran.0 inside.tables c.args.number root row pattern earliest latest refl refl (rw (n, kind_held root.kind) at (rw (c.text_or_null.ensures, c.text_or_null-2.ensures, c.text_or_null-3.ensures, c.number_of_kind.ensures, c.as_bytes.ensures, c.in_ok-pattern.ensures, c.in_ok-earliest.ensures, c.in_ok-latest.ensures) at ran.1)) refl)
+    (λ ran. root_added_stepped old new inside.schema ran.0 inside.tables c.args.number root row pattern earliest latest refl refl (rw (n, kind_held root.kind) at (rw (c.text_or_null.ensures, c.text_or_null-2.ensures, c.text_or_null-3.ensures, c.kind_column.ensures, c.as_bytes.ensures, c.in_ok-pattern.ensures, c.in_ok-earliest.ensures, c.in_ok-latest.ensures) at ran.1)) refl)
