@@ -1,7 +1,6 @@
 -- The rows of a sound table are those that a keeper writes: for any table, and for domains and tokens.
-use Rattle.std.proofs.Common.{◌≡◌, ℕ, ℤ, Bool, true, false, List, [], ◌∷◌, map, drop, int_eq, refl, subst, ◌∙◌, arith}
+use Rattle.std.proofs.Common.{◌≡◌, ℕ, ℤ, Bool, true, false, List, [], ◌∷◌, map, drop, refl, subst, ◌∙◌}
 use Rattle.std.specs.List.{AllByRecursion}
-use Rattle.std.proofs.lemmas.Int.{ints}
 use Rattle.sqlite.specs.Order.{Row, column}
 use Rattle.sqlite.specs.Table.{Table}
 use Rattle.sqlite.specs.Tree.{Trees}
@@ -65,9 +64,6 @@ module _ (kind : Kind) (next : ℤ) (db : Trees) (sound : is_sound_table db next
       }
 
 -- ---- domains, and tokens
-
-pub eq_self : (n : ℤ) → int_eq n n ≡ true
-eq_self n = grind (arith, ints)
 
 names_agree : (a b : DomainRow) → same_name a b ≡ true → agree rising (2 ∷ []) (domain_row a) (2 ∷ []) (domain_row b) ≡ true
 unfolding first_key

@@ -26,8 +26,9 @@ use Rattle.sqlite_typed.proofs.RowLemmas.{deletes-map}
 use Rattle.sqlite_typed.proofs.TestLemmas.{at_ints}
 use Rattle.xa_store.specs.Rows.{DomainRow, domain_row}
 use Rattle.xa_store.specs.Tables.{our_schema, of_domain, tokens, policies, roots, attributes}
+use Rattle.xa_store.proofs.FilterLemmas.{filter_alike}
+use Rattle.xa_store.proofs.KeyLemmas.{own_number}
 use Rattle.xa_store.proofs.LastLemmas.{not_true}
-use Rattle.xa_store.proofs.WriteLemmas.{filter_alike}
 
 -- ---- the actions
 
@@ -48,9 +49,6 @@ four d = work_on d tokens of_domain ∷ work_on d policies of_domain ∷ work_on
 
 abbrev work_if : Bool → DomainRow → Table → Reference → Option Work
 work_if b d child ref = cond b (Some (work_on d child ref)) None
-
-own_number : (n : ℤ) → int_eq n n ≡ true
-own_number n = grind (arith, ints)
 
 loses_its_key : (d : DomainRow) → loses rowids_order (0 ∷ []) (domain_row d, []) ≡ true
 unfolding binary first_key

@@ -1,5 +1,5 @@
 -- One more row among those that show the places of the rows of sources.
-use Rattle.std.proofs.Common.{◌≡◌, ℕ, suc, ◌+◌, ◌<◌, Bool, true, false, ◌&&◌, List, ◌∷◌, length, get_or, drop, unwrap_or, Option, Some, None, sym, ap, ◌∙◌, add-one, drop-cons}
+use Rattle.std.proofs.Common.{◌≡◌, ℕ, suc, ◌+◌, ◌<◌, Bool, true, false, ◌&&◌, List, ◌∷◌, length, get_or, drop, unwrap_or, Option, Some, sym, ap, ◌∙◌, add-one, drop-cons}
 use Rattle.sqlite.specs.Order.{Row}
 use Rattle.xa_store.specs.Judging.{counts, is_next, place_told}
 use Rattle.xa_store.specs.Opened.{Place, counts_on}
@@ -12,9 +12,6 @@ module _ (last : Place) (rows : List Row) (i : ℕ) (row : Row) (lt : i < length
   counts_from =
       let first : drop i rows ≡ row ∷ drop (i + 1) rows = rw (add-one, drop-cons rows i row lt) (ap (λ r. r ∷ drop (suc i) rows) (sym is)) in
       ap (counts last) first
-
-  pub none_told : place_told row ≡ None → counts last (drop i rows) ≡ false
-  none_told told = counts_from ∙ ap as_told told
 
   some_told : (place : Place) → place_told row ≡ Some place → counts last (drop i rows) ≡ (counts_on last place && counts place (drop (i + 1) rows))
   some_told place told = counts_from ∙ ap as_told told

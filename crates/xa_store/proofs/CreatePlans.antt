@@ -23,8 +23,8 @@ use Rattle.xa_store.specs.Steps.{is_named}
 use Rattle.xa_store.specs.Turns.{Plans}
 use Rattle.xa_store.specs.World.{Rows, state_at, domain_of, kept_of}
 use Rattle.xa_store.proofs.ChangeLemmas.{kept_at, not_same, number_of}
-use Rattle.xa_store.proofs.DomainSteps.{turn_bytes}
 use Rattle.xa_store.proofs.FilterLemmas.{find_none}
+use Rattle.xa_store.proofs.HitLemmas.{turn_bytes}
 use Rattle.xa_store.proofs.PlanLemmas.{its_state, no_state}
 
 -- ---- what is found after an insertion

@@ -30,11 +30,9 @@ use Rattle.xa_store.specs.World.{Rows, library_of, state_at, documents_at, domai
 use Rattle.xa_store.proofs.ChangeLemmas.{IsOnly, Rewrote, number_of, kept_one}
 use Rattle.xa_store.proofs.EntryLemmas as entry
 use Rattle.xa_store.proofs.FilterLemmas.{filter_both, filter_delete, filter_delete_apart, filter_push, filter_push_apart, filter_update, filter_update_apart, find_none, find_one}
+use Rattle.xa_store.proofs.KeyLemmas.{own_number}
 use Rattle.xa_store.proofs.PlanLemmas.{changed, its_state, numbered_after}
 use Rattle.xa_store.proofs.TurnLemmas.{still}
-
-own_number : (n : ℤ) → int_eq n n ≡ true
-own_number n = grind (arith, ints)
 
 abbrev key_of : DocumentRow → DocumentKey
 key_of d = d.key

@@ -1,6 +1,5 @@
 -- Sound rows of the table of documents are rows that the keeper writes.
-use Rattle.std.proofs.Common.{◌≡◌, ◌≤◌, inl, inr, ℕ, ℤ, true, false, List, [], ◌∷◌, length, drop, unwrap_or, int_eq, bytes_eq, None, Result, Ok, Err, refl, sym, ap, subst, ◌∙◌, true≢false, arith}
-use Rattle.std.specs.Ordering.{eq_by_cmp}
+use Rattle.std.proofs.Common.{◌≡◌, ◌≤◌, ℕ, ℤ, true, false, List, [], ◌∷◌, length, drop, unwrap_or, int_eq, bytes_eq, None, Result, Ok, Err, refl, sym, ap, subst, ◌∙◌, true≢false, arith}
 use Rattle.sqlite.specs.Order.{Row, column}
 use Rattle.sqlite.specs.Tree.{Trees}
 use Rattle.sqlite.specs.declared.types.Value.{Value}
@@ -18,19 +17,18 @@ use Rattle.sqlite_value.specs.Keys.{first_key}
 use Rattle.xa_policy.specs.declared.document_key.DocumentKey.{DocumentKey}
 use Rattle.xa_policy.specs.declared.reference.DocumentKind.{DocumentKind}
 use Rattle.xa_policy.specs.declared.reference.DocumentKind.TheVariants.{Policy, PolicySet}
-use Rattle.xa_policy.specs.DocumentKey.{compare_keys}
 use Rattle.xa_policy.specs.Version.{read_version, version_text}
 use Rattle.xa_notation.specs.declared.document.Parsed.{Parsed}
 use Rattle.xa_notation.specs.declared.notation_error.NotationError.{NotationError}
 use Rattle.xa_notation.specs.Document.{document_of}
-use Rattle.xa_records.proofs.FinMapLemmas.{here_or_elsewhere}
-use Rattle.xa_records.proofs.OrderLemmas.{keys_exact}
 use Rattle.xa_store.specs.declared.opening.kind.Kind.TheVariants.{Documents}
 use Rattle.xa_store.specs.Opened.{as_read, holds_key, is_bit, is_given, is_sound_table, is_whole_row}
 use Rattle.xa_store.specs.Rows.{DocumentRow, document_in, document_row, given, kind_in, kind_number, version_in}
 use Rattle.xa_store.specs.Sound.{AreRows, same_document}
 use Rattle.xa_store.specs.Tables.{our_schema, policies, rising}
-use Rattle.xa_store.proofs.AreRowsLemmas.{eq_self, rows_apart}
+use Rattle.xa_store.proofs.AreRowsLemmas.{rows_apart}
+use Rattle.xa_store.proofs.HitLemmas.{same_key}
+use Rattle.xa_store.proofs.KeyLemmas.{own_number}
 use Rattle.xa_store.proofs.ReadLemmas.{int_back}
 use Rattle.xa_store.proofs.RootRowLemmas.{truth_from_bit}
 use Rattle.xa_store.proofs.ShapeLemmas.{blob_held, by_columns, int_held, never_int, row_long, row_short, text_held}
@@ -79,9 +77,6 @@ document_back next row typed whole =
 
 -- ---- no two rows have one key
 
-same_key : (a b : DocumentKey) → eq_by_cmp compare_keys a b ≡ true → a ≡ b
-same_key a b h = elim (here_or_elsewhere keys_exact a b) [ inl same ↦ same | inr apart ↦ absurd (true≢false (sym h ∙ apart)) ]
-
 -- where a row has this number and this key
 abbrev with_key : DocumentRow → ℤ × DocumentKey → DocumentRow
 with_key d p = record d { number = p.0; key = p.1 }
@@ -89,8 +84,8 @@ with_key d p = record d { number = p.0; key = p.1 }
 key_agrees : (a b : DocumentRow) → agree rising (1 ∷ 2 ∷ 3 ∷ 4 ∷ []) (document_row a) (1 ∷ 2 ∷ 3 ∷ 4 ∷ []) (document_row (with_key b (a.number, a.key))) ≡ true
 unfolding first_key
 key_agrees a b =
-    then_term (at_ints false Eq a.number a.number ∙ eq_self a.number)
-    (then_term (at_ints false Eq (kind_number a.key.kind) (kind_number a.key.kind) ∙ eq_self (kind_number a.key.kind))
+    then_term (at_ints false Eq a.number a.number ∙ own_number a.number)
+    (then_term (at_ints false Eq (kind_number a.key.kind) (kind_number a.key.kind) ∙ own_number (kind_number a.key.kind))
     (then_term (at_texts false Eq a.key.id a.key.id ∙ bytes_eq_refl a.key.id) (last_term (at_texts false Eq (version_text a.key.version) (version_text a.key.version) ∙ bytes_eq_refl (version_text a.key.version)))))
 
 keys_agree : (a b : DocumentRow) → same_document a b ≡ true → agree rising (1 ∷ 2 ∷ 3 ∷ 4 ∷ []) (document_row a) (1 ∷ 2 ∷ 3 ∷ 4 ∷ []) (document_row b) ≡ true

@@ -34,8 +34,9 @@ use Rattle.xa_store.specs.Steps.{KeyReads, is_document}
 use Rattle.xa_store.specs.Tables.{our_schema, policies}
 use Rattle.xa_store.specs.Texts as text
 use Rattle.xa_store.proofs.ChangeLemmas.{none_pass}
-use Rattle.xa_store.proofs.HitLemmas.{document_hit}
+use Rattle.xa_store.proofs.HitLemmas.{document_hit, same_key}
 use Rattle.xa_store.proofs.HoldLemmas.{Back, documents_now, written_back}
+use Rattle.xa_store.proofs.KeyLemmas.{own_number}
 use Rattle.xa_store.proofs.LastLemmas.{apart_few, stands_last, keyed_last, all_last, apart_last}
 use Rattle.xa_store.proofs.SqlLemmas.{answered, hits}
 use Rattle.xa_store.proofs.StepLemmas.{Stepped, cast_int, cast_null, kind_back}
@@ -71,15 +72,6 @@ works_of_document olds new = refl
 works_of_no_document : (olds : List Row) → works our_schema Enforced 0 5 olds [] ≡ []
 unfolding same_name joined
 works_of_no_document olds = refl
-
-own_number : (n : ℤ) → int_eq n n ≡ true
-own_number n = grind (arith, ints)
-
-same_key : (a b : DocumentKey) → eq_by_cmp compare_keys a b ≡ true → a ≡ b
-same_key a b tie = elim (here_or_elsewhere keys_exact a b) [
-  | Rattle.std.proofs.Common.inl same ↦ same
-  | Rattle.std.proofs.Common.inr apart ↦ absurd (let no = sym tie ∙ apart in cc)
-]
 
 documents_alike : (n : ℤ) (key : DocumentKey) (a b : DocumentRow) → is_document n key a ≡ true → is_document n key b ≡ true → same_document a b ≡ true
 documents_alike n key a b here there =

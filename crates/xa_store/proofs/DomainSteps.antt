@@ -22,14 +22,12 @@ use Rattle.xa_store.specs.Steps.{is_named}
 use Rattle.xa_store.specs.Tables.{our_schema, domains}
 use Rattle.xa_store.specs.Texts as text
 use Rattle.xa_store.proofs.ChangeLemmas.{none_pass}
+use Rattle.xa_store.proofs.HitLemmas.{turn_bytes}
 use Rattle.xa_store.proofs.HoldLemmas.{Back, domains_now}
 use Rattle.xa_store.proofs.StepLemmas.{Stepped, cast_int, cast_null, works_of_domain}
 use Rattle.xa_store.proofs.TableLemmas.{inserts}
 use Rattle.xa_store.proofs.TextLemmas.{domain_added_given, domain_added_is}
 use Rattle.xa_store.proofs.WriteLemmas.{row_added}
-
-pub turn_bytes : (a b : List ℕ) → eq_by_cmp compare_bytes a b ≡ eq_by_cmp compare_bytes b a
-turn_bytes = turn_eq compare_bytes nat_list_cmp_total
 
 never_both : (b : Bool) → (b && false) ≡ false
 never_both true = refl

@@ -14,7 +14,7 @@ use Rattle.sqlite_sql.proofs.QueryLemmas.{output_cmp_total}
 use Rattle.sqlite_trees.specs.Tree.{IsAscending}
 use Rattle.xa_store.specs.Found.{FindsOne}
 use Rattle.xa_store.specs.Shown.{TellsOne}
-use Rattle.xa_store.proofs.FilterLemmas.{filter_both, find_one, find_none}
+use Rattle.xa_store.proofs.FilterLemmas.{filter_both, find_one, find_none, filter_alike}
 use Rattle.xa_store.proofs.SqlLemmas.{Answered, hits, show, out, hit_by, missed_by}
 use Rattle.xa_store.proofs.TextLemmas.{of_table}
 
@@ -31,10 +31,6 @@ read_back {X} write read rows written = go (map read rows) (ap (map read) (sym w
     go : (xs : List X) → map read (map write xs) ≡ xs → AllByRecursion (λ x. read (write x) ≡ x) xs
     go [] e = tt
     go (x ∷ xs) e = (head_of _ _ _ _ e, go xs (tail_of _ _ _ _ e))
-
-pub filter_alike : {X : Type 0} (p q : X → Bool) (xs : List X) → AllByRecursion (λ x. p x ≡ q x) xs → filter p xs ≡ filter q xs
-filter_alike p q [] all = refl
-filter_alike p q (x ∷ xs) all = ap (λ b. cond b (x ∷ filter p xs) (filter p xs)) all.0 ∙ ap (λ l. cond (q x) (x ∷ l) l) (filter_alike p q xs all.1)
 
 pub map_alike : {X Y : Type 0} (f g : X → Y) (xs : List X) → AllByRecursion (λ x. f x ≡ g x) xs → map f xs ≡ map g xs
 map_alike f g [] all = refl

@@ -1,5 +1,5 @@
 -- Which rows pass the tests of the statements.
-use Rattle.std.proofs.Common.{◌≡◌, ℕ, ℤ, Bool, true, false, ◌&&◌, List, [], ◌∷◌, Ordering, Less, Equal, Greater, is_eq, nat_cmp, int_eq, refl, sym, ap, ap₂, ◌∙◌, true≢false}
+use Rattle.std.proofs.Common.{◌≡◌, ℕ, ℤ, Bool, true, false, ◌&&◌, List, [], ◌∷◌, Ordering, Less, Equal, Greater, is_eq, nat_cmp, int_eq, refl, sym, ap, ap₂, ◌∙◌, true≢false, inl, inr}
 use Rattle.std.specs.Cmp.Lexicographic.{slice_cmp}
 use Rattle.std.specs.Ordering.{eq_by_cmp, ordering_then}
 use Rattle.std.proofs.lemmas.Cmp.{nat_list_cmp_total}
@@ -13,14 +13,17 @@ use Rattle.xa_policy.specs.declared.reference.DocumentKind.TheVariants.{Policy, 
 use Rattle.xa_policy.specs.DocumentKey.{compare_keys, place_of_kind}
 use Rattle.xa_policy.specs.Version.{version_text}
 use Rattle.xa_records.specs.DomainState.{compare_bytes}
+use Rattle.xa_records.proofs.FinMapLemmas.{here_or_elsewhere}
+use Rattle.xa_records.proofs.OrderLemmas.{keys_exact}
 use Rattle.xa_store.specs.Rows.{DomainRow, TokenRow, DocumentRow, RootRow, AttributeRow, domain_row, token_row, document_row, root_row, attribute_row, kind_number, version_in}
 use Rattle.xa_store.specs.Steps.{is_named, is_token, is_document}
 use Rattle.xa_store.proofs.SqlLemmas.{hits}
 use Rattle.xa_store.proofs.TextLemmas.{is}
 use Rattle.sqlite.specs.Term.{col}
 
-turn_bytes : (a b : List ℕ) → is_eq (slice_cmp nat_cmp a b) ≡ is_eq (slice_cmp nat_cmp b a)
-turn_bytes = turn_eq (slice_cmp nat_cmp) nat_list_cmp_total
+-- two texts are compared either way round
+pub turn_bytes : (a b : List ℕ) → eq_by_cmp compare_bytes a b ≡ eq_by_cmp compare_bytes b a
+turn_bytes = turn_eq compare_bytes nat_list_cmp_total
 
 pub name_hit : (name : List ℕ) (db : Trees) (d : DomainRow) → hits 1 (is 2 0 ∷ []) (col 1 0 ∷ col 1 3 ∷ []) [] db refl (Text name ∷ []) (domain_row d) ≡ is_named name d
 name_hit name db d = last_term (at_texts false Eq d.name name) ∙ turn_bytes d.name name
@@ -45,6 +48,9 @@ pub source_hit : (number : ℤ) (db : Trees) (a : AttributeRow)
 source_hit number db a = last_term (at_ints false Eq a.number number)
 
 -- ---- a document by its key
+
+pub same_key : (a b : DocumentKey) → eq_by_cmp compare_keys a b ≡ true → a ≡ b
+same_key a b h = elim (here_or_elsewhere keys_exact a b) [ inl same ↦ same | inr apart ↦ absurd (true≢false (sym h ∙ apart)) ]
 
 pub eq_then : (a b : Ordering) → is_eq (ordering_then a b) ≡ (is_eq a && is_eq b)
 eq_then Less b = refl

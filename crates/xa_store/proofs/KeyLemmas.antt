@@ -11,6 +11,10 @@ use Rattle.sqlite_keyed.proofs.ListLemmas.{all_weaker, filter_all, along_permuta
 use Rattle.sqlite_keyed.proofs.KeyedLemmas.{Less-from_lt, above_all, same_int}
 use Rattle.sqlite_keyed.proofs.WriteLemmas.{puts_update, removes_delete}
 
+-- a number is its own
+pub own_number : (n : ℤ) → int_eq n n ≡ true
+own_number n = grind (arith, ints)
+
 module _ {X : Type 0} (key : X → ℤ) where
   first_past : (new : X) (xs : List X) → AllByRecursion (λ y. key new <ℤ key y) xs → insert_by key xs new ≡ new ∷ xs
   first_past new [] h = refl

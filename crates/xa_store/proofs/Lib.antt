@@ -1,6 +1,5 @@
 pub mod AskLemmas
 pub mod ChangeLemmas
-pub mod CreateLemmas
 pub mod EntryLemmas
 pub mod FilterLemmas
 pub mod JudgedTexts

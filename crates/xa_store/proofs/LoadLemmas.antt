@@ -26,12 +26,6 @@ use Rattle.xa_store.proofs.ShapedLemmas.{attributes_are}
 pub both_judged : (x y : Bool) (r : Result (Unit {0}) OpenError) → x ≡ true → Judges y r → Judges (x && y) r
 both_judged x y r is h = subst (λ b. Judges b r) (sym (ap (λ b. b && y) is)) h
 
-pub first_failed : (x y : Bool) (e : OpenError) → Judges x (Err e) → Judges (x && y) (Err e)
-first_failed x y Damaged h = ap (λ b. b && y) h
-first_failed x y NotThisSchema h = absurd h
-first_failed x y Store h = tt
-first_failed x y Memory h = tt
-
 module _ (p q : Trees → Bool) (a b : State) where
   -- the second is judged where the first is sound
   pub judged_then : (c : State) (x : Unit {0}) (r : Result (Unit {0}) OpenError) → Judged p a b (Ok x) → Judged q b c r → Judged (λ db. p db && q db) a c r
@@ -43,9 +37,6 @@ module _ (p q : Trees → Bool) (a b : State) where
         both_judged (p a.now.trees) (q a.now.trees) r (first.finds between rests)
         (subst (λ (d : Database). Judges (q d.trees) r) same.now (second.finds clean (rests_before a b c x first.asks between rests)));
   }
-
-  pub judged_first : (e : OpenError) → Judged p a b (Err e) → Judged (λ db. p db && q db) a b (Err e)
-  judged_first e first = record { asks = first.asks; finds = λ clean rests. first_failed (p a.now.trees) (q a.now.trees) e (first.finds clean rests) }
 
 module _ (kind : Kind) (next : ℤ) (a b : State) where
   pub table_judged : (c : State) (x : Unit {0}) (r : Result (Unit {0}) OpenError) → Walked kind next a b (Ok x) → Asks b c r → (HasCleanDisk c → Rests b → Orders kind b.now.trees r)
@@ -92,12 +83,6 @@ attributes_sound : (db : Trees) (next : ℤ) → list_all (is_sound_table db nex
 attributes_sound db next h =
     let p = is_sound_table db next in
     first_of_both (p Attributes) true (second_of_both (p Roots) _ (second_of_both (p Documents) _ (second_of_both (p Tokens) _ (second_of_both (p Domains) _ h))))
-
-pub not_counted : (db : Trees) (next : ℤ) → is_count next ≡ false → is_sound db next ≡ false
-not_counted db next h = ap (λ b. (b && list_all (is_sound_table db next) kinds) && count_on no_place (sort_by place_cmp (map place_in (db 8)))) h
-
-pub tables_failed : (db : Trees) (next : ℤ) (e : OpenError) → is_count next ≡ true → Judges (list_all (is_sound_table db next) kinds) (Err e) → Judges (is_sound db next) (Err e)
-tables_failed db next e counts h = first_failed _ _ e (both_judged (is_count next) _ (Err e) counts h)
 
 pub all_judged : (next : ℤ) (a b c : State) (x : Unit {0}) (r : Result (Unit {0}) OpenError) → is_count next ≡ true → Asks a b (Ok x) → Asks b c r
     → (HasCleanDisk b → Rests a → list_all (is_sound_table a.now.trees next) kinds ≡ true)

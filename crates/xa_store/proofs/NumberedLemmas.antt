@@ -17,9 +17,9 @@ use Rattle.xa_store.specs.Sound.{AreNumbered}
 use Rattle.xa_store.specs.Steps.{is_named}
 use Rattle.xa_store.specs.World.{Rows, domain_of, kept_of, library_of, roles_of, source_of, state_at}
 use Rattle.xa_store.proofs.ChangeLemmas.{found_all, kept_at, number_of}
-use Rattle.xa_store.proofs.AreRowsLemmas.{eq_self}
 use Rattle.xa_store.proofs.EntryLemmas.{found_passes}
 use Rattle.xa_store.proofs.FilterLemmas.{find_none}
+use Rattle.xa_store.proofs.KeyLemmas.{own_number}
 use Rattle.xa_store.proofs.ShapedLemmas.{count_back, no_count}
 
 -- ---- numbers
@@ -55,7 +55,7 @@ apart_of m n less = grind (arith, ints)
 get_own : {X : Type 0} (key : X → ℤ) (xs : List X) → IsKeyedBy key xs → AllByRecursion (λ x. get_by key xs (key x) ≡ Some x) xs
 get_own key [] up = tt
 get_own key (x ∷ xs) up = (
-  ap (λ b. cond b (Some x) (get_by key xs (key x))) (eq_self (key x)),
+  ap (λ b. cond b (Some x) (get_by key xs (key x))) (own_number (key x)),
   all_both (λ y. key x <ℤ key y) (λ y. get_by key xs (key y) ≡ Some y) (λ y. get_by key (x ∷ xs) (key y) ≡ Some y)
       (λ y less own. ap (λ b. cond b (Some x) (get_by key xs (key y))) (apart_of (key x) (key y) less) ∙ own) xs up.0 (get_own key xs up.1),
 )

@@ -3,7 +3,7 @@ use Rattle.std.proofs.Common.{◌≡◌, ◌≢◌, inl, inr, Bool, true, false,
 use Rattle.sqlite.specs.Effect.{Database}
 use Rattle.sqlite.specs.Held.{Held, state}
 use Rattle.sqlite_schema.specs.Names.{same_name}
-use Rattle.sqlite.specs.State.{State, HasCleanDisk, Survives}
+use Rattle.sqlite.specs.State.{State, HasCleanDisk}
 use Rattle.sqlite.specs.Store.{Ghosts}
 use Rattle.sqlite.specs.Tree.{Trees}
 use Rattle.sqlite.proofs.StateLemmas.{clean_if_open, survives_then, survives_weaker}
@@ -29,17 +29,6 @@ unfolding same_name
 ours_has_none = refl
 
 -- ---- the tables were judged
-
-survives_self : (s : State) (P : Trees → Type 0) → Survives s s P
-survives_self s P = record { clean = omega arith; shield = λ h. h; counts = omega arith; limit = refl; closes = λ clean up. inl up; crash = λ clean db may. inl may }
-
-pub not_idle : (s : State) → CheckedIdle s s (Err Store)
-not_idle s = record {
-  asks = record { survives = survives_self s (λ db. ¬ Rests s); same = λ clean rests up. record { now = refl; committed = refl; idle = rests.idle }; opens = λ clean. tt };
-  opened = λ clean rests. tt;
-  known = λ clean rests. tt;
-  ours = λ clean. tt;
-}
 
 pub checked_idle : (a c : State) (r : Result Bool OpenError) → a.in_transaction ≡ false → (IsTrue a.is_open → a.now ≡ a.committed) → Checked a c r → CheckedIdle a c r
 checked_idle a c (Ok ours) idle settled checked = record {

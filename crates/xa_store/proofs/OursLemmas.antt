@@ -18,8 +18,8 @@ use Rattle.xa_store.specs.declared.opening.kind.Kind.{Kind}
 use Rattle.xa_store.specs.declared.opening.kind.Kind.TheVariants.{Domains, Tokens, Documents, Roots, Attributes}
 use Rattle.xa_store.specs.Opened.{are_sound_rows, as_read, count_on, holds_int, is_count, is_given, is_sound, is_sound_table, is_whole_row, judged, known_next, no_place, opened, place_cmp, place_in, read_meta, tree_of}
 use Rattle.xa_store.specs.Opening.{IsMade}
-use Rattle.xa_store.specs.Rows.{AttributeRow, DocumentRow, DomainRow, RootRow, TokenRow, attribute_in, attribute_row, document_in, document_row, domain_in, domain_row, meta_row, nat_of, next_in, root_in, root_row, token_in, token_row}
-use Rattle.xa_store.specs.Sound.{AreNumbered, AreRows, AreTables, Ours, Rests, same_document, same_name, same_place, same_token}
+use Rattle.xa_store.specs.Rows.{attribute_in, document_in, domain_in, meta_row, nat_of, next_in, root_in, token_in}
+use Rattle.xa_store.specs.Sound.{AreNumbered, AreTables, Ours, Rests}
 use Rattle.xa_store.specs.Tables.{our_schema}
 use Rattle.xa_store.specs.World.{domain_entry, rows_of, world_of}
 use Rattle.xa_store.proofs.AreRowsLemmas.{domains_are, tokens_are, whole}
@@ -171,37 +171,3 @@ module _ (db : Trees) (made : IsMade db) where
     domains = from_entries (map (domain_entry (rows_of db)) (map domain_in (made.empty Domains i)));
     next = nat_of (next_in (made.meta i));
   }
-
-  -- ---- and they are those of a keeper
-
-  no_rows : {X : Type 0} (write : X → Row) (reads : Row → X) (rowid_of : X → ℤ) (same : X → X → Bool) (kind : Kind) → AreRows write reads rowid_of same (db (tree_of kind))
-  no_rows write reads rowid_of same kind = subst (AreRows write reads rowid_of same) (sym (made.empty kind)) (record { written = refl; rise = tt; apart = tt })
-
-  none_of : {X : Type 0} (Is : X → Type 0) (reads : Row → X) (kind : Kind) → AllByRecursion Is (map reads (db (tree_of kind)))
-  none_of Is reads kind = subst (λ rows. AllByRecursion Is (map reads rows)) (sym (made.empty kind)) tt
-
-  made_tables : AreTables db
-  made_tables = record {
-    meta = made.meta ∙ ap (λ n. meta_row n ∷ []) (sym (ap next_in made.meta));
-    domains = no_rows domain_row domain_in (λ (d : DomainRow). d.number) same_name Domains;
-    tokens = no_rows token_row token_in (λ (t : TokenRow). t.rowid) same_token Tokens;
-    documents = no_rows document_row document_in (λ (d : DocumentRow). d.rowid) same_document Documents;
-    roots = no_rows root_row root_in (λ (r : RootRow). r.number) (λ a b. false) Roots;
-    attributes = no_rows attribute_row attribute_in (λ (a : AttributeRow). a.rowid) same_place Attributes;
-  }
-
-  made_given : AreGiven (rows_of db)
-  made_given = record {
-    next = ap (λ rows. is_count (next_in rows)) made.meta;
-    domains = none_of (λ (d : DomainRow). (is_given (next_in (db 0)) d.number ≡ true) × (is_count d.epoch ≡ true)) domain_in Domains;
-    tokens = none_of (λ (t : TokenRow). is_given (next_in (db 0)) t.number ≡ true) token_in Tokens;
-    documents = none_of (λ (d : DocumentRow). is_given (next_in (db 0)) d.number ≡ true) document_in Documents;
-    roots = none_of (λ (r : RootRow). is_given (next_in (db 0)) r.number ≡ true) root_in Roots;
-    attributes = none_of (λ (a : AttributeRow). is_given (next_in (db 0)) a.number ≡ true) attribute_in Attributes;
-  }
-
-  made_numbers : AreNumbered (rows_of db)
-  made_numbers = numbers_are (rows_of db) made_given made_tables.domains.rise
-
-pub made_ours : (s : State) → Rests s → IsMade s.now.trees → Ours s
-made_ours s rests made = record { rests = rests; tables = made_tables s.now.trees made; domains = made_numbers s.now.trees made }

@@ -24,14 +24,9 @@ use Rattle.xa_store.specs.Turns.{Plans}
 use Rattle.xa_store.specs.World.{Rows, roles_of, library_of, root_at, source_of, state_at, domain_of, kept_of}
 use Rattle.xa_store.proofs.ChangeLemmas.{IsOnly, found_all, kept_at, kept_one, not_same, number_of, one_passes}
 use Rattle.xa_store.proofs.EntryLemmas.{found_passes}
-use Rattle.xa_store.proofs.FilterLemmas.{filter_delete_all, filter_delete_others, find_none}
+use Rattle.xa_store.proofs.FilterLemmas.{filter_delete_all, filter_delete_others, find_none, filter_alike}
 use Rattle.xa_store.proofs.KeyLemmas.{get_by-without_key}
 use Rattle.xa_store.proofs.PlanLemmas.{its_state}
-
--- two tests that agree on the rows
-filter_alike : {X : Type 0} (p q : X → Bool) (xs : List X) → AllByRecursion (λ x. p x ≡ q x) xs → filter p xs ≡ filter q xs
-filter_alike p q [] same = refl
-filter_alike p q (x ∷ xs) same = ap (λ b. cond b (x ∷ filter p xs) (filter p xs)) same.0 ∙ ap (λ l. cond (q x) (x ∷ l) l) (filter_alike p q xs same.1)
 
 find_same : {X : Type 0} (p : X → Bool) (xs ys : List X) → filter p xs ≡ filter p ys → find p xs ≡ find p ys
 find_same p xs ys same = sym (slice_get-filter p xs) ∙ ap (λ l. slice_get l 0) same ∙ slice_get-filter p ys

@@ -12,12 +12,11 @@ use Rattle.sqlite_keyed.proofs.ListLemmas.{all_of}
 use Rattle.sqlite_typed.specs.Columns.{bytes_of, or_null, unless_null}
 use Rattle.sqlite_typed.proofs.TestLemmas.{null_back}
 use Rattle.xa_policy.specs.declared.reference.DocumentKind.{DocumentKind}
-use Rattle.xa_policy.specs.declared.reference.DocumentKind.TheVariants.{Policy, PolicySet}
 use Rattle.xa_policy.specs.declared.reference.Reference.{Reference}
 use Rattle.xa_policy.specs.Pattern.{read_pattern}
 use Rattle.xa_policy.specs.Version.{read_version}
 use Rattle.xa_store.specs.Found.{FindsOne}
-use Rattle.xa_store.specs.Rows.{RootRow, root_row, root_in, given, kind_in, kind_number, reference_of, text_at}
+use Rattle.xa_store.specs.Rows.{RootRow, root_row, root_in, given, kind_number, reference_of, text_at}
 use Rattle.xa_store.specs.Shown.{TellsOne, root_told}
 use Rattle.xa_store.specs.Sound.{Ours}
 use Rattle.xa_store.specs.Tables.{our_schema}
@@ -26,14 +25,11 @@ use Rattle.xa_store.specs.World.{rows_of, state_at}
 use Rattle.xa_store.proofs.FoundLemmas.{finds_one, found_is}
 use Rattle.xa_store.proofs.HitLemmas.{root_hit}
 use Rattle.xa_store.proofs.SqlLemmas.{Answered, answered}
+use Rattle.xa_store.proofs.StepLemmas.{kind_back}
 use Rattle.xa_store.proofs.TextLemmas.{is, root_shown_is}
 
 pub root_plain : IsPlain (understood our_schema root_shown)
 root_plain = root_shown_is.2
-
-kind_back : (kind : DocumentKind) → kind_in (kind_number kind) ≡ kind
-kind_back Policy = refl
-kind_back PolicySet = refl
 
 text_back : (text : Option (List ℕ)) → unless_null bytes_of (or_null Text text) ≡ text
 text_back = null_back Text bytes_of (λ a. refl) (λ a. refl)

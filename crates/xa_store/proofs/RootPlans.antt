@@ -19,15 +19,12 @@ use Rattle.xa_store.specs.Steps.{after_all, AllowsAll}
 use Rattle.xa_store.specs.Turns.{Plans}
 use Rattle.xa_store.specs.World.{Rows, root_at, state_at, domain_of, kept_of}
 use Rattle.xa_store.proofs.ChangeLemmas.{IsOnly, Rewrote, kept_one, number_of}
-use Rattle.xa_store.proofs.KeyLemmas.{get_by-insert_by, get_by-without_key}
+use Rattle.xa_store.proofs.KeyLemmas.{get_by-insert_by, get_by-without_key, own_number}
 use Rattle.xa_store.proofs.PlanLemmas.{changed, its_state, numbered_after}
 use Rattle.xa_store.proofs.TurnLemmas.{still}
 
 abbrev root_key : RootRow → ℤ
 root_key r = r.number
-
-own_number : (n : ℤ) → int_eq n n ≡ true
-own_number n = grind (arith, ints)
 
 taken_out : (rs : List RootRow) (gone m : ℤ) → root_at (without_key root_key rs gone) m ≡ cond (int_eq gone m) None (root_at rs m)
 taken_out rs gone m = ap (option_map reference_of) (get_by-without_key root_key gone m rs) ∙ none_or (int_eq gone m) (get_by root_key rs m)
@@ -109,10 +106,6 @@ module _ (rows : Rows) (name : List ℕ) (d : DomainRow) (one : IsOnly name d ro
         made = (Some target, ap (within (root_set root)) (its_state rows name d one), subst (λ s. Rattle.xa_records.specs.Kept.IsChanged (kept_of rows) (kept_of rows) name (Some s)) state (still (kept_of rows) name (domain_of rows d) (kept_one rows name d one)));
         numbered = are;
       }
-
--- there is no such domain
-pub root_absent : (rows : Rows) (name : List ℕ) (root : Option Reference) → state_of name (kept_of rows) ≡ None → within (root_set root) (state_of name (kept_of rows)) ≡ Rattle.std.specs.Prelude.Err Rattle.xa_records.specs.declared.refusal.Refusal.TheVariants.Absent
-root_absent rows name root none = ap (within (root_set root)) none
 
 -- of a domain that was found
 module _ (rows : Rows) (name : List ℕ) (found : DomainFound) (there root : Option Reference) (are : AreNumbered rows) (up : IsKeyedBy number_of rows.domains) (is : IsDomain name rows found)

@@ -28,9 +28,11 @@ use Rattle.sqlite_typed.proofs.TestLemmas.{at_ints, last_term, null_back}
 use Rattle.xa_policy.specs.declared.reference.DocumentKind.{DocumentKind}
 use Rattle.xa_policy.specs.declared.reference.DocumentKind.TheVariants.{Policy, PolicySet}
 use Rattle.xa_policy.specs.declared.reference.Reference.{Reference}
+use Rattle.xa_notation.specs.declared.token.Role.{Role}
+use Rattle.xa_notation.specs.declared.token.Role.TheVariants.{Ask, Admin}
 use Rattle.xa_store.specs.declared.step.Step.{Step}
 use Rattle.xa_store.specs.declared.step.Step.TheVariants.{SetNext, SetEpoch, AddRoot, DropRoot}
-use Rattle.xa_store.specs.Rows.{DomainRow, RootRow, meta_row, next_in, domain_row, domain_in, root_row, root_in, root_of, kind_number, kind_in}
+use Rattle.xa_store.specs.Rows.{DomainRow, RootRow, meta_row, next_in, domain_row, domain_in, root_row, root_in, root_of, kind_number, kind_in, role_number, role_in}
 use Rattle.xa_store.specs.Sound.{AreTables, same_name as same_domain}
 use Rattle.xa_store.specs.Steps.{after}
 use Rattle.xa_store.specs.Tables.{our_schema, meta, domains, roots}
@@ -91,6 +93,10 @@ works_of_no_root olds = refl
 pub kind_back : (kind : DocumentKind) → kind_in (kind_number kind) ≡ kind
 kind_back Policy = refl
 kind_back PolicySet = refl
+
+pub role_back : (role : Role) → role_in (role_number role) ≡ role
+role_back Ask = refl
+role_back Admin = refl
 
 -- a kind's number fits a column
 pub kind_held : (kind : DocumentKind) → to_z w64 (of_z w64 (kind_number kind)) ≡ kind_number kind

@@ -147,10 +147,3 @@ module _ {S : Type 0} (g : Ghosts S) (kind : Kind) (next : ℤ) (first : Held S)
           subst (Leads kind next (it.0 ++ row.0 ∷ [])) (sym row.3) (leads_on kind next it.0 last it.3 row.0 row.2),
           held_on it.0 row.0 it.4 (subst (FitsSigned w64) is fits),
         )
-
-  -- no more rows are read
-  pub walk_left : (mid : Held S) (last : Option ℤ) → Survives start (state g mid) (λ db. ¬ Rests start) → Stands g kind next start mid last → Walked kind next start (state g mid) (Err Store)
-  walk_left mid last survived stands = record {
-    asks = record { survives = survived; same = λ clean rests up. unchanged_same start (state g mid) rests (stands clean rests).2; opens = λ clean. tt };
-    finds = λ clean rests. tt;
-  }

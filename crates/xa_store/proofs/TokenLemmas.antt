@@ -34,6 +34,7 @@ use Rattle.xa_store.proofs.FoundLemmas.{finds_one, found_is, found_sorted, find_
 use Rattle.xa_store.proofs.HitLemmas.{token_hit, tokens_hit}
 use Rattle.xa_store.proofs.OrderedLemmas.{apart_among, apart_then, entries_sorted}
 use Rattle.xa_store.proofs.SqlLemmas.{Answered, answered}
+use Rattle.xa_store.proofs.StepLemmas.{role_back}
 use Rattle.xa_store.proofs.TextLemmas.{is, role_shown_is, tokens_shown_is}
 
 pub role_plain : IsPlain (understood our_schema role_shown)
@@ -41,10 +42,6 @@ role_plain = role_shown_is.2
 
 pub tokens_plain : IsPlain (understood our_schema tokens_shown)
 tokens_plain = tokens_shown_is.2
-
-role_back : (role : Role) → role_in (role_number role) ≡ role
-role_back Ask = refl
-role_back Admin = refl
 
 -- ---- the role of one
 

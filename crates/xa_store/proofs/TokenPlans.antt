@@ -23,8 +23,8 @@ use Rattle.xa_store.specs.Turns.{Plans}
 use Rattle.xa_store.specs.World.{Rows, roles_of, state_at, tokens_at, kept_of}
 use Rattle.xa_store.proofs.ChangeLemmas.{IsOnly, Rewrote, number_of, one_passes}
 use Rattle.xa_store.proofs.EntryLemmas.{got, pushed, updated, deleted}
-use Rattle.xa_store.proofs.FilterLemmas.{filter_both, filter_delete, filter_delete_apart, filter_push, filter_push_apart, filter_update, filter_update_apart, find_none, find_one}
-use Rattle.xa_store.proofs.KeyLemmas.{untouched}
+use Rattle.xa_store.proofs.FilterLemmas.{filter_both, filter_delete, filter_delete_apart, filter_push, filter_push_apart, filter_update, filter_update_apart, find_none, find_one, filter_alike}
+use Rattle.xa_store.proofs.KeyLemmas.{untouched, own_number}
 use Rattle.xa_store.proofs.PlanLemmas.{changed, its_state, numbered_after}
 
 -- ---- the epoch that a domain has already
@@ -35,7 +35,7 @@ module _ (d : DomainRow) (p : DomainRow → Bool) where
   same_epoch (x ∷ ds) one all = go (p x) refl one (λ more. same_epoch ds more all.1)
     where
       none_of : (xs : List DomainRow) → filter p xs ≡ [] → AllByRecursion (λ x. p x ≡ int_eq x.number d.number) xs → filter (λ x. int_eq x.number d.number) xs ≡ []
-      none_of xs none same = sym (Rattle.xa_store.proofs.WriteLemmas.filter_alike p (λ x. int_eq x.number d.number) xs same) ∙ none
+      none_of xs none same = sym (filter_alike p (λ x. int_eq x.number d.number) xs same) ∙ none
 
       go : (b : Bool) → p x ≡ b → cond b (x ∷ filter p ds) (filter p ds) ≡ d ∷ [] → (filter p ds ≡ d ∷ [] → with_epoch d.number d.epoch ds ≡ ds) → with_epoch d.number d.epoch (x ∷ ds) ≡ x ∷ ds
       go true is e more =
@@ -45,9 +45,6 @@ module _ (d : DomainRow) (p : DomainRow → Bool) where
           ∙ ap (λ (y : DomainRow). record x { epoch = y.epoch } ∷ with_epoch d.number d.epoch ds) (sym same)
           ∙ ap (λ l. x ∷ l) (untouched number_of (λ x. int_eq x.number d.number) (λ y. record y { epoch = d.epoch }) ds (none_of ds none all.1))
       go false is e more = ap (λ b. cond b (record x { epoch = d.epoch }) x ∷ with_epoch d.number d.epoch ds) (sym all.0 ∙ is) ∙ ap (λ l. x ∷ l) (more e)
-
-own_number : (n : ℤ) → int_eq n n ≡ true
-own_number n = grind (arith, ints)
 
 abbrev digest_of : TokenRow → List ℕ
 digest_of t = t.digest

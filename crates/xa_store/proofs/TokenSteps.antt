@@ -33,19 +33,17 @@ use Rattle.xa_store.specs.Steps.{is_token}
 use Rattle.xa_store.specs.Tables.{our_schema, tokens}
 use Rattle.xa_store.specs.Texts as text
 use Rattle.xa_store.proofs.ChangeLemmas.{none_pass}
+use Rattle.xa_store.proofs.HitLemmas.{turn_bytes}
 use Rattle.xa_store.proofs.HoldLemmas.{Back, tokens_now}
+use Rattle.xa_store.proofs.KeyLemmas.{own_number}
 use Rattle.xa_store.proofs.LastLemmas.{apart_few, stands_last, keyed_last, apart_last}
 use Rattle.xa_store.proofs.SqlLemmas.{answered}
-use Rattle.xa_store.proofs.StepLemmas.{Stepped, cast_int, cast_null}
+use Rattle.xa_store.proofs.StepLemmas.{Stepped, cast_int, cast_null, role_back}
 use Rattle.xa_store.proofs.TableLemmas.{updates, deletes, inserts}
 use Rattle.xa_store.proofs.TextLemmas.{is, role_set_is, role_set_query, token_added_given, token_added_is, token_dropped_is, token_dropped_query}
 use Rattle.xa_store.proofs.WriteLemmas.{next_rowid_is, row_added, row_updated, rows_removed}
 
 -- ---- tokens
-
-role_back : (role : Role) → role_in (role_number role) ≡ role
-role_back Ask = refl
-role_back Admin = refl
 
 pub role_held : (role : Role) → to_z w64 (of_z w64 (role_number role)) ≡ role_number role
 role_held Ask = refl
@@ -68,12 +66,6 @@ works_of_token olds new = refl
 works_of_no_token : (olds : List Row) → works our_schema Enforced 0 3 olds [] ≡ []
 unfolding same_name joined
 works_of_no_token olds = refl
-
-turn_bytes : (a b : List ℕ) → eq_by_cmp compare_bytes a b ≡ eq_by_cmp compare_bytes b a
-turn_bytes = turn_eq compare_bytes nat_list_cmp_total
-
-own_number : (n : ℤ) → int_eq n n ≡ true
-own_number n = grind (arith, ints)
 
 tokens_alike : (n : ℤ) (g : List ℕ) (a b : TokenRow) → is_token n g a ≡ true → is_token n g b ≡ true → same_token a b ≡ true
 tokens_alike n g a b here there =

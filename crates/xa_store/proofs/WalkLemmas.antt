@@ -8,13 +8,6 @@ use Rattle.xa_store.specs.declared.opening.kind.Kind.{Kind}
 use Rattle.xa_store.specs.Judging.{checks, comes_after, fits}
 use Rattle.xa_store.specs.Opened.{int_in, is_number, is_sound_row, row_number}
 
-pub no_number : (v : Value) → int_in v ≡ None → is_number v ≡ false
-no_number Null e = refl
-no_number (Int n) e = absurd (let e = e in cc)
-no_number (Real x) e = refl
-no_number (Text t) e = refl
-no_number (Blob b) e = refl
-
 pub a_number : (v : Value) (n : ℤ) → int_in v ≡ Some n → (is_number v ≡ true) × (n ≡ int_of v)
 a_number Null n e = absurd (let e = e in cc)
 a_number (Int m) n e = (refl, (let e = e in cc))
@@ -23,11 +16,7 @@ a_number (Text t) n e = absurd (let e = e in cc)
 a_number (Blob b) n e = absurd (let e = e in cc)
 
 module _ (kind : Kind) (next : ℤ) (last : Option ℤ) (row : Row) where
-  -- a row without a number doesn't fit
-  pub unnumbered : int_in (column row 0) ≡ None → fits kind next last row ≡ false
-  unnumbered none = ap (λ b. (b && is_sound_row kind next row) && comes_after last (row_number row)) (no_number (column row 0) none)
-
-  -- one with a number fits as its other columns do, and as it comes after the last
+  -- a row with a number fits as its other columns do, and as it comes after the last
   pub numbered : (n : ℤ) → int_in (column row 0) ≡ Some n → fits kind next last row ≡ (is_sound_row kind next row && comes_after last n)
   numbered n is =
       let it = a_number (column row 0) n is in

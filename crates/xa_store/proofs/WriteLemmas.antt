@@ -25,6 +25,7 @@ use Rattle.sqlite_keyed.specs.Lists.{update_where, delete_where, without_key}
 use Rattle.sqlite_keyed.proofs.ListLemmas.{filter-map, map-map, map_same}
 use Rattle.sqlite_typed.proofs.RowLemmas.{puts-map, deletes-map}
 use Rattle.xa_store.specs.Tables.{our_schema}
+use Rattle.xa_store.proofs.FilterLemmas.{filter_alike}
 use Rattle.xa_store.proofs.KeyLemmas.{replaced, untouched, removes_permuted}
 use Rattle.xa_store.proofs.SqlLemmas.{Answered, hits, show, out, one_hit, no_hit}
 
@@ -32,11 +33,6 @@ use Rattle.xa_store.proofs.SqlLemmas.{Answered, hits, show, out, one_hit, no_hit
 pub record Wrote (old new : Trees) (tree : ℕ) (content : List Row) : Type 0 where
   pub rows : new tree ≡ content
   pub others : (t : ℕ) → t ≢ tree → IsNoIndex our_schema t → new t ≡ old t
-
--- two tests that agree on each element
-pub filter_alike : {X : Type 0} (p q : X → Bool) (xs : List X) → AllByRecursion (λ x. p x ≡ q x) xs → filter p xs ≡ filter q xs
-filter_alike p q [] all = refl
-filter_alike p q (x ∷ xs) all = ap (λ b. cond b (x ∷ filter p xs) (filter p xs)) all.0 ∙ ap (λ l. cond (q x) (x ∷ l) l) (filter_alike p q xs all.1)
 
 module _ {X : Type 0} (to_row : X → Row) (key : X → ℤ) (keyed : (x : X) → rowid (to_row x) ≡ Int (key x)) where
   next_is : (a : ℤ) (xs : List X) → fold (λ _ r. id_in (rowid r) +ℤ pos 1) a (map to_row xs) ≡ fold (λ _ x. key x +ℤ pos 1) a xs
