@@ -12,6 +12,7 @@ use Rattle.xa_http.specs.declared.fault.SessionFault.{SessionFault}
 use Rattle.xa_http.specs.Messages.{Cuts, IsFirst, IsNext}
 use Rattle.xa_http.specs.Stream.{Stream, fed}
 use Rattle.xa_http.proofs.LawLemmas.{feeds_on}
+use Rattle.xa_http.proofs.OpenHeadLemmas.{none_followed, unfinished}
 use Rattle.xa_server.specs.Alone.{Event}
 use Rattle.xa_server.specs.declared.answering.Turn.{Turn}
 use Rattle.xa_server.specs.declared.answering.Turn.TheVariants.{Answered, Waits, Ends}
@@ -20,7 +21,7 @@ use Rattle.xa_server.specs.declared.driven.Driven.TheVariants.{Ended, ReadFault,
 use Rattle.xa_server.specs.declared.replies.Reply.{Reply}
 use Rattle.xa_server.specs.Connection.{all_replies, fault_replies, messages_of, moments_of}
 use Rattle.xa_server.specs.Driven.{AreWritten, HasEnded, IsConnection, IsCutShort, IsDriven, StopsAfter, Tells, stream_of}
-use Rattle.xa_server.specs.Driving.{EndsAs, HasAnswered, HasClosed, HasRead, IsAnsweredAs, IsFaultAnswered, IsHeldAnswered, IsRead, IsSent, IsTurn}
+use Rattle.xa_server.specs.Driving.{EndsAs, HasAnswered, HasClosed, HasRead, IsAnsweredAs, IsFaultAnswered, IsHeldAnswered, IsRead, IsSent, IsTurn, IsWaiting}
 use Rattle.xa_server.specs.ErrorCode.{code_of_session_fault, error_reply}
 use Rattle.xa_server.specs.Replies.{bytes_of}
 use Rattle.xa_server.specs.Served.{IsRun, IsServed}
@@ -312,18 +313,25 @@ fed_twice s one two = λ i. record { held = append_assoc s.held one two i; ended
 fed_nothing : (s : Stream) → fed s [] ≡ s
 fed_nothing s = λ i. record { held = append-nil s.held i; ended = s.ended }
 
-pub not_read : (w : World) (s : Stream) (rest : Option (List ℕ)) (told : Option (List ℤ)) (before : Option (List ℕ)) → HasRead w w s s rest rest told told before before
-not_read w s rest told before = record {
+-- where nothing came, nothing was answered
+nothing_came : (w : World) (s : Stream) (left rest : Option (List ℕ)) (told : Option (List ℤ)) (before : Option (List ℕ)) → Consumes left rest [] → IsWaiting s
+    → HasRead w w s s left rest told told before before
+nothing_came w s left rest told before reads waits = record {
   bytes = [];
-  reads = consumes_none rest;
+  reads = reads;
   answered = subst (λ (u : Stream). HasAnswered w w u s told told before before) (sym (fed_nothing s)) (none_answered w s told before);
+  waits = waits;
 }
 
 -- a session of which nothing has come
+begins_waiting : IsWaiting (stream_of [])
+begins_waiting = (refl, unfinished [] _ (none_followed [] _ refl) (omega arith) refl, refl)
+
 pub not_begun : (w : World) (s : Stream) (rest : Option (List ℕ)) (told : Option (List ℤ)) (before : Option (List ℕ)) → s ≡ stream_of []
     → HasRead w w (stream_of []) s rest rest told told before before
 not_begun w s rest told before same =
-    subst (λ (t : Stream). HasRead w w (stream_of []) t rest rest told told before before) (sym same) (not_read w (stream_of []) rest told before)
+    subst (λ (t : Stream). HasRead w w (stream_of []) t rest rest told told before before) (sym same)
+    (nothing_came w (stream_of []) rest rest told before (consumes_none rest) begins_waiting)
 
 -- a read that gave nothing leaves the known bytes
 keeps_consumes : (left rest : Option (List ℕ)) → Keeps left rest → Consumes left rest []
@@ -334,30 +342,26 @@ keeps_consumes (Some xs) (Some ys) kept = sym kept
 pub retried : (w : World) (s : Stream) (left rest : Option (List ℕ)) (told : Option (List ℤ)) (before : Option (List ℕ)) → Keeps left rest
     → IsRead None w w s s left rest told told before before
 unfolding IsRead
-retried w s left rest told before kept = record {
-  bytes = [];
-  reads = keeps_consumes left rest kept;
-  answered = subst (λ (u : Stream). HasAnswered w w u s told told before before) (sym (fed_nothing s)) (none_answered w s told before);
-}
+retried w s left rest told before kept = λ waits. nothing_came w s left rest told before (keeps_consumes left rest kept) waits
 
 pub failed_read : (w : World) (s : Stream) (left rest : Option (List ℕ)) (told : Option (List ℤ)) (before : Option (List ℕ)) → Keeps left rest
     → IsRead (Some ReadFault) w w s s left rest told told before before
 unfolding IsRead
-failed_read w s left rest told before kept = record {
+failed_read w s left rest told before kept = λ waits. record {
   bytes = [];
   moments = [];
   written = [];
   reads = keeps_consumes left rest kept;
   tells = tells_none told;
   wrote = appends_none before;
-  is_driven = nothing_driven ReadFault w (fed s []) s tt refl;
+  is_driven = nothing_driven ReadFault w (fed s []) s (inl (subst (λ (u : Stream). IsNext u next.More s) (sym (fed_nothing s)) waits)) refl;
   ended = tt;
 }
 
 pub not_fed : (w : World) (s : Stream) (left rest : Option (List ℕ)) (bytes : List ℕ) (told : Option (List ℤ)) (before : Option (List ℕ)) → Consumes left rest bytes
     → IsRead (Some Memory) w w s s left rest told told before before
 unfolding IsRead
-not_fed w s left rest bytes told before reads = record {
+not_fed w s left rest bytes told before reads = λ _. record {
   bytes = bytes;
   moments = [];
   written = [];
@@ -380,9 +384,13 @@ has_ended Memory after rest session = tt
 pub piece_answered : (result : Option Driven) (a b : World) (s first t : Stream) (left rest : Option (List ℕ)) (bytes : List ℕ) (k l : Option (List ℤ)) (x y : Option (List ℕ))
     → Consumes left rest bytes → first ≡ fed s bytes → IsHeldAnswered result a b first t k l x y → IsRead result a b s t left rest k l x y
 unfolding IsRead
-piece_answered None a b s first t left rest bytes k l x y reads feeds held =
-    record { bytes = bytes; reads = reads; answered = subst (λ (u : Stream). HasAnswered a b u t k l x y) feeds held.0 }
-piece_answered (Some driven) a b s first t left rest bytes k l x y reads feeds held = record {
+piece_answered None a b s first t left rest bytes k l x y reads feeds held = λ _. record {
+  bytes = bytes;
+  reads = reads;
+  answered = subst (λ (u : Stream). HasAnswered a b u t k l x y) feeds held.0;
+  waits = held.1;
+}
+piece_answered (Some driven) a b s first t left rest bytes k l x y reads feeds held = λ _. record {
   bytes = bytes;
   moments = held.moments;
   written = held.written;
@@ -397,7 +405,7 @@ piece_answered (Some driven) a b s first t left rest bytes k l x y reads feeds h
 pub last_answered : (a b : World) (s first t : Stream) (left rest : Option (List ℕ)) (bytes : List ℕ) (k l : Option (List ℤ)) (x y : Option (List ℕ))
     → Consumes left rest bytes → IsAtEnd rest → first ≡ fed s bytes → IsHeldAnswered None a b first t k l x y → IsRead (Some Ended) a b s t left rest k l x y
 unfolding IsRead
-last_answered a b s first t left rest bytes k l x y reads end feeds held = record {
+last_answered a b s first t left rest bytes k l x y reads end feeds held = λ _. record {
   bytes = bytes;
   moments = moments_of held.0.events;
   written = concat (map bytes_of held.0.run);
@@ -423,30 +431,34 @@ last_answered a b s first t left rest bytes k l x y reads end feeds held = recor
 pub read_more : (a b c : World) (s t u : Stream) (p q r : Option (List ℕ)) (k l m : Option (List ℤ)) (x y z : Option (List ℕ))
     → HasRead a b s t p q k l x y → IsRead None b c t u q r l m y z → HasRead a c s u p r k m x z
 unfolding IsRead
-read_more a b c s t u p q r k l m x y z first later = record {
-  bytes = first.bytes ++ later.bytes;
-  reads = consumes_trans p q r first.bytes later.bytes first.reads later.reads;
-  answered =
-      subst (λ (v : Stream). HasAnswered a c v u k m x z) (fed_twice s first.bytes later.bytes)
-      (answered_more a b c (fed (fed s first.bytes) later.bytes) (fed t later.bytes) u k l m x y z
-      (fed_on a b (fed s first.bytes) t later.bytes k l x y first.answered) later.answered);
-}
+read_more a b c s t u p q r k l m x y z first later =
+    let now : HasRead b c t u q r l m y z = later first.waits in
+    record {
+      bytes = first.bytes ++ now.bytes;
+      reads = consumes_trans p q r first.bytes now.bytes first.reads now.reads;
+      answered =
+          subst (λ (v : Stream). HasAnswered a c v u k m x z) (fed_twice s first.bytes now.bytes)
+          (answered_more a b c (fed (fed s first.bytes) now.bytes) (fed t now.bytes) u k l m x y z
+          (fed_on a b (fed s first.bytes) t now.bytes k l x y first.answered) now.answered);
+      waits = now.waits;
+    }
 
 -- the end after those before
 pub connection_closed : (driven : Driven) (a b c : World) (t u : Stream) (p q r : Option (List ℕ)) (k l m : Option (List ℤ)) (x y z : Option (List ℕ))
     → HasRead a b (stream_of []) t p q k l x y → IsRead (Some driven) b c t u q r l m y z → IsConnection driven a c p r k m x z
 unfolding IsRead fed_on
 connection_closed driven a b c t u p q r k l m x y z first later =
-    let so_far = fed_on a b (stream_of first.bytes) t later.bytes k l x y first.answered in (
-      first.bytes ++ later.bytes,
-      moments_of first.answered.events ++ later.moments,
-      concat (map bytes_of first.answered.run) ++ later.written,
+    let now : HasClosed driven b c t u q r l m y z = later first.waits in
+    let so_far = fed_on a b (stream_of first.bytes) t now.bytes k l x y first.answered in (
+      first.bytes ++ now.bytes,
+      moments_of first.answered.events ++ now.moments,
+      concat (map bytes_of first.answered.run) ++ now.written,
       u,
-      consumes_trans p q r first.bytes later.bytes first.reads later.reads,
-      tells_trans k l m (moments_of first.answered.events) later.moments first.answered.tells later.tells,
-      appends_trans x y z (concat (map bytes_of first.answered.run)) later.written first.answered.wrote later.wrote,
-      later.ended,
-      driven_after driven a b c (stream_of (first.bytes ++ later.bytes)) (fed t later.bytes) u k l x y later.moments later.written so_far later.is_driven,
+      consumes_trans p q r first.bytes now.bytes first.reads now.reads,
+      tells_trans k l m (moments_of first.answered.events) now.moments first.answered.tells now.tells,
+      appends_trans x y z (concat (map bytes_of first.answered.run)) now.written first.answered.wrote now.wrote,
+      now.ended,
+      driven_after driven a b c (stream_of (first.bytes ++ now.bytes)) (fed t now.bytes) u k l x y now.moments now.written so_far now.is_driven,
     )
 
 -- and where it was read from too often
@@ -469,7 +481,7 @@ connection_left a b t p q k l x y first = (
     messages = first.answered.messages;
     is_run = first.answered.is_run;
     isolated = λ domain. isolated domain a b first.answered.events first.answered.run first.answered.is_run;
-    stops = tt;
+    stops = inl first.waits;
     at_moments = refl;
     all_written = ap concat (sym (append-nil (map bytes_of first.answered.run)));
   },

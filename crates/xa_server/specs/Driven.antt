@@ -7,7 +7,7 @@ use Rattle.xa_http.specs.declared.fault.SessionFault.{SessionFault}
 use Rattle.xa_http.specs.Messages.{Cuts, IsFirst}
 use Rattle.xa_http.specs.Stream.{Stream}
 use Rattle.xa_server.specs.declared.driven.Driven.{Driven}
-use Rattle.xa_server.specs.declared.driven.Driven.TheVariants.{Ended, WriteFault, NoClock}
+use Rattle.xa_server.specs.declared.driven.Driven.TheVariants.{Ended, ReadFault, WriteFault, NoClock, TooManyReads, Memory}
 use Rattle.xa_server.specs.declared.replies.Reply.{Reply}
 use Rattle.xa_server.specs.Alone.{Event}
 use Rattle.xa_server.specs.Connection.{StopsBy, all_replies, messages_of, moments_of}
@@ -43,13 +43,16 @@ abbrev pub AreWritten : Driven → List (List ℕ) → List ℕ → Type 0
 AreWritten WriteFault replies written = IsCutShort replies written
 AreWritten _ replies written = written ≡ concat replies
 
--- why no message after the last is answered: the stream holds none, or there was no moment for the next. `fault` is that to which
--- there is a reply, the last of all
+-- why no message after the last is answered: the stream holds none that is whole, or there was no moment for the next; only where a write failed or
+-- memory was wanted may whole ones be left. `fault` is that to which there is a reply, the last of all
 abbrev pub StopsAfter : Driven → Option SessionFault → Stream → Stream → Type 0
 StopsAfter Ended fault last after = StopsBy fault last after
-StopsAfter WriteFault (Some fault) last after = StopsBy (Some fault) last after
+StopsAfter ReadFault None last after = StopsBy None last after
+StopsAfter TooManyReads None last after = StopsBy None last after
 StopsAfter NoClock None last after = (message : Message) × IsFirst last message after
-StopsAfter _ None last after = ⊤
+StopsAfter WriteFault (Some fault) last after = StopsBy (Some fault) last after
+StopsAfter WriteFault None last after = ⊤
+StopsAfter Memory None last after = ⊤
 StopsAfter _ (Some fault) last after = ⊥
 
 -- one run of the server answered the messages at the front of the stream, each at its moment, and that is what was written of the replies; each

@@ -44,6 +44,10 @@ IsFaultAnswered WriteFault fault before now = IsSent false before now (error_rep
 IsFaultAnswered Memory fault before now = now ≡ before
 IsFaultAnswered _ fault before now = ⊥
 
+-- a session holds no whole message, and wants more bytes
+abbrev pub IsWaiting : Stream → Type 0
+IsWaiting stream = IsNext stream next.More stream
+
 -- the messages of events were answered, each with one whole reply, and the connection goes on
 pub record HasAnswered (old new : World) (stream after : Stream) (told telling : Option (List ℤ)) (before now : Option (List ℕ)) : Type 0 where
   pub events : List Event
@@ -65,7 +69,7 @@ pub record EndsAs (driven : Driven) (old new : World) (stream after : Stream) (t
 -- what became of what a session holds: a message was answered, or there is none yet, or the connection has ended
 abbrev pub IsTurn : Turn → World → World → Stream → Stream → Option (List ℤ) → Option (List ℤ) → Option (List ℕ) → Option (List ℕ) → Type 0
 IsTurn Answered old new stream after told telling before now = HasAnswered old new stream after told telling before now
-IsTurn Waits old new stream after told telling before now = HasAnswered old new stream after told telling before now × IsNext after next.More after
+IsTurn Waits old new stream after told telling before now = HasAnswered old new stream after told telling before now × IsWaiting after
 IsTurn (Ends driven) old new stream after told telling before now = EndsAs driven old new stream after told telling before now
 
 -- all that the session held was answered, and more bytes are wanted; or the connection has ended
@@ -73,11 +77,12 @@ abbrev pub IsHeldAnswered : Option Driven → World → World → Stream → Str
 IsHeldAnswered None old new stream after told telling before now = IsTurn Waits old new stream after told telling before now
 IsHeldAnswered (Some driven) old new stream after told telling before now = EndsAs driven old new stream after told telling before now
 
--- bytes were read, and all messages of them were answered
+-- bytes were read, all whole messages of them were answered, and more bytes are wanted
 pub record HasRead (old new : World) (stream after : Stream) (left rest : Option (List ℕ)) (told telling : Option (List ℤ)) (before now : Option (List ℕ)) : Type 0 where
   pub bytes : List ℕ
   pub reads : Consumes left rest bytes
   pub answered : HasAnswered old new (fed stream bytes) after told telling before now
+  pub waits : IsWaiting after
 
 -- bytes were read and answered, and then the connection ended so
 pub record HasClosed (driven : Driven) (old new : World) (stream after : Stream) (left rest : Option (List ℕ)) (told telling : Option (List ℤ)) (before now : Option (List ℕ)) : Type 0 where
@@ -90,7 +95,7 @@ pub record HasClosed (driven : Driven) (old new : World) (stream after : Stream)
   pub is_driven : IsDriven driven old new (fed stream bytes) after moments written
   pub ended : HasEnded driven after rest
 
--- bytes were read and answered, and the connection goes on or has ended
+-- where no whole message was left, bytes were read and answered, and the connection goes on or has ended
 unfoldable pub IsRead : Option Driven → World → World → Stream → Stream → Option (List ℕ) → Option (List ℕ) → Option (List ℤ) → Option (List ℤ) → Option (List ℕ) → Option (List ℕ) → Type 0
-IsRead None old new stream after left rest told telling before now = HasRead old new stream after left rest told telling before now
-IsRead (Some driven) old new stream after left rest told telling before now = HasClosed driven old new stream after left rest told telling before now
+IsRead None old new stream after left rest told telling before now = IsWaiting stream → HasRead old new stream after left rest told telling before now
+IsRead (Some driven) old new stream after left rest told telling before now = IsWaiting stream → HasClosed driven old new stream after left rest told telling before now

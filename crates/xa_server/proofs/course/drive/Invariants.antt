@@ -4,7 +4,7 @@ use Rattle.xa_server.specs.Driving.{HasRead}
 use Rattle.xa_server.specs.World.{world}
 use Rattle.xa_server.proofs.course.drive.Given as goal
 
--- bytes were read, and all messages of them were answered
+-- bytes were read, all whole messages of them were answered, and more bytes are wanted
 abbrev pub invariant-loop : goal.invariant-loop
 invariant-loop g l = record {
   sound : g.R.Records.sound l.server.records → g.R.Records.sound l.fn.server.records;
