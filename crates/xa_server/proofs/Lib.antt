@@ -3,6 +3,7 @@ pub mod AnswerLemmas
 pub mod AskingLemmas
 pub mod AuthorizationLemmas
 pub mod ConnectionLemmas
+pub mod CrashLemmas
 pub mod DrivingLemmas
 pub mod GateLemmas
 pub mod GrowthLemmas

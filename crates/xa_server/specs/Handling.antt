@@ -13,7 +13,7 @@ use Rattle.xa_http.specs.Routes.{route_of}
 use Rattle.xa_records.specs.declared.refusal.Failure.TheVariants.{Memory, Store}
 use Rattle.xa_records.specs.DomainState.{DomainState}
 use Rattle.xa_records.specs.Keeper.{IsOneMore}
-use Rattle.xa_records.specs.Kept.{Domain, Kept, names_of, state_of}
+use Rattle.xa_records.specs.Kept.{Domain, IsChanged, Kept, names_of, state_of}
 use Rattle.xa_server.specs.declared.error_code.ErrorCode.{ErrorCode}
 use Rattle.xa_server.specs.declared.error_code.ErrorCode.TheVariants as error
 use Rattle.xa_server.specs.declared.opened.Opened.{Opened}
@@ -167,3 +167,34 @@ WorksRoute kept message moment route result old new = WorksOf (domain_of_route k
 
 abbrev pub WorksMessage : Kept → Message → ℤ → Result (List ℕ) Stop → Tally → Tally → Type 0
 WorksMessage kept message moment result old new = WorksOf (domain_of_message kept message (route_of message)) message.body moment result old new
+
+-- ---- what a crash may leave
+
+-- unless the message failed
+abbrev pub IfTold : {X : Type 0} → Result X Stop → Type 0 → Type 0
+IfTold (Ok x) claim = claim
+IfTold (Err (Code code)) claim = claim
+IfTold (Err (Failed failure)) claim = Unit {0}
+
+-- nothing that it might not have left before
+abbrev pub LeavesNoMore : (Kept → Type 0) → (Kept → Type 0) → Type 0
+LeavesNoMore before after = (left : Kept) → after left → before left
+
+-- what an answer of the machine changes was made: the domain of that name has gone over into its state, and no other has changed
+abbrev pub IsAnswerMade : Kept → Kept → List ℕ → Answer → Type 0
+IsAnswerMade old left name (Ok (bytes, after)) = IsChanged old left name after
+IsAnswerMade old left name (Err code) = ⊥
+
+-- after a message of the domain of that name: what it might have left before, or all with that made
+abbrev pub LeavesAnswer : (Kept → Type 0) → (Kept → Type 0) → Kept → List ℕ → Answer → Type 0
+LeavesAnswer before after old name meant = (left : Kept) → after left → before left ⊎ IsAnswerMade old left name meant
+
+-- after a message that asks for this
+abbrev pub LeavesRoute : (Kept → Type 0) → (Kept → Type 0) → List ℕ → Kept → Option (List ℕ) → Message → ℤ → Route → Type 0
+LeavesRoute before after operator old None message moment route = LeavesNoMore before after
+LeavesRoute before after operator old (Some name) message moment route = LeavesAnswer before after old name (by_route operator (state_of name old) message moment route)
+
+-- after a message
+abbrev pub LeavesMessage : (Kept → Type 0) → (Kept → Type 0) → List ℕ → Kept → Option (List ℕ) → Message → ℤ → Type 0
+LeavesMessage before after operator old None message moment = LeavesNoMore before after
+LeavesMessage before after operator old (Some name) message moment = LeavesAnswer before after old name (answer operator (state_of name old) message moment)

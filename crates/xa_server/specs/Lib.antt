@@ -9,6 +9,7 @@ pub mod Alone
 pub mod Tally
 pub mod World
 pub mod Served
+pub mod Crash
 pub mod Isolation
 pub mod Standing
 pub mod ValidCache

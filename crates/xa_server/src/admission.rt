@@ -3,7 +3,7 @@ ghost use Rattle.std.specs.Prelude.{◌≡◌, true, Some};
 ghost use Rattle.xa_records.specs.Kept.{state_of};
 ghost use Rattle.xa_records.specs.Readings.{gate_of};
 ghost use Rattle.xa_server.specs.Gates.{opened_of};
-ghost use Rattle.xa_server.specs.Handling.{Counts, Opens, Tells, admitted_by};
+ghost use Rattle.xa_server.specs.Handling.{Counts, IfTold, LeavesNoMore, Opens, Tells, admitted_by};
 ghost use Rattle.xa_server.specs.Machine.{admitted, by_operator, digest_shown, is_decision, permitted};
 ghost use Rattle.xa_server.specs.Stock.{AllStand};
 ghost use Rattle.xa_server.specs.Tokens.{role_in};
@@ -80,6 +80,9 @@ fn gate_opened<R: Records>(
 ) -> Result<Gate, Stop>
     ensures tells { R.sound records.new → Opens (R.kept records.old) (R.kept records.new) (gate_of name.now (R.kept records.old)) result (admitted_by for_decisions (state_of name.now (R.kept records.old)) (Some digest.now)) }
     ensures sound { R.sound records.new → R.sound records.old }
+    ensures clean { R.clean records.new → R.clean records.old }
+    ensures stays { R.clean records.new → R.sound records.old → IfTold result (R.sound records.new) }
+    ensures leaves { R.clean records.new → R.sound records.old → LeavesNoMore (R.may_leave records.old) (R.may_leave records.new) }
     ensures counts { Counts (R.faults records.old) (R.faults records.new) result }
 {
     let gate = records.gate(alloc, name)?;
@@ -99,6 +102,9 @@ pub(crate) fn admitted<R: Records>(
 ) -> Result<(), Stop>
     ensures tells { R.sound records.new → Tells (R.kept records.old) (R.kept records.new) result (admitted for_decisions (state_of name.now (R.kept records.old)) message.now) }
     ensures sound { R.sound records.new → R.sound records.old }
+    ensures clean { R.clean records.new → R.clean records.old }
+    ensures stays { R.clean records.new → R.sound records.old → IfTold result (R.sound records.new) }
+    ensures leaves { R.clean records.new → R.sound records.old → LeavesNoMore (R.may_leave records.old) (R.may_leave records.new) }
     ensures counts { Counts (R.faults records.old) (R.faults records.new) result }
 {
     let digest = digest_shown(message).ok_or(ErrorCode::Unauthorized)?;
@@ -121,6 +127,9 @@ pub(crate) fn entered<R: Records>(
     ensures tally { resources.new.tally ≡ resources.old.tally }
     ensures room { resources.new.room ≡ resources.old.room }
     ensures sound { R.sound records.new → R.sound records.old }
+    ensures clean { R.clean records.new → R.clean records.old }
+    ensures stays { R.clean records.new → R.sound records.old → IfTold result (R.sound records.new) }
+    ensures leaves { R.clean records.new → R.sound records.old → LeavesNoMore (R.may_leave records.old) (R.may_leave records.new) }
     ensures counts { Counts (R.faults records.old) (R.faults records.new) result }
 {
     let digest = digest_shown(message).ok_or(ErrorCode::Unauthorized)?;

@@ -5,7 +5,7 @@ ghost use Rattle.xa_http.specs.Routes.{named_by};
 ghost use Rattle.xa_http.specs.declared.route.Route.TheVariants as to;
 ghost use Rattle.xa_records.specs.DomainName.{is_domain_name};
 ghost use Rattle.xa_records.specs.Kept.{state_of};
-ghost use Rattle.xa_server.specs.Handling.{Answers, AnswersMessage, AnswersRoute, Counts, WorksMessage, WorksOf, WorksRoute};
+ghost use Rattle.xa_server.specs.Handling.{Answers, AnswersMessage, AnswersRoute, Counts, IfTold, LeavesAnswer, LeavesMessage, LeavesNoMore, LeavesRoute, WorksMessage, WorksOf, WorksRoute};
 ghost use Rattle.xa_server.specs.Machine.{by_document_command, by_domain_command, by_operator_command};
 ghost use Rattle.xa_server.specs.Owner.{name_if, owner};
 ghost use Rattle.xa_server.specs.Stock.{AllStand};
@@ -42,6 +42,9 @@ fn by_operator_command<R: Records>(
     requires { IsTrue (is_domain_name name.now) }
     ensures answers { R.sound records.new → Answers (R.kept records.old) (R.kept records.new) name.now result (by_operator_command command body.now (state_of name.now (R.kept records.old))) }
     ensures sound { R.sound records.new → R.sound records.old }
+    ensures clean { R.clean records.new → R.clean records.old }
+    ensures stays { R.clean records.new → R.sound records.old → IfTold result (R.sound records.new) }
+    ensures leaves { R.clean records.new → R.sound records.old → LeavesAnswer (R.may_leave records.old) (R.may_leave records.new) (R.kept records.old) name.now (by_operator_command command body.now (state_of name.now (R.kept records.old))) }
     ensures counts { Counts (R.faults records.old) (R.faults records.new) result }
 {
     match command {
@@ -63,6 +66,9 @@ fn by_domain_command<R: Records>(
     requires { command ≢ in_domain.Decide }
     ensures answers { (moment : ℤ) → R.sound records.new → Answers (R.kept records.old) (R.kept records.new) name.now result (by_domain_command command body.now moment (state_of name.now (R.kept records.old))) }
     ensures sound { R.sound records.new → R.sound records.old }
+    ensures clean { R.clean records.new → R.clean records.old }
+    ensures stays { R.clean records.new → R.sound records.old → IfTold result (R.sound records.new) }
+    ensures leaves { (moment : ℤ) → R.clean records.new → R.sound records.old → LeavesAnswer (R.may_leave records.old) (R.may_leave records.new) (R.kept records.old) name.now (by_domain_command command body.now moment (state_of name.now (R.kept records.old))) }
     ensures counts { Counts (R.faults records.old) (R.faults records.new) result }
 {
     match command {
@@ -85,6 +91,9 @@ fn by_document_command<R: Records>(
 ) -> Result<Items<u8>, Stop>
     ensures answers { R.sound records.new → Answers (R.kept records.old) (R.kept records.new) name.now result (by_document_command command key.now (state_of name.now (R.kept records.old))) }
     ensures sound { R.sound records.new → R.sound records.old }
+    ensures clean { R.clean records.new → R.clean records.old }
+    ensures stays { R.clean records.new → R.sound records.old → IfTold result (R.sound records.new) }
+    ensures leaves { R.clean records.new → R.sound records.old → LeavesAnswer (R.may_leave records.old) (R.may_leave records.new) (R.kept records.old) name.now (by_document_command command key.now (state_of name.now (R.kept records.old))) }
     ensures counts { Counts (R.faults records.old) (R.faults records.new) result }
 {
     match command {
@@ -111,6 +120,9 @@ fn operator_route<R: Records>(
     ensures tally { resources.new.tally ≡ resources.old.tally }
     ensures room { resources.new.room ≡ resources.old.room }
     ensures sound { R.sound records.new → R.sound records.old }
+    ensures clean { R.clean records.new → R.clean records.old }
+    ensures stays { R.clean records.new → R.sound records.old → IfTold result (R.sound records.new) }
+    ensures leaves { (moment : ℤ) → R.clean records.new → R.sound records.old → LeavesRoute (R.may_leave records.old) (R.may_leave records.new) operator (R.kept records.old) (name_if domain) message.now moment (to.Operator domain command) }
     ensures counts { Counts (R.faults records.old) (R.faults records.new) result }
 {
     by_operator(operator, message)?;
@@ -134,6 +146,9 @@ fn asked<R: Records>(
     ensures stands { AllStand (R.kept records.old) resources.old → R.sound records.new → AllStand (R.kept records.new) resources.new }
     ensures room { OnErr result (resources.new.room ≡ resources.old.room) }
     ensures sound { R.sound records.new → R.sound records.old }
+    ensures clean { R.clean records.new → R.clean records.old }
+    ensures stays { R.clean records.new → R.sound records.old → IfTold result (R.sound records.new) }
+    ensures leaves { R.clean records.new → R.sound records.old → LeavesNoMore (R.may_leave records.old) (R.may_leave records.new) }
     ensures counts { Counts (R.faults records.old) (R.faults records.new) result }
 {
     let opened = entered(alloc, resources, records, name, message)?;
@@ -157,6 +172,9 @@ fn administered<R: Records>(
     ensures tally { resources.new.tally ≡ resources.old.tally }
     ensures room { resources.new.room ≡ resources.old.room }
     ensures sound { R.sound records.new → R.sound records.old }
+    ensures clean { R.clean records.new → R.clean records.old }
+    ensures stays { R.clean records.new → R.sound records.old → IfTold result (R.sound records.new) }
+    ensures leaves { (operator part : List ℕ) (moment : ℤ) → R.clean records.new → R.sound records.old → LeavesRoute (R.may_leave records.old) (R.may_leave records.new) operator (R.kept records.old) (Some name.now) message.now moment (to.Domain part command) }
     ensures counts { Counts (R.faults records.old) (R.faults records.new) result }
 {
     admitted(alloc, records, name, is_decision(command), message)?;
@@ -179,6 +197,9 @@ fn named_domain_route<R: Records>(
     ensures stands { AllStand (R.kept records.old) resources.old → R.sound records.new → AllStand (R.kept records.new) resources.new }
     ensures room { OnErr result (resources.new.room ≡ resources.old.room) }
     ensures sound { R.sound records.new → R.sound records.old }
+    ensures clean { R.clean records.new → R.clean records.old }
+    ensures stays { R.clean records.new → R.sound records.old → IfTold result (R.sound records.new) }
+    ensures leaves { (operator part : List ℕ) → name_if part ≡ Some name.now → R.clean records.new → R.sound records.old → LeavesRoute (R.may_leave records.old) (R.may_leave records.new) operator (R.kept records.old) (name_if part) message.now moment (to.Domain part command) }
     ensures counts { Counts (R.faults records.old) (R.faults records.new) result }
 {
     match command {
@@ -202,6 +223,9 @@ fn domain_route<R: Records>(
     ensures stands { AllStand (R.kept records.old) resources.old → R.sound records.new → AllStand (R.kept records.new) resources.new }
     ensures room { OnErr result (resources.new.room ≡ resources.old.room) }
     ensures sound { R.sound records.new → R.sound records.old }
+    ensures clean { R.clean records.new → R.clean records.old }
+    ensures stays { R.clean records.new → R.sound records.old → IfTold result (R.sound records.new) }
+    ensures leaves { (operator : List ℕ) → R.clean records.new → R.sound records.old → LeavesRoute (R.may_leave records.old) (R.may_leave records.new) operator (R.kept records.old) (name_if domain) message.now moment (to.Domain domain command) }
     ensures counts { Counts (R.faults records.old) (R.faults records.new) result }
 {
     let name = name_if(domain).ok_or(ErrorCode::Unauthorized)?;
@@ -224,6 +248,9 @@ fn document_route<R: Records>(
     ensures tally { resources.new.tally ≡ resources.old.tally }
     ensures room { resources.new.room ≡ resources.old.room }
     ensures sound { R.sound records.new → R.sound records.old }
+    ensures clean { R.clean records.new → R.clean records.old }
+    ensures stays { R.clean records.new → R.sound records.old → IfTold result (R.sound records.new) }
+    ensures leaves { (operator : List ℕ) (moment : ℤ) → R.clean records.new → R.sound records.old → LeavesRoute (R.may_leave records.old) (R.may_leave records.new) operator (R.kept records.old) (name_if domain) message.now moment (to.Document domain parts command) }
     ensures counts { Counts (R.faults records.old) (R.faults records.new) result }
 {
     let name = name_if(domain).ok_or(ErrorCode::Unauthorized)?;
@@ -248,6 +275,9 @@ fn answer_route<R: Records>(
     ensures stands { AllStand (R.kept records.old) resources.old → R.sound records.new → AllStand (R.kept records.new) resources.new }
     ensures room { OnErr result (resources.new.room ≡ resources.old.room) }
     ensures sound { R.sound records.new → R.sound records.old }
+    ensures clean { R.clean records.new → R.clean records.old }
+    ensures stays { R.clean records.new → R.sound records.old → IfTold result (R.sound records.new) }
+    ensures leaves { R.clean records.new → R.sound records.old → LeavesRoute (R.may_leave records.old) (R.may_leave records.new) operator (R.kept records.old) (option_and_then name_if (named_by route)) message.now moment route }
     ensures counts { Counts (R.faults records.old) (R.faults records.new) result }
 {
     match route {
@@ -286,6 +316,9 @@ pub(crate) fn answer<R: Records>(
     ensures stands { AllStand (R.kept records.old) resources.old → R.sound records.new → AllStand (R.kept records.new) resources.new }
     ensures room { OnErr result (resources.new.room ≡ resources.old.room) }
     ensures sound { R.sound records.new → R.sound records.old }
+    ensures clean { R.clean records.new → R.clean records.old }
+    ensures stays { R.clean records.new → R.sound records.old → IfTold result (R.sound records.new) }
+    ensures leaves { R.clean records.new → R.sound records.old → LeavesMessage (R.may_leave records.old) (R.may_leave records.new) operator (R.kept records.old) (owner message.now) message.now moment }
     ensures counts { Counts (R.faults records.old) (R.faults records.new) result }
 {
     let route = routes.route(alloc, message)?;

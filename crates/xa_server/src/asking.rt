@@ -4,7 +4,7 @@ ghost use Rattle.std.specs.Prelude.{◌≡◌, Some, OnErr};
 ghost use Rattle.xa_http.specs.declared.command.DomainCommand.TheVariants as domain;
 ghost use Rattle.xa_records.specs.Kept.{state_of};
 ghost use Rattle.xa_server.specs.Gates.{opened_of};
-ghost use Rattle.xa_server.specs.Handling.{Answers, Counts, IsAsked, IsFresh, IsReplied, IsResponse, MakesReady, Tells, key_opened, reply_told, view_told, worked_in};
+ghost use Rattle.xa_server.specs.Handling.{Answers, Counts, IfTold, IsAsked, IsFresh, IsReplied, IsResponse, LeavesNoMore, MakesReady, Tells, key_opened, reply_told, view_told, worked_in};
 ghost use Rattle.xa_server.specs.Machine.{by_domain_command};
 ghost use Rattle.xa_server.specs.Stock.{AllStand};
 ghost use Rattle.xa_server.specs.Work.{body_held, response_of};
@@ -37,6 +37,9 @@ fn ready_view<R: Records>(
 ) -> Result<Ready, Stop>
     ensures tells { R.sound records.new → MakesReady (R.kept records.old) (R.kept records.new) epoch result (view_told (state_of name.now (R.kept records.old))) }
     ensures sound { R.sound records.new → R.sound records.old }
+    ensures clean { R.clean records.new → R.clean records.old }
+    ensures stays { R.clean records.new → R.sound records.old → IfTold result (R.sound records.new) }
+    ensures leaves { R.clean records.new → R.sound records.old → LeavesNoMore (R.may_leave records.old) (R.may_leave records.new) }
     ensures counts { Counts (R.faults records.old) (R.faults records.new) result }
 {
     let kept = records
@@ -98,6 +101,9 @@ fn reply_by_kept<R: Records>(
     ensures stands { opened_of name.now (R.kept records.old) ≡ Some opened → AllStand (R.kept records.old) resources.old → R.sound records.new → AllStand (R.kept records.old) resources.new }
     ensures room { OnErr result (resources.new.room ≡ resources.old.room) }
     ensures sound { R.sound records.new → R.sound records.old }
+    ensures clean { R.clean records.new → R.clean records.old }
+    ensures stays { R.clean records.new → R.sound records.old → IfTold result (R.sound records.new) }
+    ensures leaves { R.clean records.new → R.sound records.old → LeavesNoMore (R.may_leave records.old) (R.may_leave records.new) }
     ensures counts { Counts (R.faults records.old) (R.faults records.new) result }
 {
     let ready = ready_view(
@@ -137,6 +143,9 @@ fn fresh_reply<R: Records>(
     ensures stands { opened_of name.now (R.kept records.old) ≡ Some opened → AllStand (R.kept records.old) resources.old → R.sound records.new → AllStand (R.kept records.old) resources.new }
     ensures room { OnErr result (resources.new.room ≡ resources.old.room) }
     ensures sound { R.sound records.new → R.sound records.old }
+    ensures clean { R.clean records.new → R.clean records.old }
+    ensures stays { R.clean records.new → R.sound records.old → IfTold result (R.sound records.new) }
+    ensures leaves { R.clean records.new → R.sound records.old → LeavesNoMore (R.may_leave records.old) (R.may_leave records.new) }
     ensures counts { Counts (R.faults records.old) (R.faults records.new) result }
 {
     if let Some(view) = resources.views.find(opened.number, opened.epoch) {
@@ -164,6 +173,9 @@ pub(crate) fn decide<R: Records>(
     ensures stands { opened_of name.now (R.kept records.old) ≡ Some opened → AllStand (R.kept records.old) resources.old → R.sound records.new → AllStand (R.kept records.old) resources.new }
     ensures room { OnErr result (resources.new.room ≡ resources.old.room) }
     ensures sound { R.sound records.new → R.sound records.old }
+    ensures clean { R.clean records.new → R.clean records.old }
+    ensures stays { R.clean records.new → R.sound records.old → IfTold result (R.sound records.new) }
+    ensures leaves { R.clean records.new → R.sound records.old → LeavesNoMore (R.may_leave records.old) (R.may_leave records.new) }
     ensures counts { Counts (R.faults records.old) (R.faults records.new) result }
 {
     let key = Key::new(alloc, opened.number, opened.epoch, body)?;

@@ -9,7 +9,7 @@ ghost use Rattle.xa_records.specs.Changes.{activity_set, created, removed, root_
 ghost use Rattle.xa_records.specs.DomainName.{is_domain_name};
 ghost use Rattle.xa_records.specs.DomainState.{key_of};
 ghost use Rattle.xa_records.specs.Kept.{state_of};
-ghost use Rattle.xa_server.specs.Handling.{Answers, Counts, by_body};
+ghost use Rattle.xa_server.specs.Handling.{Answers, Counts, IfTold, LeavesAnswer, by_body};
 ghost use Rattle.xa_server.specs.Machine.{by_document_command, by_operator_command, changed, upload_reply};
 ghost use Rattle.xa_server.specs.Replies.{created_reply, done_reply};
 
@@ -32,6 +32,9 @@ pub(crate) fn create<R: Records>(
     requires { IsTrue (is_domain_name name.now) }
     ensures answers { R.sound records.new → Answers (R.kept records.old) (R.kept records.new) name.now result (changed created_reply created (state_of name.now (R.kept records.old))) }
     ensures sound { R.sound records.new → R.sound records.old }
+    ensures clean { R.clean records.new → R.clean records.old }
+    ensures stays { R.clean records.new → R.sound records.old → IfTold result (R.sound records.new) }
+    ensures leaves { R.clean records.new → R.sound records.old → LeavesAnswer (R.may_leave records.old) (R.may_leave records.new) (R.kept records.old) name.now (changed created_reply created (state_of name.now (R.kept records.old))) }
     ensures counts { Counts (R.faults records.old) (R.faults records.new) result }
 {
     let reply = created_reply(alloc)?;
@@ -48,6 +51,9 @@ pub(crate) fn remove<R: Records>(
 ) -> Result<Items<u8>, Stop>
     ensures answers { R.sound records.new → Answers (R.kept records.old) (R.kept records.new) name.now result (changed done_reply removed (state_of name.now (R.kept records.old))) }
     ensures sound { R.sound records.new → R.sound records.old }
+    ensures clean { R.clean records.new → R.clean records.old }
+    ensures stays { R.clean records.new → R.sound records.old → IfTold result (R.sound records.new) }
+    ensures leaves { R.clean records.new → R.sound records.old → LeavesAnswer (R.may_leave records.old) (R.may_leave records.new) (R.kept records.old) name.now (changed done_reply removed (state_of name.now (R.kept records.old))) }
     ensures counts { Counts (R.faults records.old) (R.faults records.new) result }
 {
     let reply = done_reply(alloc)?;
@@ -65,6 +71,9 @@ pub(crate) fn put_token<R: Records>(
 ) -> Result<Items<u8>, Stop>
     ensures answers { R.sound records.new → Answers (R.kept records.old) (R.kept records.new) name.now result (by_operator_command operator.PutToken body.now (state_of name.now (R.kept records.old))) }
     ensures sound { R.sound records.new → R.sound records.old }
+    ensures clean { R.clean records.new → R.clean records.old }
+    ensures stays { R.clean records.new → R.sound records.old → IfTold result (R.sound records.new) }
+    ensures leaves { R.clean records.new → R.sound records.old → LeavesAnswer (R.may_leave records.old) (R.may_leave records.new) (R.kept records.old) name.now (by_operator_command operator.PutToken body.now (state_of name.now (R.kept records.old))) }
     ensures counts { Counts (R.faults records.old) (R.faults records.new) result }
 {
     let new = read_new_token(alloc, body)?;
@@ -84,6 +93,9 @@ pub(crate) fn drop_token<R: Records>(
 ) -> Result<Items<u8>, Stop>
     ensures answers { R.sound records.new → Answers (R.kept records.old) (R.kept records.new) name.now result (by_operator_command operator.DropToken body.now (state_of name.now (R.kept records.old))) }
     ensures sound { R.sound records.new → R.sound records.old }
+    ensures clean { R.clean records.new → R.clean records.old }
+    ensures stays { R.clean records.new → R.sound records.old → IfTold result (R.sound records.new) }
+    ensures leaves { R.clean records.new → R.sound records.old → LeavesAnswer (R.may_leave records.old) (R.may_leave records.new) (R.kept records.old) name.now (by_operator_command operator.DropToken body.now (state_of name.now (R.kept records.old))) }
     ensures counts { Counts (R.faults records.old) (R.faults records.new) result }
 {
     let token = read_old_token(alloc, body)?;
@@ -113,6 +125,9 @@ pub(crate) fn upload<R: Records>(
 ) -> Result<Items<u8>, Stop>
     ensures answers { R.sound records.new → Answers (R.kept records.old) (R.kept records.new) name.now result (by_body (λ parsed state. changed (upload_reply (upload_of (key_of parsed) state)) (within (uploaded (key_of parsed) body.now)) state) (document_of body.now) (state_of name.now (R.kept records.old))) }
     ensures sound { R.sound records.new → R.sound records.old }
+    ensures clean { R.clean records.new → R.clean records.old }
+    ensures stays { R.clean records.new → R.sound records.old → IfTold result (R.sound records.new) }
+    ensures leaves { R.clean records.new → R.sound records.old → LeavesAnswer (R.may_leave records.old) (R.may_leave records.new) (R.kept records.old) name.now (by_body (λ parsed state. changed (upload_reply (upload_of (key_of parsed) state)) (within (uploaded (key_of parsed) body.now)) state) (document_of body.now) (state_of name.now (R.kept records.old))) }
     ensures counts { Counts (R.faults records.old) (R.faults records.new) result }
 {
     let parsed = Parsed::read(alloc, body)?;
@@ -135,6 +150,9 @@ pub(crate) fn set_root<R: Records>(
 ) -> Result<Items<u8>, Stop>
     ensures answers { R.sound records.new → Answers (R.kept records.old) (R.kept records.new) name.now result (by_body (λ root. changed done_reply (within (root_set root))) (root_of body.now) (state_of name.now (R.kept records.old))) }
     ensures sound { R.sound records.new → R.sound records.old }
+    ensures clean { R.clean records.new → R.clean records.old }
+    ensures stays { R.clean records.new → R.sound records.old → IfTold result (R.sound records.new) }
+    ensures leaves { R.clean records.new → R.sound records.old → LeavesAnswer (R.may_leave records.old) (R.may_leave records.new) (R.kept records.old) name.now (by_body (λ root. changed done_reply (within (root_set root))) (root_of body.now) (state_of name.now (R.kept records.old))) }
     ensures counts { Counts (R.faults records.old) (R.faults records.new) result }
 {
     let root = read_root(alloc, body)?;
@@ -153,6 +171,9 @@ pub(crate) fn set_source<R: Records>(
 ) -> Result<Items<u8>, Stop>
     ensures answers { R.sound records.new → Answers (R.kept records.old) (R.kept records.new) name.now result (by_body (λ rows. changed done_reply (within (source_set rows))) (rows_of body.now) (state_of name.now (R.kept records.old))) }
     ensures sound { R.sound records.new → R.sound records.old }
+    ensures clean { R.clean records.new → R.clean records.old }
+    ensures stays { R.clean records.new → R.sound records.old → IfTold result (R.sound records.new) }
+    ensures leaves { R.clean records.new → R.sound records.old → LeavesAnswer (R.may_leave records.old) (R.may_leave records.new) (R.kept records.old) name.now (by_body (λ rows. changed done_reply (within (source_set rows))) (rows_of body.now) (state_of name.now (R.kept records.old))) }
     ensures counts { Counts (R.faults records.old) (R.faults records.new) result }
 {
     let rows = read_rows(alloc, body)?;
@@ -171,6 +192,9 @@ pub(crate) fn delete<R: Records>(
 ) -> Result<Items<u8>, Stop>
     ensures answers { R.sound records.new → Answers (R.kept records.old) (R.kept records.new) name.now result (by_document_command document.Delete key.now (state_of name.now (R.kept records.old))) }
     ensures sound { R.sound records.new → R.sound records.old }
+    ensures clean { R.clean records.new → R.clean records.old }
+    ensures stays { R.clean records.new → R.sound records.old → IfTold result (R.sound records.new) }
+    ensures leaves { R.clean records.new → R.sound records.old → LeavesAnswer (R.may_leave records.old) (R.may_leave records.new) (R.kept records.old) name.now (by_document_command document.Delete key.now (state_of name.now (R.kept records.old))) }
     ensures counts { Counts (R.faults records.old) (R.faults records.new) result }
 {
     let reply = done_reply(alloc)?;
@@ -189,6 +213,9 @@ pub(crate) fn set_active<R: Records>(
 ) -> Result<Items<u8>, Stop>
     ensures answers { R.sound records.new → Answers (R.kept records.old) (R.kept records.new) name.now result (changed done_reply (within (activity_set key.now active)) (state_of name.now (R.kept records.old))) }
     ensures sound { R.sound records.new → R.sound records.old }
+    ensures clean { R.clean records.new → R.clean records.old }
+    ensures stays { R.clean records.new → R.sound records.old → IfTold result (R.sound records.new) }
+    ensures leaves { R.clean records.new → R.sound records.old → LeavesAnswer (R.may_leave records.old) (R.may_leave records.new) (R.kept records.old) name.now (changed done_reply (within (activity_set key.now active)) (state_of name.now (R.kept records.old))) }
     ensures counts { Counts (R.faults records.old) (R.faults records.new) result }
 {
     let reply = done_reply(alloc)?;

@@ -5,7 +5,7 @@ ghost use Rattle.xa_decide.specs.Rows.{rows_body};
 ghost use Rattle.xa_records.specs.Kept.{names_of, state_of};
 ghost use Rattle.xa_records.specs.Listing.{listing_body, names_body};
 ghost use Rattle.xa_records.specs.Readings.{listing_of_state};
-ghost use Rattle.xa_server.specs.Handling.{Answers, Counts, Tells};
+ghost use Rattle.xa_server.specs.Handling.{Answers, Counts, IfTold, LeavesNoMore, Tells};
 ghost use Rattle.xa_server.specs.Machine.{by_document_command, told};
 ghost use Rattle.xa_server.specs.Replies.{json_reply};
 
@@ -30,6 +30,9 @@ pub(crate) fn list<R: Records>(
 ) -> Result<Items<u8>, Stop>
     ensures answers { R.sound records.new → Answers (R.kept records.old) (R.kept records.new) name.now result (told (λ kept. Ok (json_reply (listing_body (listing_of_state kept)))) (state_of name.now (R.kept records.old))) }
     ensures sound { R.sound records.new → R.sound records.old }
+    ensures clean { R.clean records.new → R.clean records.old }
+    ensures stays { R.clean records.new → R.sound records.old → IfTold result (R.sound records.new) }
+    ensures leaves { R.clean records.new → R.sound records.old → LeavesNoMore (R.may_leave records.old) (R.may_leave records.new) }
     ensures counts { Counts (R.faults records.old) (R.faults records.new) result }
 {
     let documents = records.list(alloc, name)?.ok_or(ABSENT)?;
@@ -46,6 +49,9 @@ pub(crate) fn source<R: Records>(
 ) -> Result<Items<u8>, Stop>
     ensures answers { R.sound records.new → Answers (R.kept records.old) (R.kept records.new) name.now result (told (λ kept. Ok (json_reply (rows_body kept.source))) (state_of name.now (R.kept records.old))) }
     ensures sound { R.sound records.new → R.sound records.old }
+    ensures clean { R.clean records.new → R.clean records.old }
+    ensures stays { R.clean records.new → R.sound records.old → IfTold result (R.sound records.new) }
+    ensures leaves { R.clean records.new → R.sound records.old → LeavesNoMore (R.may_leave records.old) (R.may_leave records.new) }
     ensures counts { Counts (R.faults records.old) (R.faults records.new) result }
 {
     let kept = records.view(alloc, name)?.ok_or(ABSENT)?;
@@ -63,6 +69,9 @@ pub(crate) fn show<R: Records>(
 ) -> Result<Items<u8>, Stop>
     ensures answers { R.sound records.new → Answers (R.kept records.old) (R.kept records.new) name.now result (by_document_command document.Show key.now (state_of name.now (R.kept records.old))) }
     ensures sound { R.sound records.new → R.sound records.old }
+    ensures clean { R.clean records.new → R.clean records.old }
+    ensures stays { R.clean records.new → R.sound records.old → IfTold result (R.sound records.new) }
+    ensures leaves { R.clean records.new → R.sound records.old → LeavesNoMore (R.may_leave records.old) (R.may_leave records.new) }
     ensures counts { Counts (R.faults records.old) (R.faults records.new) result }
 {
     let text = records.document(alloc, name, key)?.ok_or(ABSENT)?;
@@ -73,6 +82,9 @@ pub(crate) fn show<R: Records>(
 pub(crate) fn domains<R: Records>(alloc: Global, records: &mut R) -> Result<Items<u8>, Stop>
     ensures tells { R.sound records.new → Tells (R.kept records.old) (R.kept records.new) result (Ok (json_reply (names_body (names_of (R.kept records.old))))) }
     ensures sound { R.sound records.new → R.sound records.old }
+    ensures clean { R.clean records.new → R.clean records.old }
+    ensures stays { R.clean records.new → R.sound records.old → IfTold result (R.sound records.new) }
+    ensures leaves { R.clean records.new → R.sound records.old → LeavesNoMore (R.may_leave records.old) (R.may_leave records.new) }
     ensures counts { Counts (R.faults records.old) (R.faults records.new) result }
 {
     let names = records.domains(alloc)?;

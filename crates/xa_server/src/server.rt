@@ -53,6 +53,7 @@ fn reply_of(alloc: Global, answered: Result<Items<u8>, Stop>) -> Reply
 }
 
 impl<R: Records> Server<R> {
+    ghost use Rattle.xa_server.specs.Crash.{IfSent, LeavesStep};
     ghost use Rattle.xa_server.specs.Isolation.{IsIsolated, IsIsolatedBesideRefusals};
     ghost use Rattle.xa_server.specs.Served.{IsRun, IsServed};
     ghost use Rattle.xa_server.specs.Tally.{nothing_held};
@@ -142,11 +143,22 @@ impl<R: Records> Server<R> {
         self.resources.shelf.readings()
     }
 
+    /// The keeper, as the messages so far have left it.
+    pub fn into_records(self) -> R
+        ensures { result ≡ self.records }
+    {
+        self.records
+    }
+
     /// Answers one message: by the machine of the domain that its path names, and no other domain's state moves; after a refusal none has moved.
-    /// It is refused for want of storage only where the keeper has counted a failure.
+    /// It is refused for want of storage only where the keeper has counted a failure. Whatever became of it, a crash after it leaves what one before it might have left, or
+    /// that domain as its machine leaves it and all others as they were; once its reply is there, the keeper goes on.
     pub fn serve(&mut self, moment: Moment, message: &Message) -> Reply
         ensures served { R.sound self.new.records → IsServed (world R.kept self.old) (world R.kept self.new) moment message.now result }
         ensures sound { R.sound self.new.records → R.sound self.old.records }
+        ensures clean { R.clean self.new.records → R.clean self.old.records }
+        ensures stays { R.clean self.new.records → R.sound self.old.records → IfSent result (R.sound self.new.records) }
+        ensures crash { R.clean self.new.records → R.sound self.old.records → LeavesStep (R.may_leave self.old.records) (R.may_leave self.new.records) (world R.kept self.old) moment message.now }
         ensures counts { CountsReply (R.faults self.old.records) (R.faults self.new.records) result }
         ensures work { R.sound self.new.records → IsWork (R.kept self.old.records) moment message.now result self.old.tally self.new.tally }
     {

@@ -1,10 +1,11 @@
 use Rattle.std.proofs.Common.{rules, ◌≡◌, Err, ap, subst}
 use Rattle.std.specs.Option.{option_and_then}
 use Rattle.xa_http.specs.Routes.{named_by}
-use Rattle.xa_server.specs.Handling.{AnswersMessage}
+use Rattle.xa_server.specs.Handling.{AnswersMessage, LeavesMessage}
 use Rattle.xa_server.specs.Owner.{name_if, owner}
 use Rattle.xa_server.specs.Stop.{stop_of_route}
 use Rattle.xa_server.proofs.AnswerLemmas.{asked, unasked}
+use Rattle.xa_server.proofs.CrashLemmas.{asked_left, no_more}
 use Rattle.xa_server.proofs.WorkLemmas.{asked_work, unasked_work}
 use Rattle.xa_server.proofs.answer.answer.Goals as goal
 
@@ -28,3 +29,18 @@ returns-clause-answers g c = λ stand sound.
 pub returns-clause-works : goal.returns-clause-works
 returns-clause-works g c = λ stand sound.
     asked_work (g.R.Records.kept c.args.records.now) c.args.message.now c.args.moment c.in_ok-route.route c.answer_route.result c.args.resources.now.tally c.answer_route.new.resources.tally c.in_ok-route.ensures.route (c.answer_route.ensures.works stand sound)
+
+pub returns-in_err-route-clause-leaves : goal.returns-in_err-route-clause-leaves
+returns-in_err-route-clause-leaves g c = λ clean sound.
+    let may = g.R.Records.may_leave c.args.records.now in
+    no_more may may _ _ (owner c.args.message.now) _ _ (λ left is. is)
+
+pub returns-clause-leaves : goal.returns-clause-leaves
+unfolding owner
+returns-clause-leaves g c = λ clean sound.
+    let before = g.R.Records.may_leave c.args.records.now in
+    let after = g.R.Records.may_leave c.answer_route.new.records in
+    let old = g.R.Records.kept c.args.records.now in
+    let owns : option_and_then name_if (named_by c.in_ok-route.route) ≡ owner c.args.message.now = ap (option_and_then name_if) c.in_ok-route.ensures.named in
+    subst (λ named. LeavesMessage before after c.args.operator old named c.args.message.now c.args.moment) owns
+    (asked_left before after c.args.operator old _ c.args.message.now c.args.moment c.in_ok-route.route c.in_ok-route.ensures.route (c.answer_route.ensures.leaves clean sound))

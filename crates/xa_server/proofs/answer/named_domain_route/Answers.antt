@@ -1,8 +1,9 @@
 -- By the command: a decision is asked for, or something else.
 use Rattle.std.proofs.Common.{rules, ◌≡◌, Some, sym, subst}
 use Rattle.xa_http.specs.declared.route.Route.TheVariants as to
-use Rattle.xa_server.specs.Handling.{AnswersRoute}
+use Rattle.xa_server.specs.Handling.{AnswersRoute, LeavesRoute}
 use Rattle.xa_server.proofs.AnswerLemmas.{asks_no_decision}
+use Rattle.xa_server.proofs.CrashLemmas.{no_more_route}
 use Rattle.xa_server.proofs.answer.named_domain_route.Goals as goal
 
 pub returns-in-Decide-clause-answers : goal.returns-in-Decide-clause-answers
@@ -12,6 +13,10 @@ returns-in-Decide-clause-answers g c = λ operator part named stand sound.
     subst (λ n. AnswersRoute operator old new n c.args.message.now c.args.moment (to.Domain part c.args.command) c.asked.result) (sym named)
     (subst (λ k. AnswersRoute operator old new (Some c.args.name.now) c.args.message.now c.args.moment (to.Domain part k) c.asked.result) (sym c.in-Decide.is)
     (c.asked.ensures.answers operator part stand sound))
+
+pub returns-in-Decide-clause-leaves : goal.returns-in-Decide-clause-leaves
+returns-in-Decide-clause-leaves g c = λ operator part named clean sound.
+    no_more_route (g.R.Records.may_leave c.args.records.now) (g.R.Records.may_leave c.asked.new.records) _ _ _ _ _ (to.Domain part c.args.command) (c.asked.ensures.leaves clean sound)
 
 pub returns-in_default : goal.returns-in_default
 returns-in_default g c = record {
@@ -26,5 +31,12 @@ returns-in_default g c = record {
   stands = search (rules, c.administered.ensures.stands);
   room = search (rules, c.administered.ensures.room);
   sound = search (rules, c.administered.ensures.sound);
+  clean = search (rules, c.administered.ensures.clean);
+  stays = search (rules, c.administered.ensures.stays);
+  leaves = λ operator part named clean sound.
+      let before = g.R.Records.may_leave c.args.records.now in
+      let after = g.R.Records.may_leave c.administered.new.records in
+      subst (λ n. LeavesRoute before after operator (g.R.Records.kept c.args.records.now) n c.args.message.now c.args.moment (to.Domain part c.args.command)) (sym named)
+      (c.administered.ensures.leaves operator part c.args.moment clean sound);
   counts = search (rules, c.administered.ensures.counts);
 }

@@ -1,4 +1,6 @@
 use Rattle.std.proofs.Common.{refl}
+use Rattle.xa_server.specs.Owner.{owner}
+use Rattle.xa_server.proofs.CrashLemmas.{if_sent, step_left}
 use Rattle.xa_server.proofs.ServedLemmas.{counted, served}
 use Rattle.xa_server.proofs.WorkLemmas.{work_of}
 use Rattle.xa_server.proofs.server.Server.serve.Goals as goal
@@ -10,6 +12,12 @@ returns-clause-served g c = λ sound.
 
 pub returns-clause-counts : goal.returns-clause-counts
 returns-clause-counts g c = rw (← c.self.view_is) (counted _ _ c.answer-answered.result _ c.answer-answered.ensures.counts c.reply_of.ensures)
+
+pub returns-clause-stays : goal.returns-clause-stays
+returns-clause-stays g c = rw (← c.self.view_is) (λ clean sound. if_sent _ c.answer-answered.result _ (c.answer-answered.ensures.stays clean sound) c.reply_of.ensures)
+
+pub returns-clause-crash : goal.returns-clause-crash
+returns-clause-crash g c = rw (← c.self.view_is) (λ clean sound. step_left _ _ _ (owner c.args.message.now) c.args.message.now _ (c.answer-answered.ensures.leaves clean sound))
 
 pub returns-clause-work : goal.returns-clause-work
 returns-clause-work g c = λ sound.

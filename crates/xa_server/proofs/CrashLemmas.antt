@@ -1,0 +1,56 @@
+-- What a crash may leave, from what a message asks for to the message itself.
+use Rattle.std.proofs.Common.{◌≡◌, ℕ, ℤ, List, Option, Some, None, Result, Ok, Err, inl, inr, refl, ap, sym, subst}
+use Rattle.std.specs.Prelude.{◌⊎◌}
+use Rattle.xa_http.specs.declared.message.Message.{Message}
+use Rattle.xa_http.specs.declared.route.Route.{Route}
+use Rattle.xa_http.specs.Routes.{route_of}
+use Rattle.xa_records.specs.Kept.{IsChanged, Kept}
+use Rattle.xa_server.specs.Crash.{IfSent, IsStepMade}
+use Rattle.xa_server.specs.declared.replies.Reply.{Reply}
+use Rattle.xa_server.specs.declared.stop.Stop.{Stop}
+use Rattle.xa_server.specs.declared.stop.Stop.TheVariants.{Code, Failed}
+use Rattle.xa_server.specs.Handling.{IfTold, IsAnswerMade, IsReplyOf, LeavesMessage, LeavesNoMore, LeavesRoute}
+use Rattle.xa_server.specs.Machine.{Answer, answer, reply_and_state, step}
+use Rattle.xa_server.specs.Served.{state}
+use Rattle.xa_server.specs.World.{World}
+
+module _ (before after : Kept → Type 0) where
+  -- a message that makes no change, whichever domain it is of
+  pub no_more_route : (operator : List ℕ) (old : Kept) (named : Option (List ℕ)) (message : Message) (moment : ℤ) (route : Route) → LeavesNoMore before after
+      → LeavesRoute before after operator old named message moment route
+  no_more_route operator old None message moment route less = less
+  no_more_route operator old (Some name) message moment route less = λ left may. inl (less left may)
+
+  pub no_more : (operator : List ℕ) (old : Kept) (named : Option (List ℕ)) (message : Message) (moment : ℤ) → LeavesNoMore before after → LeavesMessage before after operator old named message moment
+  no_more operator old None message moment less = less
+  no_more operator old (Some name) message moment less = λ left may. inl (less left may)
+
+  -- what the message asks for
+  pub asked_left : (operator : List ℕ) (old : Kept) (named : Option (List ℕ)) (message : Message) (moment : ℤ) (route : Route) → route_of message ≡ Ok route
+      → LeavesRoute before after operator old named message moment route → LeavesMessage before after operator old named message moment
+  unfolding answer
+  asked_left operator old None message moment route asks leaves = leaves
+  asked_left operator old (Some name) message moment route asks leaves = rw asks leaves
+
+-- what the answer changes is the machine's step
+step_made : (old : World) (left : Kept) (name : List ℕ) (message : Message) (moment : ℤ) (meant : Answer) → answer old.operator (state name old) message moment ≡ meant
+    → IsAnswerMade old.kept left name meant → IsStepMade old left moment message (Some name)
+unfolding step
+step_made old left name message moment (Ok (bytes, after)) is made = subst (IsChanged old.kept left name) (sym (ap (λ a. (reply_and_state (state name old) a).1) is)) made
+step_made old left name message moment (Err code) is made = absurd made
+
+-- what a message leaves is what its step leaves
+pub step_left : (before after : Kept → Type 0) (old : World) (named : Option (List ℕ)) (message : Message) (moment : ℤ)
+    → LeavesMessage before after old.operator old.kept named message moment → (left : Kept) → after left → before left ⊎ IsStepMade old left moment message named
+step_left before after old None message moment leaves left may = inl (leaves left may)
+step_left before after old (Some name) message moment leaves left may = elim (leaves left may) [
+  | inl less ↦ inl less
+  | inr made ↦ inr (step_made old left name message moment (answer old.operator (state name old) message moment) refl made)
+]
+
+-- a message that didn't fail is the only one whose reply is sent
+pub if_sent : (claim : Type 0) (result : Result (List ℕ) Stop) (reply : Reply) → IfTold result claim → IsReplyOf result reply → IfSent reply claim
+if_sent claim (Ok bytes) reply told is = subst (λ r. IfSent r claim) (sym is) told
+if_sent claim (Err (Failed failure)) reply told is = subst (λ r. IfSent r claim) (sym is) tt
+if_sent claim (Err (Code code)) reply told (inl is) = subst (λ r. IfSent r claim) (sym is) told
+if_sent claim (Err (Code code)) reply told (inr is) = subst (λ r. IfSent r claim) (sym is) tt
