@@ -1,10 +1,15 @@
 -- Connections that are served, one after another.
-use Rattle.std.proofs.Common.{◌≡◌, ℕ, ◌+◌, List, Option, None, add-one}
+use Rattle.std.proofs.Common.{◌≡◌, ℕ, ◌+◌, List, [], ◌++◌, Option, None, refl, add-one}
 use Rattle.std.specs.Prelude.{ℤ}
 use Rattle.xa_server.specs.declared.driven.Driven.{Driven}
+use Rattle.xa_server.specs.declared.replies.Reply.{Reply}
+use Rattle.xa_server.specs.Alone.{Event}
 use Rattle.xa_server.specs.Driven.{IsConnection}
+use Rattle.xa_server.specs.Served.{IsRun}
 use Rattle.xa_server.specs.World.{World}
-use Rattle.pdpd.specs.Connections.{AreServed, IsServed}
+use Rattle.xa_server.proofs.ConnectionLemmas.{run_trans}
+use Rattle.xa_server.proofs.IsolationLemmas.{isolated}
+use Rattle.pdpd.specs.Connections.{AreIsolated, IsServed}
 use Rattle.pdpd.specs.Fault.{fault_of_end}
 
 -- a connection was driven to an end after which the next is served
@@ -20,6 +25,26 @@ served_one driven old new left rest before now told telling (bytes, moments, wri
   goes_on = goes_on;
 }
 
+-- no connection yet
+pub served_none : (world : World) → AreIsolated 0 world world
+served_none world = record {
+  events = [];
+  replies = [];
+  served = (refl, refl, refl);
+  is_run = refl;
+  isolated = λ domain. isolated domain world world [] [] refl;
+}
+
 -- one connection more
-pub served_more : (count : ℕ) (old mid new : World) → AreServed count old mid → IsServed mid new → AreServed (count + 1) old new
-served_more count old mid new before is = rw add-one (mid, before, is)
+pub served_more : (count : ℕ) (old mid new : World) → AreIsolated count old mid → IsServed mid new → AreIsolated (count + 1) old new
+served_more count old mid new before is =
+    let events : List Event = before.events ++ is.is_driven.events in
+    let replies : List Reply = before.replies ++ is.is_driven.run in
+    let run : IsRun old events replies new = run_trans old mid new before.events is.is_driven.events before.replies is.is_driven.run before.is_run is.is_driven.is_run in
+    record {
+      events = events;
+      replies = replies;
+      served = rw add-one (mid, before.events, before.replies, before.served, is, refl, refl);
+      is_run = run;
+      isolated = λ domain. isolated domain old new events replies run;
+    }

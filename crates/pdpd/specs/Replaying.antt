@@ -4,12 +4,12 @@ use Rattle.std.specs.Io.KnownBytes.{Appends}
 use Rattle.xa_records.specs.Kept.{Kept}
 use Rattle.xa_server.specs.World.{Serving, world}
 use Rattle.pdpd.specs.declared.connection.Connection.{Connection}
-use Rattle.pdpd.specs.Replay.{Between}
+use Rattle.pdpd.specs.Replay.{Between, Exchange}
 
 -- what is held of a server and connections
 abbrev pub between : {R : Type 0} → (R → Kept) → Serving R → List Connection → Between
 between kept server connections = record { world = world kept server; connections = connections }
 
--- a writer took bytes of which that holds
-abbrev pub Writes : Option (List ℕ) → Option (List ℕ) → (List ℕ → Type 0) → Type 0
-Writes before now is = (written : List ℕ) × Appends before now written × is written
+-- that holds of an exchange, and a writer took what was written
+abbrev pub Writes : Option (List ℕ) → Option (List ℕ) → (Exchange → Type 0) → Type 0
+Writes before now is = (exchange : Exchange) × Appends before now exchange.written × is exchange

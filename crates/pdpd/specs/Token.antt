@@ -1,7 +1,13 @@
 -- The operator's token in a file.
-use Rattle.std.specs.Prelude.{ℕ, ◌==◌, List, [], ◌∷◌, if◌then◌else◌}
+use Rattle.std.specs.Prelude.{◌≡◌, ℕ, ◌==◌, List, [], ◌∷◌, if◌then◌else◌, IsTrue}
+use Rattle.sha2.specs.Sha256.{sha256}
+use Rattle.xa_notation.specs.Tokens.{is_token}
 
 -- a text up to its first line feed, or to its end
 abbrev pub first_line : List ℕ → List ℕ
 first_line [] = []
 first_line (byte ∷ bytes) = if byte == 10 then [] else byte ∷ first_line bytes
+
+-- the digest of the token in the first line of some text
+abbrev pub IsOperator : List ℕ → Type 0
+IsOperator operator = (text : List ℕ) × (operator ≡ sha256 (first_line text)) × IsTrue (is_token (first_line text))

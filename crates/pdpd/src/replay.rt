@@ -141,6 +141,7 @@ impl<R: Records + Drop, W: Write + Drop> Replayer<R, W> {
 }
 
 /// Answers the entries of a transcript, one after another.
+#[tactic(auto, using(crate::proofs::ReplayLemmas::so_far_none))]
 fn answer_all<I: Read, R: Records + Drop, W: Write + Drop>(
     transcript: &mut Transcript<I>,
     replayer: &mut Replayer<R, W>,

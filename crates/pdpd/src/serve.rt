@@ -2,7 +2,7 @@
 ghost use Rattle.std.specs.Prelude.{◌≡◌, IfErr, IfOk, MatchResult, Some, None};
 ghost use Rattle.std.specs.Net.Grammar.{IsSocketText, Parses};
 ghost use Rattle.xa_server.specs.World.{world};
-ghost use Rattle.pdpd.specs.Connections.{AreServed, IsServed};
+ghost use Rattle.pdpd.specs.Connections.{AreIsolated, IsServed};
 ghost use Rattle.pdpd.specs.declared.exit.Exit.TheVariants.{Socket, Usage};
 ghost use Rattle.pdpd.specs.declared.fault.Fault.TheVariants.{Address, Connection};
 ghost use Rattle.pdpd.specs.Fault.{EndsBy, fault_of_end};
@@ -79,7 +79,7 @@ fn serve_connection<R: Records, C: Clock>(
 }
 
 /// Serves that many connections, one after another.
-#[tactic(auto, using(crate::proofs::ServingLemmas::served_more))]
+#[tactic(auto, using(crate::proofs::ServingLemmas::served_none, crate::proofs::ServingLemmas::served_more))]
 fn serve_connections<R: Records, C: Clock>(
     alloc: Global,
     server: &mut Server<R>,
@@ -87,7 +87,7 @@ fn serve_connections<R: Records, C: Clock>(
     clock: &mut C,
     connections: usize,
 ) -> Result<(), Fault>
-    ensures served { IfOk result (λ _. R.sound server.new.records → AreServed connections (world R.kept server.old) (world R.kept server.new)) }
+    ensures served { IfOk result (λ _. R.sound server.new.records → AreIsolated connections (world R.kept server.old) (world R.kept server.new)) }
     ensures sound { R.sound server.new.records → R.sound server.old.records }
     ensures err { IfErr result (EndsBy Socket) }
 {
@@ -115,7 +115,7 @@ fn serve_at<R: Records>(
     address: SocketAddr,
     serving: &Serving<'_>,
 ) -> Result<(), Fault>
-    ensures served { IfOk result (λ _. R.sound server.new.records → AreServed serving.now.connections (world R.kept server.old) (world R.kept server.new)) }
+    ensures served { IfOk result (λ _. R.sound server.new.records → AreIsolated serving.now.connections (world R.kept server.old) (world R.kept server.new)) }
     ensures sound { R.sound server.new.records → R.sound server.old.records }
 {
     let Ok(listener) = TcpListener::bind(rt, address) else {

@@ -1,6 +1,7 @@
 //! The store of `pdpd serve`, and that of `pdpd replay`.
 
-ghost use Rattle.std.specs.Prelude.{◌≡◌, ◌≢◌, IfErr, IfOk};
+ghost use Rattle.std.specs.Prelude.{◌≡◌, ◌≢◌, IfErr, IfOk, IsTrue};
+ghost use Rattle.sqlite.specs.Files.{file_state, over_files};
 ghost use Rattle.sqlite.specs.Steps.{over_memory};
 ghost use Rattle.xa_records.specs.Kept.{nothing_kept};
 ghost use Rattle.xa_store.specs.Keeper.{IsSound};
@@ -43,7 +44,8 @@ fn fault_of_tables(error: OpenError) -> Fault
 
 /// The keeper over the file, which is made where it isn't there.
 pub fn records_in_file(rt: &HostRuntime, path: &str) -> Result<SqlRecords<FileStore<File>>, Fault>
-    ensures { IfErr result (EndsBy Store) }
+    ensures sound { IfOk result (λ records. IsTrue records.ours → IsTrue (file_state records.conn).is_open → IsSound over_files records) }
+    ensures err { IfErr result (EndsBy Store) }
 {
     let conn = match Connection::open(rt, path) {
         Ok(conn) => conn,

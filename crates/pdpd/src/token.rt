@@ -1,11 +1,11 @@
 //! The operator's token in a file.
-ghost use Rattle.std.specs.Prelude.{◌≡◌, IfErr, IsFalse, IsTrue, MatchResult};
+ghost use Rattle.std.specs.Prelude.{◌≡◌, IfErr, IfOk, IsFalse, IsTrue, MatchResult};
 ghost use Rattle.sha2.specs.Sha256.{sha256};
 ghost use Rattle.xa_notation.specs.Tokens.{is_token};
 ghost use Rattle.pdpd.specs.declared.exit.Exit.TheVariants.{Usage};
 ghost use Rattle.pdpd.specs.declared.fault.Fault.TheVariants.{TokenBad};
 ghost use Rattle.pdpd.specs.Fault.{EndsBy};
-ghost use Rattle.pdpd.specs.Token.{first_line};
+ghost use Rattle.pdpd.specs.Token.{IsOperator, first_line};
 
 use crate::fault::Fault;
 use std::fs::{File, Files};
@@ -53,7 +53,8 @@ fn beginning_of(rt: &(impl Files + AllocGlobal), path: &str) -> io::Result<Vec<u
 
 /// The digest of the operator's token, which is the first line of the file.
 pub fn operator_of_file(rt: &(impl Files + AllocGlobal), path: &str) -> Result<Digest, Fault>
-    ensures { IfErr result (EndsBy Usage) }
+    ensures operator { IfOk result IsOperator }
+    ensures err { IfErr result (EndsBy Usage) }
 {
     match beginning_of(rt, path) {
         Ok(bytes) => operator_in(&bytes),
