@@ -1,5 +1,6 @@
 -- The entries of a transcript, read and answered one after another.
-use Rattle.std.proofs.Common.{◌≡◌, ℕ, ◌+◌, List, [], ◌∷◌, ◌++◌, length, slice_index_or, slice_set, Option, Some, None, Ok, Err, refl, sym, ap, subst, ◌∙◌, append_assoc, append-nil, length-append, set-set, arith}
+use Rattle.std.proofs.Common.{◌≡◌, ℕ, ◌+◌, List, [], ◌∷◌, ◌++◌, length, slice_index_or, slice_set, Option, Some, Ok, Err, false, ◌≢◌, refl, sym, ap, subst, ◌∙◌, append_assoc, append-nil, length-append, set-set, arith}
+use Rattle.std.specs.Prelude.{IfOk, IsTrue, Result}
 use Rattle.std.specs.Io.KnownBytes.{Consumes}
 use Rattle.xa_http.specs.Stream.{Stream}
 use Rattle.xa_server.specs.declared.replies.Reply.{Reply}
@@ -11,11 +12,12 @@ use Rattle.xa_server.proofs.IsolationLemmas.{isolated}
 use Rattle.pdpd.specs.declared.connection.Connection.{Connection}
 use Rattle.pdpd.specs.declared.connection.Connection.TheVariants.{Closed, Open, Ended}
 use Rattle.pdpd.specs.declared.heading.Heading.{Heading}
+use Rattle.pdpd.specs.declared.open_stream.OpenStream.{OpenStream}
 use Rattle.pdpd.specs.declared.transcript.ReadFault.{ReadFault}
 use Rattle.pdpd.specs.declared.transcript.ReadFault.TheVariants.{Malformed, Failed, Memory}
 use Rattle.pdpd.specs.Entry.{IsEntryAnswered, events_at, reply_entries}
 use Rattle.pdpd.specs.Exit.{exit_of_read}
-use Rattle.pdpd.specs.Replay.{AreEntries, AreReplied, Between, ConnectionTakes, Entry, Exchange, IsEntryReplied, IsOver, IsReplayed, Replays, StreamTakes, followed, no_exchange}
+use Rattle.pdpd.specs.Replay.{AreEntries, AreReplied, Between, ConnectionTakes, Entry, Exchange, IsEntryReplied, IsReplayed, Replays, StreamTakes, followed, no_exchange}
 use Rattle.pdpd.specs.Replaying.{Writes}
 use Rattle.pdpd.specs.Transcript.{IsEntry, IsNoEntry, Reads, Rejects, TakesEntry}
 
@@ -36,15 +38,52 @@ entry_replied heading bytes old new first middle last was is before now at taken
   ),
 )
 
--- nothing is written
-pub nothing_said : (before : Option (List ℕ)) (is : Exchange → Type 0) → is no_exchange → Writes before before is
-nothing_said before is holds = (no_exchange, appends_none before, holds)
+-- no bytes close a connection, and nothing is written
+pub nothing_taken : (heading : Heading) (bytes : List ℕ) (was : Connection) (world : World) (before : Option (List ℕ)) → bytes ≡ []
+    → Writes before before (ConnectionTakes heading bytes was Closed world world)
+nothing_taken heading bytes was world before none = (
+  no_exchange,
+  appends_none before,
+  subst (λ (bs : List ℕ). ConnectionTakes heading bs was Closed world world no_exchange) (sym none) (refl, refl, refl),
+)
 
--- a stream takes the bytes of an entry
-pub stream_taken : (heading : Heading) (bytes : List ℕ) (stream after : Stream) (is : Connection) (old new : World) (before now : Option (List ℕ))
-    → IsEntryAnswered heading.connection heading.moment bytes old new stream after before now → IsOver after is
-    → Writes before now (StreamTakes heading bytes stream is old new)
-stream_taken heading bytes stream after is old new before now (replies, answered, wrote) over = (
+-- nor is it where its stream has ended
+pub passed_over : (heading : Heading) (bytes : List ℕ) (was : Connection) (world : World) (before : Option (List ℕ)) → bytes ≢ [] → was ≡ Ended
+    → Writes before before (ConnectionTakes heading bytes was Ended world world)
+passed_over heading [] was world before some ended = absurd (some refl)
+passed_over heading (byte ∷ bytes) was world before some ended = (
+  no_exchange,
+  appends_none before,
+  subst (λ (c : Connection). ConnectionTakes heading (byte ∷ bytes) c Ended world world no_exchange) (sym ended) (refl, refl, refl),
+)
+
+-- what follows from what a result has
+pub as_well : {X Y : Type 0} (first second : X → Type 0) (result : Result X Y) → ((x : X) → first x → second x) → IfOk result first → IfOk result second
+as_well first second (Ok x) on has = on x has
+as_well first second (Err y) on has = has
+
+-- the bytes open a closed connection
+pub opened : (heading : Heading) (bytes : List ℕ) (was is : Connection) (stream : Stream) (old new : World) (before now : Option (List ℕ)) → bytes ≢ [] → was ≡ Closed
+    → stream ≡ record { held = []; ended = false } → Writes before now (StreamTakes heading bytes stream is old new)
+    → Writes before now (ConnectionTakes heading bytes was is old new)
+opened heading [] was is stream old new before now some closed anew taken = absurd (some refl)
+opened heading (byte ∷ bytes) was is stream old new before now some closed anew taken =
+    subst (λ (c : Connection). Writes before now (ConnectionTakes heading (byte ∷ bytes) c is old new)) (sym closed)
+    (subst (λ (s : Stream). Writes before now (StreamTakes heading (byte ∷ bytes) s is old new)) anew taken)
+
+-- or go on with an open one
+pub gone_on : (heading : Heading) (bytes : List ℕ) (was is : Connection) (open_stream : OpenStream) (old new : World) (before now : Option (List ℕ)) → bytes ≢ []
+    → was ≡ Open open_stream → Writes before now (StreamTakes heading bytes open_stream.session is old new)
+    → Writes before now (ConnectionTakes heading bytes was is old new)
+gone_on heading [] was is open_stream old new before now some open_now taken = absurd (some refl)
+gone_on heading (byte ∷ bytes) was is open_stream old new before now some open_now taken =
+    subst (λ (c : Connection). Writes before now (ConnectionTakes heading (byte ∷ bytes) c is old new)) (sym open_now) taken
+
+-- a stream takes the bytes of an entry, and ends
+pub stream_ended : (heading : Heading) (bytes : List ℕ) (stream after : Stream) (old new : World) (before now : Option (List ℕ))
+    → IsEntryAnswered heading.connection heading.moment bytes old new stream after before now → IsTrue after.ended
+    → Writes before now (StreamTakes heading bytes stream Ended old new)
+stream_ended heading bytes stream after old new before now (replies, answered, wrote) over = (
   record { events = events_at heading.moment answered.messages; replies = answered.run; written = reply_entries heading.connection replies },
   wrote,
   (after, replies, answered, over, refl),
@@ -163,27 +202,6 @@ so_far_one_entry old mid new left between rest before written now number heading
           };
       counted = omega (arith, so_far.counted, length-append so_far.entries (record { heading = heading; bytes = bytes } ∷ []));
     }
-
--- no entry is left
-pub ends_well : (old new : Between) (left between rest before now : Option (List ℕ)) (number : ℕ) (bytes : List ℕ)
-    → SoFar old new left between before now number → TakesEntry between rest bytes None
-    → IsReplayed old new left rest before now (Ok tt)
-ends_well old new left between rest before now number bytes so_far (taken, end) =
-    let r = so_far.replays in
-    let front : Consumes left between r.text = subst (λ (t : List ℕ). Consumes left between t) (append-nil r.text) r.read in (
-      so_far.entries,
-      record {
-        text = r.text;
-        exchange = r.exchange;
-        read = consumes_trans left between rest r.text [] front taken;
-        are_entries = r.are_entries;
-        are_replied = r.are_replied;
-        is_run = r.is_run;
-        isolated = r.isolated;
-        wrote = r.wrote;
-      },
-      end,
-    )
 
 -- the next entry can't be read
 pub ends_badly : (old new : Between) (left between rest before now : Option (List ℕ)) (number : ℕ) (is : Option Heading → Type 0) (f : ReadFault)
