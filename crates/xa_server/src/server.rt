@@ -152,7 +152,7 @@ impl<R: Records> Server<R> {
 
     /// Answers one message: by the machine of the domain that its path names, and no other domain's state moves; after a refusal none has moved.
     /// It is refused for want of storage only where the keeper has counted a failure. Whatever became of it, a crash after it leaves what one before it might have left, or
-    /// that domain as its machine leaves it and all others as they were; once its reply is there, the keeper goes on.
+    /// that domain as its machine leaves it and all others as they were; once a reply of its own is there, the keeper is sound as before.
     pub fn serve(&mut self, moment: Moment, message: &Message) -> Reply
         ensures served { R.sound self.new.records → IsServed (world R.kept self.old) (world R.kept self.new) moment message.now result }
         ensures sound { R.sound self.new.records → R.sound self.old.records }
