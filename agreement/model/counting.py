@@ -119,10 +119,14 @@ class CountingServer(Server):
 
     def __init__(self, operator):
         super().__init__(operator)
-        self.shelf, self.views, self.cache = LastUsed(MOST_TEXTS), Views(), LastUsed(MOST_RESPONSES)
-        self.readings, self.evaluations, self.unkept = 0, 0, 0
+        self.restart()
         # the next domain's number, and of each domain that is there its number and its epoch
         self.number, self.gates = 1, {}
+
+    def restart(self):
+        """Keeps nothing of what it has read and worked out, as a server that is begun over the same records."""
+        self.shelf, self.views, self.cache = LastUsed(MOST_TEXTS), Views(), LastUsed(MOST_RESPONSES)
+        self.readings, self.evaluations, self.unkept = 0, 0, 0
 
     def answer(self, message, moment):
         name = owner(message)

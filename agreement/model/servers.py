@@ -201,6 +201,9 @@ def server(*fields):
             shown += piece(stream, made, moment, decoded(text))
         elif word == "close":
             stream = Stream()
+        elif word == "restart":
+            made.restart()
+            stream = Stream()
         elif word == "moment":
             moment = int(text)
         elif word in COUNTS:

@@ -154,7 +154,7 @@ class Exchanges:
             for _ in range(often):
                 for held in self.pieces(self.message()):
                     fields += self.commands.decisions.moment(0.2) + ["piece:" + encoded(self.taken(stream, held))]
-            fields += self.counts() + ["close:"] * (count > 0)
+            fields += self.counts() + [self.one_of(["close:"] * 9 + ["restart:"])] * (count > 0)
         return fields + ["readings:", "evaluations:", "unkept:"]
 
     def counts(self):
@@ -176,7 +176,7 @@ class Exchanges:
     def sockets(self):
         """A row of a server's messages over sockets; of the server alone where a connection has more bytes than are sure to fit into the buffers."""
         kind, *fields = self.server()
-        fields = [field for field in fields if field.partition(":")[0] not in COUNTS]
+        fields = ["close:" if field == "restart:" else field for field in fields if field.partition(":")[0] not in COUNTS]
         written = " ".join(fields).split(" close: ")
         fits = all(len(held) < BUFFERED for held in written + loopback(*fields))
         return ["loopback" if fits else kind, *fields]

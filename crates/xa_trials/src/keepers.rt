@@ -1,8 +1,30 @@
 //! The keepers over which rows are answered.
 use crate::no_answer::NoAnswer;
-use sqlite::{Connection, MemStore};
+use sqlite::{Alter, Connection, MemStore};
 use std::alloc::Global;
+use xa_records::{PlainRecords, Records};
 use xa_store::SqlRecords;
+
+/// A keeper that can be stopped and taken up again.
+pub trait Reopen: Records {
+    /// The keeper of what this one kept, taken up again.
+    fn reopened(self, alloc: Global) -> Result<Self, NoAnswer>;
+}
+
+impl Reopen for PlainRecords {
+    fn reopened(self, _: Global) -> Result<PlainRecords, NoAnswer> {
+        Ok(self)
+    }
+}
+
+impl<S: Alter> Reopen for SqlRecords<S> {
+    fn reopened(self, alloc: Global) -> Result<SqlRecords<S>, NoAnswer> {
+        match SqlRecords::open(alloc, self.into_connection()) {
+            Ok(records) => Ok(records),
+            Err(_) => Err(NoAnswer::Memory),
+        }
+    }
+}
 
 /// A connection to a store in memory, without tables.
 pub fn connection(alloc: Global) -> Result<Connection<MemStore>, NoAnswer> {

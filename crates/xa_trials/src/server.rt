@@ -1,21 +1,21 @@
 //! Rows of messages: what a server answers to a stream. After the fields that make its domains stand events: `moment:SECONDS`, which dates what
-//! follows, `piece:BYTES`, the next piece of the stream, `close:`, after which the stream is another, and `readings:`, `evaluations:` and
-//! `unkept:`, which ask how often the server has done that.
+//! follows, `piece:BYTES`, the next piece of the stream, `close:`, after which the stream is another, `restart:`, after which the server is
+//! another, too, over the keeper that the one before gave back, and `readings:`, `evaluations:` and `unkept:`, which ask how often the server has done that.
 use crate::answer::Answer;
 use crate::decisions::moment_of;
 use crate::field::bytes_of;
-use crate::keepers::tables;
+use crate::keepers::{Reopen, tables};
 use crate::no_answer::NoAnswer;
-use crate::setup::server_of;
+use crate::setup::{new_server, server_of};
 use std::alloc::Global;
 use xa_http::{Message, Next, Session};
-use xa_records::{PlainRecords, Records};
+use xa_records::PlainRecords;
 use xa_server::{Reply, Server, fault_reply};
 use xa_value::Moment;
 
 /// A server at a moment, with the stream whose messages it answers.
 #[derive(Drop)]
-struct Trial<R: Records + Drop> {
+struct Trial<R: Reopen + Drop> {
     alloc: Global,
     server: Server<R>,
     session: Session,
@@ -60,7 +60,7 @@ fn take_messages(
     Ok(Next::More)
 }
 
-impl<R: Records + Drop> Trial<R> {
+impl<R: Reopen + Drop> Trial<R> {
     /// Answers the messages that are whole after the piece.
     fn piece(&mut self, answer: &mut Answer, field: &str) -> Result<(), NoAnswer> {
         let bytes = bytes_of(self.alloc, field)?;
@@ -84,6 +84,23 @@ impl<R: Records + Drop> Trial<R> {
             _ => self.count(answer, word)?,
         }
         Ok(())
+    }
+
+    /// Stops the server, and begins with another over the keeper that it gives back.
+    fn restarted(self) -> Result<Trial<R>, NoAnswer> {
+        let Trial {
+            alloc,
+            server,
+            session: _,
+            moment,
+        } = self;
+        let records = server.into_records().reopened(alloc)?;
+        Ok(Trial {
+            alloc,
+            server: new_server(alloc, records)?,
+            session: Session::new(alloc),
+            moment,
+        })
     }
 
     /// Answers how often the server has done what the word names.
@@ -118,6 +135,7 @@ fn is_event(field: &str) -> bool {
     field.starts_with("piece:")
         || field.starts_with("moment:")
         || field.starts_with("close:")
+        || field.starts_with("restart:")
         || is_count(field)
 }
 
@@ -154,7 +172,7 @@ pub fn server_in_memory(answer: &mut Answer, fields: &[&str]) -> Result<(), NoAn
 }
 
 /// What the server over the keeper answers; where there is none, the reply that says why.
-fn server_over<R: Records + Drop>(
+fn server_over<R: Reopen + Drop>(
     answer: &mut Answer,
     records: R,
     fields: &[&str],
@@ -168,7 +186,7 @@ fn server_over<R: Records + Drop>(
     }
 }
 
-fn stream<R: Records + Drop>(
+fn stream<R: Reopen + Drop>(
     answer: &mut Answer,
     server: Server<R>,
     events: &[&str],
@@ -181,7 +199,11 @@ fn stream<R: Records + Drop>(
         moment: moment_of("0")?,
     };
     for event in events {
-        trial.step(answer, event)?;
+        if event.starts_with("restart:") {
+            trial = trial.restarted()?;
+        } else {
+            trial.step(answer, event)?;
+        }
     }
     Ok(())
 }

@@ -229,14 +229,21 @@ impl<R: Records + Drop> Setup<R> {
     }
 }
 
+/// A server over the keeper, which holds nothing yet.
+pub fn new_server<R: Records + Drop>(
+    alloc: Global,
+    records: R,
+) -> Result<Server<R>, AllocFailed<R>> {
+    Server::new(alloc, records, Digest::of(OPERATOR_TOKEN.as_bytes()))
+}
+
 /// A server without domains, with the room for views that is given.
 fn empty_server<R: Records + Drop>(
     alloc: Global,
     records: R,
     views: Option<&str>,
 ) -> Result<Server<R>, NoServer> {
-    let operator = Digest::of(OPERATOR_TOKEN.as_bytes());
-    let server = Server::new(alloc, records, operator)?;
+    let server = new_server(alloc, records)?;
     match views {
         Some(count) => Ok(server.with_views(number_of(count)?)),
         None => Ok(server),
