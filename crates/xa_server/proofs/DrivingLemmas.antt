@@ -1,5 +1,5 @@
 -- A connection, one message and one piece after another.
-use Rattle.std.proofs.Common.{◌≡◌, ◌≢◌, false, true, ℕ, ◌<◌, ◌≤◌, ◌+◌, List, [], ◌∷◌, ◌++◌, map, length, take, refl, sym, ap, subst, ◌∙◌, Option, Some, None, inl, inr, arith}
+use Rattle.std.proofs.Common.{◌≡◌, false, true, ℕ, List, [], ◌∷◌, ◌++◌, map, refl, sym, ap, subst, ◌∙◌, Option, Some, None, inl, inr, arith}
 use Rattle.std.specs.Prelude.{ℤ}
 use Rattle.std.specs.Io.KnownBytes.{Appends, Consumes, IsAtEnd, Keeps}
 use Rattle.std.specs.List.{concat}
@@ -20,11 +20,11 @@ use Rattle.xa_server.specs.declared.driven.Driven.{Driven}
 use Rattle.xa_server.specs.declared.driven.Driven.TheVariants.{Ended, ReadFault, WriteFault, NoClock, TooManyReads, Memory}
 use Rattle.xa_server.specs.declared.replies.Reply.{Reply}
 use Rattle.xa_server.specs.Connection.{all_replies, fault_replies, messages_of, moments_of}
-use Rattle.xa_server.specs.Driven.{AreWritten, HasEnded, IsConnection, IsCutShort, IsDriven, StopsAfter, Tells, stream_of}
+use Rattle.xa_server.specs.Driven.{AreWritten, HasEnded, IsConnection, IsDriven, StopsAfter, Tells, stream_of}
 use Rattle.xa_server.specs.Driving.{EndsAs, HasAnswered, HasClosed, HasRead, IsAnsweredAs, IsFaultAnswered, IsHeldAnswered, IsRead, IsSent, IsTurn, IsWaiting}
 use Rattle.xa_server.specs.ErrorCode.{code_of_session_fault, error_reply}
 use Rattle.xa_server.specs.Replies.{bytes_of}
-use Rattle.xa_server.specs.Served.{IsRun, IsServed}
+use Rattle.xa_server.specs.Served.{IsServed}
 use Rattle.xa_server.specs.World.{World}
 use Rattle.xa_server.proofs.ConnectionLemmas.{appends_none, appends_trans, consumes_none, consumes_trans, cuts_trans, run_trans, tells_none, tells_trans}
 use Rattle.xa_server.proofs.IsolationLemmas.{isolated}

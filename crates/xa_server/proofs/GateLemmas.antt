@@ -1,6 +1,6 @@
 -- Gates that are remembered are those of the domains.
 use Rattle.std.proofs.Common.{◌≡◌, ◌≢◌, ℕ, List, [], ◌∷◌, refl, sym, ap, ◌∙◌, subst, cond}
-use Rattle.std.specs.Prelude.{Bool, true, false, Option, Some, None, option_and_then, option_map, Result, Ok, Err, bytes_eq}
+use Rattle.std.specs.Prelude.{true, false, Option, Some, None, option_and_then, option_map, Result, Ok, Err, bytes_eq}
 use Rattle.std.specs.FinMap.{get}
 use Rattle.std.specs.Cmp.Lexicographic.{nat_list_eq_equiv}
 use Rattle.std.specs.List.{IsDistinct}

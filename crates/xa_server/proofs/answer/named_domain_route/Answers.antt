@@ -1,5 +1,5 @@
 -- By the command: a decision is asked for, or something else.
-use Rattle.std.proofs.Common.{rules, ◌≡◌, Some, sym, subst}
+use Rattle.std.proofs.Common.{rules, Some, sym, subst}
 use Rattle.xa_http.specs.declared.route.Route.TheVariants as to
 use Rattle.xa_server.specs.Handling.{AnswersRoute, LeavesRoute}
 use Rattle.xa_server.proofs.AnswerLemmas.{asks_no_decision}
