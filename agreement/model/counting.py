@@ -77,7 +77,7 @@ def places(deciders):
 def size_of_view(state):
     """The memory that a view of the domain takes, by the server's estimate."""
     texts = sum(len(stored.text) for stored in state.documents.values() if stored.is_active)
-    return 16 * texts + 512 * len(state.rows) + 96 * places(view(state)) + 524_288
+    return 16 * texts + 512 * len(state.rows) + 24 * places(view(state)) + 524_288
 
 
 def designators(held):

@@ -6,7 +6,8 @@ use xa_decide::View;
 use xa_records::KeptView;
 use xa_value::Items;
 
-/// The bytes that any view takes: twice the 262,144 of the longest body that gives a domain its rows of attributes, so that the texts of these rows find room there.
+/// The bytes that any view takes: twice the 262,144 of the longest body that gives a domain its rows of attributes, so that the texts of these rows find room there, and the
+/// boxes of the 1,000 sets that a tree may have.
 const VIEW_BYTES: usize = 524_288;
 
 /// The bytes that a row of attributes takes beside its texts.
@@ -15,8 +16,8 @@ const ROW_BYTES: usize = 512;
 /// The bytes that a document takes for each byte of its text.
 const BYTES_OF_A_TEXT_BYTE: usize = 16;
 
-/// The bytes that a place of the linked tree takes, and as many again for the room that its list may have to grow.
-const PLACE_BYTES: usize = 96;
+/// The bytes that a place of the linked tree takes: a set's list has room for its children and no more.
+const PLACE_BYTES: usize = 24;
 
 /// What decides in a domain in the state of that epoch.
 #[derive(Drop)]
