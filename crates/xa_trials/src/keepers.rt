@@ -1,6 +1,6 @@
 //! The keepers over which rows are answered.
 use crate::no_answer::NoAnswer;
-use sqlite::{Alter, Connection, MemStore};
+use sqlite::{Connection, MemStore};
 use std::alloc::Global;
 use xa_records::{PlainRecords, Records};
 use xa_store::SqlRecords;
@@ -17,8 +17,8 @@ impl Reopen for PlainRecords {
     }
 }
 
-impl<S: Alter> Reopen for SqlRecords<S> {
-    fn reopened(self, alloc: Global) -> Result<SqlRecords<S>, NoAnswer> {
+impl Reopen for SqlRecords<MemStore> {
+    fn reopened(self, alloc: Global) -> Result<SqlRecords<MemStore>, NoAnswer> {
         match SqlRecords::open(alloc, self.into_connection()) {
             Ok(records) => Ok(records),
             Err(_) => Err(NoAnswer::Memory),
