@@ -3,7 +3,7 @@ ghost use Rattle.std.specs.Prelude.{◌≡◌, ◌-◌, ◌^◌, ◌∷◌, [], 
 ghost use Rattle.xa_value.specs.Digits.{number_up_to};
 ghost use Rattle.pdpd.specs.Heading.{heading_of, heading_of_three, moment_of, parts_of};
 
-use std::fmt;
+use thiserror::Error;
 use xa_value::{Moment, number_up_to};
 
 /// How many connections a transcript may hold at once.
@@ -24,28 +24,20 @@ pub struct Heading {
 }
 
 /// What is wrong with the line before an entry. Of several faults it is the first.
-#[derive(Clone, Copy, Debug, PartialEq, Eq)]
+#[derive(Clone, Copy, Debug, PartialEq, Eq, Error)]
 pub enum HeadingFault {
     /// It hasn't three parts, with one space between two.
+    #[error("the line before it hasn't three parts, with one space between")]
     Parts,
     /// The connection is no number from 0 to 63.
+    #[error("its connection is no number from 0 to 63")]
     BadConnection,
     /// The moment is no number of seconds within the years 0001 to 9999.
+    #[error("its moment is no number of seconds within the years 0001 to 9999")]
     BadMoment,
     /// The count is no number of at most 1,048,576.
+    #[error("its count is no number of at most 1048576")]
     BadCount,
-}
-
-impl fmt::Display for HeadingFault {
-    fn fmt<W: fmt::Write>(&self, f: &mut fmt::Formatter<W>) -> fmt::Result {
-        f.write_str(match self {
-            HeadingFault::Parts => "the line before it hasn't three parts, with one space between",
-            HeadingFault::BadConnection => "its connection is no number from 0 to 63",
-            HeadingFault::BadMoment =>
-                "its moment is no number of seconds within the years 0001 to 9999",
-            HeadingFault::BadCount => "its count is no number of at most 1048576",
-        })
-    }
 }
 
 /// The seconds that plain digits write.

@@ -43,8 +43,8 @@ fn words(rt: &HostRuntime) -> Result<Vec<String>, Exit> {
     }
 }
 
-/// The exit, of which a line on standard error tells, unless all is done.
-fn told(rt: &HostRuntime, exit: Exit) -> Exit
+/// Tells of the exit by a line on standard error, unless all is done, and gives it.
+fn report(rt: &HostRuntime, exit: Exit) -> Exit
     ensures { result ≡ exit }
 {
     if exit != Exit::Done {
@@ -59,12 +59,12 @@ fn tell(rt: &HostRuntime, text: &str) -> Exit
 {
     match rt.println(text) {
         Ok(()) => Exit::Done,
-        Err(_) => told(rt, Exit::Failed),
+        Err(_) => report(rt, Exit::Failed),
     }
 }
 
-/// Serves connections. A line on standard error tells of a fault.
-fn served(rt: &HostRuntime, serving: &Serving<'_>) -> Exit
+/// Serves connections, and gives the exit. A line on standard error tells of a fault.
+fn exit_of_serving(rt: &HostRuntime, serving: &Serving<'_>) -> Exit
     ensures { IsTrue (ends_serving result) }
 {
     match serve::serve(rt, serving) {
@@ -76,11 +76,11 @@ fn served(rt: &HostRuntime, serving: &Serving<'_>) -> Exit
     }
 }
 
-/// Replays the transcript on standard input.
-fn replayed(rt: &HostRuntime, token: &str) -> Exit
+/// Replays the transcript on standard input, and gives the exit.
+fn exit_of_replaying(rt: &HostRuntime, token: &str) -> Exit
     ensures { (result ≡ Usage) ↔ IsFalse (is_token token.now) }
 {
-    told(
+    report(
         rt,
         replay::replay(rt.alloc(), rt.stdin(), rt.stdout(), token),
     )
@@ -93,15 +93,15 @@ fn exit_of_words(rt: &HostRuntime, words: &[String]) -> Exit
     match command_of(words) {
         Some(Command::Help) => tell(rt, help::HELP),
         Some(Command::Version) => tell(rt, help::VERSION),
-        Some(Command::Replay(token)) => replayed(rt, token.as_str()),
-        Some(Command::Serve(serving)) => served(rt, &serving),
-        None => told(rt, Exit::Usage),
+        Some(Command::Replay(token)) => exit_of_replaying(rt, token.as_str()),
+        Some(Command::Serve(serving)) => exit_of_serving(rt, &serving),
+        None => report(rt, Exit::Usage),
     }
 }
 
 fn main(rt: HostRuntime) -> ExitCode {
     match words(&rt) {
         Ok(words) => exit_of_words(&rt, &words).status(),
-        Err(exit) => told(&rt, exit).status(),
+        Err(exit) => report(&rt, exit).status(),
     }
 }

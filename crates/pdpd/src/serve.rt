@@ -99,7 +99,7 @@ fn serve_connections<R: Records, C: Clock>(
 }
 
 /// The server with that limit of work for one message; 0 for none.
-fn limited<R: Records>(server: Server<R>, work: usize) -> Server<R>
+fn with_limit<R: Records>(server: Server<R>, work: usize) -> Server<R>
     ensures { result ≡ server }
 {
     if work == 0 {
@@ -158,12 +158,23 @@ fn work(rt: &HostRuntime) -> Result<usize, Fault>
     work.ok_or(Fault::Work)
 }
 
+/// Tells, by a line on standard error, of a file with other tables than the program's: it is served, but nothing is proved of what it keeps.
+fn tell_of_tables(rt: &HostRuntime, serving: &Serving<'_>, are_ours: bool) {
+    if !are_ours {
+        let database = serving.database.as_str();
+        let _ = eprintln!(rt;
+            "pdpd serve: {database}: other tables stand beside the program's, or these were made otherwise; they are served, but nothing is proved of what is kept there"
+        );
+    }
+}
+
 /// Serves connections over the store in the file. Faults are looked for in this order: the address, PDPD_WORK, the token file, the store, the socket.
 pub fn serve(rt: &HostRuntime, serving: &Serving<'_>) -> Result<(), Fault> {
     let address = address_of(serving.address.as_str())?;
     let work = work(rt)?;
     let operator = operator_of_file(rt, serving.token_file.as_str())?;
     let records = records_in_file(rt, serving.database.as_str())?;
+    tell_of_tables(rt, serving, records.is_ours());
     let server = Server::new(rt.alloc(), records, operator)?;
-    serve_at(rt, &mut limited(server, work), address, serving)
+    serve_at(rt, &mut with_limit(server, work), address, serving)
 }
