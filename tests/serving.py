@@ -146,8 +146,9 @@ class Served:
         return out, said, self.process.returncode
 
     def kill(self):
+        """Ends the program; `said` is what it has said on standard error."""
         self.process.kill()
-        self.process.communicate()
+        _, self.said = self.process.communicate()
 
     def resident(self):
         """The most memory that it has held, in KiB."""
