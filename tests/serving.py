@@ -127,6 +127,7 @@ class Served:
     def __init__(self, program, path, token_file, connections=MOST_CONNECTIONS, port=None, **more):
         self.port = port or free_port()
         address = f"127.0.0.1:{self.port}"
+        self.said = b""
         self.process = subprocess.Popen([program, "serve", path, address, token_file, str(connections)], stdin=subprocess.DEVNULL,
                                         stdout=subprocess.PIPE, stderr=subprocess.PIPE, **more)
         self.first_line = self.process.stdout.readline()

@@ -158,12 +158,13 @@ fn work(rt: &HostRuntime) -> Result<usize, Fault>
     work.ok_or(Fault::Work)
 }
 
-/// Tells, by a line on standard error, of a file with other tables than the program's: it is served, but nothing is proved of what it keeps.
+/// Tells, by a line on standard error, of a file in which more stands than the program's tables, or other tables: it is served, but nothing is proved of
+/// what is kept there.
 fn tell_of_tables(rt: &HostRuntime, serving: &Serving<'_>, are_ours: bool) {
     if !are_ours {
         let database = serving.database.as_str();
         let _ = eprintln!(rt;
-            "pdpd serve: {database}: other tables stand beside the program's, or these were made otherwise; they are served, but nothing is proved of what is kept there"
+            "pdpd serve: {database}: other tables, indexes or views stand beside the program's, or its own were made otherwise; it is served, but nothing is proved of what is kept there"
         );
     }
 }

@@ -43,8 +43,8 @@ abbrev pub AreWritten : Driven → List (List ℕ) → List ℕ → Type 0
 AreWritten WriteFault replies written = IsCutShort replies written
 AreWritten _ replies written = written ≡ concat replies
 
--- why no message after the last is answered: the stream holds none that is whole, or there was no moment for the next; only where a write failed or
--- memory was wanted may whole ones be left. `fault` is that to which there is a reply, the last of all
+-- why no message after the last is answered: the stream holds none that is whole, or there was no moment for the next, which is whole; where a write
+-- failed or memory was wanted, nothing is said. `fault` is that to which there is a reply, the last of all
 abbrev pub StopsAfter : Driven → Option SessionFault → Stream → Stream → Type 0
 StopsAfter Ended fault last after = StopsBy fault last after
 StopsAfter ReadFault None last after = StopsBy None last after

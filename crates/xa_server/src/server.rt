@@ -151,8 +151,9 @@ impl<R: Records> Server<R> {
     }
 
     /// Answers one message: by the machine of the domain that its path names, and no other domain's state moves; after a refusal none has moved.
-    /// It is refused for want of storage only where the keeper has counted a failure. Whatever became of it, a crash after it leaves what one before it might have left, or
-    /// that domain as its machine leaves it and all others as they were; once a reply of its own is there, the keeper is sound as before.
+    /// It is refused for want of storage only where the keeper has counted a failure. Where the keeper was sound before and the disk gave back what was written,
+    /// a crash after the message leaves what one before it might have left, or that domain as its machine leaves it and all others as they were, whatever became
+    /// of it; once a reply of its own is there, the keeper is sound as before.
     pub fn serve(&mut self, moment: Moment, message: &Message) -> Reply
         ensures served { R.sound self.new.records → IsServed (world R.kept self.old) (world R.kept self.new) moment message.now result }
         ensures sound { R.sound self.new.records → R.sound self.old.records }
