@@ -52,7 +52,7 @@ pub(crate) fn role_in(tokens: &[Token], digest: &Digest) -> Option<Role>
 }
 
 /// Nothing more where the role may ask for that.
-fn permitted(role: Role, for_decisions: bool) -> Result<(), ErrorCode>
+fn permission(role: Role, for_decisions: bool) -> Result<(), ErrorCode>
     ensures { result ≡ permitted role for_decisions }
 {
     match role {
@@ -88,12 +88,12 @@ fn gate_opened<R: Records>(
     let gate = records.gate(alloc, name)?;
     let gate = gate.ok_or(ErrorCode::Unauthorized)?;
     let role = role_in(gate.tokens.as_slice(), digest).ok_or(ErrorCode::Unauthorized)?;
-    permitted(role, for_decisions)?;
+    permission(role, for_decisions)?;
     Ok(gate)
 }
 
 /// Nothing more where the domain is there, and the message shows one of its tokens, whose role may ask for that.
-pub(crate) fn admitted<R: Records>(
+pub(crate) fn admission<R: Records>(
     alloc: Global,
     records: &mut R,
     name: &Text,
@@ -115,7 +115,7 @@ pub(crate) fn admitted<R: Records>(
 /// The number and the epoch of the domain where it lets a message in that asks for a decision: by the gate that is remembered, or else by the keeper's, which is
 /// remembered then. The remembered gate is asked only whether it has the token: where it hasn't, the keeper is asked as for an absent domain, so that the time which an
 /// answer takes doesn't tell a stranger which domains there are.
-pub(crate) fn entered<R: Records>(
+pub(crate) fn admitting_domain<R: Records>(
     alloc: Global,
     resources: &mut Resources,
     records: &mut R,
@@ -133,7 +133,7 @@ pub(crate) fn entered<R: Records>(
     ensures counts { Counts (R.faults records.old) (R.faults records.new) result }
 {
     let digest = digest_shown(message).ok_or(ErrorCode::Unauthorized)?;
-    if let Some(opened) = resources.opened(name, &digest) {
+    if let Some(opened) = resources.domain_by_gate(name, &digest) {
         return Ok(opened);
     }
     let gate = gate_opened(alloc, records, name, true, &digest)?;

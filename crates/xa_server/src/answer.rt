@@ -12,7 +12,7 @@ ghost use Rattle.xa_server.specs.Stock.{AllStand};
 ghost use Rattle.xa_server.specs.Work.{domain_asked};
 ghost use Rattle.std.specs.Option.{option_and_then};
 
-use crate::admission::{admitted, by_operator, entered, is_decision};
+use crate::admission::{admission, admitting_domain, by_operator, is_decision};
 use crate::asking::decide;
 use crate::changes::{
     create, delete, drop_token, put_token, remove, set_active, set_root, set_source, upload,
@@ -133,7 +133,7 @@ fn operator_route<R: Records>(
 
 /// Answers a message that asks for a decision in the domain.
 #[tactic(auto, using(crate::proofs::GateLemmas::same_stands))]
-fn asked<R: Records>(
+fn ask_reply<R: Records>(
     alloc: Global,
     resources: &mut Resources,
     records: &mut R,
@@ -151,14 +151,14 @@ fn asked<R: Records>(
     ensures leaves { R.clean records.new → R.sound records.old → LeavesNoMore (R.may_leave records.old) (R.may_leave records.new) }
     ensures counts { Counts (R.faults records.old) (R.faults records.new) result }
 {
-    let opened = entered(alloc, resources, records, name, message)?;
+    let opened = admitting_domain(alloc, resources, records, name, message)?;
     let body = message.body.as_slice();
     decide(alloc, resources, records, name, opened, body, moment)
 }
 
 /// Answers a message to one of a domain's paths that asks for no decision. Once it is let in the domain's gate is forgotten, since it may change.
 #[tactic(auto, using(crate::proofs::GateLemmas::changed_stands))]
-fn administered<R: Records>(
+fn administration_reply<R: Records>(
     alloc: Global,
     resources: &mut Resources,
     records: &mut R,
@@ -177,7 +177,7 @@ fn administered<R: Records>(
     ensures leaves { (operator part : List ℕ) (moment : ℤ) → R.clean records.new → R.sound records.old → LeavesRoute (R.may_leave records.old) (R.may_leave records.new) operator (R.kept records.old) (Some name.now) message.now moment (to.Domain part command) }
     ensures counts { Counts (R.faults records.old) (R.faults records.new) result }
 {
-    admitted(alloc, records, name, is_decision(command), message)?;
+    admission(alloc, records, name, is_decision(command), message)?;
     resources.forget(name);
     by_domain_command(alloc, records, name, command, message.body.as_slice())
 }
@@ -203,8 +203,8 @@ fn named_domain_route<R: Records>(
     ensures counts { Counts (R.faults records.old) (R.faults records.new) result }
 {
     match command {
-        DomainCommand::Decide => asked(alloc, resources, records, name, message, moment),
-        _ => administered(alloc, resources, records, name, message, command),
+        DomainCommand::Decide => ask_reply(alloc, resources, records, name, message, moment),
+        _ => administration_reply(alloc, resources, records, name, message, command),
     }
 }
 
@@ -254,7 +254,7 @@ fn document_route<R: Records>(
     ensures counts { Counts (R.faults records.old) (R.faults records.new) result }
 {
     let name = name_if(domain).ok_or(ErrorCode::Unauthorized)?;
-    admitted(alloc, records, &name, false, message)?;
+    admission(alloc, records, &name, false, message)?;
     let key = key_of_parts(parts).ok_or(ErrorCode::Refused(Refusal::Absent))?;
     resources.forget(&name);
     by_document_command(alloc, records, &name, command, &key)

@@ -16,7 +16,7 @@ use crate::ready::{Ready, bytes_of_tree, bytes_of_view};
 use crate::replies::decision_reply;
 use crate::resources::Resources;
 use crate::stop::Stop;
-use crate::view::viewed;
+use crate::view::view_of_kept;
 use std::alloc::Global;
 use xa_cache::Key;
 use xa_decide::{Responded, View, respond};
@@ -46,7 +46,7 @@ fn ready_view<R: Records>(
         .view(alloc, name)?
         .ok_or(ErrorCode::Refused(Refusal::Absent))?;
     let bytes = bytes_of_view(&kept);
-    let view = viewed(alloc, shelf, kept)?;
+    let view = view_of_kept(alloc, shelf, kept)?;
     let bytes = bytes.saturating_add(bytes_of_tree(&view));
     Ok(Ready {
         epoch,

@@ -68,7 +68,7 @@ impl Resources {
         } = self;
         Resources {
             shelf,
-            views: views.emptied(most),
+            views: views.with_room_for(most),
             decisions,
             gates,
             limit,
@@ -89,7 +89,7 @@ impl Resources {
         let most = views.most();
         Resources {
             shelf,
-            views: views.emptied(most),
+            views: views.with_room_for(most),
             decisions,
             gates,
             limit: units,
@@ -98,7 +98,7 @@ impl Resources {
 
     /// The number and the epoch of the domain of that name, where its gate is remembered and one of its tokens has that digest. That is the gate's newest use then;
     /// where it has no such token it is none.
-    pub(crate) fn opened(&mut self, name: &Text, digest: &Digest) -> Option<Opened>
+    pub(crate) fn domain_by_gate(&mut self, name: &Text, digest: &Digest) -> Option<Opened>
         ensures opened { result ≡ opened_in name.now digest.now self.old.gates }
         ensures uses { IsSome result → self.new ≡ using_gate name.now self.old }
         ensures left { result ≡ None → self.new ≡ self.old }

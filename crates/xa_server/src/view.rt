@@ -54,7 +54,11 @@ fn active_documents(
 }
 
 /// What decides: each text is looked up on the shelf, or read as it was when it was uploaded. What this costs grows with the texts.
-pub(crate) fn viewed(alloc: Global, shelf: &mut Shelf, kept: KeptView) -> Result<View, AllocError>
+pub(crate) fn view_of_kept(
+    alloc: Global,
+    shelf: &mut Shelf,
+    kept: KeptView,
+) -> Result<View, AllocError>
     ensures { IfOk result (λ view. view ≡ viewed kept) }
 {
     let KeptView {

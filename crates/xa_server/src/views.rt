@@ -53,7 +53,7 @@ impl Views {
     }
 
     /// No views, and room for so many, or for 128, whichever is less.
-    pub(crate) fn emptied(self, most: usize) -> Views
+    pub(crate) fn with_room_for(self, most: usize) -> Views
         ensures { result ≡ record { views = []; most = min most 128 } }
     {
         let Views { mut ready, most: _ } = self;

@@ -4,12 +4,12 @@ use Rattle.std.specs.Prelude.{pos, bytes_eq}
 use Rattle.std.specs.Map.{lookup}
 use Rattle.xa_server.specs.Stock.{AllStand, Stock}
 use Rattle.xa_server.proofs.GateLemmas.{changed_stands, same_stands}
-use Rattle.xa_server.proofs.answer.administered.Goals as goal
+use Rattle.xa_server.proofs.answer.administration_reply.Goals as goal
 
 pub returns-clause-stands : goal.returns-clause-stands
 returns-clause-stands g c = λ stand sound.
     let old = g.R.Records.kept c.args.records.now in
-    let between = g.R.Records.kept c.admitted.new.records in
+    let between = g.R.Records.kept c.admission.new.records in
     let new = g.R.Records.kept c.by_domain_command.new.records in
     let same : between ≡ old = search (rules, c.by_domain_command.ensures.sound sound) in
     subst (AllStand new) (sym c.forget.ensures.forgotten)

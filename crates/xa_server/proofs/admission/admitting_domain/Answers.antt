@@ -3,7 +3,7 @@ use Rattle.std.proofs.Common.{rules, ◌≡◌, Some, inl, inr, refl, sym, subst
 use Rattle.xa_server.specs.Machine.{digest_shown}
 use Rattle.xa_server.specs.Stock.{AllStand}
 use Rattle.xa_server.proofs.GateLemmas.{known_opens, remembered_stands, used_stands}
-use Rattle.xa_server.proofs.admission.entered.Goals as goal
+use Rattle.xa_server.proofs.admission.admitting_domain.Goals as goal
 
 pub returns-in-Some-clause-tells : goal.returns-in-Some-clause-tells
 returns-in-Some-clause-tells g c = λ stand sound.
@@ -19,9 +19,9 @@ returns-in-Some-clause-stands g c = λ stand sound.
 pub returns-clause-stands : goal.returns-clause-stands
 returns-clause-stands g c = λ stand sound.
     let kept = g.R.Records.kept c.args.records.now in
-    let same : c.opened.new.self ≡ c.args.resources.now = search rules in
+    let same : c.domain_by_gate.new.self ≡ c.args.resources.now = search rules in
     let before = subst (AllStand kept) (sym same) stand in
     elim c.remember.ensures [
-      | inl known ↦ subst (AllStand kept) (sym known) (remembered_stands kept c.args.name.now c.in_ok-gate.gate c.opened.new.self (c.in_ok-gate.ensures.tells sound).0 before)
+      | inl known ↦ subst (AllStand kept) (sym known) (remembered_stands kept c.args.name.now c.in_ok-gate.gate c.domain_by_gate.new.self (c.in_ok-gate.ensures.tells sound).0 before)
       | inr left ↦ subst (AllStand kept) (sym left) before
     ]
