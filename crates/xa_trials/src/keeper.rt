@@ -40,7 +40,7 @@ fn make_all<R: Records + Drop>(
 }
 
 /// The text before the first space, and the one behind it.
-fn parted(text: &str) -> (&str, &str) {
+fn first_word_and_rest(text: &str) -> (&str, &str) {
     match text.split_once(' ') {
         Some(parts) => parts,
         None => (text, ""),
@@ -49,8 +49,8 @@ fn parted(text: &str) -> (&str, &str) {
 
 /// Makes the call of the field.
 fn make<R: Records>(answer: &mut Answer, records: &mut R, field: &str) -> Result<(), NoAnswer> {
-    let (word, rest) = parted(field);
-    let (name, text) = parted(rest);
+    let (word, rest) = first_word_and_rest(field);
+    let (name, text) = first_word_and_rest(rest);
     let name = kept_text(answer.alloc(), name)?;
     match word {
         "faults" => answer.name("", &records.faults()),

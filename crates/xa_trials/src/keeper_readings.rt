@@ -9,7 +9,7 @@ use xa_records::{Digest, Failure, Listed, Records, Token};
 use xa_value::Text;
 
 /// What a reading found; its failure, or that there is nothing, is answered.
-fn found<T: Drop>(answer: &mut Answer, read: Result<Option<T>, Failure>) -> Option<T> {
+fn finding_of<T: Drop>(answer: &mut Answer, read: Result<Option<T>, Failure>) -> Option<T> {
     match read {
         Ok(Some(found)) => return Some(found),
         Ok(None) => answer.word("!None"),
@@ -22,7 +22,7 @@ fn found<T: Drop>(answer: &mut Answer, read: Result<Option<T>, Failure>) -> Opti
 /// The names of all domains.
 pub fn domains<R: Records>(answer: &mut Answer, records: &mut R) {
     let read = records.domains(answer.alloc());
-    if let Some(names) = found(answer, read.map(Some)) {
+    if let Some(names) = finding_of(answer, read.map(Some)) {
         for name in names.as_slice() {
             answer.field("", name.as_bytes());
         }
@@ -33,7 +33,7 @@ pub fn domains<R: Records>(answer: &mut Answer, records: &mut R) {
 /// The domain's number and epoch, and how many tokens it has.
 pub fn gate<R: Records>(answer: &mut Answer, records: &mut R, name: &Text) {
     let read = records.gate(answer.alloc(), name);
-    if let Some(gate) = found(answer, read) {
+    if let Some(gate) = finding_of(answer, read) {
         answer.name("number ", &gate.number);
         answer.append(" epoch ", &gate.epoch);
         answer.append(" tokens ", &gate.tokens.as_slice().len());
@@ -59,7 +59,7 @@ pub fn role<R: Records>(
 ) -> Result<(), NoAnswer> {
     let digest = Digest::of(&bytes_of(answer.alloc(), token)?);
     let read = records.gate(answer.alloc(), name);
-    if let Some(gate) = found(answer, read) {
+    if let Some(gate) = finding_of(answer, read) {
         answer.name_or_none(role_of(gate.tokens.as_slice(), digest));
     }
     Ok(())
@@ -68,7 +68,7 @@ pub fn role<R: Records>(
 /// What decides in the domain: the texts of its active documents, its root, and the rows of its source of attributes.
 pub fn view<R: Records>(answer: &mut Answer, records: &mut R, name: &Text) -> Result<(), NoAnswer> {
     let read = records.view(answer.alloc(), name);
-    let Some(view) = found(answer, read) else {
+    let Some(view) = finding_of(answer, read) else {
         return Ok(());
     };
     for text in view.texts.as_slice() {
@@ -87,7 +87,7 @@ pub fn document<R: Records>(
 ) -> Result<(), NoAnswer> {
     let key = key_of(answer.alloc(), key)?;
     let read = records.document(answer.alloc(), name, &key);
-    if let Some(text) = found(answer, read) {
+    if let Some(text) = finding_of(answer, read) {
         answer.field("", text.as_slice());
     }
     Ok(())
@@ -103,7 +103,7 @@ fn push_listed(answer: &mut Answer, listed: &Listed) -> Result<(), NoAnswer> {
 /// The keys of the domain's documents, and of each whether it is active.
 pub fn list<R: Records>(answer: &mut Answer, records: &mut R, name: &Text) -> Result<(), NoAnswer> {
     let read = records.list(answer.alloc(), name);
-    let Some(documents) = found(answer, read) else {
+    let Some(documents) = finding_of(answer, read) else {
         return Ok(());
     };
     for listed in documents.as_slice() {

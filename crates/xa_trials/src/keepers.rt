@@ -8,17 +8,17 @@ use xa_store::SqlRecords;
 /// A keeper that can be stopped and taken up again.
 pub trait Reopen: Records {
     /// The keeper of what this one kept, taken up again.
-    fn reopened(self, alloc: Global) -> Result<Self, NoAnswer>;
+    fn keeper_after_stop(self, alloc: Global) -> Result<Self, NoAnswer>;
 }
 
 impl Reopen for PlainRecords {
-    fn reopened(self, _: Global) -> Result<PlainRecords, NoAnswer> {
+    fn keeper_after_stop(self, _: Global) -> Result<PlainRecords, NoAnswer> {
         Ok(self)
     }
 }
 
 impl Reopen for SqlRecords<MemStore> {
-    fn reopened(self, alloc: Global) -> Result<SqlRecords<MemStore>, NoAnswer> {
+    fn keeper_after_stop(self, alloc: Global) -> Result<SqlRecords<MemStore>, NoAnswer> {
         match SqlRecords::open(alloc, self.into_connection()) {
             Ok(records) => Ok(records),
             Err(_) => Err(NoAnswer::Memory),

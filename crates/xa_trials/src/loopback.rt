@@ -37,7 +37,7 @@ struct Sockets<R: Records + Drop> {
 }
 
 /// A connection to the listener, which hasn't taken it yet.
-fn connected(rt: &HostRuntime, listener: &TcpListener) -> Result<TcpStream, NoAnswer> {
+fn connection_to(rt: &HostRuntime, listener: &TcpListener) -> Result<TcpStream, NoAnswer> {
     let address = listener.local_addr()?;
     Ok(TcpStream::connect(rt, address)?)
 }
@@ -46,7 +46,7 @@ impl<R: Records + Drop> Sockets<R> {
     /// The server with a connection, which it hasn't taken yet.
     fn new(rt: &HostRuntime, server: Server<R>) -> Result<Sockets<R>, NoAnswer> {
         let listener = TcpListener::bind(rt, (Ipv4Addr::LOCALHOST, 0))?;
-        let client = connected(rt, &listener)?;
+        let client = connection_to(rt, &listener)?;
         Ok(Sockets {
             rt: *rt,
             server,
@@ -91,7 +91,7 @@ impl<R: Records + Drop> Sockets<R> {
     /// Ends the connection, and begins another.
     fn next(&mut self, answer: &mut Answer) -> Result<(), NoAnswer> {
         self.end(answer)?;
-        self.client = connected(&self.rt, &self.listener)?;
+        self.client = connection_to(&self.rt, &self.listener)?;
         Ok(())
     }
 

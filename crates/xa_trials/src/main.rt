@@ -127,7 +127,7 @@ fn answer_first(answer: &mut Answer, kind: &str, fields: &[&str]) -> Result<(), 
         "combine" => combining::combination(answer, first, fields),
         "resolve" => references::resolution(answer, first, fields),
         "link" => linking::tree(answer, first, fields),
-        "opened" => stores::opened(answer, first, fields),
+        "opened" => stores::opening(answer, first, fields),
         _ => Err(NoAnswer::Malformed),
     }
 }

@@ -87,14 +87,14 @@ impl<R: Reopen + Drop> Trial<R> {
     }
 
     /// Stops the server, and begins with another over the keeper that it gives back.
-    fn restarted(self) -> Result<Trial<R>, NoAnswer> {
+    fn trial_after_restart(self) -> Result<Trial<R>, NoAnswer> {
         let Trial {
             alloc,
             server,
             session: _,
             moment,
         } = self;
-        let records = server.into_records().reopened(alloc)?;
+        let records = server.into_records().keeper_after_stop(alloc)?;
         Ok(Trial {
             alloc,
             server: new_server(alloc, records)?,
@@ -200,7 +200,7 @@ fn stream<R: Reopen + Drop>(
     };
     for event in events {
         if event.starts_with("restart:") {
-            trial = trial.restarted()?;
+            trial = trial.trial_after_restart()?;
         } else {
             trial.step(answer, event)?;
         }

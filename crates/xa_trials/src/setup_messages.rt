@@ -19,7 +19,7 @@ fn bytes(alloc: Global, text: &str) -> Result<Items<u8>, AllocError> {
 }
 
 /// The field line that shows the token.
-fn shown(alloc: Global, token: &str) -> Result<Field, AllocError> {
+fn token_field(alloc: Global, token: &str) -> Result<Field, AllocError> {
     let value = format!(in alloc; "Bearer {token}")?;
     Ok(Field {
         name: bytes(alloc, "Authorization")?,
@@ -36,7 +36,7 @@ pub fn message(
     body: Vec<u8>,
 ) -> Result<Message, AllocError> {
     let mut fields = Items::new(alloc);
-    fields.push(shown(alloc, token)?)?;
+    fields.push(token_field(alloc, token)?)?;
     Ok(Message {
         method: bytes(alloc, method)?,
         target: bytes(alloc, target)?,

@@ -35,7 +35,7 @@ fn new_file(alloc: Global) -> Result<InFile, NoAnswer> {
 }
 
 /// The files of the store, which is closed.
-fn closed(conn: InFile) -> Result<Files<Memory>, NoAnswer> {
+fn files_of(conn: InFile) -> Result<Files<Memory>, NoAnswer> {
     match conn.close_files() {
         Ok(files) => Ok(files),
         Err(failed) => {
@@ -46,8 +46,8 @@ fn closed(conn: InFile) -> Result<Files<Memory>, NoAnswer> {
 }
 
 /// The store, of which the files were closed and opened again.
-fn reopened(alloc: Global, conn: InFile) -> Result<InFile, NoAnswer> {
-    file(alloc, closed(conn)?)
+fn store_in_files(alloc: Global, conn: InFile) -> Result<InFile, NoAnswer> {
+    file(alloc, files_of(conn)?)
 }
 
 /// The store, with the tables of a keeper without domains.
@@ -59,7 +59,7 @@ fn with_tables(alloc: Global, conn: InFile) -> Result<InFile, NoAnswer> {
 }
 
 /// A store in memory that begins so.
-fn begun(alloc: Global, word: &str) -> Result<InFile, NoAnswer> {
+fn new_store(alloc: Global, word: &str) -> Result<InFile, NoAnswer> {
     match word {
         "empty" => new_file(alloc),
         "keeper" => with_tables(alloc, new_file(alloc)?),
@@ -101,7 +101,7 @@ fn contents(alloc: Global, conn: &mut InFile) -> Result<String, NoAnswer> {
 }
 
 /// Whether the store that is opened has a keeper's tables and no others, or why it isn't opened; and its connection.
-fn judged(alloc: Global, conn: InFile) -> (Result<bool, OpenError>, InFile) {
+fn judgement_of(alloc: Global, conn: InFile) -> (Result<bool, OpenError>, InFile) {
     match SqlRecords::open(alloc, conn) {
         Ok(keeper) => {
             let is_ours = keeper.is_ours();
@@ -112,12 +112,16 @@ fn judged(alloc: Global, conn: InFile) -> (Result<bool, OpenError>, InFile) {
 }
 
 /// The store, in which the statements were run, as it is in its files.
-fn prepared(alloc: Global, word: &str, statements: &[&str]) -> Result<InFile, NoAnswer> {
-    let mut conn = begun(alloc, word)?;
+fn store_after_statements(
+    alloc: Global,
+    word: &str,
+    statements: &[&str],
+) -> Result<InFile, NoAnswer> {
+    let mut conn = new_store(alloc, word)?;
     for field in statements {
         run(alloc, &mut conn, field)?;
     }
-    reopened(alloc, conn)
+    store_in_files(alloc, conn)
 }
 
 /// Answers that the store is opened.
@@ -144,11 +148,11 @@ fn push_refused(
 }
 
 /// What opening the store answers.
-pub fn opened(answer: &mut Answer, word: &str, statements: &[&str]) -> Result<(), NoAnswer> {
+pub fn opening(answer: &mut Answer, word: &str, statements: &[&str]) -> Result<(), NoAnswer> {
     let alloc = answer.alloc();
-    let mut conn = prepared(alloc, word, statements)?;
+    let mut conn = store_after_statements(alloc, word, statements)?;
     let before = contents(alloc, &mut conn)?;
-    let (judgement, mut conn) = judged(alloc, conn);
+    let (judgement, mut conn) = judgement_of(alloc, conn);
     match judgement {
         Ok(is_ours) => {
             push_opened(answer, is_ours);
