@@ -158,24 +158,12 @@ fn work(rt: &HostRuntime) -> Result<usize, Fault>
     work.ok_or(Fault::Work)
 }
 
-/// Tells, by a line on standard error, of a file in which more stands than the program's tables, or other tables: it is served, but nothing is proved of
-/// what is kept there.
-fn tell_of_tables(rt: &HostRuntime, serving: &Serving<'_>, are_ours: bool) {
-    if !are_ours {
-        let database = serving.database.as_str();
-        let _ = eprintln!(rt;
-            "pdpd serve: {database}: other tables, indexes or views stand beside the program's, or its own were made otherwise; it is served, but nothing is proved of what is kept there"
-        );
-    }
-}
-
 /// Serves connections over the store in the file. Faults are looked for in this order: the address, PDPD_WORK, the token file, the store, the socket.
 pub fn serve(rt: &HostRuntime, serving: &Serving<'_>) -> Result<(), Fault> {
     let address = address_of(serving.address.as_str())?;
     let work = work(rt)?;
     let operator = operator_of_file(rt, serving.token_file.as_str())?;
     let records = records_in_file(rt, serving.database.as_str())?;
-    tell_of_tables(rt, serving, records.is_ours());
     let server = Server::new(rt.alloc(), records, operator)?;
     serve_at(rt, &mut with_limit(server, work), address, serving)
 }

@@ -42,7 +42,17 @@ fn fault_of_tables(error: OpenError) -> Fault
     }
 }
 
-/// The keeper over the file, which is made where it isn't there.
+/// Tells, by a line on standard error, of a file in which more stands than the program's tables, or other tables: it is served, but nothing is proved of
+/// what is kept there.
+fn tell_of_tables(rt: &HostRuntime, path: &str, are_ours: bool) {
+    if !are_ours {
+        let _ = eprintln!(rt;
+            "pdpd serve: {path}: other tables, indexes or views stand beside the program's, or its own were made otherwise; it is served, but nothing is proved of what is kept there"
+        );
+    }
+}
+
+/// The keeper over the file, which is made where it isn't there. A line on standard error tells of tables of which nothing is proved.
 pub fn records_in_file(rt: &HostRuntime, path: &str) -> Result<SqlRecords<FileStore<File>>, Fault>
     ensures sound { IfOk result (λ records. IsTrue records.ours → IsTrue (file_state records.conn).is_open → IsSound over_files records) }
     ensures err { IfErr result (EndsBy Store) }
@@ -52,7 +62,10 @@ pub fn records_in_file(rt: &HostRuntime, path: &str) -> Result<SqlRecords<FileSt
         Err(error) => return Err(fault_of_file(error)),
     };
     match SqlRecords::open(rt.alloc(), conn) {
-        Ok(records) => Ok(records),
+        Ok(records) => {
+            tell_of_tables(rt, path, records.is_ours());
+            Ok(records)
+        }
         Err((error, _)) => Err(fault_of_tables(error)),
     }
 }
