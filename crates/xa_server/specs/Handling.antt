@@ -12,7 +12,7 @@ use Rattle.xa_http.specs.declared.route.Route.{Route}
 use Rattle.xa_http.specs.Routes.{route_of}
 use Rattle.xa_records.specs.declared.refusal.Failure.TheVariants.{Memory, Store}
 use Rattle.xa_records.specs.DomainState.{DomainState}
-use Rattle.xa_records.specs.Keeper.{IsOneMore}
+use Rattle.xa_records.specs.Keeper.{Custody, IsOneMore}
 use Rattle.xa_records.specs.Kept.{Domain, IsChanged, Kept, names_of, state_of}
 use Rattle.xa_server.specs.declared.error_code.ErrorCode.{ErrorCode}
 use Rattle.xa_server.specs.declared.error_code.ErrorCode.TheVariants as error
@@ -198,3 +198,25 @@ LeavesRoute before after operator old (Some name) message moment route = LeavesA
 abbrev pub LeavesMessage : (Kept → Type 0) → (Kept → Type 0) → List ℕ → Kept → Option (List ℕ) → Message → ℤ → Type 0
 LeavesMessage before after operator old None message moment = LeavesNoMore before after
 LeavesMessage before after operator old (Some name) message moment = LeavesAnswer before after old name (answer operator (state_of name old) message moment)
+
+-- ---- what is done for a message
+
+-- a part of a message was handled: so it was answered, and this a crash may leave, or it failed
+pub record Handles {X : Type 0} (old new : Custody) (result : Result X Stop) (is_answered leaves_so : Type 0) : Type 0 where
+  pub answers : new.sound → is_answered
+  pub sound : new.sound → old.sound
+  pub clean : new.clean → old.clean
+  pub stays : new.clean → old.sound → IfTold result new.sound
+  pub leaves : new.clean → old.sound → leaves_so
+  pub counts : Counts old.faults new.faults result
+
+-- as that machine of the domain of that name answers
+abbrev pub Changes : Custody → Custody → List ℕ → Result (List ℕ) Stop → (Option DomainState → Answer) → Type 0
+Changes old new name result machine =
+    Handles old new result (Answers old.kept new.kept name result (machine (state_of name old.kept)))
+        (LeavesAnswer old.may_leave new.may_leave old.kept name (machine (state_of name old.kept)))
+
+-- as that machine answers, which changes nothing
+abbrev pub Reads : Custody → Custody → List ℕ → Result (List ℕ) Stop → (Option DomainState → Answer) → Type 0
+Reads old new name result machine =
+    Handles old new result (Answers old.kept new.kept name result (machine (state_of name old.kept))) (LeavesNoMore old.may_leave new.may_leave)

@@ -8,8 +8,7 @@ ghost use Rattle.xa_decide.specs.Rows.{rows_of};
 ghost use Rattle.xa_records.specs.Changes.{activity_set, created, removed, root_set, source_set, upload_of, uploaded, within};
 ghost use Rattle.xa_records.specs.DomainName.{is_domain_name};
 ghost use Rattle.xa_records.specs.DomainState.{key_of};
-ghost use Rattle.xa_records.specs.Kept.{state_of};
-ghost use Rattle.xa_server.specs.Handling.{Answers, Counts, IfTold, LeavesAnswer, by_body};
+ghost use Rattle.xa_server.specs.Handling.{Changes, by_body};
 ghost use Rattle.xa_server.specs.Machine.{by_document_command, by_operator_command, changed, upload_reply};
 ghost use Rattle.xa_server.specs.Replies.{created_reply, done_reply};
 
@@ -30,12 +29,7 @@ pub(crate) fn create<R: Records>(
     name: &Text,
 ) -> Result<Items<u8>, Stop>
     requires { IsTrue (is_domain_name name.now) }
-    ensures answers { R.sound records.new → Answers (R.kept records.old) (R.kept records.new) name.now result (changed created_reply created (state_of name.now (R.kept records.old))) }
-    ensures sound { R.sound records.new → R.sound records.old }
-    ensures clean { R.clean records.new → R.clean records.old }
-    ensures stays { R.clean records.new → R.sound records.old → IfTold result (R.sound records.new) }
-    ensures leaves { R.clean records.new → R.sound records.old → LeavesAnswer (R.may_leave records.old) (R.may_leave records.new) (R.kept records.old) name.now (changed created_reply created (state_of name.now (R.kept records.old))) }
-    ensures counts { Counts (R.faults records.old) (R.faults records.new) result }
+    ensures { Changes (R.custody records.old) (R.custody records.new) name.now result (changed created_reply created) }
 {
     let reply = created_reply(alloc)?;
     records.create(alloc, name)?;
@@ -49,12 +43,7 @@ pub(crate) fn remove<R: Records>(
     records: &mut R,
     name: &Text,
 ) -> Result<Items<u8>, Stop>
-    ensures answers { R.sound records.new → Answers (R.kept records.old) (R.kept records.new) name.now result (changed done_reply removed (state_of name.now (R.kept records.old))) }
-    ensures sound { R.sound records.new → R.sound records.old }
-    ensures clean { R.clean records.new → R.clean records.old }
-    ensures stays { R.clean records.new → R.sound records.old → IfTold result (R.sound records.new) }
-    ensures leaves { R.clean records.new → R.sound records.old → LeavesAnswer (R.may_leave records.old) (R.may_leave records.new) (R.kept records.old) name.now (changed done_reply removed (state_of name.now (R.kept records.old))) }
-    ensures counts { Counts (R.faults records.old) (R.faults records.new) result }
+    ensures { Changes (R.custody records.old) (R.custody records.new) name.now result (changed done_reply removed) }
 {
     let reply = done_reply(alloc)?;
     records.remove(alloc, name)?;
@@ -69,12 +58,7 @@ pub(crate) fn put_token<R: Records>(
     name: &Text,
     body: &[u8],
 ) -> Result<Items<u8>, Stop>
-    ensures answers { R.sound records.new → Answers (R.kept records.old) (R.kept records.new) name.now result (by_operator_command operator.PutToken body.now (state_of name.now (R.kept records.old))) }
-    ensures sound { R.sound records.new → R.sound records.old }
-    ensures clean { R.clean records.new → R.clean records.old }
-    ensures stays { R.clean records.new → R.sound records.old → IfTold result (R.sound records.new) }
-    ensures leaves { R.clean records.new → R.sound records.old → LeavesAnswer (R.may_leave records.old) (R.may_leave records.new) (R.kept records.old) name.now (by_operator_command operator.PutToken body.now (state_of name.now (R.kept records.old))) }
-    ensures counts { Counts (R.faults records.old) (R.faults records.new) result }
+    ensures { Changes (R.custody records.old) (R.custody records.new) name.now result (by_operator_command operator.PutToken body.now) }
 {
     let new = read_new_token(alloc, body)?;
     let reply = done_reply(alloc)?;
@@ -91,12 +75,7 @@ pub(crate) fn drop_token<R: Records>(
     name: &Text,
     body: &[u8],
 ) -> Result<Items<u8>, Stop>
-    ensures answers { R.sound records.new → Answers (R.kept records.old) (R.kept records.new) name.now result (by_operator_command operator.DropToken body.now (state_of name.now (R.kept records.old))) }
-    ensures sound { R.sound records.new → R.sound records.old }
-    ensures clean { R.clean records.new → R.clean records.old }
-    ensures stays { R.clean records.new → R.sound records.old → IfTold result (R.sound records.new) }
-    ensures leaves { R.clean records.new → R.sound records.old → LeavesAnswer (R.may_leave records.old) (R.may_leave records.new) (R.kept records.old) name.now (by_operator_command operator.DropToken body.now (state_of name.now (R.kept records.old))) }
-    ensures counts { Counts (R.faults records.old) (R.faults records.new) result }
+    ensures { Changes (R.custody records.old) (R.custody records.new) name.now result (by_operator_command operator.DropToken body.now) }
 {
     let token = read_old_token(alloc, body)?;
     let reply = done_reply(alloc)?;
@@ -123,12 +102,7 @@ pub(crate) fn upload<R: Records>(
     name: &Text,
     body: &[u8],
 ) -> Result<Items<u8>, Stop>
-    ensures answers { R.sound records.new → Answers (R.kept records.old) (R.kept records.new) name.now result (by_body (λ parsed state. changed (upload_reply (upload_of (key_of parsed) state)) (within (uploaded (key_of parsed) body.now)) state) (document_of body.now) (state_of name.now (R.kept records.old))) }
-    ensures sound { R.sound records.new → R.sound records.old }
-    ensures clean { R.clean records.new → R.clean records.old }
-    ensures stays { R.clean records.new → R.sound records.old → IfTold result (R.sound records.new) }
-    ensures leaves { R.clean records.new → R.sound records.old → LeavesAnswer (R.may_leave records.old) (R.may_leave records.new) (R.kept records.old) name.now (by_body (λ parsed state. changed (upload_reply (upload_of (key_of parsed) state)) (within (uploaded (key_of parsed) body.now)) state) (document_of body.now) (state_of name.now (R.kept records.old))) }
-    ensures counts { Counts (R.faults records.old) (R.faults records.new) result }
+    ensures { Changes (R.custody records.old) (R.custody records.new) name.now result (by_body (λ parsed state. changed (upload_reply (upload_of (key_of parsed) state)) (within (uploaded (key_of parsed) body.now)) state) (document_of body.now)) }
 {
     let parsed = Parsed::read(alloc, body)?;
     let key = key_of(&parsed)?;
@@ -148,12 +122,7 @@ pub(crate) fn set_root<R: Records>(
     name: &Text,
     body: &[u8],
 ) -> Result<Items<u8>, Stop>
-    ensures answers { R.sound records.new → Answers (R.kept records.old) (R.kept records.new) name.now result (by_body (λ root. changed done_reply (within (root_set root))) (root_of body.now) (state_of name.now (R.kept records.old))) }
-    ensures sound { R.sound records.new → R.sound records.old }
-    ensures clean { R.clean records.new → R.clean records.old }
-    ensures stays { R.clean records.new → R.sound records.old → IfTold result (R.sound records.new) }
-    ensures leaves { R.clean records.new → R.sound records.old → LeavesAnswer (R.may_leave records.old) (R.may_leave records.new) (R.kept records.old) name.now (by_body (λ root. changed done_reply (within (root_set root))) (root_of body.now) (state_of name.now (R.kept records.old))) }
-    ensures counts { Counts (R.faults records.old) (R.faults records.new) result }
+    ensures { Changes (R.custody records.old) (R.custody records.new) name.now result (by_body (λ root. changed done_reply (within (root_set root))) (root_of body.now)) }
 {
     let root = read_root(alloc, body)?;
     let reply = done_reply(alloc)?;
@@ -169,12 +138,7 @@ pub(crate) fn set_source<R: Records>(
     name: &Text,
     body: &[u8],
 ) -> Result<Items<u8>, Stop>
-    ensures answers { R.sound records.new → Answers (R.kept records.old) (R.kept records.new) name.now result (by_body (λ rows. changed done_reply (within (source_set rows))) (rows_of body.now) (state_of name.now (R.kept records.old))) }
-    ensures sound { R.sound records.new → R.sound records.old }
-    ensures clean { R.clean records.new → R.clean records.old }
-    ensures stays { R.clean records.new → R.sound records.old → IfTold result (R.sound records.new) }
-    ensures leaves { R.clean records.new → R.sound records.old → LeavesAnswer (R.may_leave records.old) (R.may_leave records.new) (R.kept records.old) name.now (by_body (λ rows. changed done_reply (within (source_set rows))) (rows_of body.now) (state_of name.now (R.kept records.old))) }
-    ensures counts { Counts (R.faults records.old) (R.faults records.new) result }
+    ensures { Changes (R.custody records.old) (R.custody records.new) name.now result (by_body (λ rows. changed done_reply (within (source_set rows))) (rows_of body.now)) }
 {
     let rows = read_rows(alloc, body)?;
     let reply = done_reply(alloc)?;
@@ -190,12 +154,7 @@ pub(crate) fn delete<R: Records>(
     name: &Text,
     key: &DocumentKey,
 ) -> Result<Items<u8>, Stop>
-    ensures answers { R.sound records.new → Answers (R.kept records.old) (R.kept records.new) name.now result (by_document_command document.Delete key.now (state_of name.now (R.kept records.old))) }
-    ensures sound { R.sound records.new → R.sound records.old }
-    ensures clean { R.clean records.new → R.clean records.old }
-    ensures stays { R.clean records.new → R.sound records.old → IfTold result (R.sound records.new) }
-    ensures leaves { R.clean records.new → R.sound records.old → LeavesAnswer (R.may_leave records.old) (R.may_leave records.new) (R.kept records.old) name.now (by_document_command document.Delete key.now (state_of name.now (R.kept records.old))) }
-    ensures counts { Counts (R.faults records.old) (R.faults records.new) result }
+    ensures { Changes (R.custody records.old) (R.custody records.new) name.now result (by_document_command document.Delete key.now) }
 {
     let reply = done_reply(alloc)?;
     records.delete(alloc, name, key)?;
@@ -211,12 +170,7 @@ pub(crate) fn set_active<R: Records>(
     key: &DocumentKey,
     active: bool,
 ) -> Result<Items<u8>, Stop>
-    ensures answers { R.sound records.new → Answers (R.kept records.old) (R.kept records.new) name.now result (changed done_reply (within (activity_set key.now active)) (state_of name.now (R.kept records.old))) }
-    ensures sound { R.sound records.new → R.sound records.old }
-    ensures clean { R.clean records.new → R.clean records.old }
-    ensures stays { R.clean records.new → R.sound records.old → IfTold result (R.sound records.new) }
-    ensures leaves { R.clean records.new → R.sound records.old → LeavesAnswer (R.may_leave records.old) (R.may_leave records.new) (R.kept records.old) name.now (changed done_reply (within (activity_set key.now active)) (state_of name.now (R.kept records.old))) }
-    ensures counts { Counts (R.faults records.old) (R.faults records.new) result }
+    ensures { Changes (R.custody records.old) (R.custody records.new) name.now result (changed done_reply (within (activity_set key.now active))) }
 {
     let reply = done_reply(alloc)?;
     records.set_active(alloc, name, key, active)?;

@@ -1,5 +1,6 @@
 //! The keeper in memory.
 ghost use Rattle.std.specs.Prelude.{◌≡◌};
+ghost use Rattle.xa_records.specs.Keeper.{in_memory};
 ghost use Rattle.xa_records.specs.Kept.{IsNumbered, nothing_kept};
 ghost use Rattle.std.proofs.Props.{props};
 
@@ -28,9 +29,9 @@ pub struct PlainRecords {
 impl PlainRecords {
     /// A keeper of no domains; the first that is made gets the number 1. Nothing is allocated.
     pub fn new(alloc: Global) -> PlainRecords
-        ensures kept { ⟦<PlainRecords as Records>⟧.kept result ≡ nothing_kept }
-        ensures sound { ⟦<PlainRecords as Records>⟧.sound result }
-        ensures faults { ⟦<PlainRecords as Records>⟧.faults result ≡ 0 }
+        ensures kept { (⟦<PlainRecords as Records>⟧.custody result).kept ≡ nothing_kept }
+        ensures sound { (⟦<PlainRecords as Records>⟧.custody result).sound }
+        ensures faults { (⟦<PlainRecords as Records>⟧.custody result).faults ≡ 0 }
     {
         PlainRecords {
             domains: Domains::new(alloc),
@@ -40,15 +41,7 @@ impl PlainRecords {
 }
 
 impl Records for PlainRecords {
-    ghost kept = { λ r. r.domains };
-
-    ghost sound = { λ _. Unit {0} };
-
-    ghost clean = { λ _. Unit {0} };
-
-    ghost may_leave = { λ _ _. ⊥ };
-
-    ghost faults = { λ r. r.faults };
+    ghost custody = { λ r. in_memory r.domains r.faults };
 
     fn faults(&self) -> u64 {
         self.faults

@@ -10,7 +10,7 @@ use Rattle.xa_server.proofs.asking.decide.Goals as goal
 
 pub returns-in-Some-clause-answers : goal.returns-in-Some-clause-answers
 returns-in-Some-clause-answers g c = λ opens stand sound.
-    let kept = g.R.Records.kept c.args.records.now in
+    let kept = (g.R.Records.custody c.args.records.now).kept in
     let old = subst (AllStand kept) (sym c.resources.view_is) stand in
     let is : c.in_ok-reply.field-0 ≡ Some c.in-Some.reply = search rules in
     let key : c.in_ok-key.key ≡ key_opened c.args.opened c.args.body.now = c.in_ok-key.ensures in
@@ -20,14 +20,14 @@ returns-in-Some-clause-answers g c = λ opens stand sound.
 
 pub returns-in_err-reply-clause-stands : goal.returns-in_err-reply-clause-stands
 returns-in_err-reply-clause-stands g c = λ opens stand sound.
-    let kept = g.R.Records.kept c.args.records.now in
+    let kept = (g.R.Records.custody c.args.records.now).kept in
     looked_stands kept (body_held c.in_ok-key.key c.args.body.now c.resources.inside.decisions) c.in_ok-key.key
     (record { tally = c.resources.inside.decisions; room = c.resources.inside.views; gates = c.resources.inside.gates }) (record { tally = c.held_reply.new.self; room = c.resources.inside.views; gates = c.resources.inside.gates })
     c.held_reply.ensures.moves refl refl (subst (AllStand kept) (sym c.resources.view_is) stand)
 
 pub returns-in-Some-clause-stands : goal.returns-in-Some-clause-stands
 returns-in-Some-clause-stands g c = λ opens stand sound.
-    let kept = g.R.Records.kept c.args.records.now in
+    let kept = (g.R.Records.custody c.args.records.now).kept in
     looked_stands kept (body_held c.in_ok-key.key c.args.body.now c.resources.inside.decisions) c.in_ok-key.key
     (record { tally = c.resources.inside.decisions; room = c.resources.inside.views; gates = c.resources.inside.gates }) (record { tally = c.held_reply.new.self; room = c.resources.inside.views; gates = c.resources.inside.gates })
     c.held_reply.ensures.moves refl refl (subst (AllStand kept) (sym c.resources.view_is) stand)

@@ -10,7 +10,7 @@ use Rattle.xa_server.proofs.asking.fresh_reply.Goals as goal
 
 pub returns-in_err-reply-clause-tells : goal.returns-in_err-reply-clause-tells
 returns-in_err-reply-clause-tells g c = λ opens stand sound.
-    let kept = g.R.Records.kept c.args.records.now in
+    let kept = (g.R.Records.custody c.args.records.now).kept in
     let old = subst (AllStand kept) (sym c.resources.view_is) stand in
     let told = ready_found kept c.args.name.now c.args.opened c.resources.inside.views.views c.in-Some.view.now opens old.views (sym c.in-Some.ensures) in
     let stopped : c.from_residual.result ≡ Err c.in_err-reply.field-0.0 = search rules in
@@ -18,7 +18,7 @@ returns-in_err-reply-clause-tells g c = λ opens stand sound.
 
 pub returns-in_err-reply-clause-works : goal.returns-in_err-reply-clause-works
 returns-in_err-reply-clause-works g c = λ opens stand sound.
-    let kept = g.R.Records.kept c.args.records.now in
+    let kept = (g.R.Records.custody c.args.records.now).kept in
     let old = subst (AllStand kept) (sym c.resources.view_is) stand in
     let told = ready_found kept c.args.name.now c.args.opened c.resources.inside.views.views c.in-Some.view.now opens old.views (sym c.in-Some.ensures) in
     let stopped : c.from_residual.result ≡ Err c.in_err-reply.field-0.0 = search rules in
@@ -27,14 +27,14 @@ returns-in_err-reply-clause-works g c = λ opens stand sound.
 
 pub returns-in-Some-clause-tells : goal.returns-in-Some-clause-tells
 returns-in-Some-clause-tells g c = λ opens stand sound.
-    let kept = g.R.Records.kept c.args.records.now in
+    let kept = (g.R.Records.custody c.args.records.now).kept in
     let old = subst (AllStand kept) (sym c.resources.view_is) stand in
     let told = ready_found kept c.args.name.now c.args.opened c.resources.inside.views.views c.in-Some.view.now opens old.views (sym c.in-Some.ensures) in
     replied kept kept c.args.name.now c.args.body.now c.args.moment c.in-Some.view.now (Ok c.in_ok-reply.reply) told c.in_ok-reply.ensures.tells refl
 
 pub returns-in-Some-clause-works : goal.returns-in-Some-clause-works
 returns-in-Some-clause-works g c = λ opens stand sound.
-    let kept = g.R.Records.kept c.args.records.now in
+    let kept = (g.R.Records.custody c.args.records.now).kept in
     let old = subst (AllStand kept) (sym c.resources.view_is) stand in
     let told = ready_found kept c.args.name.now c.args.opened c.resources.inside.views.views c.in-Some.view.now opens old.views (sym c.in-Some.ensures) in
     rw (← c.resources.view_is)
@@ -42,7 +42,7 @@ returns-in-Some-clause-works g c = λ opens stand sound.
 
 pub returns-in-Some-clause-stands : goal.returns-in-Some-clause-stands
 returns-in-Some-clause-stands g c = λ opens stand sound.
-    let kept = g.R.Records.kept c.args.records.now in
+    let kept = (g.R.Records.custody c.args.records.now).kept in
     let state = state_of c.args.name.now kept in
     let old = subst (AllStand kept) (sym c.resources.view_is) stand in
     let told = ready_found kept c.args.name.now c.args.opened c.resources.inside.views.views c.in-Some.view.now opens old.views (sym c.in-Some.ensures) in

@@ -8,7 +8,7 @@ use Rattle.xa_server.proofs.asking.reply_by_kept.Goals as goal
 
 pub returns-clause-stands : goal.returns-clause-stands
 returns-clause-stands g c = λ opens stand sound.
-    let kept = g.R.Records.kept c.args.records.now in
+    let kept = (g.R.Records.custody c.args.records.now).kept in
     let state = state_of c.args.name.now kept in
     let old = subst (AllStand kept) (sym c.resources.view_is) stand in
     let made = c.in_ok-ready.ensures.tells sound in
