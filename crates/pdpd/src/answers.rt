@@ -60,9 +60,9 @@ fn answer_batch<R: Records, W: Write>(
     connection: usize,
     writer: &mut W,
 ) -> Result<Stop, Exit>
-    ensures batch { IfOk result (λ stop. R.sound server.new.records →
-        IsBatch connection moment (world R.kept server.old) (world R.kept server.new) session.old session.new (W.contents writer.old) (W.contents writer.new) stop) }
-    ensures sound { R.sound server.new.records → R.sound server.old.records }
+    ensures batch { IfOk result (λ stop. (R.custody server.new.records).sound →
+        IsBatch connection moment (world R.custody server.old) (world R.custody server.new) session.old session.new (W.contents writer.old) (W.contents writer.new) stop) }
+    ensures sound { (R.custody server.new.records).sound → (R.custody server.old.records).sound }
     ensures err { IfErr result (λ exit. IsTrue (breaks_off exit)) }
 {
     let (events, stop) = next_messages(alloc, moment, session)?;
@@ -83,10 +83,10 @@ pub fn answer<R: Records, W: Write>(
     connection: usize,
     writer: &mut W,
 ) -> Result<(), Exit>
-    ensures replies { IfOk result (λ _. R.sound server.new.records →
-        IsEntryAnswered connection moment bytes.now (world R.kept server.old) (world R.kept server.new) session.old session.new
+    ensures replies { IfOk result (λ _. (R.custody server.new.records).sound →
+        IsEntryAnswered connection moment bytes.now (world R.custody server.old) (world R.custody server.new) session.old session.new
         (W.contents writer.old) (W.contents writer.new)) }
-    ensures sound { R.sound server.new.records → R.sound server.old.records }
+    ensures sound { (R.custody server.new.records).sound → (R.custody server.old.records).sound }
     ensures err { IfErr result (λ exit. IsTrue (breaks_off exit)) }
 {
     session.feed(bytes)?;

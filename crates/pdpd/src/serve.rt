@@ -69,8 +69,8 @@ fn serve_connection<R: Records, C: Clock>(
     stream: &TcpStream,
     clock: &mut C,
 ) -> Result<(), Fault>
-    ensures served { IfOk result (λ _. R.sound server.new.records → IsServed (world R.kept server.old) (world R.kept server.new)) }
-    ensures sound { R.sound server.new.records → R.sound server.old.records }
+    ensures served { IfOk result (λ _. (R.custody server.new.records).sound → IsServed (world R.custody server.old) (world R.custody server.new)) }
+    ensures sound { (R.custody server.new.records).sound → (R.custody server.old.records).sound }
     ensures err { IfErr result (EndsBy Socket) }
 {
     // A reply that waits for the peer's acknowledgement comes later, and is no other.
@@ -87,8 +87,8 @@ fn serve_connections<R: Records, C: Clock>(
     clock: &mut C,
     connections: usize,
 ) -> Result<(), Fault>
-    ensures served { IfOk result (λ _. R.sound server.new.records → AreIsolated connections (world R.kept server.old) (world R.kept server.new)) }
-    ensures sound { R.sound server.new.records → R.sound server.old.records }
+    ensures served { IfOk result (λ _. (R.custody server.new.records).sound → AreIsolated connections (world R.custody server.old) (world R.custody server.new)) }
+    ensures sound { (R.custody server.new.records).sound → (R.custody server.old.records).sound }
     ensures err { IfErr result (EndsBy Socket) }
 {
     for _ in 0..connections {
@@ -115,8 +115,8 @@ fn serve_at<R: Records>(
     address: SocketAddr,
     serving: &Serving<'_>,
 ) -> Result<(), Fault>
-    ensures served { IfOk result (λ _. R.sound server.new.records → AreIsolated serving.now.connections (world R.kept server.old) (world R.kept server.new)) }
-    ensures sound { R.sound server.new.records → R.sound server.old.records }
+    ensures served { IfOk result (λ _. (R.custody server.new.records).sound → AreIsolated serving.now.connections (world R.custody server.old) (world R.custody server.new)) }
+    ensures sound { (R.custody server.new.records).sound → (R.custody server.old.records).sound }
 {
     let Ok(listener) = TcpListener::bind(rt, address) else {
         return Err(Fault::Socket);

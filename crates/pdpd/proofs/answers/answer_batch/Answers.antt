@@ -9,8 +9,8 @@ use Rattle.pdpd.proofs.answers.answer_batch.Goals as goal
 
 pub returns-clause-batch : goal.returns-clause-batch
 returns-clause-batch g c = λ sound.
-    let old : World = world g.R.Records.kept c.args.server.now in
-    let new : World = world g.R.Records.kept c.run.new.self in
+    let old : World = world g.R.Records.custody c.args.server.now in
+    let new : World = world g.R.Records.custody c.run.new.self in
     let before = g.W.Write.contents c.args.writer.now in
     let now = g.W.Write.contents c.write_replies.new.writer in
     let events = c.in_ok-events.events.items in
