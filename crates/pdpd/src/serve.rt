@@ -2,7 +2,7 @@
 ghost use Rattle.std.specs.Prelude.{◌≡◌, IfErr, IfOk, MatchResult, Some, None};
 ghost use Rattle.std.specs.Net.Grammar.{IsSocketText, Parses};
 ghost use Rattle.xa_server.specs.World.{world};
-ghost use Rattle.pdpd.specs.Connections.{AreIsolated, IsServed};
+ghost use Rattle.pdpd.specs.Connections.{AreIsolated, IsConnectionServed};
 ghost use Rattle.pdpd.specs.declared.exit.Exit.TheVariants.{Socket, Usage};
 ghost use Rattle.pdpd.specs.declared.fault.Fault.TheVariants.{Address, Connection};
 ghost use Rattle.pdpd.specs.Fault.{EndsBy, fault_of_end};
@@ -69,7 +69,7 @@ fn serve_connection<R: Records, C: Clock>(
     stream: &TcpStream,
     clock: &mut C,
 ) -> Result<(), Fault>
-    ensures served { IfOk result (λ _. (R.custody server.new.records).sound → IsServed (world R.custody server.old) (world R.custody server.new)) }
+    ensures served { IfOk result (λ _. (R.custody server.new.records).sound → IsConnectionServed (world R.custody server.old) (world R.custody server.new)) }
     ensures sound { (R.custody server.new.records).sound → (R.custody server.old.records).sound }
     ensures err { IfErr result (EndsBy Socket) }
 {
