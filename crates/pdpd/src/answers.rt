@@ -18,7 +18,7 @@ use xa_value::Moment;
 const BATCH_MESSAGES: usize = 64;
 
 /// Why no more messages of a stream are answered at once.
-#[derive(Clone, Copy, Debug)]
+#[derive(Clone, Copy)]
 pub(crate) enum BatchEnd {
     /// There are as many as are answered at once.
     Full,

@@ -5,7 +5,7 @@ ghost use Rattle.xa_server.specs.World.{world};
 ghost use Rattle.pdpd.specs.Connections.{AreIsolated, IsConnectionServed};
 ghost use Rattle.pdpd.specs.declared.exit.Exit.TheVariants.{Socket, Usage};
 ghost use Rattle.pdpd.specs.declared.fault.Fault.TheVariants.{Address, Connection};
-ghost use Rattle.pdpd.specs.Fault.{EndsBy, fault_of_end};
+ghost use Rattle.pdpd.specs.Fault.{EndsBy, fault_of_end, is_passing};
 
 use crate::command_line::{Serving, work_of};
 use crate::fault::Fault;
@@ -23,7 +23,9 @@ use xa_server::{Clock, Driven, Server, drive};
 const MAX_FAILURES: u32 = 1_000;
 
 /// Whether the next connection may be taken after that failure: it was the peer's or the network's, not the listener's.
-fn is_passing(kind: ErrorKind) -> bool {
+fn is_passing(kind: ErrorKind) -> bool
+    ensures { result ≡ is_passing kind }
+{
     matches!(
         kind,
         ErrorKind::ConnectionAborted

@@ -21,7 +21,7 @@ const MAX_LINE_BYTES: usize = 64;
 const MAX_READS: u64 = 1_000_000_000;
 
 /// Why no further entry is read.
-#[derive(Clone, Copy, Debug, PartialEq, Eq)]
+#[derive(Clone, Copy)]
 pub enum ReadFault {
     /// The next entry is malformed or cut.
     Malformed(TranscriptFault),
