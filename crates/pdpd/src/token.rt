@@ -63,7 +63,6 @@ fn fault_of_reading(error: io::Error) -> Fault
 }
 
 /// The digest of the operator's token, which is the first line of what a reader gives.
-#[tactic(auto, using(crate::proofs::TokenLemmas::known_operator))]
 fn operator_of<R: Read + Drop>(alloc: Global, reader: R) -> Result<Digest, Fault>
     ensures known { IfOk result (λ operator. IfSome (R.remaining reader) (IsOperatorOf operator)) }
     ensures operator { IfOk result IsOperator }
