@@ -3,7 +3,7 @@ ghost use Rattle.std.specs.Prelude.{◌≡◌, true, Some};
 ghost use Rattle.xa_records.specs.Kept.{state_of};
 ghost use Rattle.xa_records.specs.Readings.{gate_of};
 ghost use Rattle.xa_server.specs.Gates.{opened_of};
-ghost use Rattle.xa_server.specs.Handling.{Counts, IfTold, LeavesNoMore, Opens, Tells, admitted_by};
+ghost use Rattle.xa_server.specs.Handling.{Counts, IfTold, LeavesNoMore, Opens, Shows, admitted_by};
 ghost use Rattle.xa_server.specs.Machine.{admitted, by_operator, digest_shown, is_decision, permitted};
 ghost use Rattle.xa_server.specs.Stock.{AllStand};
 ghost use Rattle.xa_server.specs.Tokens.{role_in};
@@ -100,7 +100,7 @@ pub(crate) fn admission<R: Records>(
     for_decisions: bool,
     message: &Message,
 ) -> Result<(), Stop>
-    ensures tells { (R.custody records.new).sound → Tells (R.custody records.old).kept (R.custody records.new).kept result (admitted for_decisions (state_of name.now (R.custody records.old).kept) message.now) }
+    ensures tells { (R.custody records.new).sound → Shows (R.custody records.old).kept (R.custody records.new).kept result (admitted for_decisions (state_of name.now (R.custody records.old).kept) message.now) }
     ensures sound { (R.custody records.new).sound → (R.custody records.old).sound }
     ensures clean { (R.custody records.new).clean → (R.custody records.old).clean }
     ensures stays { (R.custody records.new).clean → (R.custody records.old).sound → IfTold result (R.custody records.new).sound }

@@ -5,7 +5,7 @@ ghost use Rattle.xa_http.specs.Routes.{named_by};
 ghost use Rattle.xa_http.specs.declared.route.Route.TheVariants as to;
 ghost use Rattle.xa_records.specs.DomainName.{is_domain_name};
 ghost use Rattle.xa_records.specs.Kept.{state_of};
-ghost use Rattle.xa_server.specs.Handling.{Answers, AnswersMessage, AnswersRoute, Changes, Counts, IfTold, LeavesAnswer, LeavesMessage, LeavesNoMore, LeavesRoute, WorksMessage, WorksOf, WorksRoute};
+ghost use Rattle.xa_server.specs.Handling.{Answers, AnswersMessage, AnswersRoute, HandlesChange, Counts, IfTold, LeavesAnswer, LeavesMessage, LeavesNoMore, LeavesRoute, WorksMessage, WorksOf, WorksRoute};
 ghost use Rattle.xa_server.specs.Machine.{by_document_command, by_domain_command, by_operator_command};
 ghost use Rattle.xa_server.specs.Owner.{name_if, owner};
 ghost use Rattle.xa_server.specs.Stock.{AllStand};
@@ -40,7 +40,7 @@ fn by_operator_command<R: Records>(
     body: &[u8],
 ) -> Result<Items<u8>, Stop>
     requires { IsTrue (is_domain_name name.now) }
-    ensures { Changes (R.custody records.old) (R.custody records.new) name.now result (by_operator_command command body.now) }
+    ensures { HandlesChange (R.custody records.old) (R.custody records.new) name.now result (by_operator_command command body.now) }
 {
     match command {
         OperatorCommand::Create => create(alloc, records, name),
@@ -84,7 +84,7 @@ fn by_document_command<R: Records>(
     command: DocumentCommand,
     key: &DocumentKey,
 ) -> Result<Items<u8>, Stop>
-    ensures { Changes (R.custody records.old) (R.custody records.new) name.now result (by_document_command command key.now) }
+    ensures { HandlesChange (R.custody records.old) (R.custody records.new) name.now result (by_document_command command key.now) }
 {
     match command {
         DocumentCommand::Show => show(alloc, records, name, key),

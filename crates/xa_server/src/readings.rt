@@ -5,7 +5,7 @@ ghost use Rattle.xa_decide.specs.Rows.{rows_body};
 ghost use Rattle.xa_records.specs.Kept.{names_of};
 ghost use Rattle.xa_records.specs.Listing.{listing_body, names_body};
 ghost use Rattle.xa_records.specs.Readings.{listing_of_state};
-ghost use Rattle.xa_server.specs.Handling.{Counts, IfTold, LeavesNoMore, Reads, Tells};
+ghost use Rattle.xa_server.specs.Handling.{Counts, IfTold, LeavesNoMore, HandlesReading, Shows};
 ghost use Rattle.xa_server.specs.Machine.{by_document_command, told};
 ghost use Rattle.xa_server.specs.Replies.{json_reply};
 
@@ -28,7 +28,7 @@ pub(crate) fn list<R: Records>(
     records: &mut R,
     name: &Text,
 ) -> Result<Items<u8>, Stop>
-    ensures { Reads (R.custody records.old) (R.custody records.new) name.now result (told (λ kept. Ok (json_reply (listing_body (listing_of_state kept))))) }
+    ensures { HandlesReading (R.custody records.old) (R.custody records.new) name.now result (told (λ kept. Ok (json_reply (listing_body (listing_of_state kept))))) }
 {
     let documents = records.list(alloc, name)?.ok_or(ABSENT)?;
     let body = write_listing(alloc, documents.as_slice())?;
@@ -42,7 +42,7 @@ pub(crate) fn source<R: Records>(
     records: &mut R,
     name: &Text,
 ) -> Result<Items<u8>, Stop>
-    ensures { Reads (R.custody records.old) (R.custody records.new) name.now result (told (λ kept. Ok (json_reply (rows_body kept.source)))) }
+    ensures { HandlesReading (R.custody records.old) (R.custody records.new) name.now result (told (λ kept. Ok (json_reply (rows_body kept.source)))) }
 {
     let kept = records.view(alloc, name)?.ok_or(ABSENT)?;
     let body = write_rows(alloc, kept.source.as_slice())?;
@@ -57,7 +57,7 @@ pub(crate) fn show<R: Records>(
     name: &Text,
     key: &DocumentKey,
 ) -> Result<Items<u8>, Stop>
-    ensures { Reads (R.custody records.old) (R.custody records.new) name.now result (by_document_command document.Show key.now) }
+    ensures { HandlesReading (R.custody records.old) (R.custody records.new) name.now result (by_document_command document.Show key.now) }
 {
     let text = records.document(alloc, name, key)?.ok_or(ABSENT)?;
     Ok(json_reply(alloc, text.as_slice())?)
@@ -65,7 +65,7 @@ pub(crate) fn show<R: Records>(
 
 /// The names of all domains. What this costs grows with their number.
 pub(crate) fn domains<R: Records>(alloc: Global, records: &mut R) -> Result<Items<u8>, Stop>
-    ensures tells { (R.custody records.new).sound → Tells (R.custody records.old).kept (R.custody records.new).kept result (Ok (json_reply (names_body (names_of (R.custody records.old).kept)))) }
+    ensures tells { (R.custody records.new).sound → Shows (R.custody records.old).kept (R.custody records.new).kept result (Ok (json_reply (names_body (names_of (R.custody records.old).kept)))) }
     ensures sound { (R.custody records.new).sound → (R.custody records.old).sound }
     ensures clean { (R.custody records.new).clean → (R.custody records.old).clean }
     ensures stays { (R.custody records.new).clean → (R.custody records.old).sound → IfTold result (R.custody records.new).sound }

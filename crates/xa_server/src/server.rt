@@ -1,7 +1,7 @@
 //! The server: a keeper of all domains, one message after another.
 ghost use Rattle.std.specs.Prelude.{◌≡◌, IfOk, OnErr, MatchResult};
 ghost use Rattle.xa_server.specs.Isolation.{TwoWorldsAgree};
-ghost use Rattle.xa_server.specs.Handling.{CountsReply, IsReplyOf};
+ghost use Rattle.xa_server.specs.Handling.{IsReplyOf};
 
 use crate::answer::answer;
 use crate::replies::Reply;
@@ -55,7 +55,7 @@ fn reply_of(alloc: Global, answered: Result<Items<u8>, Stop>) -> Reply
 impl<R: Records> Server<R> {
     ghost use Rattle.xa_server.specs.Crash.{IfSent, LeavesStep};
     ghost use Rattle.xa_server.specs.Isolation.{IsIsolated, IsIsolatedBesideRefusals};
-    ghost use Rattle.xa_server.specs.Served.{IsRun, IsServed};
+    ghost use Rattle.xa_server.specs.Served.{CountsReply, IsRun, IsServed};
     ghost use Rattle.xa_server.specs.Tally.{nothing_held};
     ghost use Rattle.xa_server.specs.Work.{IsWork, IsWorkOfRun};
     ghost use Rattle.xa_server.specs.World.{world};

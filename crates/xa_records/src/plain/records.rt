@@ -1,7 +1,11 @@
 //! The keeper in memory.
-ghost use Rattle.std.specs.Prelude.{◌≡◌};
-ghost use Rattle.xa_records.specs.Keeper.{in_memory};
-ghost use Rattle.xa_records.specs.Kept.{IsNumbered, nothing_kept};
+ghost use Rattle.std.specs.Prelude.{◌≡◌, IfOk, IsErrOf};
+ghost use Rattle.xa_records.specs.declared.refusal.ChangeError.TheVariants.{Failed};
+ghost use Rattle.xa_records.specs.declared.refusal.Failure.TheVariants.{Store};
+ghost use Rattle.xa_records.specs.Changes.{activity_set, created, deleted, removed, root_set, source_set, token_dropped, token_put, upload_of, uploaded, within};
+ghost use Rattle.xa_records.specs.Keeper.{Changing, Reading, in_memory};
+ghost use Rattle.xa_records.specs.Kept.{CantRaise, IsNumbered, names_of, nothing_kept, state_of};
+ghost use Rattle.xa_records.specs.Readings.{gate_of, listing_of, text_of, view_of};
 ghost use Rattle.std.proofs.Props.{props};
 
 use crate::digest::Digest;
@@ -47,11 +51,17 @@ impl Records for PlainRecords {
         self.faults
     }
 
-    fn gate(&mut self, alloc: Global, name: &Text) -> Result<Option<Gate>, Failure> {
+    fn gate(&mut self, alloc: Global, name: &Text) -> Result<Option<Gate>, Failure>
+        ensures reads { Reading (custody self.old) (custody self.new) result (gate_of name.now (custody self.old).kept) }
+        ensures store { ¬ IsErrOf result Store }
+    {
         Ok(self.domains.gate(alloc, name)?)
     }
 
-    fn view(&mut self, alloc: Global, name: &Text) -> Result<Option<KeptView>, Failure> {
+    fn view(&mut self, alloc: Global, name: &Text) -> Result<Option<KeptView>, Failure>
+        ensures reads { Reading (custody self.old) (custody self.new) result (view_of name.now (custody self.old).kept) }
+        ensures store { ¬ IsErrOf result Store }
+    {
         Ok(self.domains.view(alloc, name)?)
     }
 
@@ -60,25 +70,40 @@ impl Records for PlainRecords {
         alloc: Global,
         name: &Text,
         key: &DocumentKey,
-    ) -> Result<Option<Items<u8>>, Failure> {
+    ) -> Result<Option<Items<u8>>, Failure>
+        ensures reads { Reading (custody self.old) (custody self.new) result (text_of name.now key.now (custody self.old).kept) }
+        ensures store { ¬ IsErrOf result Store }
+    {
         Ok(self.domains.document(alloc, name, key)?)
     }
 
-    fn list(&mut self, alloc: Global, name: &Text) -> Result<Option<Items<Listed>>, Failure> {
+    fn list(&mut self, alloc: Global, name: &Text) -> Result<Option<Items<Listed>>, Failure>
+        ensures reads { Reading (custody self.old) (custody self.new) result (listing_of name.now (custody self.old).kept) }
+        ensures store { ¬ IsErrOf result Store }
+    {
         Ok(self.domains.list(alloc, name)?)
     }
 
-    fn domains(&mut self, alloc: Global) -> Result<Items<Text>, Failure> {
+    fn domains(&mut self, alloc: Global) -> Result<Items<Text>, Failure>
+        ensures reads { Reading (custody self.old) (custody self.new) result (names_of (custody self.old).kept) }
+        ensures store { ¬ IsErrOf result Store }
+    {
         Ok(self.domains.names(alloc)?)
     }
 
-    fn create(&mut self, alloc: Global, name: &Text) -> Result<(), ChangeError> {
+    fn create(&mut self, alloc: Global, name: &Text) -> Result<(), ChangeError>
+        ensures does { Changing (custody self.old) (custody self.new) result name.now created }
+        ensures store { IsErrOf result (Failed Store) → CantRaise created name.now (custody self.old).kept }
+    {
         let done = self.domains.create(alloc, name);
         count_failure(&mut self.faults, &done);
         done
     }
 
-    fn remove(&mut self, _alloc: Global, name: &Text) -> Result<(), ChangeError> {
+    fn remove(&mut self, _alloc: Global, name: &Text) -> Result<(), ChangeError>
+        ensures does { Changing (custody self.old) (custody self.new) result name.now removed }
+        ensures store { ¬ IsErrOf result (Failed Store) }
+    {
         let done = self.domains.remove(name);
         count_failure(&mut self.faults, &done);
         done
@@ -90,18 +115,19 @@ impl Records for PlainRecords {
         name: &Text,
         digest: Digest,
         role: Role,
-    ) -> Result<(), ChangeError> {
+    ) -> Result<(), ChangeError>
+        ensures does { Changing (custody self.old) (custody self.new) result name.now (within (token_put digest role)) }
+        ensures store { ¬ IsErrOf result (Failed Store) }
+    {
         let done = self.domains.put_token(name, digest, role);
         count_failure(&mut self.faults, &done);
         done
     }
 
-    fn drop_token(
-        &mut self,
-        _alloc: Global,
-        name: &Text,
-        digest: Digest,
-    ) -> Result<(), ChangeError> {
+    fn drop_token(&mut self, _alloc: Global, name: &Text, digest: Digest) -> Result<(), ChangeError>
+        ensures does { Changing (custody self.old) (custody self.new) result name.now (within (token_dropped digest)) }
+        ensures store { ¬ IsErrOf result (Failed Store) }
+    {
         let done = self.domains.drop_token(name, digest);
         count_failure(&mut self.faults, &done);
         done
@@ -113,7 +139,11 @@ impl Records for PlainRecords {
         name: &Text,
         key: DocumentKey,
         text: &[u8],
-    ) -> Result<Upload, ChangeError> {
+    ) -> Result<Upload, ChangeError>
+        ensures does { Changing (custody self.old) (custody self.new) result name.now (within (uploaded key text.now)) }
+        ensures which { IfOk result (λ u. u ≡ upload_of key (state_of name.now (custody self.old).kept)) }
+        ensures store { IsErrOf result (Failed Store) → CantRaise (within (uploaded key text.now)) name.now (custody self.old).kept }
+    {
         let done = self.domains.upload(name, alloc, key, text);
         count_failure(&mut self.faults, &done);
         done
@@ -125,18 +155,19 @@ impl Records for PlainRecords {
         name: &Text,
         key: &DocumentKey,
         active: bool,
-    ) -> Result<(), ChangeError> {
+    ) -> Result<(), ChangeError>
+        ensures does { Changing (custody self.old) (custody self.new) result name.now (within (activity_set key.now active)) }
+        ensures store { IsErrOf result (Failed Store) → CantRaise (within (activity_set key.now active)) name.now (custody self.old).kept }
+    {
         let done = self.domains.set_active(name, key, active);
         count_failure(&mut self.faults, &done);
         done
     }
 
-    fn delete(
-        &mut self,
-        _alloc: Global,
-        name: &Text,
-        key: &DocumentKey,
-    ) -> Result<(), ChangeError> {
+    fn delete(&mut self, _alloc: Global, name: &Text, key: &DocumentKey) -> Result<(), ChangeError>
+        ensures does { Changing (custody self.old) (custody self.new) result name.now (within (deleted key.now)) }
+        ensures store { IsErrOf result (Failed Store) → CantRaise (within (deleted key.now)) name.now (custody self.old).kept }
+    {
         let done = self.domains.delete(name, key);
         count_failure(&mut self.faults, &done);
         done
@@ -147,7 +178,10 @@ impl Records for PlainRecords {
         _alloc: Global,
         name: &Text,
         root: Option<Reference>,
-    ) -> Result<(), ChangeError> {
+    ) -> Result<(), ChangeError>
+        ensures does { Changing (custody self.old) (custody self.new) result name.now (within (root_set root)) }
+        ensures store { IsErrOf result (Failed Store) → CantRaise (within (root_set root)) name.now (custody self.old).kept }
+    {
         let done = self.domains.set_root(name, root);
         count_failure(&mut self.faults, &done);
         done
@@ -158,7 +192,10 @@ impl Records for PlainRecords {
         _alloc: Global,
         name: &Text,
         rows: Items<SourceRow>,
-    ) -> Result<(), ChangeError> {
+    ) -> Result<(), ChangeError>
+        ensures does { Changing (custody self.old) (custody self.new) result name.now (within (source_set rows)) }
+        ensures store { IsErrOf result (Failed Store) → CantRaise (within (source_set rows)) name.now (custody self.old).kept }
+    {
         let done = self.domains.set_source(name, rows);
         count_failure(&mut self.faults, &done);
         done
