@@ -72,13 +72,13 @@ token_length line is =
 -- the token of a front of a text is that of the text
 pub known_operator : (known : Option (List ℕ)) (bytes : List ℕ) (result : Result (List ℕ) Fault) → IfSome known (λ text. bytes ≡ take 128 text)
     → MatchResult result (λ operator. (operator ≡ sha256 (first_line bytes)) × IsTrue (is_token (first_line bytes)))
-        (λ fault. (fault ≡ TokenBad) × IsFalse (is_token (first_line bytes)))
+    (λ fault. (fault ≡ TokenBad) × IsFalse (is_token (first_line bytes)))
     → IfOk result (λ operator. IfSome known (IsOperatorOf operator))
 known_operator None bytes (Ok operator) front is = tt
 known_operator (Some text) bytes (Ok operator) front is =
     let line : List ℕ = first_line (take 128 text) in
     let token : IsTrue (is_token line) = subst (λ (bs : List ℕ). IsTrue (is_token (first_line bs))) front is.1 in
     let same : first_line bytes ≡ first_line text =
-        ap first_line front ∙ first_of_front 128 text (omega (arith, token_length line token)) in
+    ap first_line front ∙ first_of_front 128 text (omega (arith, token_length line token)) in
     (is.0 ∙ ap sha256 same, subst (λ (l : List ℕ). IsTrue (is_token l)) same is.1)
 known_operator known bytes (Err fault) front is = tt
