@@ -7,7 +7,7 @@ import json
 import sys
 from collections.abc import Callable
 
-from . import ask, asking, cases, diff, explain, explained, files, laid_out, lints, program, setting, text, together
+from . import ask, asking, cases, diff, exchange, explain, explained, files, laid_out, lints, program, setting, text, together
 from .check import Checked, Disagreement, Rows
 from .faults import Remark, Remarks
 from .model import documents as documents_of_model
@@ -274,6 +274,7 @@ def parser() -> argparse.ArgumentParser:
     one.add_argument("--json", action="store_true", help="writes the explanation as JSON")
     word("test", "runs cases", cases_run, add_test)
     word("diff", "shows requests whose answer changes from one set of documents to another", diff_run, add_diff)
+    exchange.add_words(word)
     word("build", "proves and builds the program, and keeps it for the other words", lambda _: program.built(), None)
     word("lints", "lists the lints by their names", lints_run, None)
     return whole
