@@ -59,12 +59,20 @@ def nearest_place(places: dict[str, Spot], pointer: str) -> Spot:
     return places[pointer]
 
 
+def function_place(places: dict[str, Spot], pointer: str) -> tuple[int, int] | None:
+    """Where the name of the function comes from of which the value at the pointer is an argument; None where it is none."""
+    around, found, rest = pointer.rpartition("/Apply/Expression/")
+    spot = places.get(f"{around}/Apply/FunctionId") if found and rest.count("/") < 2 else None
+    return (spot.start, spot.end) if spot else None
+
+
 def taken_over(found: list[Remark], places: dict[str, Spot], remarks: Remarks) -> None:
-    """Says what was remarked on the JSON at the places from which it comes, but for those of which something is said already."""
+    """Says what was remarked on the JSON at the places from which it comes, but for those of which something is said already, and for
+    arguments of functions of which it is."""
     said = {(one.start, one.end) for one in remarks.faults()}
     for one in found:
         spot = nearest_place(places, one.pointer)
-        if (spot.start, spot.end) not in said:
+        if (spot.start, spot.end) not in said and function_place(places, one.pointer) not in said:
             remarks.fault(one.code, spot, one.sentence, expected=one.expected, found=one.found, nearest=one.nearest)
 
 

@@ -350,9 +350,9 @@ def imported(path: str, held: bytes) -> Imported:
     if whole.top is None or not xml_validity.top_of(whole.top, ["Policy", "PolicySet"], remarks):
         return Imported(remarks, None)
     xml_validity.check(whole.top, remarks)
-    is_valid = not remarks.faults()
     if whole.top.namespace == VERSION_2:
         whole.top = in_version_3(whole.top, remarks)
     draft = Importing(remarks).document(whole)
+    is_valid = not any(one.code == "Schema" for one in remarks.faults())
     text = document_text(draft, remarks) if is_valid else None
     return Imported(remarks, None if remarks.faults() else text)

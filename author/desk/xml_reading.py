@@ -175,7 +175,7 @@ class Reader:
 
     def refused(self, *_: object) -> None:
         """Refuses a document type declaration, and whatever could stand in one."""
-        start = self.here()
+        start = max(self.source.text.rfind("<!DOCTYPE", 0, self.here() + 1), 0)
         self.fault("Doctype", start, start + len("<!DOCTYPE"), DOCTYPE)
         raise Stop
 
