@@ -95,13 +95,9 @@ class Exporting:
     # Expressions.
 
     def value(self, node: Node):
-        """A value; of all types but string in the text that is printed."""
+        """A value, in the text in which it is written."""
         data_type, held = identifiers.DATA_TYPES[node.at("DataType").value], node.at("Value")
-        if held.kind == "string":
-            text = self.held(held)
-            text = text if data_type == "string" else values.to_text(values.read(data_type, text))
-        else:
-            text = values.to_text((data_type, held.value))
+        text = self.held(held) if held.kind == "string" else values.to_text((data_type, held.value))
         attributes = self.attributes(("DataType", identifiers.NAMESPACE + data_type))
         return lambda depth: self.line(depth, f"<AttributeValue{attributes}>{in_text(text)}</AttributeValue>")
 
