@@ -83,6 +83,18 @@ def stopped(case: Case, found: list[Remarks]) -> bool:
     return bool(faults)
 
 
+def has_doubles(case: Case, held: list[Checked]) -> bool:
+    """Whether two of the documents are of one kind, id and version, which ends the case: a server holds one of them alone."""
+    seen: dict[str, str] = {}
+    for one in held:
+        key = repr((one.document.kind, one.document.id, versions.numbered(one.document.version.split("."))))
+        if key in seen:
+            case.ended("unread", f"{one.document.id} {one.document.version} is in {seen[key]} and in {one.source.path}.")
+            return True
+        seen[key] = one.source.path
+    return False
+
+
 def prepared(case: Case) -> None:
     """Reads the files of a case; it ends here where they can't be asked."""
     missing = [name for name, there in (("Policy", root_path(case)), ("Request", case.request), ("Response", case.response)) if there is None]
@@ -98,8 +110,11 @@ def prepared(case: Case) -> None:
         case.ended("out of scope", *map(sentence_of, unanswered))
         return
     held: list[Checked] = [checked(path.name, one.text) for path, one in documents]
+    if has_doubles(case, held):
+        return
     root = held[[path for path, _ in documents].index(root_path(case))].document
-    case.held = setting.Setting(held, versions.Reference(root.kind, root.id, None, None, None), None)
+    version = versions.numbered(root.version.split("."))
+    case.held = setting.Setting(held, versions.Reference(root.kind, root.id, None, version, version), None)
     case.body, case.expected = asked.text, expected.results
 
 

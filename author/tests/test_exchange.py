@@ -87,7 +87,7 @@ class RoundTrips(unittest.TestCase):
             self.assertFalse([fields for fields in answers if fields[0].startswith("!")])
             by_program = PROGRAM.answers([row for _, _, old, new in asked for row in (old, new)])
             for (by_model, *_), old, new in zip(asked, by_program[::2], by_program[1::2]):
-                self.assertEqual([old, new], [[rows.encoded(by_model)]] * 2)
+                self.assertEqual([rows.decoded(fields[0]).decode() for fields in (old, new)], [by_model] * 2)
 
 
 if __name__ == "__main__":
