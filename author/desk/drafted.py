@@ -11,6 +11,8 @@ from .positions import step
 from .xml_reading import Spot
 
 WIDTH = 100
+# a document that is larger isn't looked at any more
+MOST_CHECKED = 16 * documents.MAX_BYTES
 
 
 @dataclass
@@ -79,5 +81,8 @@ def taken_over(found: list[Remark], places: dict[str, Spot], remarks: Remarks) -
 def document_text(draft: Draft, remarks: Remarks) -> bytes:
     """The document of a draft; what keeps the server from taking it is said at the places from which it comes."""
     text = text_of(draft.plain(), documents.MAX_BYTES)
+    if len(text) > MOST_CHECKED:
+        remarks.fault("TooLarge", draft.spot, f"A document has at most {documents.MAX_BYTES} bytes, and this one would have {len(text)}.")
+        return text
     taken_over(checked("", text).remarks.faults(), draft.places(), remarks)
     return text

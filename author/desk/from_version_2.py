@@ -92,7 +92,7 @@ class Converting:
         """A designator, whose name says its category in 2.0."""
         section = held.name.removesuffix("AttributeDesignator")
         attributes = given(held)
-        attributes["Category"] = attributes.pop("SubjectCategory", CATEGORIES[section])
+        attributes["Category"] = attributes.pop("SubjectCategory", CATEGORIES.get(section, ""))
         attributes.setdefault("MustBePresent", "false")
         return made(held, "AttributeDesignator", attributes, [])
 

@@ -30,7 +30,7 @@ class Imported:
 def value_in_json(data_type: str, text: str) -> object:
     """The text of a value; of a boolean or an integer that reads, the value itself."""
     name = identifiers.DATA_TYPES.get(data_type, "")
-    if name not in ("boolean", "integer"):
+    if name not in ("boolean", "integer") or len(text) > 100:
         return text
     try:
         return values.read(name, text)[1]

@@ -7,6 +7,8 @@ from __future__ import annotations
 
 import json
 import pathlib
+import random
+import re
 import tempfile
 import unittest
 from unittest import mock
@@ -23,6 +25,7 @@ from desk.xml_tables import VERSION_3  # noqa: E402
 FILES = AUTHOR / "tests" / "imports"
 STRING = "http://www.w3.org/2001/XMLSchema#string"
 DENY_OVERRIDES = "urn:oasis:names:tc:xacml:3.0:rule-combining-algorithm:deny-overrides"
+PIECES = [b"<", b">", b"&", b"&#1;", b"&amp;", b"\xff", b"<!-- c -->", b"<a/>", b"x", b'"', b"<![CDATA[", b"\x00", b"  ", b"<?p q?>", b"\xc3\xa9"]
 SMALL = f'<Policy xmlns="{VERSION_3}" PolicyId="urn:p" Version="1.0" RuleCombiningAlgId="{DENY_OVERRIDES}"><Target/></Policy>'
 
 
@@ -31,8 +34,28 @@ def sources(ending: str) -> list[pathlib.Path]:
     return [path for path in sorted(FILES.iterdir()) if path.suffix in (".xml", ".jsn") and path.with_suffix(ending).exists()]
 
 
+def read_bytes(name: str, held: bytes) -> Imported:
+    return (imported_request if name.startswith("request") else imported)(name, held)
+
+
 def read(path: pathlib.Path) -> Imported:
-    return (imported_request if path.name.startswith("request") else imported)(path.name, path.read_bytes())
+    return read_bytes(path.name, path.read_bytes())
+
+
+def broken(source: random.Random, held: bytes) -> bytes:
+    """The bytes with a piece cut out, put in, or written over another."""
+    start = source.randrange(len(held) + 1)
+    chance = source.random()
+    if chance < 0.3:
+        return held[:start] + held[start + source.choice([1, 2, 5, 20]):]
+    if chance < 0.5:
+        return held[:start] + source.choice(PIECES) + held[start:]
+    shape = rb"<[A-Za-z][^<>]*/>" if chance < 0.7 else rb"[A-Za-z]+"
+    found = list(re.finditer(shape, held))
+    if not found:
+        return held
+    one, other = source.choice(found), source.choice(found)
+    return held[:one.start()] + other.group() + held[one.end():]
 
 
 def with_description(inner: str) -> str:
@@ -83,6 +106,13 @@ class Files(DeskTest):
                     left.remove(self.said(left, *line.split(" ", 2)))
                 self.assertEqual([(one.code, one.sentence) for one in left], [], "nothing else is said")
 
+    def test_paths(self) -> None:
+        for name, code, pointer in (("double", "LeftOut", "/Policy/Rule/Condition/Apply/AttributeValue/@DataType"),
+                                    ("variable_twice", "BadValue", "/Policy/VariableDefinition[2]/@VariableId"),
+                                    ("two_conditions", "Schema", "/Policy/Rule/Condition[2]")):
+            found = read(FILES / f"{name}.xml").remarks.faults()
+            self.assertIn((code, pointer), [(one.code, one.pointer) for one in found])
+
     def said(self, found: list, place: str, code: str, words: str):
         """The remark that a line is about."""
         for one in found:
@@ -118,11 +148,29 @@ class Refusals(DeskTest):
     def test_a_document_that_is_too_large(self) -> None:
         found = imported("p.xml", with_description("a" * documents.MAX_BYTES).encode())
         self.assertEqual(([one.code for one in found.remarks.faults()], found.text), (["TooLarge"], None))
+        self.assertEqual([one.code for one in imported("p.xml", with_description("a" * 2_000_000).encode()).remarks.faults()], ["TooLarge"])
         # laid out it would be too large, and without spaces it isn't
         rules = "".join(f'<Rule RuleId="{number}" Effect="Permit"><Description>{"a" * 90}</Description></Rule>' for number in range(450))
         found = imported("p.xml", SMALL.replace("<Target/>", "<Target/>" + rules).encode())
         self.assertEqual([one.code for one in found.remarks.faults()], [])
         self.assertLess(len(found.text), documents.MAX_BYTES)
+
+
+    def test_a_number_of_very_many_digits(self) -> None:
+        held = (FILES / "no_integer.xml").read_text(encoding="utf-8").replace(">one<", f">{'9' * 5000}<")
+        self.assertEqual([one.code for one in imported("p.xml", held.encode()).remarks.faults()], ["BadValue"])
+
+    def test_broken_files(self) -> None:
+        source, taken = random.Random(1), 0
+        held = [path for path in sorted(FILES.iterdir()) if path.suffix in (".xml", ".jsn")]
+        for _ in range(1500):
+            path = source.choice(held)
+            found = read_bytes(path.name, broken(source, path.read_bytes()))
+            self.assertEqual(found.text is None, bool(found.remarks.faults()))
+            for one in found.remarks.found:
+                text.remark_shown(one)
+            taken += found.text is not None
+        self.assertGreater(taken, 20)
 
 
 class Words(DeskTest):
