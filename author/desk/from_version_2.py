@@ -14,8 +14,8 @@ CATEGORIES = {"Resource": identifiers.SHORTHANDS["Resource"], "Action": identifi
               "Environment": identifiers.SHORTHANDS["Environment"], "Subject": identifiers.SHORTHANDS["AccessSubject"]}
 SAME = ("This is XACML 2.0, and means the same in 3.0: the parts of targets are written as AnyOf, designators with their category, "
         "obligations as expressions.")
-OF_TARGET = ("A target with an attribute that must be present means something else in 2.0 where that is missing: {what}. Set MustBePresent to "
-             "false here, or write the policy in XACML 3.0.")
+OF_TARGET = ("Where a part of a target can't be evaluated, since an attribute is missing that must be present, 2.0 decides otherwise: {what}. "
+             "Set MustBePresent to false here, or write the policy in XACML 3.0.")
 OF_POLICY = "the policy is Indeterminate, and in 3.0 NotApplicable where no rule applies"
 OF_RULE = "the rule is Indeterminate, and in 3.0 NotApplicable where another part doesn't match"
 
@@ -33,6 +33,12 @@ def made(held: Element, name: str, attributes: dict[str, str], children: list) -
 def given(held: Element) -> dict[str, str]:
     """The attributes of an element."""
     return {one.name: one.value for one in held.attributes}
+
+
+def can_fail(held: Element) -> bool:
+    """Whether a part of a target may be Indeterminate by the element: a missing attribute, or n-of, the one function of a match that can fail."""
+    is_needed = (held.value("MustBePresent") or "").strip() in ("true", "1") and held.name != "AttributeSelector"
+    return is_needed or (held.value("MatchId") or "").endswith(":n-of")
 
 
 class Converting:
@@ -69,10 +75,11 @@ class Converting:
         target = held.one("Target")
         if target is None:
             return
-        needed = [one for one in target.all() if (one.value("MustBePresent") or "").strip() in ("true", "1") and one.name != "AttributeSelector"]
+        failing = [one for one in target.all() if can_fail(one)]
         is_rule = held.name == "Rule"
-        if needed and (not is_rule or len(target.elements()) > 1):
-            self.remarks.fault("LeftOut", needed[0].spot("MustBePresent"), OF_TARGET.format(what=OF_RULE if is_rule else OF_POLICY))
+        if failing and (not is_rule or len(target.elements()) > 1):
+            spot = failing[0].spot("MustBePresent" if failing[0].at("MustBePresent") else "MatchId")
+            self.remarks.fault("LeftOut", spot, OF_TARGET.format(what=OF_RULE if is_rule else OF_POLICY))
 
     def sections(self, held: Element) -> list:
         """The parts of a target: each of its sections is a disjunction."""
