@@ -1,7 +1,8 @@
-"""Test cases in the layout of the OASIS conformance suite: a policy, a request and the expected response, in XML.
+"""Test cases in the layout of the OASIS conformance suite: a policy, a request and the expected response.
 
-A case NAME is NAMEPolicy.xml, NAMERequest.xml, NAMEResponse.xml, and further policies and sets NAMEPolicy..xml, which are there to be referred
-to. The decisions are the program's, and the model's where there is none.
+A case NAME is NAMEPolicy.xml, NAMERequest.xml, NAMEResponse.xml, and further policies and sets
+NAMEPolicy..xml, which are there to be referred to. The decisions are the program's, and the model's where
+there is none.
 """
 from __future__ import annotations
 
@@ -26,7 +27,8 @@ COLOURS = {"pass": "green", "differs": "red", "out of scope": "yellow", "unread"
 
 @dataclass
 class Case:
-    """A case: its files, and what became of it. A verdict is `pass`, `differs`, `out of scope` or `unread`."""
+    """A case: its files, and what became of it. A verdict is `pass`, `differs`, `out of scope` or
+    `unread`."""
     name: str
     policies: list[pathlib.Path] = field(default_factory=list)
     request: pathlib.Path | None = None
@@ -71,7 +73,8 @@ def root_path(case: Case) -> pathlib.Path | None:
 
 def sentence_of(remark: Remark) -> str:
     """A remark on one line."""
-    return f"{pathlib.Path(remark.source.path).name}:{remark.place.line}:{remark.place.column}: {remark.sentence}"
+    name = pathlib.Path(remark.source.path).name
+    return f"{name}:{remark.place.line}:{remark.place.column}: {remark.sentence}"
 
 
 def stopped(case: Case, found: list[Remarks]) -> bool:
@@ -84,12 +87,15 @@ def stopped(case: Case, found: list[Remarks]) -> bool:
 
 
 def has_doubles(case: Case, held: list[Checked]) -> bool:
-    """Whether two of the documents are of one kind, id and version, which ends the case: a server holds one of them alone."""
+    """Whether two of the documents are of one kind, id and version, which ends the case: a server holds one
+    of them alone."""
     seen: dict[str, str] = {}
     for one in held:
         key = repr((one.document.kind, one.document.id, versions.numbered(one.document.version.split("."))))
         if key in seen:
-            case.ended("unread", f"{one.document.id} {one.document.version} is in {seen[key]} and in {one.source.path}.")
+            case.ended("unread",
+                       f"{one.document.id} {one.document.version} is in {seen[key]} and in "
+                       f"{one.source.path}.")
             return True
         seen[key] = one.source.path
     return False
@@ -97,15 +103,19 @@ def has_doubles(case: Case, held: list[Checked]) -> bool:
 
 def prepared(case: Case) -> None:
     """Reads the files of a case; it ends here where they can't be asked."""
-    missing = [name for name, there in (("Policy", root_path(case)), ("Request", case.request), ("Response", case.response)) if there is None]
+    wanted = ("Policy", root_path(case)), ("Request", case.request), ("Response", case.response)
+    missing = [name for name, there in wanted if there is None]
     if missing:
-        case.ended("unread", f"{text.listed([f'{case.name}{name}.xml' for name in missing], 'and')} is missing")
+        case.ended("unread",
+                   f"{text.listed([f'{case.name}{name}.xml' for name in missing], 'and')} is missing")
         return
     documents = [(path, imported(path.name, files.held(path))) for path in case.policies]
-    asked, expected = imported_request(case.request.name, files.held(case.request)), responses_in_xml.expected_of(case.response)
+    asked = imported_request(case.request.name, files.held(case.request))
+    expected = responses_in_xml.expected_of(case.response)
     if stopped(case, [*(one.remarks for _, one in documents), asked.remarks, expected.remarks]):
         return
-    unanswered = [remark for remark in asked.remarks.found if remark.code == "not-answered" and "combine" in remark.sentence]
+    unanswered = [remark for remark in asked.remarks.found if remark.code == "not-answered"
+                  and "combine" in remark.sentence]
     if unanswered:
         case.ended("out of scope", *map(sentence_of, unanswered))
         return
@@ -119,18 +129,21 @@ def prepared(case: Case) -> None:
 
 
 def answered(cases: list[Case], moment: int, program: Program | None) -> list[tuple[str, str]]:
-    """To each case the response of the model, and the program's, which is the model's where there is none."""
+    """To each case the response of the model, and the program's, which is the model's where there is
+    none."""
     models = [ask.by_model(case.held, case.body, moment) for case in cases]
     if program is None:
         return [(model, model) for model in models]
     written = program.answers([ask.row_of(case.held, case.body, moment) for case in cases])
-    return [(model, rows.decoded(fields[0]).decode("utf-8", "replace")) for model, fields in zip(models, written)]
+    return [(model, rows.decoded(fields[0]).decode("utf-8", "replace"))
+            for model, fields in zip(models, written)]
 
 
 def judged(case: Case, by_model: str, by_program: str) -> None:
     """Compares the response with the expected one."""
     if by_model != by_program:
-        raise Disagreement(f"MODEL AND PROGRAM DISAGREE on case {case.name}. The model: {by_model[:400]} The program: {by_program[:400]}")
+        raise Disagreement(f"MODEL AND PROGRAM DISAGREE on case {case.name}. The model: {by_model[:400]} "
+                           f"The program: {by_program[:400]}")
     given = responses_in_xml.given_of(json.loads(by_program)["Response"])
     why = responses_in_xml.differences(case.expected, given)
     case.ended("differs" if why else "pass", *why)
@@ -157,6 +170,8 @@ def run(folders: list[str], moment: int, program: Program | None, is_json: bool)
         for case in cases:
             print_case(case)
         counts = [f"{sum(case.verdict == verdict for case in cases)} {word}"
-                  for verdict, word in (("pass", "passed"), ("out of scope", "out of scope"), ("differs", "differ"), ("unread", "unread"))]
-        print(f"{text.counted(len(cases), 'case')}: {', '.join(counts)}" + ("; by the model alone." if program is None else "; by model and program."))
+                  for verdict, word in (("pass", "passed"), ("out of scope", "out of scope"),
+                                        ("differs", "differ"), ("unread", "unread"))]
+        print(f"{text.counted(len(cases), 'case')}: {', '.join(counts)}"
+              + ("; by the model alone." if program is None else "; by model and program."))
     return FAULTS if any(case.verdict in ("differs", "unread") for case in cases) else FINE

@@ -19,7 +19,8 @@ from .setting import Usage
 
 FINE, FAULTS = 0, 1
 # the members in which others stand, in the order of the notation
-SAID_IN = ("Policy", "PolicySet", "VariableDefinition", "Rule", "Condition", "Children", "ObligationExpressions", "AdviceExpressions",
+SAID_IN = ("Policy", "PolicySet", "VariableDefinition", "Rule", "Condition", "Children",
+           "ObligationExpressions", "AdviceExpressions",
            "AttributeAssignmentExpression", "Expression", "Apply")
 
 
@@ -45,7 +46,8 @@ def kept(folder: pathlib.Path, path: pathlib.Path, ending: str, held: bytes) -> 
     print(text.wrapped(f"{files.shown(path)}: written to {files.shown(target)}", "", "    "))
 
 
-def written(options: argparse.Namespace, ending: str, make: Callable[[pathlib.Path], tuple[list[Remark], bytes | None]]) -> int:
+def written(options: argparse.Namespace, ending: str,
+            make: Callable[[pathlib.Path], tuple[list[Remark], bytes | None]]) -> int:
     """Writes what is made of each file, to the folder or to standard output; the exit status."""
     paths = [pathlib.Path(path) for path in options.files]
     if len(paths) > 1 and options.to is None:
@@ -84,7 +86,8 @@ def taken(path: str, held: bytes, asked: Program) -> None:
     """Raises where the program doesn't take a document that the model takes."""
     answer = asked.answers([["document", rows.encoded(held)]])[0]
     if answer[0].startswith("!"):
-        raise Disagreement(f"{path}: the model takes the document that is made of it, and the program answers {answer[0]}.")
+        raise Disagreement(f"{path}: the model takes the document that is made of it, and the program "
+                           f"answers {answer[0]}.")
 
 
 def export_run(options: argparse.Namespace) -> int:
@@ -93,14 +96,17 @@ def export_run(options: argparse.Namespace) -> int:
         held = files.held(path)
         found = exported(checked(files.shown(path), held))
         if found.text is not None and not is_same(held, imported(str(path), found.text.encode()).text):
-            raise Disagreement(f"{path}: what is exported isn't imported as the same document. This is a fault of the desk.")
+            raise Disagreement(f"{path}: what is exported isn't imported as the same document. This is a "
+                               f"fault of the desk.")
         return found.remarks.found, None if found.text is None else found.text.encode()
     return written(options, ".xml", make)
 
 
 def is_same(held: bytes, again: bytes | None) -> bool:
     """Whether the bytes are one document, by what it means, and by what it says to people."""
-    return again is not None and documents.document_of(held) == documents.document_of(again) and sayings(json.loads(held)) == sayings(json.loads(again))
+    if again is None or documents.document_of(held) != documents.document_of(again):
+        return False
+    return sayings(json.loads(held)) == sayings(json.loads(again))
 
 
 def sayings(held: object) -> list:
@@ -121,14 +127,17 @@ def chosen_program(options: argparse.Namespace) -> Program | None:
 
 def conformance_run(options: argparse.Namespace) -> int:
     """Answers `conformance`."""
-    return conformance.run(options.folders, setting.moment_of(options.at), chosen_program(options), options.json)
+    return conformance.run(options.folders, setting.moment_of(options.at), chosen_program(options),
+                           options.json)
 
 
 def add_files(what: str) -> Callable[[argparse.ArgumentParser], None]:
     """Adds the options of `import` and `export`."""
     def adds(parser: argparse.ArgumentParser) -> None:
         parser.add_argument("files", nargs="+", metavar="FILE", help=what)
-        parser.add_argument("--to", metavar="FOLDER", help="writes a file for each into this folder; standard output where it is left out")
+        parser.add_argument("--to", metavar="FOLDER",
+                            help="writes a file for each into this folder; standard output where it is left "
+                                 "out")
         parser.add_argument("--json", action="store_true", help="writes the remarks as JSON")
     return adds
 
@@ -142,8 +151,10 @@ def add_import(parser: argparse.ArgumentParser) -> None:
 
 def add_conformance(parser: argparse.ArgumentParser) -> None:
     """Adds the options of `conformance`."""
-    parser.add_argument("folders", nargs="+", metavar="FOLDER", help="a folder of NAMEPolicy.xml, NAMERequest.xml and NAMEResponse.xml")
-    parser.add_argument("--at", metavar="TIME", default="1970-01-01T00:00:00Z", help="the time of all requests; 1970-01-01T00:00:00Z where it is left out")
+    parser.add_argument("folders", nargs="+", metavar="FOLDER",
+                        help="a folder of NAMEPolicy.xml, NAMERequest.xml and NAMEResponse.xml")
+    parser.add_argument("--at", metavar="TIME", default="1970-01-01T00:00:00Z",
+                        help="the time of all requests; 1970-01-01T00:00:00Z where it is left out")
     parser.add_argument("--json", action="store_true", help="writes the cases as JSON")
 
 
@@ -151,4 +162,5 @@ def add_words(word: Callable[..., argparse.ArgumentParser]) -> None:
     """Adds the words to the command."""
     word("import", "makes documents, or requests, of XACML in XML", import_run, add_import)
     add_files("policy documents")(word("export", "makes XACML 3.0 in XML of documents", export_run, None))
-    word("conformance", "runs test cases of policy, request and response in XML", conformance_run, add_conformance)
+    word("conformance", "runs test cases of policy, request and response in XML", conformance_run,
+         add_conformance)

@@ -1,7 +1,7 @@
 """Documents of the notation as policies and policy sets of XACML 3.0 in XML: what `importing` reads, written.
 
-Whatever isn't white space by itself in XML is written by its number, so that the document comes back letter by letter. XML can't hold each
-character: a text with one that it can't is told.
+Whatever isn't white space by itself in XML is written by its number, so that the document comes back letter
+by letter. XML can't hold each character: a text with one that it can't is told.
 """
 from __future__ import annotations
 
@@ -30,8 +30,14 @@ def in_attribute(held: str) -> str:
 
 
 def uri_escaped(held: str) -> str:
-    """A URI as XML holds it in quotes: spaces that a schema would bring together are written by their number."""
+    """A URI as XML holds it in quotes: spaces that a schema would bring together are written by their
+    number."""
     return re.sub("^ +| +$| {2,}", lambda found: "&#32;" * len(found.group()), in_attribute(held))
+
+
+# of obligations and of advice the names of the group, of one, of its id, and of its decision
+DUTIES = (("ObligationExpressions", "ObligationExpression", "ObligationId", "FulfillOn"),
+          ("AdviceExpressions", "AdviceExpression", "AdviceId", "AppliesTo"))
 
 
 @dataclass
@@ -52,7 +58,9 @@ class Exporting:
     def held(self, node: Node) -> str:
         """The text of a value; a character that XML can't hold is told."""
         for found in NO_XML.finditer(node.value):
-            self.remarks.fault("NoXml", node, f"XML can't hold the character U+{ord(found.group()):04X} in any way: this document stays JSON.")
+            self.remarks.fault("NoXml", node,
+                               f"XML can't hold the character U+{ord(found.group()):04X} in any way: this "
+                               f"document stays JSON.")
             return ""
         return node.value
 
@@ -60,18 +68,22 @@ class Exporting:
         return "".join(f' {name}="{value}"' for name, value in pairs)
 
     def of(self, node: Node, *names: str, plain: tuple[str, ...] = ()) -> str:
-        """The attributes that are members of these names, where they are there; those of `plain` are no URIs."""
+        """The attributes that are members of these names, where they are there; those of `plain` are no
+        URIs."""
         pairs = []
         for name in names:
             held = node.at(name)
             if held is not None:
                 text = self.held(held)
-                text = identifiers.category(text) if name == "Category" else self.type_of(text) if name == "DataType" else text
+                text = self.whole(name, text)
                 pairs.append((name, in_attribute(text) if name in plain else uri_escaped(text)))
         return self.attributes(*pairs)
 
-    def type_of(self, text: str) -> str:
-        return identifiers.NAMESPACE + identifiers.DATA_TYPES[text]
+    def whole(self, name: str, text: str) -> str:
+        """The URI of a category or a data type, of which the notation has short forms."""
+        if name == "DataType":
+            return identifiers.NAMESPACE + identifiers.DATA_TYPES[text]
+        return identifiers.category(text) if name == "Category" else text
 
     def line(self, depth: int, text: str) -> None:
         self.lines.append("  " * depth + text)
@@ -90,7 +102,9 @@ class Exporting:
     def described(self, node: Node):
         """The description, where there is one."""
         held = node.at("Description")
-        return None if held is None else lambda depth: self.line(depth, f"<Description>{in_text(self.held(held))}</Description>")
+        if held is None:
+            return None
+        return lambda depth: self.line(depth, f"<Description>{in_text(self.held(held))}</Description>")
 
     # Expressions.
 
@@ -99,10 +113,11 @@ class Exporting:
         data_type, held = identifiers.DATA_TYPES[node.at("DataType").value], node.at("Value")
         text = self.held(held) if held.kind == "string" else values.to_text((data_type, held.value))
         attributes = self.attributes(("DataType", identifiers.NAMESPACE + data_type))
-        return lambda depth: self.line(depth, f"<AttributeValue{attributes}>{in_text(text)}</AttributeValue>")
+        return lambda depth: self.line(depth,
+                                       f"<AttributeValue{attributes}>{in_text(text)}</AttributeValue>")
 
     def designator(self, node: Node):
-        held = self.of(node, "Category", "AttributeId", "DataType") + self.of(node, "Issuer", plain=("Issuer",))
+        held = self.of(node, "Category", "AttributeId", "DataType", "Issuer", plain=("Issuer",))
         present = self.attributes(("MustBePresent", "true" if node.at("MustBePresent").value else "false"))
         return lambda depth: self.line(depth, f"<AttributeDesignator{held}{present}/>")
 
@@ -115,7 +130,8 @@ class Exporting:
             return self.designator(inner)
         if name == "Apply":
             arguments = [self.expression(one) for one in items(inner, "Expression")]
-            return lambda depth: self.element(depth, name, self.of(inner, "FunctionId"), [self.described(inner), *arguments])
+            return lambda depth: self.element(depth, name, self.of(inner, "FunctionId"),
+                                              [self.described(inner), *arguments])
         attributes = self.of(inner, "FunctionId", "VariableId", plain=("VariableId",))
         return lambda depth: self.element(depth, name, attributes, [])
 
@@ -126,10 +142,12 @@ class Exporting:
         return lambda depth: self.element(depth, "Match", self.of(node, "MatchId"), inner)
 
     def all_of(self, node: Node):
-        return lambda depth: self.element(depth, "AllOf", "", [self.match(one) for one in items(node, "Match")])
+        return lambda depth: self.element(depth, "AllOf", "",
+                                          [self.match(one) for one in items(node, "Match")])
 
     def any_of(self, node: Node):
-        return lambda depth: self.element(depth, "AnyOf", "", [self.all_of(one) for one in items(node, "AllOf")])
+        return lambda depth: self.element(depth, "AnyOf", "",
+                                          [self.all_of(one) for one in items(node, "AllOf")])
 
     def target(self, node: Node, is_needed: bool):
         """The target, which a policy and a set have to have in XML."""
@@ -139,13 +157,13 @@ class Exporting:
 
     def assignment(self, node: Node):
         attributes = self.of(node, "AttributeId", "Category", "Issuer", plain=("Issuer",))
-        return lambda depth: self.element(depth, "AttributeAssignmentExpression", attributes, [self.expression(node.at("Expression"))])
+        return lambda depth: self.element(depth, "AttributeAssignmentExpression", attributes,
+                                          [self.expression(node.at("Expression"))])
 
     def duties(self, node: Node) -> list:
         """Obligations and advice, where there are any."""
         found = []
-        for group, name, its_id, decision in (("ObligationExpressions", "ObligationExpression", "ObligationId", "FulfillOn"),
-                                              ("AdviceExpressions", "AdviceExpression", "AdviceId", "AppliesTo")):
+        for group, name, its_id, decision in DUTIES:
             inner = [self.duty(name, its_id, decision, one) for one in items(node, group)]
             if inner:
                 found.append(lambda depth, group=group, inner=inner: self.element(depth, group, "", inner))
@@ -158,30 +176,42 @@ class Exporting:
     # Rules, policies and sets.
 
     def rule(self, node: Node):
-        condition = node.at("Condition")
-        held = None if condition is None else lambda depth: self.element(depth, "Condition", "", [self.expression(condition)])
-        inner = [self.described(node), self.target(node, False), held, *self.duties(node)]
-        return lambda depth: self.element(depth, "Rule", self.of(node, "RuleId", "Effect", plain=("RuleId",)), inner)
+        inner = [self.described(node), self.target(node, False), self.condition(node.at("Condition")),
+                 *self.duties(node)]
+        return lambda depth: self.element(depth, "Rule",
+                                          self.of(node, "RuleId", "Effect", plain=("RuleId",)), inner)
+
+    def condition(self, node: Node | None):
+        """The condition, where there is one."""
+        if node is None:
+            return None
+        return lambda depth: self.element(depth, "Condition", "", [self.expression(node)])
 
     def definition(self, node: Node):
         attributes = self.of(node, "VariableId", plain=("VariableId",))
-        return lambda depth: self.element(depth, "VariableDefinition", attributes, [self.expression(node.at("Expression"))])
+        return lambda depth: self.element(depth, "VariableDefinition", attributes,
+                                          [self.expression(node.at("Expression"))])
 
     def policy(self, node: Node, more: str = ""):
-        inner = [self.described(node), self.target(node, True), *map(self.definition, items(node, "VariableDefinition")),
+        inner = [self.described(node), self.target(node, True),
+                 *map(self.definition, items(node, "VariableDefinition")),
                  *map(self.rule, items(node, "Rule")), *self.duties(node)]
-        return lambda depth: self.element(depth, "Policy", more + self.of(node, "PolicyId", "Version", "RuleCombiningAlgId"), inner)
+        attributes = more + self.of(node, "PolicyId", "Version", "RuleCombiningAlgId")
+        return lambda depth: self.element(depth, "Policy", attributes, inner)
 
     def policy_set(self, node: Node, more: str = ""):
-        inner = [self.described(node), self.target(node, True), *map(self.child, items(node, "Children")), *self.duties(node)]
-        return lambda depth: self.element(depth, "PolicySet", more + self.of(node, "PolicySetId", "Version", "PolicyCombiningAlgId"), inner)
+        inner = [self.described(node), self.target(node, True), *map(self.child, items(node, "Children")),
+                 *self.duties(node)]
+        attributes = more + self.of(node, "PolicySetId", "Version", "PolicyCombiningAlgId")
+        return lambda depth: self.element(depth, "PolicySet", attributes, inner)
 
     def child(self, node: Node, more: str = ""):
         """A child of a set, or the document itself."""
         name, inner = next((member.name, member.node) for member in node.last().values())
         if name in ("Policy", "PolicySet"):
             return self.policy(inner, more) if name == "Policy" else self.policy_set(inner, more)
-        attributes, text = self.of(inner, "Version", "EarliestVersion", "LatestVersion"), uri_escaped(self.held(inner.at("Id")))
+        attributes = self.of(inner, "Version", "EarliestVersion", "LatestVersion")
+        text = uri_escaped(self.held(inner.at("Id")))
         return lambda depth: self.line(depth, f"<{name}{attributes}>{text}</{name}>")
 
 

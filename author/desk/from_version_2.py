@@ -11,10 +11,13 @@ from .xml_tables import VERSION_3
 
 SECTIONS = ("Subject", "Resource", "Action", "Environment")
 CATEGORIES = {"Resource": identifiers.SHORTHANDS["Resource"], "Action": identifiers.SHORTHANDS["Action"],
-              "Environment": identifiers.SHORTHANDS["Environment"], "Subject": identifiers.SHORTHANDS["AccessSubject"]}
-SAME = ("This is XACML 2.0, and means the same in 3.0: the parts of targets are written as AnyOf, designators with their category, "
+              "Environment": identifiers.SHORTHANDS["Environment"],
+              "Subject": identifiers.SHORTHANDS["AccessSubject"]}
+SAME = ("This is XACML 2.0, and means the same in 3.0: the parts of targets are written as AnyOf, "
+        "designators with their category, "
         "obligations as expressions.")
-OF_TARGET = ("Where a part of a target can't be evaluated, since an attribute is missing that must be present, 2.0 decides otherwise: {what}. "
+OF_TARGET = ("Where a part of a target can't be evaluated, since an attribute is missing that must be "
+             "present, 2.0 decides otherwise: {what}. "
              "Set MustBePresent to false here, or write the policy in XACML 3.0.")
 OF_POLICY = "the policy is Indeterminate, and in 3.0 NotApplicable where no rule applies"
 OF_RULE = "the rule is Indeterminate, and in 3.0 NotApplicable where another part doesn't match"
@@ -26,8 +29,10 @@ def made(held: Element, name: str, attributes: dict[str, str], children: list) -
     found = []
     for one, value in attributes.items():
         old = held.at(one)
-        found.append(Attribute(one, value, old.start if old else spot.start, old.end if old else spot.end, bool(old and old.is_referring)))
-    return Element(held.source, VERSION_3, name, held.start, held.end, found, children, held.pointer, held.is_referring)
+        found.append(Attribute(one, value, old.start if old else spot.start, old.end if old else spot.end,
+                               bool(old and old.is_referring)))
+    return Element(held.source, VERSION_3, name, held.start, held.end, found, children, held.pointer,
+                   held.is_referring)
 
 
 def given(held: Element) -> dict[str, str]:
@@ -36,9 +41,10 @@ def given(held: Element) -> dict[str, str]:
 
 
 def can_fail(held: Element) -> bool:
-    """Whether a part of a target may be Indeterminate by the element: a missing attribute, or n-of, the one function of a match that can fail."""
-    is_needed = (held.value("MustBePresent") or "").strip() in ("true", "1") and held.name != "AttributeSelector"
-    return is_needed or (held.value("MatchId") or "").endswith(":n-of")
+    """Whether a part of a target may be Indeterminate by the element: a missing attribute, or n-of, the one
+    function of a match that can fail."""
+    is_needed = (held.value("MustBePresent") or "").strip() in ("true", "1")
+    return is_needed and held.name != "AttributeSelector" or (held.value("MatchId") or "").endswith(":n-of")
 
 
 class Converting:
@@ -58,11 +64,14 @@ class Converting:
         if held.name.endswith("AttributeDesignator"):
             return self.designator(held)
         if held.name == "AttributeSelector":
-            attributes = {"Category": "", "Path": held.value("RequestContextPath") or "", "DataType": held.value("DataType") or "",
+            attributes = {"Category": "", "Path": held.value("RequestContextPath") or "",
+                          "DataType": held.value("DataType") or "",
                           "MustBePresent": "false"}
             return made(held, held.name, attributes, [])
         if held.name == "Obligations":
-            return made(held, "ObligationExpressions", {}, [self.obligation(child) if isinstance(child, Element) else child for child in held.children])
+            return made(held, "ObligationExpressions", {},
+                        [self.obligation(child) if isinstance(child, Element) else child
+                         for child in held.children])
         if held.name in ("Policy", "PolicySet", "Rule"):
             self.targets(held)
         attributes = given(held)
@@ -86,13 +95,17 @@ class Converting:
         found = []
         for child in held.children:
             if isinstance(child, Element):
-                found.append(made(child, "AnyOf", {}, [self.conjunction(inner) if isinstance(inner, Element) else inner for inner in child.children]))
+                found.append(made(child, "AnyOf", {},
+                                  [self.conjunction(inner) if isinstance(inner, Element) else inner
+                                   for inner in child.children]))
             else:
                 found.append(child)
         return found
 
     def conjunction(self, held: Element) -> Element:
-        return made(held, "AllOf", {}, [made(inner, "Match", given(inner), self.children(inner)) if isinstance(inner, Element) else inner
+        return made(held, "AllOf", {},
+                    [made(inner, "Match", given(inner), self.children(inner)) if isinstance(inner, Element)
+                     else inner
                                         for inner in held.children])
 
     def designator(self, held: Element) -> Element:
@@ -106,13 +119,15 @@ class Converting:
     def obligation(self, held: Element) -> Element:
         """An obligation, whose assignments are plain values in 2.0."""
         return made(held, "ObligationExpression", given(held),
-                    [self.assignment(child) if isinstance(child, Element) else child for child in held.children])
+                    [self.assignment(child) if isinstance(child, Element) else child
+                     for child in held.children])
 
     def assignment(self, held: Element) -> Element:
         attributes = given(held)
         attributes.pop("AttributeId", None)
         value = made(held, "AttributeValue", attributes, held.children)
-        return made(held, "AttributeAssignmentExpression", {"AttributeId": held.value("AttributeId") or ""}, [value])
+        return made(held, "AttributeAssignmentExpression", {"AttributeId": held.value("AttributeId") or ""},
+                    [value])
 
 
 def in_version_3(top: Element, remarks: Remarks) -> Element:

@@ -1,6 +1,7 @@
 """Policies and policy sets of XACML 3.0 in XML as documents of the notation (XACML 3.0, core, section 5).
 
-Nothing is dropped in silence: what the notation has no place for, and what the server hasn't, is said at its place.
+Nothing is dropped in silence: what the notation has no place for, and what the server hasn't, is said at its
+place.
 """
 from __future__ import annotations
 
@@ -9,13 +10,15 @@ from dataclasses import dataclass
 from . import left_out, xml_reading, xml_validity
 from .drafted import Draft, document_text
 from .faults import Remarks
+from .exporting import DUTIES
 from .from_version_2 import in_version_3
 from .model import identifiers, values
 from .text import counted
 from .xml_reading import Element, Spot, Text, Whole
 from .xml_tables import VERSION_2
 
-EXPRESSIONS = ("Apply", "AttributeSelector", "AttributeValue", "Function", "VariableReference", "AttributeDesignator")
+EXPRESSIONS = ("Apply", "AttributeSelector", "AttributeValue", "Function", "VariableReference",
+               "AttributeDesignator")
 DESCRIBED = ("Policy", "PolicySet", "Rule", "Apply")
 CHILDREN = ("Policy", "PolicySet", "PolicyIdReference", "PolicySetIdReference")
 
@@ -68,7 +71,8 @@ class Importing:
         found = self.uri(held, name)
         newer = table.get(found.value)
         if newer is not None:
-            self.remarks.note("renamed", found.spot, f"{newer} means the same, and is written for it.", found=found.value)
+            self.remarks.note("renamed", found.spot, f"{newer} means the same, and is written for it.",
+                              found=found.value)
             return Draft(newer, found.spot)
         return found
 
@@ -95,7 +99,8 @@ class Importing:
         if sentence:
             self.left_out(found.spot, sentence, found.value)
         elif found.value in values.TYPES:
-            self.remarks.fault("BadValue", found.spot, "In XML a data type is its whole URI.", found=found.value,
+            self.remarks.fault("BadValue", found.spot, "In XML a data type is its whole URI.",
+                               found=found.value,
                                nearest=identifiers.NAMESPACE + found.value)
         return found
 
@@ -103,7 +108,9 @@ class Importing:
         """A category, whose shorthands are the notation's and not XML's."""
         found = self.uri(held, name)
         if found.value in identifiers.SHORTHANDS:
-            self.remarks.fault("BadValue", found.spot, "In XML a category is its whole URI; a policy of the notation would read this as another one.",
+            self.remarks.fault("BadValue", found.spot,
+                               "In XML a category is its whole URI; a policy of the notation would read "
+                               "this as another one.",
                                found=found.value, nearest=identifiers.SHORTHANDS[found.value])
         return found
 
@@ -118,7 +125,8 @@ class Importing:
     # Descriptions and comments.
 
     def comments_of(self, held: Element) -> list[Text]:
-        """The comments that are about the element: those in it and in all that has no description, up to the next element that has one."""
+        """The comments that are about the element: those in it and in all that has no description, up to the
+        next element that has one."""
         found, waiting = [], []
         for child in held.children:
             if isinstance(child, Text) and child.is_comment:
@@ -143,7 +151,8 @@ class Importing:
                 found.append(child)
         return []
 
-    def described(self, held: Element, around: Element | None, outside: tuple[Text, ...] = ()) -> dict[str, Draft]:
+    def described(self, held: Element, around: Element | None,
+                  outside: tuple[Text, ...] = ()) -> dict[str, Draft]:
         """The member Description: the element's, and the comments about it, each on lines of its own."""
         own = held.one("Description")
         comments = [*outside, *self.comments_before(held, around), *self.comments_of(held)]
@@ -163,18 +172,23 @@ class Importing:
             self.left_out(child.spot(), "A value is a text here: XML in it is left out.", f"<{child.name}>")
         for one in held.attributes:
             if one.name != "DataType" and one.name not in xml_validity.HINTS:
-                self.left_out(held.spot(one.name), "A value has no attribute but DataType here: this one has no place.", one.name)
-        return Draft({"DataType": data_type, "Value": Draft(value_in_json(data_type.value, held.text()), held.spot())}, held.spot())
+                self.left_out(held.spot(one.name),
+                              "A value has no attribute but DataType here: this one has no place.", one.name)
+        return Draft({"DataType": data_type,
+                      "Value": Draft(value_in_json(data_type.value, held.text()), held.spot())}, held.spot())
 
     def designator(self, held: Element) -> Draft:
         """An attribute designator; in place of a selector, which is told, one that finds nothing."""
         if held.name == "AttributeSelector":
             self.element_left_out(held)
             nothing = Draft("", held.spot())
-            return Draft({"Category": nothing, "AttributeId": nothing, "DataType": self.data_type(held), "MustBePresent": Draft(False, held.spot())},
+            return Draft({"Category": nothing, "AttributeId": nothing, "DataType": self.data_type(held),
+                          "MustBePresent": Draft(False, held.spot())},
                          held.spot())
-        present = Draft((held.value("MustBePresent") or "").strip() in ("true", "1"), held.spot("MustBePresent"))
-        found = {"Category": self.category(held), "AttributeId": self.uri(held, "AttributeId"), "DataType": self.data_type(held),
+        present = Draft((held.value("MustBePresent") or "").strip() in ("true", "1"),
+                        held.spot("MustBePresent"))
+        found = {"Category": self.category(held), "AttributeId": self.uri(held, "AttributeId"),
+                 "DataType": self.data_type(held),
                  "MustBePresent": present}
         return Draft(found | self.issuer(held), held.spot())
 
@@ -189,7 +203,8 @@ class Importing:
             return Draft({"AttributeDesignator": self.designator(held)}, held.spot())
         elif held.name == "Apply":
             found = {"FunctionId": self.function(held, "FunctionId")} | self.described(held, None)
-            inner = Draft(found | self.several("Expression", held, EXPRESSIONS, self.expression), held.spot())
+            inner = Draft(found | self.several("Expression", held, EXPRESSIONS, self.expression),
+                          held.spot())
         elif held.name == "Function":
             inner = Draft({"FunctionId": self.function(held, "FunctionId")}, held.spot())
         else:
@@ -202,15 +217,16 @@ class Importing:
         return {"Expression": self.expression(found[0])} if found else {}
 
     def several(self, name: str, held: Element, of: tuple[str, ...], make) -> dict[str, Draft]:
-        """A member that is an array of what is made of the children of these names; none where there are none."""
+        """A member that is an array of what is made of the children of these names; none where there are
+        none."""
         found = [make(child) for child in held.named(*of)]
         return {name: Draft(found, held.spot())} if found else {}
 
     # Targets.
 
     def match(self, held: Element) -> Draft:
-        name, value, found = self.function(held, "MatchId"), held.one("AttributeValue"), held.named("AttributeDesignator", "AttributeSelector")
-        members = {"MatchId": name}
+        members = {"MatchId": self.function(held, "MatchId")}
+        value, found = held.one("AttributeValue"), held.named("AttributeDesignator", "AttributeSelector")
         if value is not None:
             members["AttributeValue"] = self.attribute_value(value)
         if found:
@@ -233,20 +249,22 @@ class Importing:
 
     def assignment(self, held: Element) -> Draft:
         category = {"Category": self.category(held)} if held.at("Category") else {}
-        return Draft({"AttributeId": self.uri(held, "AttributeId")} | category | self.issuer(held) | self.inner_expression(held), held.spot())
+        return Draft({"AttributeId": self.uri(held, "AttributeId")} | category | self.issuer(held)
+                     | self.inner_expression(held), held.spot())
 
     def duty(self, name: str, decision: str):
         """Makes an obligation, or advice, by its attributes' names."""
         def makes(held: Element) -> Draft:
             members = {name: self.uri(held, name), decision: self.uri(held, decision)}
-            return Draft(members | self.several("AttributeAssignmentExpression", held, ("AttributeAssignmentExpression",), self.assignment), held.spot())
+            return Draft(members
+                         | self.several("AttributeAssignmentExpression", held,
+                                        ("AttributeAssignmentExpression",), self.assignment), held.spot())
         return makes
 
     def duties(self, held: Element) -> dict[str, Draft]:
         """The members with obligations and advice."""
         found = {}
-        for group, item, name, decision in (("ObligationExpressions", "ObligationExpression", "ObligationId", "FulfillOn"),
-                                            ("AdviceExpressions", "AdviceExpression", "AdviceId", "AppliesTo")):
+        for group, item, name, decision in DUTIES:
             inner = held.one(group)
             if inner is not None:
                 found |= self.several(group, inner, (item,), self.duty(name, decision))
@@ -255,7 +273,8 @@ class Importing:
     # Rules, policies and sets.
 
     def rule(self, held: Element, around: Element) -> Draft:
-        members = {"RuleId": self.uri(held, "RuleId"), "Effect": self.uri(held, "Effect")} | self.described(held, around) | self.target(held)
+        members = {"RuleId": self.uri(held, "RuleId"), "Effect": self.uri(held, "Effect")}
+        members |= self.described(held, around) | self.target(held)
         condition = held.one("Condition")
         inner = self.inner_expression(condition) if condition is not None else {}
         if inner:
@@ -266,15 +285,19 @@ class Importing:
         return Draft({"VariableId": self.uri(held, "VariableId")} | self.inner_expression(held), held.spot())
 
     def definitions(self, held: Element) -> dict[str, Draft]:
-        """The variables, each behind those that it names: the notation has them in this order, and XML in any."""
+        """The variables, each behind those that it names: the notation has them in this order, and XML in
+        any."""
         given = held.named("VariableDefinition")
         ordered = self.ordered(given)
         for one in ordered:
             before = given[:given.index(one)]
             later = [other for other in before if ordered.index(other) > ordered.index(one)]
             if later:
-                self.remarks.note("moved", one.spot(), f"This definition stands before {later[0].value('VariableId')} now, which names it.")
-        return {"VariableDefinition": Draft([self.definition(one) for one in ordered], held.spot())} if ordered else {}
+                self.remarks.note("moved", one.spot(),
+                                  f"This definition stands before {later[0].value('VariableId')} now, which "
+                                  f"names it.")
+        found = [self.definition(one) for one in ordered]
+        return {"VariableDefinition": Draft(found, held.spot())} if found else {}
 
     def ordered(self, given: list[Element]) -> list[Element]:
         """The definitions so that each stands behind those that it names; one in a circle is told."""
@@ -283,8 +306,10 @@ class Importing:
 
         def visit(one: Element) -> None:
             if one in path:
-                self.remarks.fault("Schema", one.spot(), f"The variable {one.value('VariableId')} stands for itself: "
-                                   + " names ".join(str(other.value("VariableId")) for other in [*path[path.index(one):], one]) + ".")
+                self.remarks.fault("Schema", one.spot(),
+                                   f"The variable {one.value('VariableId')} stands for itself: "
+                                   + " names ".join(str(other.value("VariableId"))
+                                                    for other in [*path[path.index(one):], one]) + ".")
             elif id(one) not in done:
                 path.append(one)
                 for inner in one.all():
@@ -297,19 +322,22 @@ class Importing:
             visit(one)
         return found
 
-    def head(self, held: Element, around: Element | None, id_name: str, algorithm: str, outside: tuple[Text, ...]) -> dict[str, Draft]:
+    def head(self, held: Element, around: Element | None, id_name: str, algorithm: str,
+             outside: tuple[Text, ...]) -> dict[str, Draft]:
         """The members that begin a policy or a set; what else may begin one in XML is told."""
         for child in held.elements():
             if child.name in left_out.ELEMENTS:
                 self.element_left_out(child)
         if held.at("MaxDelegationDepth"):
             self.left_out(held.spot("MaxDelegationDepth"), left_out.DEPTH, held.value("MaxDelegationDepth"))
-        members = {id_name: self.uri(held, id_name), "Version": self.uri(held, "Version"), algorithm: self.algorithm(held, algorithm)}
+        members = {id_name: self.uri(held, id_name), "Version": self.uri(held, "Version"),
+                   algorithm: self.algorithm(held, algorithm)}
         return members | self.described(held, around, outside) | self.target(held)
 
     def policy(self, held: Element, around: Element | None, outside: tuple[Text, ...] = ()) -> Draft:
         members = self.head(held, around, "PolicyId", "RuleCombiningAlgId", outside) | self.definitions(held)
-        return Draft(members | self.several("Rule", held, ("Rule",), lambda child: self.rule(child, held)) | self.duties(held), held.spot())
+        return Draft(members | self.several("Rule", held, ("Rule",), lambda child: self.rule(child, held))
+                     | self.duties(held), held.spot())
 
     def reference(self, held: Element) -> Draft:
         text = held.text()
@@ -331,7 +359,9 @@ class Importing:
 
     def policy_set(self, held: Element, around: Element | None, outside: tuple[Text, ...] = ()) -> Draft:
         members = self.head(held, around, "PolicySetId", "PolicyCombiningAlgId", outside)
-        return Draft(members | self.several("Children", held, CHILDREN, lambda child: self.child(child, held)) | self.duties(held), held.spot())
+        return Draft(members
+                     | self.several("Children", held, CHILDREN, lambda child: self.child(child, held))
+                     | self.duties(held), held.spot())
 
     def document(self, whole: Whole) -> Draft:
         """The document of a file."""
@@ -339,7 +369,9 @@ class Importing:
         make = self.policy if top.name == "Policy" else self.policy_set
         found = Draft({top.name: make(top, None, tuple(whole.comments))}, top.spot())
         if self.moved:
-            self.remarks.note("comments", top.spot(), f"{counted(self.moved, 'comment')} of the file {'stands in a description' if self.moved == 1 else 'stand in descriptions'} now: JSON has no comments.")
+            stand = "stands in a description" if self.moved == 1 else "stand in descriptions"
+            self.remarks.note("comments", top.spot(),
+                              f"{counted(self.moved, 'comment')} of the file {stand} now: JSON has none.")
         return found
 
 

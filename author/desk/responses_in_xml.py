@@ -1,7 +1,8 @@
-"""Expected responses in XML (XACML 3.0, core, sections 5.47 to 5.57), and how the server's are compared with them.
+"""Expected responses in XML (XACML 3.0, core, sections 5.47 to 5.57), and how the server's are compared.
 
-Results, obligations, advice, their assignments and the included attributes have no order in the standard: they are compared as collections in
-which each stands as often as it stands. Of a status the outermost code counts, where it is given; messages and details don't.
+Results, obligations, advice, their assignments and the included attributes have no order in the standard:
+they are compared as collections in which each stands as often as it stands. Of a status the outermost code counts,
+where it is given; messages and details don't.
 """
 from __future__ import annotations
 
@@ -27,7 +28,9 @@ class Held:
     text: str
 
     def __str__(self) -> str:
-        place = " ".join(part for part in (names.category_shown(self.category), names.attribute_shown(self.attribute_id),
+        place = " ".join(part
+                         for part in (names.category_shown(self.category),
+                                      names.attribute_shown(self.attribute_id),
                                            f"by {self.issuer}" if self.issuer else "") if part)
         return f'{place} = "{self.text}" ({self.data_type})'
 
@@ -76,11 +79,13 @@ class Reading(Importing):
             text = values.to_text(values.read(data_type, text))
         except values.Fault:
             self.remarks.fault("BadValue", spot, f'"{text}" is no {data_type}.')
-        return Held(category, attribute.value("AttributeId") or "", attribute.value("Issuer") or "", data_type, text)
+        return Held(category, attribute.value("AttributeId") or "", attribute.value("Issuer") or "",
+                    data_type, text)
 
     def duty(self, held: Element, name: str) -> Duty:
         """An obligation, or advice."""
-        return Duty(held.value(name) or "", ordered(self.value(one, one.value("Category") or "", one, one.spot())
+        return Duty(held.value(name) or "",
+                    ordered(self.value(one, one.value("Category") or "", one, one.spot())
                                                     for one in held.named("AttributeAssignment")))
 
     def duties(self, held: Element, group: str, item: str, name: str) -> tuple[Duty, ...]:
@@ -92,7 +97,8 @@ class Reading(Importing):
         found = []
         for category in held.named("Attributes"):
             for attribute in category.named("Attribute"):
-                found += [self.value(one, category.value("Category") or "", attribute, one.spot()) for one in attribute.named("AttributeValue")]
+                found += [self.value(one, category.value("Category") or "", attribute, one.spot())
+                          for one in attribute.named("AttributeValue")]
         return ordered(found)
 
     def result(self, held: Element) -> Result:
@@ -100,11 +106,13 @@ class Reading(Importing):
         decision, status = held.one("Decision"), held.one("Status")
         text = decision.text().strip() if decision is not None else ""
         if text not in DECISIONS and decision is not None:
-            self.remarks.fault("Schema", decision.spot(), f'"{text}" is no decision.', expected=", ".join(DECISIONS))
+            self.remarks.fault("Schema", decision.spot(), f'"{text}" is no decision.',
+                               expected=", ".join(DECISIONS))
         for child in held.named("PolicyIdentifierList"):
             self.remarks.fault("LeftOut", child.spot(), left_out.ELEMENTS[child.name])
         code = status.one("StatusCode") if status is not None else None
-        return Result(text, code.value("Value") if code is not None else None, self.duties(held, "Obligations", "Obligation", "ObligationId"),
+        return Result(text, code.value("Value") if code is not None else None,
+                      self.duties(held, "Obligations", "Obligation", "ObligationId"),
                       self.duties(held, "AssociatedAdvice", "Advice", "AdviceId"), self.included(held))
 
 
@@ -126,20 +134,25 @@ def printed(value: object) -> str:
 def held_in(found: dict, category: str) -> list[Held]:
     """The values of an attribute, or of an assignment, of a response in JSON."""
     listed = found["Value"] if isinstance(found["Value"], list) else [found["Value"]]
-    return [Held(category, found["AttributeId"], found.get("Issuer", ""), names.short(found["DataType"]), printed(one)) for one in listed]
+    return [Held(category, found["AttributeId"], found.get("Issuer", ""), names.short(found["DataType"]),
+                 printed(one)) for one in listed]
 
 
 def duties_in(found: list[dict]) -> tuple[Duty, ...]:
     """Obligations, or advice, of a response in JSON."""
-    return ordered(Duty(one["Id"], ordered(held for item in one.get("AttributeAssignment", []) for held in held_in(item, item.get("Category", ""))))
+    return ordered(Duty(one["Id"],
+                        ordered(held for item in one.get("AttributeAssignment", [])
+                                for held in held_in(item, item.get("Category", ""))))
                    for one in found)
 
 
 def given_of(results: list[dict]) -> list[Result]:
     """The results of the server's response."""
-    return [Result(one["Decision"], one["Status"]["StatusCode"]["Value"], duties_in(one.get("Obligations", [])),
+    return [Result(one["Decision"], one["Status"]["StatusCode"]["Value"],
+                   duties_in(one.get("Obligations", [])),
                    duties_in(one.get("AssociatedAdvice", [])),
-                   ordered(held for category in one.get("Category", []) for item in category["Attribute"] for held in held_in(item, category["CategoryId"])))
+                   ordered(held for category in one.get("Category", []) for item in category["Attribute"]
+                           for held in held_in(item, category["CategoryId"])))
             for one in results]
 
 
@@ -149,13 +162,15 @@ def unlike(expected: Result, given: Result) -> list[str]:
     if expected.decision != given.decision:
         found.append(f"expected {expected}; the answer is {given}")
     elif expected.status not in (None, given.status):
-        found.append(f"expected the status {names.short(expected.status)}; the answer has {names.short(given.status)}")
+        found.append(f"expected the status {names.short(expected.status)}; the answer has "
+                     f"{names.short(given.status)}")
     for word in ("obligations", "advice", "included"):
         wanted, held = list(getattr(expected, word)), list(getattr(given, word))
         for one in list(wanted):
             if one in held:
                 wanted.remove(one), held.remove(one)
-        what = {"obligations": "obligation", "advice": "advice", "included": "attribute of the request"}[word]
+        what = {"obligations": "obligation", "advice": "advice",
+                "included": "attribute of the request"}[word]
         found += [f"expected the {what} {one}, which isn't there" for one in wanted]
         found += [f"the {what} {one} isn't expected" for one in held]
     return found

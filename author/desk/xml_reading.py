@@ -1,8 +1,9 @@
-"""XML with places: each element and attribute with its line, its column and its path (XML 1.0, Namespaces in XML 1.0).
+"""XML with places: each element and attribute with its line, its column and its path (XML 1.0, Namespaces).
 
-Python's own expat reads it: it gives the byte at which everything begins, which lxml doesn't, and it lets each declaration be refused
-before it acts. Document type declarations are refused, and entities and external references with them: a policy's file can't make the
-desk read another file, ask the network, or grow without end.
+Python's own expat reads it: it gives the byte at which everything begins, which lxml doesn't, and it lets
+each declaration be refused before it acts. Document type declarations are refused, and entities and external
+references with them: a policy's file can't make the desk read another file, ask the network, or grow without
+end.
 """
 from __future__ import annotations
 
@@ -24,15 +25,18 @@ TAG = re.compile(r"""<[^\s/>]+((?:\s+[^\s=]+\s*=\s*(?:"[^"]*"|'[^']*'))*)\s*/?>"
 ATTRIBUTE = re.compile(r"""([^\s=]+)\s*=\s*("[^"]*"|'[^']*')""")
 ADVICE = {
     expat.errors.XML_ERROR_TAG_MISMATCH: "This end tag isn't that of the element that is open here.",
-    expat.errors.XML_ERROR_UNDEFINED_ENTITY: "XML knows &lt; &gt; &amp; &quot; &apos; and numbers such as &#233; alone: write the letter itself.",
+    expat.errors.XML_ERROR_UNDEFINED_ENTITY: "XML knows &lt; &gt; &amp; &quot; &apos; and numbers such as "
+                                             "&#233; alone: write the letter itself.",
     expat.errors.XML_ERROR_DUPLICATE_ATTRIBUTE: "This attribute stands twice in one tag.",
     expat.errors.XML_ERROR_UNBOUND_PREFIX: "This prefix has no xmlns declaration.",
-    expat.errors.XML_ERROR_JUNK_AFTER_DOC_ELEMENT: "The one top element has ended before: a file holds one alone.",
+    expat.errors.XML_ERROR_JUNK_AFTER_DOC_ELEMENT: "The one top element has ended before: a file holds one "
+                                                   "alone.",
     expat.errors.XML_ERROR_NO_ELEMENTS: "There is no element here: is the file empty, or cut?",
     expat.errors.XML_ERROR_UNCLOSED_TOKEN: "A tag, a comment or a section isn't closed before the file ends.",
     expat.errors.XML_ERROR_MISPLACED_XML_PI: "Nothing stands before <?xml ..?>, no space and no empty line.",
 }
-DOCTYPE = ("A document type declaration isn't taken: its entities could read other files (XXE) or grow without end (billion laughs). "
+DOCTYPE = ("A document type declaration isn't taken: its entities could read other files (XXE) or grow "
+           "without end (billion laughs). "
            "Take it out, and write what its entities stand for.")
 
 
@@ -51,7 +55,8 @@ class Spot:
 
 @dataclass
 class Attribute:
-    """An attribute: its name, `{namespace}name` where it has one, its value, and whether character references stand in it."""
+    """An attribute: its name, `{namespace}name` where it has one, its value, and whether character
+    references stand in it."""
     name: str
     value: str
     start: int
@@ -94,7 +99,8 @@ class Element:
 
     def text(self) -> str:
         """The text in the element, without comments."""
-        return "".join(child.text for child in self.children if isinstance(child, Text) and not child.is_comment)
+        return "".join(child.text for child in self.children if isinstance(child, Text)
+                       and not child.is_comment)
 
     def at(self, name: str) -> Attribute | None:
         """The attribute of the name, where it is there."""
@@ -182,7 +188,8 @@ class Reader:
     def begins(self, name: str, attributes: list[str]) -> None:
         """An element begins."""
         if len(self.open) >= MOST_NESTED:
-            self.fault("TooLarge", self.here(), self.here() + 1, f"At most {MOST_NESTED} elements stand inside one another.")
+            self.fault("TooLarge", self.here(), self.here() + 1,
+                       f"At most {MOST_NESTED} elements stand inside one another.")
             raise Stop
         start = self.here()
         tag = TAG.match(self.source.text, start)
@@ -201,7 +208,8 @@ class Reader:
         found = []
         for one, name, value in zip(written, given[::2], given[1::2]):
             namespace, _, local = name.rpartition(" ")
-            found.append(Attribute(f"{{{namespace}}}{local}" if namespace else local, value, one.start(), one.end(), "&#" in one[2]))
+            found.append(Attribute(f"{{{namespace}}}{local}" if namespace else local, value, one.start(),
+                                   one.end(), "&#" in one[2]))
         return found
 
     def ends(self, _: str) -> None:
@@ -236,9 +244,12 @@ class Reader:
         except expat.ExpatError as fault:
             start = self.offset(self.parser.ErrorByteIndex)
             said = expat.ErrorString(fault.code)
-            advice = ADVICE.get(said, "Nothing of XML can stand like this: a < in a text is written &lt;, an & is written &amp;, "
+            advice = ADVICE.get(said,
+                                "Nothing of XML can stand like this: a < in a text is written &lt;, an & is "
+                                "written &amp;, "
                                       "and values stand in quotes.")
-            self.fault("NotXml", start, min(start + 20, len(self.source.text)), f"This is no XML ({said}). {advice}")
+            self.fault("NotXml", start, min(start + 20, len(self.source.text)),
+                       f"This is no XML ({said}). {advice}")
             return Whole(self.source, None)
         placed(self.whole.top, f"/{self.whole.top.name}")
         return self.whole
@@ -273,9 +284,10 @@ def in_unicode(held: bytes) -> tuple[bytes, str]:
 
 def read(path: str, held: bytes, remarks: Remarks) -> Whole:
     """The XML in the bytes of a file."""
-    text, why = in_unicode(held) if len(held) <= MOST_BYTES else (b"", f"A file has at most {MOST_BYTES} bytes.")
+    is_small = len(held) <= MOST_BYTES
+    text, why = in_unicode(held) if is_small else (b"", f"A file has at most {MOST_BYTES} bytes.")
     source = Source(path, text)
     if why:
-        remarks.fault("NotXml" if len(held) <= MOST_BYTES else "TooLarge", Spot(source, "", 0, 0), why)
+        remarks.fault("NotXml" if is_small else "TooLarge", Spot(source, "", 0, 0), why)
         return Whole(source, None)
     return Reader(source, remarks).read()

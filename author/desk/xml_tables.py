@@ -1,7 +1,8 @@
-"""The schemas of XACML 3.0 (policies, requests, responses) and 2.0 (policies), as tables: of each element its attributes and its children.
+"""The schemas of XACML 3.0 (policies, requests, responses) and 2.0 (policies), as tables.
 
-An attribute is `name:type`, with `!` behind it where it is required. Children are a sequence of parts: a name, or names with `|` between in
-brackets, and behind it `?`, `*` or `+`. `#text` is text alone, `#any` whatever there is.
+Of each element there are its attributes and its children. An attribute is `name:type`, with `!` behind it
+where it is required; `*` stands for any others. Children are a sequence of parts: a name, or names with `|` between
+in brackets, and behind it `?`, `*` or `+`. `#text` is text alone, `#any` whatever there is.
 """
 from __future__ import annotations
 
@@ -14,9 +15,10 @@ OTHERS = {
     "urn:oasis:names:tc:xacml:1.0:context": "a request or a response of XACML 1.0 or 1.1",
 }
 EXPRESSION = "(Apply|AttributeSelector|AttributeValue|Function|VariableReference|AttributeDesignator)"
-EXPRESSION_2 = ("(Apply|AttributeSelector|AttributeValue|Function|VariableReference|SubjectAttributeDesignator|ResourceAttributeDesignator"
-                "|ActionAttributeDesignator|EnvironmentAttributeDesignator)")
-IN_SET = "(PolicySet|Policy|PolicySetIdReference|PolicyIdReference|CombinerParameters|PolicyCombinerParameters|PolicySetCombinerParameters)*"
+EXPRESSION_2 = ("(Apply|AttributeSelector|AttributeValue|Function|VariableReference"
+                "|SubjectAttributeDesignator|ResourceAttributeDesignator|ActionAttributeDesignator|EnvironmentAttributeDesignator)")
+IN_SET = ("(PolicySet|Policy|PolicySetIdReference|PolicyIdReference|CombinerParameters"
+          "|PolicyCombinerParameters|PolicySetCombinerParameters)*")
 IN_POLICY = "(CombinerParameters|RuleCombinerParameters|VariableDefinition|Rule)*"
 BOTH = {
     "Description": ("", "#text"),
@@ -35,18 +37,23 @@ BOTH = {
 }
 POLICIES_3 = BOTH | {
     "PolicySet": ("PolicySetId:uri! Version:version! PolicyCombiningAlgId:uri! MaxDelegationDepth:integer",
-                  f"Description? PolicyIssuer? PolicySetDefaults? Target {IN_SET} ObligationExpressions? AdviceExpressions?"),
+                  f"Description? PolicyIssuer? PolicySetDefaults? Target {IN_SET} ObligationExpressions? "
+                  f"AdviceExpressions?"),
     "Policy": ("PolicyId:uri! Version:version! RuleCombiningAlgId:uri! MaxDelegationDepth:integer",
-               f"Description? PolicyIssuer? PolicyDefaults? Target {IN_POLICY} ObligationExpressions? AdviceExpressions?"),
+               f"Description? PolicyIssuer? PolicyDefaults? Target {IN_POLICY} ObligationExpressions? "
+               f"AdviceExpressions?"),
     "PolicyIssuer": ("", "Content? Attribute*"),
-    "Rule": ("RuleId:string! Effect:effect!", "Description? Target? Condition? ObligationExpressions? AdviceExpressions?"),
+    "Rule": ("RuleId:string! Effect:effect!", "Description? Target? Condition? ObligationExpressions? "
+                                              "AdviceExpressions?"),
     "Target": ("", "AnyOf*"),
     "AnyOf": ("", "AllOf+"),
     "AllOf": ("", "Match+"),
     "Match": ("MatchId:uri!", "AttributeValue (AttributeDesignator|AttributeSelector)"),
     "VariableDefinition": ("VariableId:string!", EXPRESSION),
-    "AttributeSelector": ("Category:uri! ContextSelectorId:uri Path:string! DataType:uri! MustBePresent:boolean!", ""),
-    "AttributeDesignator": ("Category:uri! AttributeId:uri! DataType:uri! Issuer:string MustBePresent:boolean!", ""),
+    "AttributeSelector": ("Category:uri! ContextSelectorId:uri Path:string! DataType:uri! "
+                          "MustBePresent:boolean!", ""),
+    "AttributeDesignator": ("Category:uri! AttributeId:uri! DataType:uri! Issuer:string "
+                            "MustBePresent:boolean!", ""),
     "AttributeValue": ("DataType:uri! *", "#any"),
     "Condition": ("", EXPRESSION),
     "Apply": ("FunctionId:uri!", f"Description? {EXPRESSION}*"),
@@ -57,7 +64,8 @@ POLICIES_3 = BOTH | {
     "AttributeAssignmentExpression": ("AttributeId:uri! Category:uri Issuer:string", EXPRESSION),
 }
 CONTEXTS_3 = {
-    "Request": ("ReturnPolicyIdList:boolean! CombinedDecision:boolean!", "RequestDefaults? Attributes+ MultiRequests?"),
+    "Request": ("ReturnPolicyIdList:boolean! CombinedDecision:boolean!",
+                "RequestDefaults? Attributes+ MultiRequests?"),
     "RequestDefaults": ("", "XPathVersion"),
     "Attributes": ("Category:uri! {http://www.w3.org/XML/1998/namespace}id:id", "Content? Attribute*"),
     "Content": ("", "#any"),
@@ -72,7 +80,8 @@ CONTEXTS_3 = {
     "StatusCode": ("Value:uri!", "StatusCode?"),
     "StatusMessage": ("", "#text"),
     "StatusDetail": ("", "#any"),
-    "MissingAttributeDetail": ("Category:uri! AttributeId:uri! DataType:uri! Issuer:string", "AttributeValue*"),
+    "MissingAttributeDetail": ("Category:uri! AttributeId:uri! DataType:uri! Issuer:string",
+                               "AttributeValue*"),
     "Obligations": ("", "Obligation+"),
     "Obligation": ("ObligationId:uri!", "AttributeAssignment*"),
     "AssociatedAdvice": ("", "Advice+"),
@@ -89,13 +98,15 @@ def sections() -> dict[str, tuple[str, str]]:
     for word in ("Subject", "Resource", "Action", "Environment"):
         found[f"{word}s"] = "", f"{word}+"
         found[word] = "", f"{word}Match+"
-        found[f"{word}Match"] = "MatchId:uri!", f"AttributeValue ({word}AttributeDesignator|AttributeSelector)"
-        found[f"{word}AttributeDesignator"] = DESIGNATOR_2 + (" SubjectCategory:uri" if word == "Subject" else ""), ""
+        designator, more = f"{word}AttributeDesignator", " SubjectCategory:uri" if word == "Subject" else ""
+        found[f"{word}Match"] = "MatchId:uri!", f"AttributeValue ({designator}|AttributeSelector)"
+        found[designator] = DESIGNATOR_2 + more, ""
     return found
 
 
 POLICIES_2 = BOTH | sections() | {
-    "PolicySet": ("PolicySetId:uri! Version:version PolicyCombiningAlgId:uri!", f"Description? PolicySetDefaults? Target {IN_SET} Obligations?"),
+    "PolicySet": ("PolicySetId:uri! Version:version PolicyCombiningAlgId:uri!",
+                  f"Description? PolicySetDefaults? Target {IN_SET} Obligations?"),
     "Policy": ("PolicyId:uri! Version:version RuleCombiningAlgId:uri!",
                f"Description? PolicyDefaults? CombinerParameters? Target {IN_POLICY} Obligations?"),
     "Target": ("", "Subjects? Resources? Actions? Environments?"),

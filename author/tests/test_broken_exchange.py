@@ -8,7 +8,8 @@ from unittest import mock
 from . import test_conformance, test_exchange, test_import
 from .test_broken import fails, nothing
 
-from desk import conformance, exchange, exporting, from_version_2, importing, left_out, responses_in_xml, xml_reading, xml_validity  # noqa: E402
+from desk import conformance, exchange, exporting, from_version_2, importing, left_out  # noqa: E402
+from desk import responses_in_xml, xml_reading, xml_validity  # noqa: E402
 
 GOOD, BAD = fails(test_import.Files, "test_good_ones"), fails(test_import.Files, "test_bad_ones")
 BACK = fails(test_import.Files, "test_good_ones_come_back")
@@ -42,11 +43,17 @@ BREAKS: list[tuple[object, str, object, Callable[[], bool]]] = [
     (exporting.Exporting, "duties", lambda self, node: [], differs),
     (exporting.Exporting, "target", lambda self, node, is_needed: None, BACK),
     (exporting, "in_text", lambda held: held, BACK),
-    (exporting, "uri_escaped", exporting.in_attribute, fails(test_import.Exports, "test_white_space_comes_back")),
-    (exchange, "is_same", lambda held, again: True, fails(test_import.Exports, "test_an_export_that_comes_back_as_another_is_told")),
-    (responses_in_xml, "differences", lambda expected, given: [], fails(test_conformance.Conformance, "test_other_answers")),
-    (responses_in_xml, "unlike", lambda expected, given: [], fails(test_conformance.Conformance, "test_other_answers")),
-    (conformance, "has_doubles", nothing, fails(test_conformance.Conformance, "test_two_policies_of_one_id_and_version")),
+    (exporting, "uri_escaped", exporting.in_attribute,
+     fails(test_import.Exports, "test_white_space_comes_back")),
+    (exchange, "is_same",
+     lambda held, again: True, fails(test_import.Exports,
+                                     "test_an_export_that_comes_back_as_another_is_told")),
+    (responses_in_xml, "differences",
+     lambda expected, given: [], fails(test_conformance.Conformance, "test_other_answers")),
+    (responses_in_xml, "unlike",
+     lambda expected, given: [], fails(test_conformance.Conformance, "test_other_answers")),
+    (conformance, "has_doubles", nothing,
+     fails(test_conformance.Conformance, "test_two_policies_of_one_id_and_version")),
     (conformance, "stopped", nothing, fails(test_conformance.Conformance, "test_all_cases")),
 ]
 
@@ -57,7 +64,8 @@ class Broken(unittest.TestCase):
     def test_each_break_is_noticed(self) -> None:
         self.assertFalse(differs() or GOOD() or BAD() or BACK())
         for where, name, instead, noticed in BREAKS:
-            with self.subTest(f"{getattr(where, '__name__', where)}.{name}"), mock.patch.object(where, name, instead):
+            with self.subTest(f"{getattr(where, '__name__', where)}.{name}"), mock.patch.object(where, name,
+                                                                                                instead):
                 self.assertTrue(noticed())
 
 

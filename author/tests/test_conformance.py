@@ -1,7 +1,8 @@
 """Cases in the layout of the OASIS conformance suite, their verdicts, and that a wrong expectation is told.
 
-tests/conformance holds them: of targets (A), conditions (B), combining (C), obligations and advice (D), several decisions and references (E),
-and of what is out of scope (X). The expected responses are worked out by hand from XACML 3.0, core, sections 7.7 to 7.18 and appendix C.
+tests/conformance holds them: of targets (A), conditions (B), combining (C), obligations and advice (D),
+several decisions and references (E), and of what is out of scope (X). The expected responses are worked out by
+hand from XACML 3.0, core, sections 7.7 to 7.18 and appendix C.
 """
 from __future__ import annotations
 
@@ -44,7 +45,8 @@ class Conformance(DeskTest):
         program = PROGRAM.command[0] if PROGRAM is not None and not PROGRAM.is_tried else "none"
         status, written, _ = run("conformance", str(FOLDER), "--json", program=program)
         found = {case["case"]: case["verdict"] for case in json.loads(written)}
-        self.assertEqual({name: held for name, held in found.items() if held != ("out of scope" if name[0] == "X" else "pass")}, {})
+        self.assertEqual({name: held for name, held in found.items()
+                          if held != ("out of scope" if name[0] == "X" else "pass")}, {})
         self.assertGreaterEqual(len(found), 25 + 4)
         self.assertEqual(status, 0)
 
@@ -65,15 +67,23 @@ class Conformance(DeskTest):
 
     def test_other_answers(self) -> None:
         for name, change, words in (
-                ("C01", ("<Decision>Deny", "<Decision>Permit"), "expected Permit, ok; the answer is Deny, ok"),
-                ("A03", ("status:missing-attribute", "status:processing-error"), "expected the status processing-error; the answer has missing-attribute"),
-                ("D01", ('>7</AttributeAssignment>', '>8</AttributeAssignment>'), 'expected the obligation urn:tell (urn:level = "8" (integer)), which isn\'t there'),
-                ("D01", ('<Obligation ObligationId="urn:log"', '<Obligation ObligationId="urn:l"'), "the obligation urn:log isn't expected"),
+                ("C01", ("<Decision>Deny", "<Decision>Permit"),
+                 "expected Permit, ok; the answer is Deny, ok"),
+                ("A03", ("status:missing-attribute", "status:processing-error"),
+                 "expected the status processing-error; the answer has missing-attribute"),
+                ("D01", ('>7</AttributeAssignment>', '>8</AttributeAssignment>'),
+                 'expected the obligation urn:tell (urn:level = "8" (integer)), which isn\'t there'),
+                ("D01", ('<Obligation ObligationId="urn:log"', '<Obligation ObligationId="urn:l"'),
+                 "the obligation urn:log isn't expected"),
                 ("D02", ("<Decision>Permit", "<Decision>Indeterminate"), "the answer is Permit"),
-                ("D03", ('<Advice AdviceId="urn:more"', '<Advice AdviceId="urn:m"'), "expected the advice urn:m, which isn't there"),
-                ("D04", ('>chief</AttributeAssignment>', '>doctor</AttributeAssignment>'), 'urn:who by desk = "doctor"'),
-                ("E01", ("<Decision>NotApplicable", "<Decision>Deny"), "expected Deny, ok; the answer is NotApplicable, ok"),
-                ("E06", (">07<", ">9<"), 'expected the attribute of the request AccessSubject urn:n by hr = "9" (integer), which isn\'t there'),
+                ("D03", ('<Advice AdviceId="urn:more"', '<Advice AdviceId="urn:m"'),
+                 "expected the advice urn:m, which isn't there"),
+                ("D04", ('>chief</AttributeAssignment>', '>doctor</AttributeAssignment>'),
+                 'urn:who by desk = "doctor"'),
+                ("E01", ("<Decision>NotApplicable", "<Decision>Deny"),
+                 "expected Deny, ok; the answer is NotApplicable, ok"),
+                ("E06", (">07<", ">9<"), 'expected the attribute of the request AccessSubject urn:n by hr = '
+                                         '"9" (integer), which isn\'t there'),
         ):
             with self.subTest(name + str(change)):
                 status, found, why = verdict(files_of(name, change))
@@ -82,18 +92,21 @@ class Conformance(DeskTest):
 
     def test_a_status_that_is_not_looked_at(self) -> None:
         held = files_of("A03")
-        held["c/A03Response.xml"] = re.sub(r"<Status>.*</Status>", "", held["c/A03Response.xml"], flags=re.DOTALL)
+        held["c/A03Response.xml"] = re.sub(r"<Status>.*</Status>", "", held["c/A03Response.xml"],
+                                           flags=re.DOTALL)
         self.assertEqual(verdict(held)[:2], (0, "pass"))
 
     def test_too_few_results(self) -> None:
         held = files_of("E01")
-        held["c/E01Response.xml"] = re.sub(r"<Result>.*?</Result>", "", held["c/E01Response.xml"], count=1, flags=re.DOTALL)
+        held["c/E01Response.xml"] = re.sub(r"<Result>.*?</Result>", "", held["c/E01Response.xml"], count=1,
+                                           flags=re.DOTALL)
         self.assertEqual(verdict(held), (1, "differs", "expected 2 results; the answer has 3"))
 
     def test_unread_files(self) -> None:
         held = files_of("C01")
         for name, change, words in (
-                ("c/C01Response.xml", lambda text: text.replace("Deny", "Forbid"), '"Forbid" is no decision'),
+                ("c/C01Response.xml",
+                 lambda text: text.replace("Deny", "Forbid"), '"Forbid" is no decision'),
                 ("c/C01Policy.xml", lambda text: text.replace("<Target/>", ""), "<Target> is missing"),
                 ("c/C01Request.xml", lambda text: text[:-5], "This is no XML")):
             with self.subTest(name):
@@ -112,21 +125,25 @@ class Conformance(DeskTest):
 
     def test_the_root_may_be_called_a_set(self) -> None:
         held = files_of("C16")
-        self.assertEqual(verdict({name.replace("C16Policy", "C16PolicySet"): text for name, text in held.items()})[:2], (0, "pass"))
+        self.assertEqual(verdict({name.replace("C16Policy", "C16PolicySet"): text
+                                  for name, text in held.items()})[:2], (0, "pass"))
 
     def test_the_root_is_its_own_file(self) -> None:
         held = files_of("C01")
-        later = held["c/C01Policy.xml"].replace('Version="1.0"', 'Version="1.1"').replace('Effect="Deny"', 'Effect="Permit"')
+        later = held["c/C01Policy.xml"].replace('Version="1.0"',
+                                                'Version="1.1"').replace('Effect="Deny"', 'Effect="Permit"')
         self.assertEqual(verdict(held | {"c/C01Policy_1.xml": later})[:2], (0, "pass"))
 
     def test_the_time(self) -> None:
         held = files_of("B05")
-        held["c/B05Request.xml"] = re.sub(r"<Attributes .*</Attributes>", '<Attributes Category="urn:c"/>', held["c/B05Request.xml"], flags=re.DOTALL)
+        held["c/B05Request.xml"] = re.sub(r"<Attributes .*</Attributes>", '<Attributes Category="urn:c"/>',
+                                          held["c/B05Request.xml"], flags=re.DOTALL)
         for at, status in (("2026-11-23T23:00:00Z", 0), ("2026-11-23T12:00:00Z", 1)):
             self.assertEqual(run("conformance", "@c", "--at", at, files=held)[0], status)
 
     def test_model_and_program_that_disagree(self) -> None:
-        with mock.patch.object(conformance, "answered", lambda cases, *_: [('{"Response":[]}', "{}") for _ in cases]):
+        with mock.patch.object(conformance, "answered",
+                               lambda cases, *_: [('{"Response":[]}', "{}") for _ in cases]):
             self.assertEqual(run("conformance", "@c", files=files_of("C01"))[0], 3)
 
 
@@ -135,9 +152,13 @@ class Comparing(unittest.TestCase):
 
     def test_results_are_matched(self) -> None:
         def results(*decisions: str) -> list:
-            return responses_in_xml.given_of([{"Decision": one, "Status": {"StatusCode": {"Value": STATUS + "ok"}}} for one in decisions])
-        self.assertEqual(responses_in_xml.differences(results("Permit", "Deny", "Deny"), results("Deny", "Permit", "Deny")), [])
-        self.assertEqual(responses_in_xml.differences(results("Permit", "Deny", "Deny"), results("Permit", "Permit", "Deny")),
+            return responses_in_xml.given_of([{"Decision": one,
+                                               "Status": {"StatusCode": {"Value": STATUS + "ok"}}}
+                                              for one in decisions])
+        self.assertEqual(responses_in_xml.differences(results("Permit", "Deny", "Deny"),
+                                                      results("Deny", "Permit", "Deny")), [])
+        self.assertEqual(responses_in_xml.differences(results("Permit", "Deny", "Deny"),
+                                                      results("Permit", "Permit", "Deny")),
                          ["expected Deny, ok; the answer is Permit, ok"])
 
 

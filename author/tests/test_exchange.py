@@ -47,13 +47,15 @@ def again(held: bytes) -> tuple[str | None, bytes | None]:
 def questions(held: bytes, seed: int) -> tuple[setting.Setting, list[tuple[bytes, int]]]:
     """A document alone, as the root, and random requests on it."""
     one = check.checked("random.json", held)
-    whole = setting.Setting([one], versions.Reference(one.document.kind, one.document.id, None, None, None), None)
+    whole = setting.Setting([one], versions.Reference(one.document.kind, one.document.id, None, None, None),
+                            None)
     maker = made.Maker(made.pools_of([whole]), seed, None)
     return whole, [maker.request() for _ in range(REQUESTS)]
 
 
 def share(seed: int, count: int = SHARE) -> list[tuple]:
-    """Random documents of a seed: each with its XML, what is imported of it, and, of some, rows of requests for both with the model's answers."""
+    """Random documents of a seed: each with its XML, what is imported of it, and, of some, rows of requests
+    for both with the model's answers."""
     source, found = Drafts(agree.Rows(seed)), []
     while len(found) < count:
         held = drawn(source)
@@ -64,7 +66,8 @@ def share(seed: int, count: int = SHARE) -> list[tuple]:
         if back is not None and len(found) % EACH == 0:
             (old, requests), (new, _) = questions(held, seed), questions(back, seed)
             for body, moment in requests:
-                asked.append((ask.by_model(old, body, moment), ask.by_model(new, body, moment), ask.row_of(old, body, moment),
+                asked.append((ask.by_model(old, body, moment), ask.by_model(new, body, moment),
+                              ask.row_of(old, body, moment),
                               ask.row_of(new, body, moment)))
         found.append((held, xml, back, back is not None and exchange.is_same(held, back), asked))
     return found

@@ -1,7 +1,7 @@
-"""Files to import: the documents and requests that they are, or what is said of them; and the words `import` and `export`.
+"""Files to import, with the JSON that they are or what is said of them; and the words `import` and `export`.
 
-tests/imports holds them: NAME.xml (or NAME.jsn, a request in JSON) with NAME.json, the JSON that it is, or with NAME.says, whose lines are a place,
-a code, and words of the sentence; `*` is any place.
+tests/imports holds them: NAME.xml (or NAME.jsn, a request in JSON) with NAME.json, the JSON that it is, or
+with NAME.says, whose lines are a place, a code, and words of the sentence; `*` is any place.
 """
 from __future__ import annotations
 
@@ -25,13 +25,16 @@ from desk.xml_tables import VERSION_3  # noqa: E402
 FILES = AUTHOR / "tests" / "imports"
 STRING = "http://www.w3.org/2001/XMLSchema#string"
 DENY_OVERRIDES = "urn:oasis:names:tc:xacml:3.0:rule-combining-algorithm:deny-overrides"
-PIECES = [b"<", b">", b"&", b"&#1;", b"&amp;", b"\xff", b"<!-- c -->", b"<a/>", b"x", b'"', b"<![CDATA[", b"\x00", b"  ", b"<?p q?>", b"\xc3\xa9"]
-SMALL = f'<Policy xmlns="{VERSION_3}" PolicyId="urn:p" Version="1.0" RuleCombiningAlgId="{DENY_OVERRIDES}"><Target/></Policy>'
+PIECES = [b"<", b">", b"&", b"&#1;", b"&amp;", b"\xff", b"<!-- c -->", b"<a/>", b"x", b'"', b"<![CDATA[",
+          b"\x00", b"  ", b"<?p q?>", b"\xc3\xa9"]
+SMALL = (f'<Policy xmlns="{VERSION_3}" PolicyId="urn:p" Version="1.0" RuleCombiningAlgId="{DENY_OVERRIDES}">'
+         "<Target/></Policy>")
 
 
 def sources(ending: str) -> list[pathlib.Path]:
     """The files of which there is one more with this ending."""
-    return [path for path in sorted(FILES.iterdir()) if path.suffix in (".xml", ".jsn") and path.with_suffix(ending).exists()]
+    return [path for path in sorted(FILES.iterdir()) if path.suffix in (".xml", ".jsn")
+            and path.with_suffix(ending).exists()]
 
 
 def read_bytes(name: str, held: bytes) -> Imported:
@@ -69,14 +72,17 @@ class Files(DeskTest):
     def test_there_are_enough(self) -> None:
         self.assertGreaterEqual(len(sources(".json")), 40)
         self.assertGreaterEqual(len(sources(".says")), 60)
-        self.assertEqual(len(sources(".json")) + len(sources(".says")), sum(path.suffix in (".xml", ".jsn") for path in FILES.iterdir()))
+        self.assertEqual(len(sources(".json")) + len(sources(".says")),
+                         sum(path.suffix in (".xml", ".jsn") for path in FILES.iterdir()))
 
     def test_good_ones(self) -> None:
         for path in sources(".json"):
             with self.subTest(path.name):
-                found, expected = read(path), json.loads(path.with_suffix(".json").read_text(encoding="utf-8"))
+                found = read(path)
+                expected = json.loads(path.with_suffix(".json").read_text(encoding="utf-8"))
                 self.assertEqual([one.sentence for one in found.remarks.faults()], [])
-                self.assertEqual(json.dumps(json.loads(found.text), sort_keys=True), json.dumps(expected, sort_keys=True))
+                self.assertEqual(json.dumps(json.loads(found.text), sort_keys=True),
+                                 json.dumps(expected, sort_keys=True))
                 for one in found.remarks.found:
                     self.narrow(text.remark_shown(one))
 
@@ -84,7 +90,8 @@ class Files(DeskTest):
         held = [read(path).text for path in sources(".json") if not path.name.startswith("request")]
         for one in held:
             documents.document_of(one)
-        for fields in PROGRAM.answers([["document", rows.encoded(one)] for one in held]) if PROGRAM is not None else ():
+        for fields in PROGRAM.answers([["document", rows.encoded(one)]
+                                       for one in held]) if PROGRAM is not None else ():
             self.assertFalse(fields[0].startswith("!"), fields)
 
     def test_good_ones_come_back(self) -> None:
@@ -107,8 +114,10 @@ class Files(DeskTest):
                 self.assertEqual([(one.code, one.sentence) for one in left], [], "nothing else is said")
 
     def test_paths(self) -> None:
-        for name, code, pointer in (("double", "LeftOut", "/Policy/Rule/Condition/Apply/AttributeValue/@DataType"),
-                                    ("variable_twice", "BadValue", "/Policy/VariableDefinition[2]/@VariableId"),
+        for name, code, pointer in (("double", "LeftOut",
+                                     "/Policy/Rule/Condition/Apply/AttributeValue/@DataType"),
+                                    ("variable_twice", "BadValue",
+                                     "/Policy/VariableDefinition[2]/@VariableId"),
                                     ("two_conditions", "Schema", "/Policy/Rule/Condition[2]")):
             found = read(FILES / f"{name}.xml").remarks.faults()
             self.assertIn((code, pointer), [(one.code, one.pointer) for one in found])
@@ -116,7 +125,8 @@ class Files(DeskTest):
     def said(self, found: list, place: str, code: str, words: str):
         """The remark that a line is about."""
         for one in found:
-            if place in ("*", f"{one.place.line}:{one.place.column}") and code == one.code and any(part in one.sentence for part in words.split("|")):
+            is_there = place in ("*", f"{one.place.line}:{one.place.column}") and code == one.code
+            if is_there and any(part in one.sentence for part in words.split("|")):
                 self.narrow(text.remark_shown(one))
                 return one
         said = [(one.place.line, one.place.column, one.code, one.sentence) for one in found]
@@ -148,9 +158,14 @@ class Refusals(DeskTest):
     def test_a_document_that_is_too_large(self) -> None:
         found = imported("p.xml", with_description("a" * documents.MAX_BYTES).encode())
         self.assertEqual(([one.code for one in found.remarks.faults()], found.text), (["TooLarge"], None))
-        self.assertEqual([one.code for one in imported("p.xml", with_description("a" * 2_000_000).encode()).remarks.faults()], ["TooLarge"])
+        self.assertEqual([one.code
+                          for one in imported("p.xml",
+                                              with_description("a" * 2_000_000).encode()).remarks.faults()],
+                         ["TooLarge"])
         # laid out it would be too large, and without spaces it isn't
-        rules = "".join(f'<Rule RuleId="{number}" Effect="Permit"><Description>{"a" * 90}</Description></Rule>' for number in range(450))
+        rules = "".join(f'<Rule RuleId="{number}" '
+                        f'Effect="Permit"><Description>{"a" * 90}</Description></Rule>'
+                        for number in range(450))
         found = imported("p.xml", SMALL.replace("<Target/>", "<Target/>" + rules).encode())
         self.assertEqual([one.code for one in found.remarks.faults()], [])
         self.assertLess(len(found.text), documents.MAX_BYTES)
@@ -158,7 +173,8 @@ class Refusals(DeskTest):
 
     def test_a_number_of_very_many_digits(self) -> None:
         held = (FILES / "no_integer.xml").read_text(encoding="utf-8").replace(">one<", f">{'9' * 5000}<")
-        self.assertEqual([one.code for one in imported("p.xml", held.encode()).remarks.faults()], ["BadValue"])
+        self.assertEqual([one.code for one in imported("p.xml", held.encode()).remarks.faults()],
+                         ["BadValue"])
 
     def test_broken_files(self) -> None:
         source, taken = random.Random(1), 0
@@ -189,26 +205,32 @@ class Words(DeskTest):
         self.assertEqual((status, written), (1, ""))
         self.assertIn("p.xml:1:1: fault Schema", said)
         self.assertIn("p.xml: not written", said)
-        status, written, said = run("export", "@p.json", files={"p.json": POLICY.replace('"Permit"', '"Permitt"')})
+        status, written, said = run("export", "@p.json",
+                                    files={"p.json": POLICY.replace('"Permit"', '"Permitt"')})
         self.assertEqual((status, written), (1, ""))
         self.assertIn("p.json:15:16: fault BadValue", said)
 
     def test_json(self) -> None:
-        status, _, said = run("export", "@p.json", "--json", files={"p.json": POLICY.replace('"Permit"', '"Permitt"')})
-        self.assertEqual((status, [one["code"] for one in json.loads(said[:said.rindex("]") + 1])]), (1, ["BadValue"]))
+        status, _, said = run("export", "@p.json", "--json",
+                              files={"p.json": POLICY.replace('"Permit"', '"Permitt"')})
+        self.assertEqual((status, [one["code"] for one in json.loads(said[:said.rindex("]") + 1])]),
+                         (1, ["BadValue"]))
 
     def test_a_folder(self) -> None:
         with tempfile.TemporaryDirectory() as folder:
             files = {"p.xml": SMALL, "q.xml": with_description("&lt;")}
             status, written, _ = run("import", "@p.xml", "@q.xml", "--to", folder + "/to", files=files)
-            self.assertEqual((status, sorted(path.name for path in pathlib.Path(folder, "to").iterdir())), (0, ["p.json", "q.json"]))
+            self.assertEqual((status, sorted(path.name for path in pathlib.Path(folder, "to").iterdir())),
+                             (0, ["p.json", "q.json"]))
             self.assertIn("written to", written)
             self.assertEqual(run("import", "@p.xml", "--to", folder + "/to", files=files)[0], 0)
-            self.assertEqual(run("import", "@p.xml", "--to", folder + "/to", files={"p.xml": with_description("other")})[0], 2)
+            self.assertEqual(run("import", "@p.xml", "--to", folder + "/to",
+                                 files={"p.xml": with_description("other")})[0], 2)
 
     def test_usage(self) -> None:
         files = {"p.xml": SMALL, "q.xml": SMALL}
-        for words in (["import"], ["import", "@none.xml"], ["import", "@p.xml", "@q.xml"], ["export"], ["conformance", "@none"],
+        for words in (["import"], ["import", "@none.xml"], ["import", "@p.xml", "@q.xml"], ["export"],
+                      ["conformance", "@none"],
                       ["import", "@p.xml", "@p.xml", "--to", "@to"]):
             with self.subTest(words):
                 self.assertEqual(run(*words, files=files)[0], 2)
@@ -232,17 +254,23 @@ class Exports(DeskTest):
             held = POLICY.replace('"Value": "staff"', f'"Value": "{letter}"')
             found = exported(check.checked("p.json", held.encode()))
             self.assertIsNone(found.text)
-            remark = self.remark(found.remarks, "NoXml", held.index(f'"{letter}"'), "XML can't hold the character", letter[2:].upper())
+            remark = self.remark(found.remarks, "NoXml", held.index(f'"{letter}"'),
+                                 "XML can't hold the character", letter[2:].upper())
             self.assertEqual(len(found.remarks.found), 1, remark)
 
     def test_white_space_comes_back(self) -> None:
         for inner in (" a", "a ", "a  b", "\\t", "\\n", "\\r", "\\r\\n", "a\\u0085", "\\u00a0", "\\u2028"):
-            held = POLICY.replace('"urn:test:shop"', f'"{inner}"').replace('"staff"', f'"{inner}"').replace('"urn:test:role"', f'"{inner}"')
+            held = POLICY.replace('"urn:test:shop"',
+                                  f'"{inner}"').replace('"staff"', f'"{inner}"').replace('"urn:test:role"',
+                                                                                         f'"{inner}"')
             found = exported(check.checked("p.json", held.encode()))
-            self.assertTrue(exchange.is_same(held.encode(), imported("p.xml", found.text.encode()).text), inner)
+            self.assertTrue(exchange.is_same(held.encode(), imported("p.xml", found.text.encode()).text),
+                            inner)
 
     def test_an_export_that_comes_back_as_another_is_told(self) -> None:
-        with mock.patch.object(exchange, "imported", lambda *_: Imported(check.Remarks(), POLICY.replace('"staff"', '"Staff"').encode())):
+        with mock.patch.object(exchange, "imported",
+                               lambda *_: Imported(check.Remarks(),
+                                                   POLICY.replace('"staff"', '"Staff"').encode())):
             self.assertEqual(run("export", "@p.json", files={"p.json": POLICY})[0], 3)
 
 
