@@ -38,6 +38,7 @@ class Case:
     held: setting.Setting | None = None
     body: bytes = b""
     expected: list | None = None
+    notes: list[str] = field(default_factory=list)
 
     def ended(self, verdict: str, *why: str) -> None:
         self.verdict, self.why = verdict, list(why)
@@ -126,6 +127,7 @@ def prepared(case: Case) -> None:
     version = versions.numbered(root.version.split("."))
     case.held = setting.Setting(held, versions.Reference(root.kind, root.id, None, version, version), None)
     case.body, case.expected = asked.text, expected.results
+    case.notes = [sentence_of(remark) for remark in expected.remarks.found]
 
 
 def answered(cases: list[Case], moment: int, program: Program | None) -> list[tuple[str, str]]:
@@ -146,7 +148,7 @@ def judged(case: Case, by_model: str, by_program: str) -> None:
                            f"The program: {by_program[:400]}")
     given = responses_in_xml.given_of(json.loads(by_program)["Response"])
     why = responses_in_xml.differences(case.expected, given)
-    case.ended("differs" if why else "pass", *why)
+    case.ended("differs" if why else "pass", *why, *case.notes)
 
 
 def print_case(case: Case) -> None:

@@ -1,8 +1,8 @@
 """Expected responses in XML (XACML 3.0, core, sections 5.47 to 5.57), and how the server's are compared.
 
 Results, obligations, advice, their assignments and the included attributes have no order in the standard:
-they are compared as collections in which each stands as often as it stands. Of a status the outermost code counts,
-where it is given; messages and details don't.
+they are compared as collections in which each stands as often as it stands. Of a status the outermost code
+counts, where it is given; minor codes, messages and details don't, and a note says so.
 """
 from __future__ import annotations
 
@@ -15,6 +15,8 @@ from .importing import Importing
 from .model import identifiers, values
 from .xml_reading import Element, Spot
 
+NOT_COMPARED = {"StatusMessage": "A message", "StatusDetail": "A detail, such as MissingAttributeDetail,",
+                "StatusCode": "A minor code"}
 DECISIONS = ("Permit", "Deny", "Indeterminate", "NotApplicable")
 
 
@@ -28,10 +30,9 @@ class Held:
     text: str
 
     def __str__(self) -> str:
-        place = " ".join(part
-                         for part in (names.category_shown(self.category),
-                                      names.attribute_shown(self.attribute_id),
-                                           f"by {self.issuer}" if self.issuer else "") if part)
+        parts = [names.category_shown(self.category), names.attribute_shown(self.attribute_id),
+                 f"by {self.issuer}" if self.issuer else ""]
+        place = " ".join(filter(None, parts))
         return f'{place} = "{self.text}" ({self.data_type})'
 
 
@@ -101,6 +102,11 @@ class Reading(Importing):
                           for one in attribute.named("AttributeValue")]
         return ordered(found)
 
+    def not_compared(self, held: Element) -> None:
+        """Notes what of a status isn't compared."""
+        for child in held.named("StatusMessage", "StatusDetail") if held.name == "Status" else [held]:
+            self.remarks.note("not-compared", child.spot(), f"{NOT_COMPARED[child.name]} isn't compared.")
+
     def result(self, held: Element) -> Result:
         """A result."""
         decision, status = held.one("Decision"), held.one("Status")
@@ -111,6 +117,8 @@ class Reading(Importing):
         for child in held.named("PolicyIdentifierList"):
             self.remarks.fault("LeftOut", child.spot(), left_out.ELEMENTS[child.name])
         code = status.one("StatusCode") if status is not None else None
+        for child in [*held.named("Status"), *(code.elements() if code is not None else [])]:
+            self.not_compared(child)
         return Result(text, code.value("Value") if code is not None else None,
                       self.duties(held, "Obligations", "Obligation", "ObligationId"),
                       self.duties(held, "AssociatedAdvice", "Advice", "AdviceId"), self.included(held))

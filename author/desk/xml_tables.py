@@ -1,8 +1,8 @@
 """The schemas of XACML 3.0 (policies, requests, responses) and 2.0 (policies), as tables.
 
 Of each element there are its attributes and its children. An attribute is `name:type`, with `!` behind it
-where it is required; `*` stands for any others. Children are a sequence of parts: a name, or names with `|` between
-in brackets, and behind it `?`, `*` or `+`. `#text` is text alone, `#any` whatever there is.
+where it is required; `*` stands for any others. Children are a sequence of parts: a name, or names with `|`
+between in brackets, and behind it `?`, `*` or `+`. `#text` is text alone, `#any` whatever there is.
 """
 from __future__ import annotations
 
@@ -16,7 +16,8 @@ OTHERS = {
 }
 EXPRESSION = "(Apply|AttributeSelector|AttributeValue|Function|VariableReference|AttributeDesignator)"
 EXPRESSION_2 = ("(Apply|AttributeSelector|AttributeValue|Function|VariableReference"
-                "|SubjectAttributeDesignator|ResourceAttributeDesignator|ActionAttributeDesignator|EnvironmentAttributeDesignator)")
+                "|SubjectAttributeDesignator|ResourceAttributeDesignator|ActionAttributeDesignator"
+                "|EnvironmentAttributeDesignator)")
 IN_SET = ("(PolicySet|Policy|PolicySetIdReference|PolicyIdReference|CombinerParameters"
           "|PolicyCombinerParameters|PolicySetCombinerParameters)*")
 IN_POLICY = "(CombinerParameters|RuleCombinerParameters|VariableDefinition|Rule)*"

@@ -134,6 +134,8 @@ class Validity:
         known = dict(word.rsplit(":", 1) for word in table.split() if ":" in word)
         for one in held.attributes:
             if one.name in HINTS:
+                self.remarks.note("not-kept", held.spot(one.name),
+                                  "Where a parser finds the schema isn't kept: it says nothing else.")
                 continue
             kind = known.get(one.name)
             if kind is None and "*" not in table.split():

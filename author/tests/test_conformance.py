@@ -1,8 +1,8 @@
 """Cases in the layout of the OASIS conformance suite, their verdicts, and that a wrong expectation is told.
 
 tests/conformance holds them: of targets (A), conditions (B), combining (C), obligations and advice (D),
-several decisions and references (E), and of what is out of scope (X). The expected responses are worked out by
-hand from XACML 3.0, core, sections 7.7 to 7.18 and appendix C.
+several decisions and references (E), and of what is out of scope (X). The expected responses are worked out
+by hand from XACML 3.0, core, sections 7.7 to 7.18 and appendix C.
 """
 from __future__ import annotations
 
@@ -95,6 +95,15 @@ class Conformance(DeskTest):
         held["c/A03Response.xml"] = re.sub(r"<Status>.*</Status>", "", held["c/A03Response.xml"],
                                            flags=re.DOTALL)
         self.assertEqual(verdict(held)[:2], (0, "pass"))
+
+    def test_what_of_a_status_is_not_compared(self) -> None:
+        code = f'<StatusCode Value="{STATUS}missing-attribute"'
+        more = (f'{code}><StatusCode Value="urn:ours"/></StatusCode><StatusMessage>None.</StatusMessage>'
+                '<StatusDetail><MissingAttributeDetail Category="c" AttributeId="a" DataType="d"/></StatusDetail>')
+        status, found, why = verdict(files_of("A03", (code + "/>", more)))
+        self.assertEqual((status, found), (0, "pass"))
+        for words in ("A minor code isn't compared.", "A message isn't compared.", "A detail, such as Missing"):
+            self.assertIn(words, why)
 
     def test_too_few_results(self) -> None:
         held = files_of("E01")
