@@ -267,6 +267,7 @@ def parser() -> argparse.ArgumentParser:
         one.set_defaults(run=run, **more)
         return one
 
+    exchange.add_words(word)
     word("check", "names all faults of documents, with their places", check, add_check)
     one = word("ask", "decides on a request", decided, add_question, is_explained=False)
     one.add_argument("--raw", action="store_true", help="writes the body of the response alone")
@@ -274,7 +275,6 @@ def parser() -> argparse.ArgumentParser:
     one.add_argument("--json", action="store_true", help="writes the explanation as JSON")
     word("test", "runs cases", cases_run, add_test)
     word("diff", "shows requests whose answer changes from one set of documents to another", diff_run, add_diff)
-    exchange.add_words(word)
     word("build", "proves and builds the program, and keeps it for the other words", lambda _: program.built(), None)
     word("lints", "lists the lints by their names", lints_run, None)
     return whole
