@@ -3,15 +3,12 @@
 
 mod answer;
 mod arguments;
-mod attributes;
 mod bodies;
 mod combining;
 mod decisions;
 mod documents;
-mod expressions;
 mod field;
 mod functions;
-mod holders;
 mod keeper;
 mod keeper_changes;
 mod keeper_readings;
@@ -24,9 +21,6 @@ mod plain;
 mod references;
 mod requests;
 mod server;
-mod setup;
-mod setup_messages;
-mod source_rows;
 mod stores;
 mod values;
 mod versions;
@@ -45,7 +39,6 @@ fn answer_one(answer: &mut Answer, kind: &str, field: &str) -> Result<(), NoAnsw
         "moment" => values::moment(answer, field),
         "months" => values::months(answer, field),
         "nanoseconds" => values::nanoseconds(answer, field),
-        "held" => holders::held_value(answer, field),
         "function" => functions::function(answer, field),
         _ => answer_text(answer, kind, field),
     }
@@ -95,9 +88,6 @@ fn answer_two(answer: &mut Answer, kind: &str, first: &str, second: &str) -> Res
 /// Answers a row of any number of fields behind the kind.
 fn answer_many(answer: &mut Answer, kind: &str, fields: &[&str]) -> Result<(), NoAnswer> {
     match kind {
-        "evaluate" => expressions::evaluate(answer, fields),
-        "target" => expressions::target(answer, fields),
-        "keys" => holders::keys(answer, fields),
         "stream" => messages::stream(answer, fields),
         "decide" => decisions::decision(answer, fields),
         _ => answer_kept(answer, kind, fields),
@@ -123,7 +113,6 @@ fn answer_first(answer: &mut Answer, kind: &str, fields: &[&str]) -> Result<(), 
     match kind {
         "apply" => functions::apply(answer, first, fields),
         "higher" => functions::higher(answer, first, fields),
-        "bag" => holders::bag(answer, first, fields),
         "combine" => combining::combination(answer, first, fields),
         "resolve" => references::resolution(answer, first, fields),
         "link" => linking::tree(answer, first, fields),
@@ -157,7 +146,7 @@ fn answer_to(rt: &HostRuntime, line: &str) -> Result<Answer, AllocError> {
     let mut answer = Answer::new(rt.alloc());
     let fields: Vec<&str> = line.split('\t').collect(rt.alloc())?;
     match answer_over(rt, &mut answer, &fields) {
-        Ok(()) => {}
+        Ok(()) | Err(NoAnswer::Answered) => {}
         Err(NoAnswer::Memory) => answer.cut(),
         Err(NoAnswer::Malformed) => answer.word("!Malformed"),
         Err(NoAnswer::Socket) => answer.word("!Socket"),
