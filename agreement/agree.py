@@ -12,13 +12,14 @@ import sys
 
 import folders  # noqa: F401
 from answers import answer
+from asked import BY_OTHERS, Row, by_others
 from bodies import Bodies
 from breaking import Breaking
 from combining import ALGORITHMS, DECISIONS
 from commands import Commands
 from exchanges import Exchanges
 from functions import BAG_FUNCTIONS, DURATIONS, FUNCTIONS, HIGHER_ORDER, V1, V3
-from inputs import BY_DOCUMENTS, Row, as_read, by_documents
+from inputs import as_read, as_written
 from keeping import Keeping
 from rows import encoded, line
 from small_bodies import SmallBodies
@@ -176,9 +177,9 @@ class Rows:
 
 
 def asked(rows):
-    """The rows that are asked of the program: in place of a row of expressions those of its policies, with their answers."""
+    """The rows that are asked of the program: in place of some others that ask the same, with their answers."""
     for fields in rows:
-        yield from by_documents(fields, answer(fields)) if fields[0] in BY_DOCUMENTS else [Row(fields, None)]
+        yield from by_others(fields, answer(fields)) if fields[0] in BY_OTHERS else [Row(fields, None)]
 
 
 def in_files(rows):
@@ -200,7 +201,7 @@ def answers_of(path):
 
 
 def compare(answers, rows):
-    wanted = [line(row.answer or answer(row.fields))[:-1] for row in rows]
+    wanted = [line(as_written(row.fields, row.answer or answer(row.fields)))[:-1] for row in rows]
     rows = [row.fields for row in rows]
     differ = [it for it in zip(rows, wanted, answers) if it[1] != it[2]]
     for fields, by_model, found in differ[:20]:

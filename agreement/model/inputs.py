@@ -1,231 +1,9 @@
-"""Rows as the program reads them: what stands in a row in short is written as the bodies, the documents and the messages that the code which serves reads."""
-import collections
+"""Rows as the program reads them, and its answers: what stands in a row in short is written as the bodies, the documents and the messages that the code which serves reads."""
 import json
 
-import responses
-from documents import DocumentFault, document_of
-from expressions import check_match
-from functions import V1
-from identifiers import NAMESPACE, STATUS
-from policies import without_duties
-from questions import Questions, place_of
+from documents import RULE_ALGORITHMS, POLICY_ALGORITHMS, DocumentFault
 from rows import decoded, encoded, text_of
 from servers import OPERATOR_TOKEN, ROOTS, SETUP, SETUP_TOKEN, Setup, path, root, rows
-
-RULES = "urn:oasis:names:tc:xacml:3.0:rule-combining-algorithm:deny-overrides"
-POLICIES = "urn:oasis:names:tc:xacml:3.0:policy-combining-algorithm:deny-overrides"
-MAX_DOCUMENT_BYTES = 65_536
-# A row and its answer.
-Row = collections.namedtuple("Row", "fields answer")
-# A value as a row writes it.
-Literal = collections.namedtuple("Literal", "data_type text")
-
-
-def compact(held):
-    return json.dumps(held, ensure_ascii=False, separators=(",", ":"))
-
-
-# Rows of expressions and of targets: each expression is what an obligation of a policy assigns, and each target is a policy's.
-
-
-class Written(Questions):
-    """What a row says, with values as they are written."""
-
-    def __init__(self, fields):
-        self.held = collections.defaultdict(list)
-        super().__init__(fields)
-
-    def take_pair(self, word, text):
-        if word == "has":
-            place, held = text.split("=", 1)
-            data_type, category, name, issuer = place_of(place)
-            self.held[category].append(without_none({"AttributeId": name, "Issuer": issuer, "DataType": data_type, "Value": text_of(held)}))
-        elif word in ("let", "any", "some", "function", "variable"):
-            super().take_pair(word, text)
-        else:
-            self.put(("value", Literal(word, text_of(text))))
-
-    def request(self):
-        """The body of the request that has the row's attributes."""
-        objects = [{"CategoryId": category, "Attribute": held} for category, held in self.held.items()]
-        return compact({"Request": {"Category": objects} if objects else {}})
-
-
-def without_none(members):
-    return {name: held for name, held in members.items() if held is not None}
-
-
-def value_json(literal):
-    return {"DataType": literal.data_type, "Value": literal.text}
-
-
-def designator_json(held):
-    return without_none({"Category": held.category, "AttributeId": held.attribute_id, "DataType": held.data_type,
-                         "MustBePresent": held.must_be_present, "Issuer": held.issuer})
-
-
-def expression_json(expression):
-    form, held = expression
-    if form == "value":
-        return {"AttributeValue": value_json(held)}
-    if form == "designator":
-        return {"AttributeDesignator": designator_json(held)}
-    if form == "function":
-        return {"Function": {"FunctionId": held}}
-    if form == "variable":
-        return {"VariableReference": {"VariableId": held}}
-    return {"Apply": without_none({"FunctionId": held[0], "Expression": list(map(expression_json, held[1])) or None})}
-
-
-def policy(variables=(), rule=None, target=None):
-    """The text of a policy."""
-    defined = [{"VariableId": name, "Expression": held} for name, held in variables]
-    return compact({"Policy": without_none({"PolicyId": "p", "Version": "1", "RuleCombiningAlgId": RULES, "Target": target,
-                                            "VariableDefinition": defined or None, "Rule": [{"RuleId": "r", "Effect": "Permit", **(rule or {})}]})})
-
-
-def by_function(name, argument):
-    return {"Apply": {"FunctionId": name, "Expression": [argument]}}
-
-
-def assigning(variables, expression, kind):
-    """The text of a policy whose rule assigns the expression. It has no type where the expression isn't of the kind."""
-    named = {"VariableReference": {"VariableId": "(the expression)"}}
-    form, data_type = kind.removesuffix(")").split("(")
-    data_type = next(name for name in NAMES_OF_TYPES if name.lower() == data_type.lower())
-    typed = by_function(f"{V1}{data_type}-bag" + ("-size" if form == "Bag" else ""), named)
-    checked = [*variables, ("(the expression)", expression), ("(its kind)", typed)]
-    whole = policy(checked, obliging(expression))
-    return whole if len(whole.encode()) <= MAX_DOCUMENT_BYTES else policy(checked, obliging(named))
-
-
-def obliging(expression):
-    return {"ObligationExpressions": [{"ObligationId": "o", "FulfillOn": "Permit",
-                                       "AttributeAssignmentExpression": [{"AttributeId": "v", "Expression": expression}]}]}
-
-
-def response(evaluated, **members):
-    return [encoded(responses.body([{**responses.result(evaluated), **members}]))]
-
-
-def assignment(data_type, text):
-    """The assignment of the value that is written so in an answer."""
-    text = text_of(text)
-    plain = text == "true" if data_type == "boolean" else int(text) if data_type == "integer" else text
-    return {"AttributeId": "v", "DataType": NAMESPACE + data_type, "Value": plain}
-
-
-def response_to_values(shown):
-    """The response that assigns the values of an answer's fields."""
-    if shown[0].startswith("bag:"):
-        assignments = [assignment(shown[0][4:], field[1:]) for field in shown[1:]]
-    else:
-        assignments = [assignment(*shown[0].split(":", 1))]
-    return response(without_duties("Permit"), Obligations=[{"Id": "o", **({"AttributeAssignment": assignments} if assignments else {})}])
-
-
-def taken_answer(answer):
-    """The fields of the first answer to an expression, which has a kind."""
-    if answer[1].startswith("!"):
-        return answer[:3]
-    end = 2
-    while answer[1].startswith("bag:") and end < len(answer) and answer[end].startswith("+"):
-        end += 1
-    return answer[:end]
-
-
-def decide_row(document, request, answer):
-    return Row(["decide", "active:" + encoded(document), "root:policy|p|||", encoded(request)], answer)
-
-
-def document_row(document, fault):
-    return Row(["document", encoded(document)], ["!" + fault])
-
-
-def ill_typed(document, fault):
-    return document_row(document, f"IllTyped({fault.removeprefix('!')})")
-
-
-def evaluate(fields, answer):
-    """For each expression a decision that has its value, or a document that isn't read, since it has no kind."""
-    row, variables, name, made = Written(fields), [], None, []
-    for form, held in row.said:
-        if form == "let":
-            name = held
-            continue
-        expression = expression_json((form, held))
-        if name is not None:
-            document, said, answer = policy([*variables, (name, expression)]), answer[0], answer[1:]
-            if said == "true":
-                variables.append((name, expression))
-                made.append(Row(["document", encoded(document)], ["policy", "p", "1"]))
-            else:
-                made.append(document_row(document, "BadValue") if said == "false" else ill_typed(document, said))
-        elif answer[0].startswith("!"):
-            made.append(ill_typed(policy(variables, obliging(expression)), answer[0]))
-            answer = answer[1:]
-        else:
-            shown = taken_answer(answer)
-            answer = answer[len(shown):]
-            given = response(without_duties("{P}", shown[2])) if shown[1].startswith("!") else response_to_values(shown[1:])
-            made.append(decide_row(assigning(variables, expression, shown[0]), row.request(), given))
-        name = None
-    return list({tuple(one.fields): one for one in made}.values())
-
-
-def match_json(held):
-    name, ((_, literal), (_, designator)) = held
-    return {"MatchId": name, "AttributeValue": value_json(literal), "AttributeDesignator": designator_json(designator)}
-
-
-def target_json(parts):
-    return {"AnyOf": [{"AllOf": [{"Match": all_of} for all_of in any_of]} for any_of in parts]} if parts else {}
-
-
-def target(fields, answer):
-    """A decision that shows the target, and for each match that may not be made a document that isn't read. No document has a part of a target in which nothing
-    stands, as where none of its matches may be made: then no decision is asked for."""
-    row, parts, all_of, matches = Written(fields), [], [], []
-    made, found = [], answer[-1]
-    faults = iter(answer[:-1])
-    for form, held in row.said:
-        if form == "|":
-            all_of, matches = all_of + [matches], []
-        elif form == ";":
-            parts, all_of = parts + [all_of], []
-        elif may_be_made(held):
-            matches = matches + [match_json(held)]
-        else:
-            made.append(ill_typed(policy(target=target_json([[[match_json(held)]]])), next(faults)))
-    if not all(any_of and all(any_of) for any_of in parts):
-        return made
-    if found.startswith("Indeterminate"):
-        given = without_duties("{P}", STATUS_OF_FAULT[found[14:-1]])
-    else:
-        given = without_duties("Permit" if found == "Match" else "NotApplicable")
-    return made + [decide_row(policy(target=target_json(parts)), row.request(), response(given))]
-
-
-def may_be_made(held):
-    name, ((_, literal), (_, designator)) = held
-    try:
-        check_match(name, literal, designator)
-        return True
-    except Exception:
-        return False
-
-
-STATUS_OF_FAULT = {"MissingAttribute": STATUS + "missing-attribute", "ProcessingError": STATUS + "processing-error", "SyntaxError": STATUS + "syntax-error"}
-NAMES_OF_TYPES = ("boolean", "integer", "string", "date", "time", "dateTime", "dayTimeDuration", "yearMonthDuration", "anyURI", "hexBinary", "base64Binary")
-BY_DOCUMENTS = {"evaluate": evaluate, "target": target}
-
-
-def by_documents(fields, answer):
-    """The rows that ask what the row asks, each with its answer: of a row of expressions or of a target those of its policies."""
-    if fields[0] not in BY_DOCUMENTS:
-        return [Row(fields, answer)]
-    return BY_DOCUMENTS[fields[0]](fields[1:], answer)
-
 
 # References and keys are written as the bodies and documents that have them, and domains as the messages that make them.
 
@@ -289,8 +67,9 @@ def document_with_key(key):
     if key.count("|") != 2:
         return key
     kind, name, version = key.split("|")
-    form, algorithm = (("Policy", "Rule"), RULES) if kind == "policy" else (("PolicySet", "Policy"), POLICIES)
-    return encoded(compact({form[0]: {f"{form[0]}Id": text_of(name), "Version": version, f"{form[1]}CombiningAlgId": algorithm}}))
+    form, algorithms = (("Policy", "Rule"), RULE_ALGORITHMS) if kind == "policy" else (("PolicySet", "Policy"), POLICY_ALGORITHMS)
+    held = {f"{form[0]}Id": text_of(name), "Version": text_of(version), f"{form[1]}CombiningAlgId": next(iter(algorithms))}
+    return encoded(json.dumps({form[0]: held}, ensure_ascii=False, separators=(",", ":")))
 
 
 def decide(fields):
@@ -322,3 +101,23 @@ READ = {
 def as_read(fields):
     """The fields of a row as the program reads them."""
     return [fields[0], *READ.get(fields[0], list)(fields[1:])]
+
+
+# The names of this program's rows, for names of the code.
+COMMANDS = {"create": "Create", "remove": "Remove", "put": "PutToken", "drop": "DropToken", "decide": "Decide", "upload": "Upload", "list": "List", "root": "SetRoot",
+            "source": "SetSource", "rows": "Source", "document": "Show", "delete": "Delete", "activate": "Activate", "deactivate": "Deactivate"}
+DECISIONS = {"{P}": "IndeterminatePermit", "{D}": "IndeterminateDeny", "{DP}": "IndeterminateDenyPermit"}
+
+
+def route_written(answer):
+    """A route by its command's name in the code, and the domain in a field of its own."""
+    word, is_of_domain, domain = answer[0].partition(":")
+    return [COMMANDS[word], domain, *answer[1:]] if is_of_domain else answer
+
+
+WRITTEN = {"route": route_written, "combine": lambda answer: [DECISIONS.get(answer[0], answer[0])]}
+
+
+def as_written(fields, answer):
+    """The answer to the row as the program writes it."""
+    return WRITTEN.get(fields[0], list)(answer)
