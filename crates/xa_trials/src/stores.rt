@@ -69,6 +69,14 @@ fn judgement_of(alloc: Global, conn: Connection<InFiles>) -> (Result<bool, OpenE
     }
 }
 
+/// Adds that the store is opened, and whether it has a keeper's tables and no others.
+fn push_opened(answer: &mut Answer, is_ours: bool) {
+    answer.word("opened");
+    if is_ours {
+        answer.word("ours");
+    }
+}
+
 /// What opening the store answers: whether it has a keeper's tables and no others; or why it isn't opened, and whether it holds something else then.
 pub fn opening(answer: &mut Answer, word: &str, statements: &[&str]) -> Result<(), NoAnswer> {
     let alloc = answer.alloc();
@@ -76,7 +84,7 @@ pub fn opening(answer: &mut Answer, word: &str, statements: &[&str]) -> Result<(
     let before = contents(alloc, &mut conn)?;
     let (judgement, mut conn) = judgement_of(alloc, conn);
     match judgement {
-        Ok(is_ours) => answer.word(if is_ours { "opened\tours" } else { "opened" }),
+        Ok(is_ours) => push_opened(answer, is_ours),
         Err(error) => {
             answer.name("!", &error);
             if contents(alloc, &mut conn)?.as_str() != before.as_str() {
