@@ -7,10 +7,10 @@ import collections
 import json
 
 import responses
-from expressions import check_match
+from expressions import CheckError, check_match
 from functions import V1
-from json_texts import MOST_NESTED
 from identifiers import NAMESPACE, STATUS
+from json_texts import MOST_NESTED
 from policies import without_duties
 from questions import Questions, place_of
 from rows import encoded, text_of
@@ -226,24 +226,27 @@ def may_be_made(held):
     try:
         check_match(name, literal, designator)
         return True
-    except Exception:
+    except CheckError:
         return False
 
 
 STATUS_OF_FAULT = {"MissingAttribute": STATUS + "missing-attribute", "ProcessingError": STATUS + "processing-error", "SyntaxError": STATUS + "syntax-error"}
 NAMES_OF_TYPES = ("boolean", "integer", "string", "date", "time", "dateTime", "dayTimeDuration", "yearMonthDuration", "anyURI", "hexBinary", "base64Binary")
-# Other rows
+
+
+# Other rows: moments, a value that is held, versions.
 
 
 def moment(fields, answer):
     """A decision at the moment that assigns the clock's values."""
-    clock = [{"AttributeDesignator": {"Category": "Environment", "AttributeId": CLOCK + name.lower().replace("datetime", "dateTime"), "DataType": name,
+    clock = [{"AttributeDesignator": {"Category": "Environment", "AttributeId": CLOCK + name, "DataType": name,
                                       "MustBePresent": True}} for name in ("date", "time", "dateTime")]
     given = ["!Malformed"] if answer == ["!None"] else response_with([assignment(*field.split(":", 1)) for field in answer])
     return [decide_row(policy(rule=obliging(*clock)), compact({"Request": {}}), given, "moment:" + fields[0])]
 
 
 def held(fields, answer):
+    """A decision that has the value, which stands in a policy."""
     return evaluate(fields, [f"Value({fields[0].split(':')[0]})", *answer])
 
 
