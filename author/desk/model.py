@@ -14,6 +14,7 @@ import documents  # noqa: E402, F401
 import expressions  # noqa: E402, F401
 import functions  # noqa: E402, F401
 import identifiers  # noqa: E402, F401
+import inputs  # noqa: E402, F401
 import json_texts  # noqa: E402, F401
 import linking  # noqa: E402, F401
 import policies  # noqa: E402, F401
