@@ -1,6 +1,7 @@
 -- What a match's function takes, and what equality makes of a match.
 use Rattle.std.proofs.Common.{◌≡◌, Bool, true, false, cond, ◌&&◌, ◌||◌, List, [], ◌∷◌, map, refl, ap, sym, subst, ◌∙◌}
 use Rattle.std.specs.Prelude.{if◌then◌else◌, Ok, Err}
+use Rattle.std.proofs.Props.{props}
 use Rattle.std.proofs.lemmas.Bool.{true≢false}
 use Rattle.std.specs.List.{list_any}
 use Rattle.xa_value.specs.declared.data_type.DataType.{DataType}
@@ -51,11 +52,13 @@ takes_given m v vs of_type given = subst (λ us. TakesKinds m.function (map kind
 -- a match that may not be made, and one that may
 pub none_made : (f : FuncId) (literal : Value) (d : Designator) (b : Bool) (e : may_ask f (argument_kinds literal d.data_type) ≡ b)
     → b ≡ false → matched_where f literal d b e ≡ Err WrongType
-none_made f literal d true e no = absurd (true≢false no)
-none_made f literal d false e no = refl
+none_made f literal d true e false_too = absurd (true≢false false_too)
+none_made f literal d false e false_too = refl
 
 pub made : (m : Match) (b : Bool) (e : may_ask m.function (argument_kinds m.literal m.designator.data_type) ≡ b) → matched_where m.function m.literal m.designator b e ≡ Ok m
-made m true e = ap Ok refl
+made m true e =
+    let once : (x y : may_ask m.function (argument_kinds m.literal m.designator.data_type) ≡ true) → x ≡ y = Prim.hlevel props in
+    ap (λ right. Ok (record { function = m.function; literal = m.literal; designator = m.designator; right = right })) (once e m.right)
 made m false e = absurd (true≢false (sym m.right ∙ e))
 
 -- it matches, or it does not

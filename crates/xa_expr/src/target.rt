@@ -71,7 +71,7 @@ impl AnyOf {
 impl Target {
     /// Whether every part of the target matches (core, section 7.7). The first that does not settles it. An empty target matches, whatever
     /// memory there is. Clause `fits`: no wrong type is met, in any part of the target.
-    #[tactic(auto, using(crate::proofs::TargetLemmas::all_match_joined, crate::proofs::TargetLemmas::all_match_single, crate::proofs::TargetMisfitLemmas::target_fits))]
+    #[tactic(auto, using(crate::proofs::TargetLemmas::all_match_joined, crate::proofs::TargetLemmas::all_match_single))]
     pub fn matching<C: Context>(&self, alloc: Global, context: &C) -> Result<Matching, AllocError>
         ensures value { IfOk result (λ m. m ≡ target_value (C.values_of context.now) self.now) }
         ensures empty { self.now.any_of ≡ [] → result ≡ Ok matching.Match }

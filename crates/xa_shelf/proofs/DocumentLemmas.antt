@@ -33,10 +33,11 @@ at_failure P (Err e) p = p
 -- a document is found under a text exactly where the text is one of those that are held
 pub found_among : {A : Type 0} (text : List ℕ) (es : List (String A × Parsed)) → is_some (lookup (λ k. bytes_eq text (string_bytes k)) es) ≡ is_among text (texts_of es)
 found_among text [] = refl
-found_among text (e ∷ es) = by_case (bytes_eq text (string_bytes e.0)) refl where
-  by_case : (b : Bool) → bytes_eq text (string_bytes e.0) ≡ b → is_some (lookup (λ k. bytes_eq text (string_bytes k)) (e ∷ es)) ≡ is_among text (texts_of (e ∷ es))
-  by_case true at = rw at refl
-  by_case false at = rw at (found_among text es)
+found_among text (e ∷ es) = by_case (bytes_eq text (string_bytes e.0)) refl (found_among text es) where
+  by_case : (b : Bool) → bytes_eq text (string_bytes e.0) ≡ b → is_some (lookup (λ k. bytes_eq text (string_bytes k)) es) ≡ is_among text (texts_of es)
+      → is_some (lookup (λ k. bytes_eq text (string_bytes k)) (e ∷ es)) ≡ is_among text (texts_of (e ∷ es))
+  by_case true at others = rw at refl
+  by_case false at others = rw at others
 
 -- so is its entry, and its text is that one
 abbrev Looked : {A : Type 0} → List ℕ → List (String A × Parsed) → Option (String A × Parsed) → Type 0
@@ -44,18 +45,19 @@ Looked text es o = (is_some o ≡ is_among text (texts_of es)) × IfSome o (λ e
 
 looked : {A : Type 0} (text : List ℕ) (es : List (String A × Parsed)) → Looked text es (lookup_entry (λ k. bytes_eq text (string_bytes k)) es)
 looked text [] = (refl, tt)
-looked text (e ∷ es) = by_case (bytes_eq text (string_bytes e.0)) refl where
-  by_case : (b : Bool) → bytes_eq text (string_bytes e.0) ≡ b → Looked text (e ∷ es) (lookup_entry (λ k. bytes_eq text (string_bytes k)) (e ∷ es))
-  by_case true at = rw at (refl, sym ((bytes_decides text (string_bytes e.0)).0 at))
-  by_case false at = rw at (looked text es)
+looked text (e ∷ es) = by_case (bytes_eq text (string_bytes e.0)) refl (looked text es) where
+  by_case : (b : Bool) → bytes_eq text (string_bytes e.0) ≡ b → Looked text es (lookup_entry (λ k. bytes_eq text (string_bytes k)) es)
+      → Looked text (e ∷ es) (lookup_entry (λ k. bytes_eq text (string_bytes k)) (e ∷ es))
+  by_case true at others = rw at (refl, sym ((bytes_decides text (string_bytes e.0)).0 at))
+  by_case false at others = rw at others
 
 removed_texts : {A : Type 0} (text : List ℕ) (es : List (String A × Parsed)) → texts_of (remove_entry (λ k. bytes_eq text (string_bytes k)) es) ≡ without text (texts_of es)
 removed_texts text [] = refl
-removed_texts text (e ∷ es) = by_case (bytes_eq text (string_bytes e.0)) refl where
-  by_case : (b : Bool) → bytes_eq text (string_bytes e.0) ≡ b
+removed_texts text (e ∷ es) = by_case (bytes_eq text (string_bytes e.0)) refl (removed_texts text es) where
+  by_case : (b : Bool) → bytes_eq text (string_bytes e.0) ≡ b → texts_of (remove_entry (λ k. bytes_eq text (string_bytes k)) es) ≡ without text (texts_of es)
       → texts_of (remove_entry (λ k. bytes_eq text (string_bytes k)) (e ∷ es)) ≡ without text (texts_of (e ∷ es))
-  by_case true at = rw at refl
-  by_case false at = rw at (ap (λ ts. string_bytes e.0 ∷ ts) (removed_texts text es))
+  by_case true at others = rw at refl
+  by_case false at others = rw at (ap (λ ts. string_bytes e.0 ∷ ts) others)
 
 taken_texts : {A : Type 0} (n : ℕ) (es : List (String A × Parsed)) → texts_of (take n es) ≡ take n (texts_of es)
 taken_texts zero es = refl
@@ -88,7 +90,7 @@ put_texts c key v size is_new = by_entry (lookup_entry (λ k. bytes_eq (string_b
 -- a text that is held is UTF-8
 pub among_utf8 : {A : Type 0} (text : List ℕ) (es : List (String A × Parsed)) → is_among text (texts_of es) ≡ true → ∥ IsUtf8 text ∥₁
 among_utf8 text [] e = absurd (true≢false (sym e))
-among_utf8 text (f ∷ es) e = by_case (bytes_eq text (string_bytes f.0)) refl where
-  by_case : (b : Bool) → bytes_eq text (string_bytes f.0) ≡ b → ∥ IsUtf8 text ∥₁
-  by_case true at = subst (λ t. ∥ IsUtf8 t ∥₁) (sym ((bytes_decides text (string_bytes f.0)).0 at)) f.0.ok
-  by_case false at = among_utf8 text es (rw at at e)
+among_utf8 text (f ∷ es) e = by_case (bytes_eq text (string_bytes f.0)) refl (among_utf8 text es) where
+  by_case : (b : Bool) → bytes_eq text (string_bytes f.0) ≡ b → (is_among text (texts_of es) ≡ true → ∥ IsUtf8 text ∥₁) → ∥ IsUtf8 text ∥₁
+  by_case true at others = subst (λ t. ∥ IsUtf8 t ∥₁) (sym ((bytes_decides text (string_bytes f.0)).0 at)) f.0.ok
+  by_case false at others = others (rw at at e)
