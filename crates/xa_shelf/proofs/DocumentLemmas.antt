@@ -3,6 +3,7 @@ use Rattle.std.proofs.Common.{◌≡◌, ℕ, zero, suc, ◌-◌, Bool, true, fa
 use Rattle.std.specs.Prelude.{IfSome, IsUtf8, is_some}
 use Rattle.std.specs.Option.{option_map_or}
 use Rattle.std.proofs.lemmas.Bool.{true≢false}
+use Rattle.std.proofs.Math.Logic.{∥∥₁_elim}
 use Rattle.std.specs.Cmp.Lexicographic.{bytes_decides}
 use Rattle.std.specs.Map.{lookup, lookup_entry, remove_entry}
 use Rattle.lru.specs.LruCache.{LruCache, promoted, put_entries}
@@ -94,3 +95,6 @@ among_utf8 text (f ∷ es) e = by_case (bytes_eq text (string_bytes f.0)) refl (
   by_case : (b : Bool) → bytes_eq text (string_bytes f.0) ≡ b → (is_among text (texts_of es) ≡ true → ∥ IsUtf8 text ∥₁) → ∥ IsUtf8 text ∥₁
   by_case true at others = subst (λ t. ∥ IsUtf8 t ∥₁) (sym ((bytes_decides text (string_bytes f.0)).0 at)) f.0.ok
   by_case false at others = others (rw at at e)
+
+pub none_among : {A : Type 0} (text : List ℕ) (es : List (String A × Parsed)) → ¬ (IsUtf8 text) → is_among text (texts_of es) ≡ true → ⊥
+none_among text es not_utf8 e = ∥∥₁_elim (among_utf8 text es e) (λ x y. absurd x) not_utf8
