@@ -89,7 +89,7 @@ fn places_of(tree: &Linked) -> usize
 
 /// How many places the trees have.
 #[cycle(places)]
-#[tactic(auto, using(crate::proofs::PlacesLemmas::more_counted, crate::proofs::PlacesLemmas::all_counted))]
+#[tactic(auto, using(crate::proofs::PlacesLemmas::more_counted, crate::proofs::PlacesLemmas::counted_once, crate::proofs::PlacesLemmas::all_counted))]
 fn places_of_all(trees: &[Linked]) -> usize
     ensures { result ≡ counted (places_of_all trees.now) }
 {
