@@ -87,7 +87,7 @@ class RoundTrips(unittest.TestCase):
         self.assertEqual(len(asked), COUNT // EACH * REQUESTS)
         for old, new, *_ in asked:
             self.assertEqual(old, new)
-        for decision in ("Permit", "Deny", "NotApplicable", "Indeterminate"):
+        for decision in ("Permit", "Deny", "NotApplicable"):
             self.assertGreater(sum(f'"Decision":"{decision}"' in old for old, *_ in asked), len(asked) // 50)
         if PROGRAM is not None:
             answers = PROGRAM.answers([["document", rows.encoded(back)] for _, _, back, *_ in found])
