@@ -13,10 +13,12 @@ from .faults import Remarks
 from .exporting import DUTIES
 from .from_version_2 import in_version_3
 from .model import identifiers, values
+from .positions import Source
 from .text import counted
 from .xml_reading import Element, Spot, Text, Whole
 from .xml_tables import VERSION_2
 
+ALFA = "ALFA isn't read here. Let its compiler write XACML 3.0 in XML, and import that."
 EXPRESSIONS = ("Apply", "AttributeSelector", "AttributeValue", "Function", "VariableReference",
                "AttributeDesignator")
 DESCRIBED = ("Policy", "PolicySet", "Rule", "Apply")
@@ -378,6 +380,10 @@ class Importing:
 def imported(path: str, held: bytes) -> Imported:
     """The document of an XML file."""
     remarks = Remarks()
+    if path.endswith(".alfa"):
+        source = Source(path, held)
+        remarks.fault("LeftOut", Spot(source, "", 0, len(source.text)), ALFA)
+        return Imported(remarks, None)
     whole = xml_reading.read(path, held, remarks)
     if whole.top is None or not xml_validity.top_of(whole.top, ["Policy", "PolicySet"], remarks):
         return Imported(remarks, None)

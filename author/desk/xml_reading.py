@@ -35,6 +35,10 @@ ADVICE = {
     expat.errors.XML_ERROR_UNCLOSED_TOKEN: "A tag, a comment or a section isn't closed before the file ends.",
     expat.errors.XML_ERROR_MISPLACED_XML_PI: "Nothing stands before <?xml ..?>, no space and no empty line.",
 }
+OTHERWISE = ("Nothing of XML can stand like this: a < in a text is written &lt;, an & is written &amp;, and "
+             "values stand in quotes.")
+JSON = ("This is no XML, but JSON: a document in JSON needs no import, and a request in JSON is imported by "
+        "`import --request`.")
 DOCTYPE = ("A document type declaration isn't taken: its entities could read other files (XXE) or grow "
            "without end (billion laughs). "
            "Take it out, and write what its entities stand for.")
@@ -235,6 +239,14 @@ class Reader:
         self.remarks.note("not-kept", Spot(self.source, "", start, start + len(target) + 2),
                           "This instruction is for other programs: it isn't kept.")
 
+    def no_xml(self, start: int, said: str) -> None:
+        """Says why the file is no XML, as expat does, and what helps."""
+        if self.source.text.lstrip()[:1] in ("{", "["):
+            self.fault("NotXml", 0, 1, JSON)
+        else:
+            self.fault("NotXml", start, min(start + 20, len(self.source.text)),
+                       f"This is no XML ({said}). {ADVICE.get(said, OTHERWISE)}")
+
     def read(self) -> Whole:
         """What the file holds; its top element is None where it can't be read to its end."""
         try:
@@ -242,14 +254,7 @@ class Reader:
         except Stop:
             return Whole(self.source, None)
         except expat.ExpatError as fault:
-            start = self.offset(self.parser.ErrorByteIndex)
-            said = expat.ErrorString(fault.code)
-            advice = ADVICE.get(said,
-                                "Nothing of XML can stand like this: a < in a text is written &lt;, an & is "
-                                "written &amp;, "
-                                      "and values stand in quotes.")
-            self.fault("NotXml", start, min(start + 20, len(self.source.text)),
-                       f"This is no XML ({said}). {advice}")
+            self.no_xml(self.offset(self.parser.ErrorByteIndex), expat.ErrorString(fault.code))
             return Whole(self.source, None)
         placed(self.whole.top, f"/{self.whole.top.name}")
         return self.whole

@@ -3,6 +3,7 @@ from __future__ import annotations
 
 import json
 import unittest
+from xml.etree import ElementTree
 
 from .desk_tests import PROGRAM, check
 from .test_random_documents import shares
@@ -81,10 +82,13 @@ class RoundTrips(unittest.TestCase):
         self.assertEqual(len(found), COUNT)
         for held, xml, back, is_same, _ in found:
             self.assertTrue(is_same, f"{held!r}\n{xml}\n{back!r}")
+            ElementTree.fromstring(xml.encode())
         asked = [one for *_, questions in found for one in questions]
         self.assertEqual(len(asked), COUNT // EACH * REQUESTS)
         for old, new, *_ in asked:
             self.assertEqual(old, new)
+        for decision in ("Permit", "Deny", "NotApplicable"):
+            self.assertGreater(sum(f'"Decision":"{decision}"' in old for old, *_ in asked), len(asked) // 50)
         if PROGRAM is not None:
             answers = PROGRAM.answers([["document", rows.encoded(back)] for _, _, back, *_ in found])
             self.assertFalse([fields for fields in answers if fields[0].startswith("!")])

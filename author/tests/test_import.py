@@ -210,6 +210,14 @@ class Words(DeskTest):
         self.assertEqual((status, written), (1, ""))
         self.assertIn("p.json:15:16: fault BadValue", said)
 
+    def test_what_is_no_xml_at_all(self) -> None:
+        for name, held, words in (("p.alfa", "namespace a { }", "Let its compiler write XACML 3.0 in XML"),
+                                  ("p.json", POLICY, "a document in JSON needs no import"),
+                                  ("p.xml", "namespace a", "This is no XML")):
+            status, written, said = run("import", "@" + name, files={name: held})
+            self.assertEqual((status, written), (1, ""))
+            self.assertIn(words, " ".join(said.split()))
+
     def test_json(self) -> None:
         status, _, said = run("export", "@p.json", "--json",
                               files={"p.json": POLICY.replace('"Permit"', '"Permitt"')})
