@@ -11,6 +11,7 @@ import itertools
 import json
 import os
 import pathlib
+import random
 import shutil
 import tempfile
 import threading
@@ -82,6 +83,15 @@ def request(who: str) -> str:
 ASKED = [request(who) for who in ("alice", "bob", "carol")] + ['{"Request":{}}']
 # the model decides slowly
 TIMES = 12 if PDPD else 2
+
+
+def places(chosen: range, seconds: float = 12) -> Iterator[int]:
+    """The places in some order, all of them where there is time; on a machine that is slow some of them."""
+    until = time.monotonic() + seconds
+    for number in random.Random(5).sample(chosen, len(chosen)):
+        yield number
+        if time.monotonic() > until:
+            return
 
 
 # servers

@@ -232,7 +232,7 @@ class Words(DeployTest):
         full = [serving.message("POST", f"/domains/{self.name}/pap/policies", ADMIN, policy("urn:x", f"1.{number}", "x")) for number in range(254)]
         self.running.sent(*full)
         written = self.deployed(self.written(files(P1), "urn:p"), status=4)
-        self.assertIn("is its room", " ".join(written.split()))
+        self.assertIn("are its room", " ".join(written.split()))
 
 
 class Refused(DeployTest):
