@@ -1,7 +1,8 @@
 """What answers rest on: the tree to which a root leads, and the rows that the policies of that tree ask for.
 
-Two states of a domain that have the same of both answer every request alike. So whether a step of a deployment changes answers is worked out here, from how
-references resolve: to the latest active version of their id that fits.
+Two states of a domain that have the same of both answer every request alike. So whether a step of a
+deployment changes answers is worked out here, from how references resolve: to the latest active version of
+their id that fits.
 """
 from __future__ import annotations
 
@@ -65,7 +66,8 @@ class Answering:
         """The document for which the reference stands."""
         name = repr(reference)
         if name not in self.fitting:
-            self.fitting[name] = sorted((key for key in self.keys if versions.is_for(reference, key.kind, key.id, list(key.version))),
+            self.fitting[name] = sorted((key for key in self.keys
+                                         if versions.is_for(reference, key.kind, key.id, list(key.version))),
                                         key=lambda key: key.version, reverse=True)
         return next((key for key in self.fitting[name] if key in active), None)
 
@@ -77,7 +79,8 @@ class Answering:
         except linking.TooLarge:
             return TOO_LARGE
 
-    def referred(self, reference: versions.Reference, active: frozenset[Key], path: tuple[Key, ...]) -> object:
+    def referred(self, reference: versions.Reference, active: frozenset[Key],
+                 path: tuple[Key, ...]) -> object:
         """The tree for which a reference stands, under the documents of the path."""
         key = self.resolved(reference, active)
         if key is None or key in path or len(path) == linking.MOST_ON_A_PATH:
@@ -97,7 +100,8 @@ class Answering:
         if name not in self.views:
             tree = self.tree(state.root, state.active)
             rows = self.rows[state.rows]
-            self.views[name] = View(tree, {place: rows[place] for place in self.asked_in(tree) if place in rows})
+            self.views[name] = View(tree, {place: rows[place] for place in self.asked_in(tree)
+                                           if place in rows})
         return self.views[name]
 
 
@@ -112,9 +116,13 @@ def keys_in(tree: object) -> set[Key]:
     return found
 
 
-def turned(answering: Answering, before: State, after: State) -> list[tuple[Key | None, versions.Reference, Key | None, Key | None]]:
-    """The references of the tree before that stand for something else after: the document that has it (None is the root), the reference, and both."""
+def turned(answering: Answering, before: State,
+           after: State) -> list[tuple[Key | None, versions.Reference, Key | None, Key | None]]:
+    """The references of the tree before that stand for something else after: the document that has it (None
+    is the root), the reference, and both."""
     held = [(None, before.root)] if before.root is not None else []
-    held += [(key, one) for key in sorted(keys_in(answering.view(before).tree)) for one in answering.references[key]]
-    found = [(key, one, answering.resolved(one, before.active), answering.resolved(one, after.active)) for key, one in held]
+    held += [(key, one) for key in sorted(keys_in(answering.view(before).tree))
+             for one in answering.references[key]]
+    found = [(key, one, answering.resolved(one, before.active), answering.resolved(one, after.active))
+             for key, one in held]
     return [one for place, one in enumerate(found) if one[2] != one[3] and one not in found[:place]]

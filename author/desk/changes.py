@@ -1,4 +1,5 @@
-"""What a deployment changes: from what a domain has to what a folder, or an earlier deployment, says; and the requests that do it, in order."""
+"""What a deployment changes: from what a domain has to what a folder, or an earlier deployment, says; and
+the requests that do it, in order."""
 from __future__ import annotations
 
 from dataclasses import dataclass, field
@@ -78,14 +79,17 @@ class Changes:
 
     def deletes(self) -> list[Key]:
         """The documents that are deleted."""
-        return [key for key in sorted(self.live.kept()) if key not in self.target.documents] if self.is_pruned else []
+        return [key for key in sorted(self.live.kept())
+                if key not in self.target.documents] if self.is_pruned else []
 
     def is_nothing(self) -> bool:
         """Whether nothing is to be done."""
-        return not (self.uploads() or self.order.steps or self.deletes() or self.records.begun()) and self.records.last() is not None
+        return not (self.uploads() or self.order.steps or self.deletes()
+                    or self.records.begun()) and self.records.last() is not None
 
     def draft(self) -> records.Draft:
-        """The record of this deployment. From one that goes back to another, a rollback goes on to the one before that."""
+        """The record of this deployment. From one that goes back to another, a rollback goes on to the one
+        before that."""
         before = self.back_to.before if self.back_to is not None else self.records.last() or 0
         return records.draft(self.records.next_number(), before, self.content)
 
@@ -109,7 +113,8 @@ class Changes:
             lines = self.lines_between() if step.held == plan.BETWEEN else row_lines(self.target.rows)
             return Action("rows", plan.step_shown(step), ("PUT", "pip", rows_body(lines)), lines=lines)
         method = "PUT" if step.do == "activate" else "DELETE"
-        return Action(step.do, plan.step_shown(step), (method, path_of(step.held) + "/active", None), step.held, step.do == "activate")
+        return Action(step.do, plan.step_shown(step), (method, path_of(step.held) + "/active", None),
+                      step.held, step.do == "activate")
 
     def lines_between(self) -> list[str]:
         """The rows that stand between: those that the old policies ask for as they are, the others anew."""
@@ -130,7 +135,8 @@ class Changes:
         """All documents that may answer, and the rows."""
         others = [self.live.checked(key) for key in self.live.active() if key not in self.target.documents]
         rows = {plan.NOW: plan.source_rows(self.live.rows)}
-        rows[plan.NEW] = plan.source_rows(self.target.rows) if self.target.rows is not None else rows[plan.NOW]
+        is_set = self.target.rows is not None
+        rows[plan.NEW] = plan.source_rows(self.target.rows) if is_set else rows[plan.NOW]
         return Answering([*self.target.documents.values(), *others], rows)
 
     def steps(self) -> list[plan.Step]:
@@ -146,45 +152,55 @@ class Changes:
         if not self.roots:
             return plan.Order(self.steps(), [], [])
         goal = State(frozenset(self.reached), self.target.root, plan.NEW)
-        return plan.Planner(self.answering(), [self.before(root) for root in self.roots], self.steps(), goal).order()
+        return plan.Planner(self.answering(), [self.before(root) for root in self.roots], self.steps(),
+                            goal).order()
 
     def room(self, draft: records.Draft) -> None:
         """Raises where the domain has no room for what is uploaded."""
         wanted = len(self.live.documents) + len(self.uploads()) + len(draft.parts) + 1
         if wanted > MOST_DOCUMENTS:
-            raise ServerFault(f"the domain would have {wanted} documents, records of deployments included, and {MOST_DOCUMENTS} are its room:"
+            raise ServerFault(f"the domain would have {wanted} documents, records of deployments included, "
+                              f"and {MOST_DOCUMENTS} are its room:"
                               " delete what isn't used, as `policy deploy --prune` does for what runs now")
 
     def old_setting(self) -> setting.Setting | None:
         """What decides now; None where the root isn't known."""
         if not self.roots:
             return None
-        return setting.Setting([self.live.checked(key) for key in self.live.active()], self.roots[0], self.live.rows)
+        return setting.Setting([self.live.checked(key) for key in self.live.active()], self.roots[0],
+                               self.live.rows)
 
     def new_setting(self) -> setting.Setting:
         """What decides then."""
         rows = self.live.rows if self.target.rows is None else self.target.rows
-        return setting.Setting([one for key, one in self.target.documents.items() if key in self.reached], self.target.root, rows)
+        return setting.Setting([one for key, one in self.target.documents.items() if key in self.reached],
+                               self.target.root, rows)
 
     def as_json(self) -> dict[str, object]:
         """What changes, as JSON has it."""
         named = {"new": self.uploads(), "changed": self.clashes(), "activated": self.of_order("activate"),
                  "withdrawn": self.of_order("withdraw"), "deleted": self.deletes()}
         roots = [root_body(root) for root in self.roots]
-        return {**{name: [key_shown(key) for key in keys] for name, keys in named.items()}, "rows": self.has_rows(), "root": self.has_root(),
-                "roots": roots, "root_known": self.whence, "mixed": bool(self.order.mixed), "reasons": self.order.reasons}
+        return {**{name: [key_shown(key) for key in keys] for name, keys in named.items()},
+                "rows": self.has_rows(), "root": self.has_root(),
+                "roots": roots, "root_known": self.whence, "mixed": bool(self.order.mixed),
+                "reasons": self.order.reasons}
 
 
 def uploaded(key: Key, held: bytes, do: str) -> Action:
     """The upload of a document."""
     number, *part = key.version
-    record = f"record deployment {number}" + ("" if not part else " as finished" if part == [0] else f", piece {part[0]}")
-    return Action(do, record if do == "record" else f"upload {key_shown(key)}", ("POST", "pap/policies", held), key, False)
+    record = f"record deployment {number}" + ("" if not part else " as finished" if part == [0]
+                                              else f", piece {part[0]}")
+    return Action(do, record if do == "record" else f"upload {key_shown(key)}",
+                  ("POST", "pap/policies", held), key, False)
 
 
 def deleted(key: Key, do: str) -> Action:
     """The deletion of a document."""
-    return Action(do, f"{'forget deployment' if do == 'forget' else 'delete'} {version_shown(key.version) if do == 'forget' else key_shown(key)}",
+    return Action(do,
+                  f"{'forget deployment' if do == 'forget' else 'delete'} "
+                  f"{version_shown(key.version) if do == 'forget' else key_shown(key)}",
                   ("DELETE", path_of(key), None), key)
 
 
@@ -193,7 +209,8 @@ def changes_of(live: Live, target: Target, is_pruned: bool, said_root: str | Non
     held = records.Records(live)
     roots, whence = records.root_now(live, held, said_root)
     rows = {plan.NOW: []}
-    reached = keys_in(Answering(list(target.documents.values()), rows).tree(target.root, frozenset(target.documents)))
+    reached = keys_in(Answering(list(target.documents.values()),
+                                rows).tree(target.root, frozenset(target.documents)))
     digests = records.digests({key: one for key, one in target.documents.items() if key in reached})
     content = records.Content(target.root, digests, None if target.rows is None else row_lines(target.rows))
     found = Changes(live, held, target, roots, whence, reached, content, is_pruned)

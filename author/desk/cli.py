@@ -249,7 +249,7 @@ def add_diff(parser: argparse.ArgumentParser) -> None:
 
 def parser() -> argparse.ArgumentParser:
     """The words of the command, with their options."""
-    from . import deploy  # which stands on this module
+    from . import deploy, deploy_words  # which stand on this module
     whole = argparse.ArgumentParser(prog="policy",
                                     description="A policy author's desk: what is wrong with a policy, what it decides, and why.",
                                     epilog="Exit status: 0 fine, 1 faults or failed cases, 2 usage, 3 model and program disagree.")
@@ -276,9 +276,9 @@ def parser() -> argparse.ArgumentParser:
     word("test", "runs cases", cases_run, add_test)
     one = word("diff", "shows requests whose answer changes from one set of documents to another", diff_run, add_diff)
     one.add_argument("--live", action="store_true", help="compares what the server has with the domain's folder OLD")
-    deploy.add_server(one)
+    deploy_words.add_server(one)
     one.set_defaults(live_run=deploy.live_diff)
-    deploy.add_words(word)
+    deploy_words.add_words(word)
     word("build", "proves and builds the program, and keeps it for the other words", lambda _: program.built(), None)
     word("lints", "lists the lints by their names", lints_run, None)
     return whole

@@ -8,13 +8,14 @@ import sys
 from collections.abc import Callable
 
 from . import cases, cli, coverage, diff, lints, pull, records, setting, text, together
-from .changes import Action, Changes, Target, changes_of, root_told
-from .check import Checked, checked_rows
+from .changes import Action, Changes, Target, changes_of
+from .check import checked_rows
 from .deploying import Deployment
-from .domain import Domain, DomainCases, domain_of, listed_shown
-from .live import Key, Live, key_shown, live_of, row_lines, rows_body, version_shown
+from .deploy_shown import print_changes, print_domain, print_mixed
+from .domain import Domain, DomainCases, domain_of
+from .live import Live, key_shown, live_of, rows_body
 from .program import Program
-from .wire import SECONDS, Client, ServerFault, is_readable_underway, token_of
+from .wire import Client, ServerFault, is_readable_underway, token_of
 
 FINE, FAULTS, NOT_DONE = 0, 1, 4
 
@@ -62,10 +63,12 @@ def is_checked(domain: Domain, options: argparse.Namespace, found: Program | Non
     lints.Lints(domain.documents, domain.rows, set(options.off)).run()
     if domain.root is not None:
         setting.check_root(domain.setting(), domain.documents[0].remarks)
-    every = [remark for one in domain.documents for remark in one.remarks.found] + (domain.rows.remarks.found if domain.rows else [])
+    every = [remark for one in domain.documents
+             for remark in one.remarks.found] + (domain.rows.remarks.found if domain.rows else [])
     cli.print_remarks([remark for remark in every if remark.level != "note"])
     cli.print_summary(domain.documents, domain.rows, every, found)
-    is_fine = not any(remark.level == "fault" or options.strict and remark.level == "warning" for remark in every)
+    is_fine = not any(remark.level == "fault" or options.strict and remark.level == "warning"
+                      for remark in every)
     return is_fine, cli.all_agree(cli.check_pairs(domain.documents, domain.rows, found))
 
 
@@ -94,78 +97,6 @@ def before(domain: Domain, options: argparse.Namespace, found: Program | None) -
     is_fine, agree = is_checked(domain, options, found)
     is_right, agrees = is_tested(domain, found) if is_fine else (False, True)
     return cli.DISAGREE if not (agree and agrees) else FINE if is_right else FAULTS
-
-
-# what is shown
-
-
-def counts_of(live: Live) -> str:
-    """How many documents and rows the domain has."""
-    active, kept = len(live.active()), len(live.kept())
-    return f"{text.counted(active, 'document')} active, {kept - active} not; {text.counted(len(live.rows.rows), 'row')}"
-
-
-def record_told(held: records.Records) -> str:
-    """The last deployment, and those that aren't finished."""
-    last, begun = held.last(), held.begun()
-    found = "none is recorded" if last is None else f"{last}, begun {held.head(last).begun} by {held.head(last).by}"
-    return found + "".join(f"; {one} was begun {held.head(one).begun} by {held.head(one).by}, and isn't finished" for one in begun)
-
-
-def print_domain(changes: Changes) -> None:
-    """What the domain has."""
-    live = changes.live
-    for label, told_of in (("domain", f"{live.client.domain} on {live.client.server}"), ("deployed", record_told(changes.records)),
-                           ("root", root_told(changes)), ("has", counts_of(live))):
-        print(text.wrapped(told_of, f"{label:10} ", " " * 11))
-
-
-def rows_told(changes: Changes) -> str:
-    """How rows change."""
-    old, new = row_lines(changes.live.rows), row_lines(changes.target.rows)
-    more = len(new) - sum(line in set(old) for line in new)
-    fewer = len(old) - sum(line in set(new) for line in old)
-    return f"{len(old)} before, {len(new)} after; {more} new, {fewer} gone" + ("" if more or fewer else ", in another order")
-
-
-def clash_told(changes: Changes, key: Key) -> str:
-    """What to do about a document that was changed under its version."""
-    same = [other.version for other in changes.live.documents if other[:2] == key[:2]]
-    latest = max([*same, *(other.version for other in changes.target.documents if other[:2] == key[:2])])
-    path = changes.target.documents[key].source.path
-    return f"{path}: {key_shown(key)} is on the server with other text. Give it a new Version, as {version_shown((*latest[:-1], latest[-1] + 1))}, which the references to it have to admit."
-
-
-def print_mixed(changes: Changes, actions: list[Action]) -> None:
-    """Whether every ask between is answered as before or as after."""
-    mixed = [place for place, action in enumerate(actions, 1) if action.is_mixed]
-    if not changes.roots:
-        print(text.wrapped("What the root is now isn't known: " + changes.whence + ". So whether every ask between is answered as before or as after isn't known either;"
-                           " --live-root ID, or --live-root none, says what it is."))
-    elif not mixed:
-        print("Meanwhile every ask is answered as before or as after.")
-    else:
-        print(text.wrapped(text.painted("No order keeps answers whole", "bold", "yellow") + f": from step {mixed[0]} to step {mixed[-1] + 1} an ask may be answered neither as before nor as after."))
-        for reason in changes.order.reasons:
-            print(text.wrapped(reason, "    - ", "      "))
-        print(text.wrapped("References that name versions, under a set with a new version of its own and a root that names that, keep answers whole.", "    ", "    "))
-
-
-def print_changes(changes: Changes, actions: list[Action]) -> None:
-    """What will be done, step by step."""
-    for key in changes.clashes():
-        print(text.wrapped(clash_told(changes, key), text.painted("changed", "red") + "    ", " " * 11))
-    idle = [key_shown(key) for key in sorted(set(changes.target.documents) - changes.reached)]
-    if idle:
-        print(text.wrapped(f"{listed_shown(idle)}: the root doesn't reach {'it' if len(idle) == 1 else 'them'}, so uploaded and not active", "idle       ", " " * 11))
-    if changes.has_rows():
-        print(text.wrapped(rows_told(changes), "rows       ", " " * 11))
-    for place, action in enumerate(actions, 1):
-        if action.do != "forget":
-            print(text.wrapped(action.shown, f"{place:9}{'*' if action.is_mixed else ' '} ", " " * 11))
-    forgotten = sum(action.do == "forget" for action in actions)
-    if forgotten:
-        print(f"           forget old records ({text.counted(forgotten, 'document')})")
 
 
 def answers_change(changes: Changes, options: argparse.Namespace, found: Program | None) -> int:
@@ -198,11 +129,14 @@ def status(options: argparse.Namespace) -> int:
     is_same = changes.is_nothing() and not changes.clashes()
     if options.json:
         heads = [changes.records.head(number) for number in changes.records.numbers()]
-        found = [{"number": head.number, "begun": head.begun, "by": head.by, "finished": changes.records.is_finished(head.number)} for head in heads]
-        print(json.dumps({"server": domain.server, "domain": domain.name, "same": is_same, "deployments": found, **changes.as_json()}, indent=2))
+        found = [{"number": head.number, "begun": head.begun, "by": head.by,
+                  "finished": changes.records.is_finished(head.number)} for head in heads]
+        print(json.dumps({"server": domain.server, "domain": domain.name, "same": is_same,
+                          "deployments": found, **changes.as_json()}, indent=2))
     else:
         print_domain(changes)
-        print(text.wrapped("is what runs there" if is_same else "differs: `policy diff --live` shows how", "folder     ", " " * 11))
+        print(text.wrapped("is what runs there" if is_same else "differs: `policy diff --live` shows how",
+                           "folder     ", " " * 11))
     return FAULTS if options.strict and not is_same else FINE
 
 
@@ -216,11 +150,13 @@ def live_diff(options: argparse.Namespace) -> int:
     changes = changes_of(live, target_of(domain), False, options.live_root)
     actions = [] if changes.clashes() or changes.is_nothing() else changes.actions(changes.draft())
     if options.json:
-        print(json.dumps({"server": domain.server, "domain": domain.name, **changes.as_json(), "steps": [one.as_json() for one in actions]}, indent=2))
+        print(json.dumps({"server": domain.server, "domain": domain.name, **changes.as_json(),
+                          "steps": [one.as_json() for one in actions]}, indent=2))
     else:
         print_domain(changes)
         print_changes(changes, actions)
-        print("Nothing is to be done." if changes.is_nothing() and not changes.clashes() else "", end="\n" if changes.is_nothing() else "")
+        print("Nothing is to be done." if changes.is_nothing() and not changes.clashes() else "", end="\n"
+              if changes.is_nothing() else "")
         if actions:
             print_mixed(changes, actions)
     if changes.clashes():
@@ -274,7 +210,8 @@ def to_which(held: records.Records, wanted: int | None) -> int:
     if number == 0:
         raise ServerFault(f"no deployment is recorded before {last}")
     if number not in held.numbers() or not held.is_finished(number):
-        raise ServerFault(f"deployment {number} isn't recorded on the server, or wasn't finished: {records.KEPT} are kept. Deploy its folder instead")
+        raise ServerFault(f"deployment {number} isn't recorded on the server, or wasn't finished: "
+                          f"{records.KEPT} are kept. Deploy its folder instead")
     return number
 
 
@@ -283,11 +220,14 @@ def earlier(live: Live, held: records.Records, number: int) -> Target:
     content, documents = held.content(number), {}
     for key, digest in content.documents.items():
         if key not in live.documents:
-            raise ServerFault(f"{key_shown(key)} of deployment {number} was deleted from the server: deploy its folder instead")
+            raise ServerFault(f"{key_shown(key)} of deployment {number} was deleted from the server: deploy "
+                              f"its folder instead")
         documents[key] = live.checked(key)
         if records.digest_of(live.text(key)) != digest:
-            raise ServerFault(f"{key_shown(key)} was deleted since deployment {number}, and is there with other text: deploy its folder instead")
-    rows = None if content.rows is None else checked_rows(f"the rows of deployment {number}", rows_body(content.rows))
+            raise ServerFault(f"{key_shown(key)} was deleted since deployment {number}, and is there with "
+                              f"other text: deploy its folder instead")
+    rows = None if content.rows is None else checked_rows(f"the rows of deployment {number}",
+                                                          rows_body(content.rows))
     return Target(content.root, documents, rows)
 
 
@@ -296,7 +236,8 @@ def may_go_on(changes: Changes, options: argparse.Namespace) -> None:
     for number in changes.records.begun():
         head = changes.records.head(number)
         if head.target != changes.content.digest() and not options.take_over:
-            raise ServerFault(f"deployment {number} of something else was begun {head.begun} by {head.by}, and isn't finished. Wait for it; where it was cut,"
+            raise ServerFault(f"deployment {number} of something else was begun {head.begun} by {head.by}, "
+                              f"and isn't finished. Wait for it; where it was cut,"
                               " deploy its folder again, or --take-over puts this one in its place")
 
 
@@ -322,16 +263,20 @@ def carried_out(client: Client, changes: Changes, options: argparse.Namespace, f
     return finished(client, changes, draft, actions, options)
 
 
-def finished(client: Client, changes: Changes, draft: records.Draft, actions: list[Action], options: argparse.Namespace) -> int:
+def finished(client: Client, changes: Changes, draft: records.Draft, actions: list[Action],
+             options: argparse.Namespace) -> int:
     """Makes the changes where they are wanted; the exit status."""
     is_refused = options.only_whole and (bool(changes.order.mixed) or not changes.roots and bool(actions))
     wanted = bool(actions) and not options.dry_run and not is_refused and is_wanted(options)
     done: list[Action] = []
     if wanted:
-        Deployment(client, changes, draft, actions).run(lambda place, action: said(place, action, done, options))
+        Deployment(client, changes, draft, actions).run(lambda place,
+                                                        action: said(place, action, done, options))
     if options.json:
-        print(json.dumps({"server": client.server, "domain": client.domain, "deployment": draft.head.number if wanted else changes.records.last(),
-                          **changes.as_json(), "steps": [one.as_json() for one in actions], "done": len(done)}, indent=2))
+        print(json.dumps({"server": client.server, "domain": client.domain, "deployment": draft.head.number
+                          if wanted else changes.records.last(),
+                          **changes.as_json(), "steps": [one.as_json() for one in actions],
+                          "done": len(done)}, indent=2))
     elif not actions:
         print("Nothing is to be done.")
     else:
@@ -360,65 +305,3 @@ def pulled(options: argparse.Namespace) -> int:
     """Answers `pull`."""
     server, name = pull.place_of(options)
     return pull.run(live_of(client_of(options, server, name)), options)
-
-
-# the options
-
-
-def add_server(parser: argparse.ArgumentParser) -> None:
-    """The options of all words that speak with a server."""
-    parser.add_argument("--token-file", metavar="FILE", help="a file whose first line is the token of the domain's administrator; else DALVEZOUR_TOKEN in the environment")
-    parser.add_argument("--timeout", type=float, default=SECONDS, metavar="SECONDS", help="how long a reply is waited for")
-    parser.add_argument("--live-root", metavar="ID", help="what the root is now, where no deployment is recorded: an id, or none")
-    parser.add_argument("--json", action="store_true", help="writes JSON")
-
-
-def add_folder(parser: argparse.ArgumentParser) -> None:
-    """The options of words over a folder."""
-    parser.add_argument("folder", nargs="?", default=".", metavar="FOLDER", help="a folder with domain.json; this one where it is left out")
-    add_server(parser)
-    parser.add_argument("--strict", action="store_true", help="ends with status 1 for warnings, for a changed answer, and where the folder differs from the server")
-
-
-def add_change(parser: argparse.ArgumentParser) -> None:
-    """The options of `deploy` and `rollback`."""
-    add_folder(parser)
-    parser.add_argument("--yes", action="store_true", help="doesn't ask")
-    parser.add_argument("--dry-run", action="store_true", help="shows what would be done, and does nothing")
-    parser.add_argument("--only-whole", action="store_true", help="does nothing where an ask between may be answered neither as before nor as after")
-    parser.add_argument("--take-over", action="store_true", help="takes the place of a deployment of something else that was begun and isn't finished")
-    parser.add_argument("--requests", metavar="FILE", help="requests, or a file of cases: shows which answers change")
-    parser.add_argument("--random", type=int, default=0, metavar="N", help="makes N requests for that")
-    parser.add_argument("--seed", type=int, default=1, help="another seed makes other requests")
-    parser.add_argument("--at", metavar="TIME", help="the time of requests that have none of their own")
-
-
-def add_deploy(parser: argparse.ArgumentParser) -> None:
-    """The options of `deploy`."""
-    add_change(parser)
-    parser.add_argument("--prune", action="store_true", help="deletes the documents that the folder hasn't; no way leads back to them")
-    parser.add_argument("--off", action="append", default=[], metavar="LINT", help="switches a lint off")
-
-
-def add_rollback(parser: argparse.ArgumentParser) -> None:
-    """The options of `rollback`."""
-    add_change(parser)
-    parser.add_argument("--to", type=int, metavar="NUMBER", help="the deployment to go back to; else the one before the last")
-
-
-def add_pull(parser: argparse.ArgumentParser) -> None:
-    """The options of `pull`."""
-    parser.add_argument("folder", nargs="?", default=".", metavar="FOLDER", help="the folder to write; a new one, or one with domain.json")
-    add_server(parser)
-    parser.add_argument("--server", metavar="URL", help="the server, where the folder has no domain.json")
-    parser.add_argument("--domain", metavar="NAME", help="the domain, where the folder has no domain.json")
-    parser.add_argument("--overwrite", action="store_true", help="writes over files that differ")
-    parser.add_argument("--all", action="store_true", help="fetches documents that aren't active, too, into the folder `withdrawn` in it")
-
-
-def add_words(word: Callable) -> None:
-    """Adds these words to the command."""
-    word("status", "shows what a domain has on its server, and whether the folder is what runs there", status, add_folder)
-    word("deploy", "checks, tests, and brings a folder to its server", deploy, add_deploy)
-    word("rollback", "goes back to the deployment before", rollback, add_rollback)
-    word("pull", "makes a folder of what a domain has on its server", pulled, add_pull)

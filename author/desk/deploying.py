@@ -1,6 +1,8 @@
-"""A deployment as it is carried out: before each request that changes something it looks whether the domain is as it left it.
+"""A deployment as it is carried out: before each request that changes something it looks whether the domain
+is as it left it.
 
-No route is conditional, so another's change may still fall between the look and the request. What is told then is told at the next look.
+No route is conditional, so another's change may still fall between the look and the request. What is told
+then is told at the next look.
 """
 from __future__ import annotations
 
@@ -22,9 +24,19 @@ def difference(expected: dict[Key, bool], found: dict[Key, bool]) -> str:
     told = []
     for key in sorted({*expected, *found}):
         if expected.get(key) != found.get(key):
-            was = "is gone" if key not in found else "is there" if key not in expected else "is active" if found[key] else "is withdrawn"
-            told.append(f"deployment {key.version[0]} was begun" if is_record(key) and len(key.version) == 1 and key in found else f"{key_shown(key)} {was}")
+            is_head = is_record(key) and len(key.version) == 1 and key in found
+            told.append(f"deployment {key.version[0]} was begun" if is_head
+                        else f"{key_shown(key)} {became(key in expected, found.get(key))}")
     return ", ".join(told[:4]) + (f" and {len(told) - 4} more" if len(told) > 4 else "")
+
+
+def became(was_there: bool, is_active: bool | None) -> str:
+    """What became of a document: None is one that is gone."""
+    if is_active is None:
+        return "is gone"
+    if not was_there:
+        return "is there"
+    return "is active" if is_active else "is withdrawn"
 
 
 class Deployment:
@@ -40,7 +52,8 @@ class Deployment:
         """Raises where the domain isn't as this deployment left it."""
         found = listing(self.client)
         if found != self.expected:
-            raise Overtaken(f"another changes the domain at the same time: {difference(self.expected, found)}")
+            raise Overtaken(f"another changes the domain at the same time: "
+                            f"{difference(self.expected, found)}")
         if action.do == "rows" and row_lines(looked_at(self.client).rows) != self.lines:
             raise Overtaken("another changes the domain at the same time: its rows are others")
 
@@ -63,7 +76,8 @@ class Deployment:
         except Refused as fault:
             if fault.code != "SameVersionOtherText":
                 raise
-            raise Overtaken(f"another deployment began at the same moment, and has the number {self.draft.head.number}") from None
+            raise Overtaken(f"another deployment began at the same moment, and has the number "
+                            f"{self.draft.head.number}") from None
 
     def run(self, say: Callable[[int, Action], None]) -> None:
         """Does all that is to be done, and says each step."""

@@ -1,10 +1,11 @@
-"""A folder that is a domain: its file domain.json says on which server, under which name, and which file is which.
+"""A folder that is a domain: domain.json says on which server, under which name, and which file is which.
 
 domain.json is a JSON object:
     Server     the server's address, as https://pdp.example
     Domain     the domain's name
-    Root       where decisions begin: an id, with `policy:` or `set:` before it where both kinds have it, or the body that sets a root
-               ({"PolicySetIdReference": {"Id": .., "Version": ..}}, or {} for none); may be left out where there is one document
+    Root       where decisions begin: an id, with `policy:` or `set:` before it where both kinds have it, or
+               the body that sets a root ({"PolicySetIdReference": {"Id": .., "Version": ..}}, or {} for
+               none); may be left out where there is one document
     Documents  an array of files and folders; the folder's own documents where it is left out
     Rows       a file of source rows; where it is left out, the rows of the server stay as they are
     Cases      an array of files of cases; one without a Policy is about the domain as it is here
@@ -50,7 +51,8 @@ class Domain:
 
     def faults(self) -> list[Remark]:
         """What is wrong with the documents and the rows, each by itself."""
-        return [remark for one in [*self.documents, *([self.rows] if self.rows else [])] for remark in one.remarks.faults()]
+        return [remark for one in [*self.documents, *([self.rows] if self.rows else [])]
+                for remark in one.remarks.faults()]
 
 
 def root_body(root: versions.Reference | None) -> str:
@@ -63,7 +65,8 @@ def root_body(root: versions.Reference | None) -> str:
     for name, bound in (("EarliestVersion", root.earliest), ("LatestVersion", root.latest)):
         if bound is not None:
             held[name] = ".".join(map(str, bound))
-    return json.dumps({"PolicyIdReference" if root.kind == "policy" else "PolicySetIdReference": held}, ensure_ascii=False)
+    return json.dumps({"PolicyIdReference" if root.kind == "policy" else "PolicySetIdReference": held},
+                      ensure_ascii=False)
 
 
 def root_shown(root: versions.Reference | None) -> str:
@@ -71,7 +74,8 @@ def root_shown(root: versions.Reference | None) -> str:
     if root is None:
         return "no root"
     bounds = [f"version {'.'.join(root.pattern)}"] if root.pattern is not None else []
-    bounds += [f"{word} {'.'.join(map(str, bound))}" for word, bound in (("from", root.earliest), ("up to", root.latest)) if bound is not None]
+    bounds += [f"{word} {'.'.join(map(str, bound))}" for word,
+               bound in (("from", root.earliest), ("up to", root.latest)) if bound is not None]
     return f"{setting.KIND_NAMES[root.kind]} {root.id}" + (f" ({', '.join(bounds)})" if bounds else "")
 
 
@@ -88,23 +92,29 @@ class DomainReader(cases.CaseReader):
             return None
         name = self.text(node.at("Domain"))
         if name is not None and not re.fullmatch(NAME, name):
-            self.fault(node.at("Domain"), "A domain's name is 1 to 32 small letters, digits and dashes, of which the first is no dash.")
+            self.fault(node.at("Domain"), "A domain's name is 1 to 32 small letters, digits and dashes, of "
+                                          "which the first is no dash.")
         documents, rows = self.documents(node.at("Documents")), self.text(node.at("Rows"))
         held = None if rows is None else files.rows(str(self.folder / rows))
-        found = [path for path in (self.text(item) for item in self.items(node.at("Cases"))) if path is not None]
+        found = [path for path in (self.text(item) for item in self.items(node.at("Cases")))
+                 if path is not None]
         root = self.root(node, documents)
         if self.remarks.faults():
             return None
-        return Domain(self.folder, self.text(node.at("Server")), name, root, documents, held, [files.shown(self.folder / path) for path in found])
+        return Domain(self.folder, self.text(node.at("Server")), name, root, documents, held,
+                      [files.shown(self.folder / path) for path in found])
 
     def documents(self, node: Node | None) -> list[Checked]:
         """The documents that are named, or those of the folder."""
         if node is None:
             return files.documents([str(self.folder)])
-        found = files.documents([str(self.folder / path) for path in (self.text(item) for item in self.items(node)) if path is not None])
+        found = files.documents([str(self.folder / path)
+                                 for path in (self.text(item) for item in self.items(node))
+                                 if path is not None])
         for one in found:
             if one.document is not None and one.document.id == RECORD_ID:
-                self.fault(node, f"{one.source.path} has the id {RECORD_ID}, under which deployments are recorded.")
+                self.fault(node, f"{one.source.path} has the id {RECORD_ID}, under which deployments are "
+                                 f"recorded.")
         return found
 
     def root(self, node: Node, documents: list[Checked]) -> versions.Reference | None:
@@ -118,7 +128,8 @@ class DomainReader(cases.CaseReader):
         try:
             return setting.root_of(named, documents)
         except setting.Usage as fault:
-            self.fault(held if held is not None else node, str(fault).replace("--root ID says", '"Root" says').replace("--root ", "") + ".")
+            self.fault(held if held is not None else node,
+                       str(fault).replace("--root ID says", '"Root" says').replace("--root ", "") + ".")
             return None
 
     def reference(self, node: Node) -> versions.Reference | None:
@@ -126,7 +137,8 @@ class DomainReader(cases.CaseReader):
         try:
             return route_bodies.root_of(node.text.encode())
         except documents_of_model.DocumentFault as fault:
-            self.fault(node, f'A root is {{"PolicySetIdReference": {{"Id": ..}}}}, {{"PolicyIdReference": {{"Id": ..}}}} or {{}}: the server answers {fault}.')
+            self.fault(node, f'A root is {{"PolicySetIdReference": {{"Id": ..}}}}, {{"PolicyIdReference": '
+                             f'{{"Id": ..}}}} or {{}}: the server answers {fault}.')
             return None
 
 
@@ -144,7 +156,8 @@ class DomainCases(cases.CaseReader):
         if self.remarks.faults() or not self.known(node, ["Case"], ["Case"]):
             return None
         found = [self.case(item, number) for number, item in enumerate(self.items(node.at("Case")), 1)]
-        return None if self.remarks.faults() else cases.Suite(self.path, self.of_domain.setting(), [case for case in found if case is not None])
+        return None if self.remarks.faults() else cases.Suite(self.path, self.of_domain.setting(),
+                                                              [case for case in found if case is not None])
 
 
 def domain_of(folder: str) -> tuple[Domain | None, Remarks]:

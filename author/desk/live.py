@@ -1,4 +1,5 @@
-"""What a domain has on its server, as far as the routes show it: its documents, which of them are active, and its rows. No route shows the root."""
+"""What a domain has on its server, as far as the routes show it: its documents, which of them are active,
+and its rows. No route shows the root."""
 from __future__ import annotations
 
 import json
@@ -50,7 +51,8 @@ def listing(client: Client) -> dict[Key, bool]:
         return {Key(KINDS[one["Kind"]], one["Id"], tuple(map(int, one["Version"].split(".")))): one["Active"]
                 for one in client.value("pap/policies")["Policy"]}
     except (KeyError, TypeError, ValueError):
-        raise ServerFault("GET pap/policies: the server answers what no server of this kind answers") from None
+        raise ServerFault("GET pap/policies: the server answers what no server of this kind "
+                          "answers") from None
 
 
 def row_lines(rows: Rows | None) -> list[str]:

@@ -23,7 +23,8 @@ def place_of(options: argparse.Namespace) -> tuple[str, str]:
 
 def file_name(key: Key, taken: set[str]) -> str:
     """A name for the file of a document, which no other has."""
-    plain = re.sub(r"[^A-Za-z0-9._-]+", ".", re.sub(r"^(urn:|https?://)", "", key.id)).strip(".-")[:80] or key.kind
+    plain = re.sub(r"[^A-Za-z0-9._-]+", ".", re.sub(r"^(urn:|https?://)", "",
+                                                    key.id)).strip(".-")[:80] or key.kind
     found = f"{plain}-{version_shown(key.version)}.json"
     number = 1
     while found.lower() in taken:
@@ -47,7 +48,8 @@ def files_of(live: Live, is_all: bool) -> dict[str, bytes]:
 def rows_file(live: Live) -> bytes:
     """The file of the rows, one on a line."""
     held = json.loads(live.rows.source.held)["Row"]
-    return ('{"Row": [\n' + ",\n".join("  " + json.dumps(row, ensure_ascii=False) for row in held) + "\n]}\n").encode()
+    return ('{"Row": [\n' + ",\n".join("  " + json.dumps(row, ensure_ascii=False) for row in held)
+            + "\n]}\n").encode()
 
 
 def domain_file(live: Live, documents: list[str], root: str | None) -> bytes:
@@ -69,9 +71,11 @@ def run(live: Live, options: argparse.Namespace) -> int:
     held["rows.json"] = rows_file(live)
     if not (folder / FILE).exists() or options.overwrite:
         held[FILE] = domain_file(live, documents, root)
-    differing = [name for name, data in held.items() if (folder / name).exists() and (folder / name).read_bytes() != data]
+    differing = [name for name, data in held.items() if (folder / name).exists()
+                 and (folder / name).read_bytes() != data]
     if differing and not options.overwrite:
-        raise Usage(f"{text.listed(differing, 'and')} of {folder} would be written over: --overwrite does so")
+        raise Usage(f"{text.listed(differing, 'and')} of {folder} would be written over: --overwrite does "
+                    f"so")
     try:
         for name, data in held.items():
             (folder / name).parent.mkdir(parents=True, exist_ok=True)
@@ -82,16 +86,19 @@ def run(live: Live, options: argparse.Namespace) -> int:
     return 0
 
 
-def say(live: Live, options: argparse.Namespace, held: dict[str, bytes], root: str | None, whence: str) -> None:
+def say(live: Live, options: argparse.Namespace, held: dict[str, bytes], root: str | None,
+        whence: str) -> None:
     """Says what was written, and what isn't known."""
     left = [key for key in live.kept() if not live.documents[key]] if not options.all else []
     if options.json:
-        print(json.dumps({"files": sorted(held), "root": None if root is None else json.loads(root), "root_known": whence,
+        print(json.dumps({"files": sorted(held), "root": None if root is None else json.loads(root),
+                          "root_known": whence,
                           "left": [key_shown(key) for key in left]}, indent=2))
         return
     print("\n".join(f"wrote {pathlib.Path(options.folder) / name}" for name in sorted(held)))
     if left:
-        print(text.wrapped(f"{text.counted(len(left), 'document')} not active: --all fetches {'it' if len(left) == 1 else 'them'} too"))
+        print(text.wrapped(f"{text.counted(len(left), 'document')} not active: --all fetches "
+                           f"{'it' if len(left) == 1 else 'them'} too"))
     if root is None:
         print(text.wrapped(f'The root isn\'t known: {whence}. Write it into {FILE}, as "Root": "ID".'))
     else:

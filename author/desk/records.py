@@ -1,8 +1,11 @@
-"""Records of deployments, which the domain itself keeps: policies of a reserved id that are never active, so that no decision uses them.
+"""Records of deployments, which the domain itself keeps: policies of a reserved id that are never active, so
+that no decision uses them.
 
-Version N of that id is the head of deployment N, with what it brings, packed; N.1, N.2 and so on hold the rest of that where it is long; N.0 says that the
-deployment is finished. No route shows a domain's root, and rows are gone once others are set: so both stand in the record. The upload of a head is also what tells two deployments at once: other bytes under
-a version that is there are refused, so one of the two has number N, and the other is told.
+Version N of that id is the head of deployment N, with what it brings, packed; N.1, N.2 and so on hold the
+rest of that where it is long; N.0 says that the deployment is finished. No route shows a domain's root, and
+rows are gone once others are set: so both stand in the record. The upload of a head is also what tells two
+deployments at once: other bytes under a version that is there are refused, so one of the two has number N,
+and the other is told.
 """
 from __future__ import annotations
 
@@ -47,7 +50,8 @@ class Head:
 
 @dataclass
 class Content:
-    """What a deployment brings: its root, its active documents with the digests of their texts, and its rows, where it sets them."""
+    """What a deployment brings: its root, its active documents with the digests of their texts, and its
+    rows, where it sets them."""
     root: versions.Reference | None
     documents: dict[Key, str]
     rows: list[str] | None
@@ -56,7 +60,8 @@ class Content:
         """The content as a record has it."""
         found = [{"Kind": key.kind, "Id": key.id, "Version": version_shown(key.version), "Digest": digest}
                  for key, digest in sorted(self.documents.items())]
-        return json.dumps({"Root": json.loads(root_body(self.root)), "Document": found, "Row": self.rows}, ensure_ascii=False)
+        return json.dumps({"Root": json.loads(root_body(self.root)), "Document": found, "Row": self.rows},
+                          ensure_ascii=False)
 
     def digest(self) -> str:
         """The digest of all that."""
@@ -71,7 +76,8 @@ class Content:
 def content_of(packed: str) -> Content:
     """The content that pieces hold."""
     held = json.loads(zlib.decompress(base64.b64decode(packed)))
-    documents = {Key(one["Kind"], one["Id"], tuple(versions.numbers(one["Version"]))): one["Digest"] for one in held["Document"]}
+    documents = {Key(one["Kind"], one["Id"], tuple(versions.numbers(one["Version"]))): one["Digest"]
+                 for one in held["Document"]}
     return Content(route_bodies.root_of(json.dumps(held["Root"]).encode()), documents, held["Row"])
 
 
@@ -97,7 +103,8 @@ def path_of_number(number: int) -> str:
 
 def document(version: tuple[int, ...], described: str) -> bytes:
     """The policy that holds a part of a record."""
-    return json.dumps({"Policy": {"PolicyId": RECORD_ID, "Version": version_shown(version), "Description": described,
+    return json.dumps({"Policy": {"PolicyId": RECORD_ID, "Version": version_shown(version),
+                                  "Description": described,
                                   "RuleCombiningAlgId": ALGORITHM}}, ensure_ascii=False).encode()
 
 
@@ -116,7 +123,8 @@ def by_whom() -> str:
 
 @dataclass
 class Draft:
-    """The record of a deployment that is about to begin: its parts by their keys, the head first, without the last that says that it is finished."""
+    """The record of a deployment that is about to begin: its parts by their keys, the head first, without
+    the last that says that it is finished."""
     head: Head
     parts: dict[Key, bytes]
 
@@ -133,12 +141,15 @@ def now() -> str:
 def draft(number: int, before: int, content: Content) -> Draft:
     """The record of deployment NUMBER."""
     first, *pieces = content.packed()
-    head = Head(number, before, now(), by_whom(), secrets.token_hex(8), content.digest(), content.root, len(pieces), first)
-    held = {"Deployment": number, "Before": before, "Begun": head.begun, "By": head.by, "Nonce": head.nonce, "Target": head.target,
+    head = Head(number, before, now(), by_whom(), secrets.token_hex(8), content.digest(), content.root,
+                len(pieces), first)
+    held = {"Deployment": number, "Before": before, "Begun": head.begun, "By": head.by, "Nonce": head.nonce,
+            "Target": head.target,
             "Root": json.loads(root_body(head.root)), "Pieces": head.pieces, "Content": first}
     versions_of = [(number,), *((number, place) for place in range(1, len(pieces) + 1))]
     texts = [json.dumps(held, ensure_ascii=False), *pieces]
-    return Draft(head, {record_key(*version): document(version, text) for version, text in zip(versions_of, texts)})
+    return Draft(head, {record_key(*version): document(version, text) for version,
+                        text in zip(versions_of, texts)})
 
 
 @dataclass
@@ -178,22 +189,27 @@ class Records:
         try:
             held = json.loads(described(self.live.text(record_key(number))))
             root = route_bodies.root_of(json.dumps(held["Root"]).encode())
-            return Head(number, held["Before"], held["Begun"], held["By"], held["Nonce"], held["Target"], root, held["Pieces"],
+            return Head(number, held["Before"], held["Begun"], held["By"], held["Nonce"], held["Target"],
+                        root, held["Pieces"],
                         held["Content"])
         except (KeyError, TypeError, ValueError, documents_of_model.DocumentFault):
-            raise ServerFault(f"policy {RECORD_ID} {number} of the server is no record of a deployment") from None
+            raise ServerFault(f"policy {RECORD_ID} {number} of the server is no record of a "
+                              f"deployment") from None
 
     def content(self, number: int) -> Content:
         """What a deployment brought."""
         try:
             head = self.head(number)
-            pieces = [described(self.live.text(record_key(number, place))) for place in range(1, head.pieces + 1)]
+            pieces = [described(self.live.text(record_key(number, place)))
+                      for place in range(1, head.pieces + 1)]
             return content_of("".join([head.first, *pieces]))
-        except (KeyError, TypeError, ValueError, zlib.error, binascii.Error, documents_of_model.DocumentFault):
+        except (KeyError, TypeError, ValueError, zlib.error, binascii.Error,
+                documents_of_model.DocumentFault):
             raise ServerFault(f"the record of deployment {number} is damaged") from None
 
     def stale(self, number: int) -> list[Key]:
-        """The parts of old records that are given up once deployment NUMBER is finished: the head of a record last."""
+        """The parts of old records that are given up once deployment NUMBER is finished: the head of a
+        record last."""
         finished = [one for one in self.numbers() if self.is_finished(one) and one < number]
         kept = {*finished[-(KEPT - 1):], number}
         return sorted((key for key in self.live.records() if key.version[0] not in kept),
@@ -204,21 +220,26 @@ def root_now(live: Live, records: Records, said: str | None) -> tuple[list[versi
     """What the root may be now, the likely one first, none where it isn't known; and whence that is known."""
     if said is not None:
         kinds = {key.kind for key in live.kept() if key.id == said}
-        kind, name = said.split(":", 1) if said.startswith(("policy:", "set:")) else (min(kinds, default="policy"), said)
-        return [None if said == "none" else versions.Reference(kind, name, None, None, None)], "as it was said"
+        kind, name = said.split(":", 1) if said.startswith(("policy:",
+                                                            "set:")) else (min(kinds, default="policy"), said)
+        return [None if said == "none" else versions.Reference(kind, name, None, None,
+                                                               None)], "as it was said"
     last, begun = records.last(), records.begun()
     roots = [records.head(number).root for number in ([] if last is None else [last]) + begun]
     if last is not None:
         found = [root for place, root in enumerate(roots) if root not in roots[:place]]
-        return found, f"by the record of deployment {last}" + (f", or of {begun[-1]}, which isn't finished" if begun else "")
+        return found, f"by the record of deployment {last}" + (f", or of {begun[-1]}, which isn't finished"
+                                                               if begun else "")
     if not live.active() and has_no_root(live):
-        found = [None, *(root for place, root in enumerate(roots) if root not in roots[:place] and root is not None)]
+        found = [None, *(root for place, root in enumerate(roots) if root not in roots[:place]
+                         and root is not None)]
         return found, "since nothing is active, and the answer is NotApplicable"
     return [], "no route shows it, and no deployment is recorded"
 
 
 def has_no_root(live: Live) -> bool:
-    """Whether a domain without active documents has no root: then it answers NotApplicable, and else Indeterminate."""
+    """Whether a domain without active documents has no root: then it answers NotApplicable, and else
+    Indeterminate."""
     held = json.loads(live.client.asked("POST", "pdp", b'{"Request":{}}').body)
     return held["Response"][0]["Decision"] == "NotApplicable"
 

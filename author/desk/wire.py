@@ -1,4 +1,5 @@
-"""Messages to a server (docs/API.md), and the token that they show. Each message has a connection of its own, since a server serves one after another."""
+"""Messages to a server (docs/API.md), and the token that they show. Each message has a connection of its
+own, since a server serves one after another."""
 from __future__ import annotations
 
 import http.client
@@ -19,7 +20,8 @@ HERE = ("127.0.0.1", "::1", "localhost")
 
 
 class ServerFault(Exception):
-    """The server can't be reached, refuses what was asked, or isn't as it has to be: nothing, or not all, was done."""
+    """The server can't be reached, refuses what was asked, or isn't as it has to be: nothing, or not all,
+    was done."""
 
 
 class Refused(ServerFault):
@@ -54,7 +56,8 @@ def is_token(text: str) -> bool:
 def token_of(path: str | None) -> str:
     """The token: the first line of the file, or else what the environment has."""
     if path is None and TOKEN_VARIABLE not in os.environ:
-        raise Usage(f"the token of the domain's administrator is wanted: --token-file FILE, whose first line it is, or {TOKEN_VARIABLE} in the environment")
+        raise Usage(f"the token of the domain's administrator is wanted: --token-file FILE, whose first "
+                    f"line it is, or {TOKEN_VARIABLE} in the environment")
     try:
         held = os.environ[TOKEN_VARIABLE] if path is None else open(path, encoding="latin-1").readline()
     except OSError as fault:
@@ -69,7 +72,8 @@ def address_of(server: str) -> urllib.parse.SplitResult:
     """The parts of a server's address, as http://127.0.0.1:8080 or https://pdp.example/authorization."""
     try:
         found = urllib.parse.urlsplit(server)
-        is_whole = found.scheme in ("http", "https") and found.hostname and (found.port or True) and not (found.query or found.fragment or found.username)
+        is_plain = not (found.query or found.fragment or found.username) and found.port != 0
+        is_whole = found.scheme in ("http", "https") and bool(found.hostname) and is_plain
     except ValueError:
         is_whole = False
     if not is_whole:
@@ -107,7 +111,8 @@ class Client:
         host, port = self.address.hostname, self.address.port
         if self.address.scheme == "http":
             return http.client.HTTPConnection(host, port, timeout=self.seconds)
-        return http.client.HTTPSConnection(host, port, timeout=self.seconds, context=ssl.create_default_context())
+        return http.client.HTTPSConnection(host, port, timeout=self.seconds,
+                                           context=ssl.create_default_context())
 
     def exchange(self, method: str, path: str, body: bytes | None) -> Reply:
         """The reply to a message."""
@@ -116,7 +121,8 @@ class Client:
             fields["Content-Type"] = "application/json"
         connection = self.connection()
         try:
-            connection.request(method, self.address.path.rstrip("/") + f"/domains/{self.domain}/{path}", body, fields)
+            connection.request(method, self.address.path.rstrip("/") + f"/domains/{self.domain}/{path}",
+                               body, fields)
             answer = connection.getresponse()
             return Reply(answer.status, answer.read())
         except (OSError, http.client.HTTPException) as fault:
@@ -125,7 +131,8 @@ class Client:
             connection.close()
 
     def asked(self, method: str, path: str, body: bytes | None = None) -> Reply:
-        """The reply to a message, which is sent again where the server is short of something. All that is sent here may be sent twice."""
+        """The reply to a message, which is sent again where the server is short of something. All that is
+        sent here may be sent twice."""
         reply = self.exchange(method, path, body)
         for wait in WAITS:
             if reply.status != 503:
@@ -134,8 +141,10 @@ class Client:
             reply = self.exchange(method, path, body)
         if reply.status not in (200, 201):
             code = reply.code
-            advice = ADVICE.get(code, "that is no answer of such a server" if not code else "see docs/API.md")
-            raise Refused(f"{method} {path} is answered with {reply.status}{' ' + code if code else ''}: {advice}", code)
+            advice = ADVICE.get(code, "that is no answer of such a server" if not code
+                                else "see docs/API.md")
+            raise Refused(f"{method} {path} is answered with {reply.status}{' ' + code if code else ''}: "
+                          f"{advice}", code)
         return reply
 
     def value(self, path: str) -> dict:

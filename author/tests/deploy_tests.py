@@ -1,6 +1,8 @@
-"""What the tests of deployment share: a server, domains on it, folders, and asks between the requests of a deployment.
+"""What the tests of deployment share: a server, domains on it, folders, and asks between the requests of a
+deployment.
 
-The server is `pdpd serve` where it is built (crates/pdpd/out/pdpd, build/pdpd, or the path in DESK_PDPD), and else the model's server in Python.
+The server is `pdpd serve` where it is built (crates/pdpd/out/pdpd, build/pdpd, or the path in DESK_PDPD),
+and else the model's server in Python.
 """
 from __future__ import annotations
 
@@ -57,19 +59,23 @@ def match(name: str, value: str) -> dict:
 def policy(name: str, version: str, tells: str, effect: str = "Permit", attribute: str | None = None) -> str:
     """A policy that tells its version by an obligation, for those whose attribute is `yes`, or for all."""
     rule = {"RuleId": "r", "Effect": effect, **({"Target": match(attribute, "yes")} if attribute else {})}
-    return json.dumps({"Policy": {"PolicyId": name, "Version": version, "RuleCombiningAlgId": COMBINING % ("rule", "deny-overrides"),
-                                  "Rule": [rule], "ObligationExpressions": [{"ObligationId": tells, "FulfillOn": effect}]}})
+    return json.dumps({"Policy": {"PolicyId": name, "Version": version,
+                                  "RuleCombiningAlgId": COMBINING % ("rule", "deny-overrides"),
+                                  "Rule": [rule],
+                                  "ObligationExpressions": [{"ObligationId": tells, "FulfillOn": effect}]}})
 
 
 def policy_set(name: str, version: str, children: list[tuple[str, str | None]]) -> str:
     """A set over references to policies, each with a pattern or none, that gathers all their obligations."""
-    held = [{"PolicyIdReference": {"Id": child, **({"Version": pattern} if pattern else {})}} for child, pattern in children]
+    held = [{"PolicyIdReference": {"Id": child, **({"Version": pattern} if pattern else {})}} for child,
+            pattern in children]
     return json.dumps({"PolicySet": {"PolicySetId": name, "Version": version, "Children": held,
                                      "PolicyCombiningAlgId": COMBINING % ("policy", "deny-overrides")}})
 
 
 def row(entity: str, attribute: str, value: str = "yes") -> dict:
-    return {"Category": CATEGORY, "Entity": entity, "AttributeId": attribute, "DataType": "string", "Value": value}
+    return {"Category": CATEGORY, "Entity": entity, "AttributeId": attribute, "DataType": "string",
+            "Value": value}
 
 
 def rows(*held: dict) -> str:
@@ -104,7 +110,8 @@ class ModelHandler(http.server.BaseHTTPRequestHandler):
     def answer(self) -> None:
         length = int(self.headers.get("Content-Length", 0))
         fields = [(name.encode(), value.encode()) for name, value in self.headers.items()]
-        message = messages.Message(self.command.encode(), self.path.encode(), fields, self.rfile.read(length))
+        message = messages.Message(self.command.encode(), self.path.encode(), fields,
+                                   self.rfile.read(length))
         with self.server.lock:
             self.wfile.write(self.server.model.answer(message, int(time.time())))
 
@@ -119,7 +126,8 @@ class ModelServed:
 
     def __init__(self, model: machines.Server, port: int | None = None):
         self.port = port or serving.free_port()
-        self.server = http.server.ThreadingHTTPServer(("127.0.0.1", self.port), ModelHandler, bind_and_activate=False)
+        self.server = http.server.ThreadingHTTPServer(("127.0.0.1", self.port), ModelHandler,
+                                                      bind_and_activate=False)
         self.server.allow_reuse_address, self.server.daemon_threads = True, True
         self.server.server_bind()
         self.server.server_activate()
@@ -146,7 +154,8 @@ class Running:
         if PDPD is None:
             self.served = ModelServed(self.model, self.port)
         else:
-            self.served = serving.Served(PDPD, str(self.folder / "store.db"), str(self.folder / "token"), port=self.port)
+            self.served = serving.Served(PDPD, str(self.folder / "store.db"), str(self.folder / "token"),
+                                         port=self.port)
 
     def kill(self) -> None:
         self.served.kill()
@@ -190,7 +199,8 @@ class DeployTest(unittest.TestCase):
         tokens = f"/operator/domains/{name}/tokens"
         self.name = name
         made = [serving.message("PUT", f"/operator/domains/{name}", serving.OPERATOR)]
-        made += [serving.message("POST", tokens, serving.OPERATOR, json.dumps({"Role": role, "Token": token}))
+        made += [serving.message("POST", tokens, serving.OPERATOR,
+                                 json.dumps({"Role": role, "Token": token}))
                  for role, token in (("admin", ADMIN), ("ask", ASKS))]
         self.assertEqual(self.running.sent(*made), [serving.CREATED, serving.DONE, serving.DONE])
 
@@ -254,7 +264,8 @@ class DeployTest(unittest.TestCase):
             yield count
 
     def whole(self, run: object, times: int = 1) -> int:
-        """Runs something, and asks between all its requests: each answer is the one before or the one after. How many asks there were."""
+        """Runs something, and asks between all its requests: each answer is the one before or the one
+        after. How many asks there were."""
         before, found = self.asks(), []
         with self.between(lambda number: found.extend(self.asks(*ASKED * times) for _ in range(1))):
             run()

@@ -1,4 +1,5 @@
-"""The words that speak with a server, over a real one: from nothing, again, each kind of change, going back, fetching, and what is refused."""
+"""The words that speak with a server, over a real one: from nothing, again, each kind of change, going back,
+fetching, and what is refused."""
 from __future__ import annotations
 
 import json
@@ -13,20 +14,24 @@ from .deploy_tests import ADMIN, ASKED, ASKS, TIMES, DeployTest, policy, policy_
 
 P1, P2, Q1, Q2 = (policy(f"urn:{name}", version, name + version) for name in "pq" for version in "12")
 ANY = policy_set("urn:s", "1", [("urn:p", None), ("urn:q", None)])
-PINNED1, PINNED2 = (policy_set("urn:s", version, [("urn:p", version), ("urn:q", version)]) for version in "12")
+PINNED1, PINNED2 = (policy_set("urn:s", version, [("urn:p", version), ("urn:q", version)])
+                    for version in "12")
 SET_ROOT = {"PolicySetIdReference": {"Id": "urn:s"}}
 
 
 def files(*held: str, **more: str) -> dict[str, str]:
     """A folder's files."""
-    return {**{f"document-{number}.json": one for number, one in enumerate(held)}, **{name + ".json": one for name, one in more.items()}}
+    return {**{f"document-{number}.json": one for number, one in enumerate(held)},
+            **{name + ".json": one for name, one in more.items()}}
 
 
 class Changes(DeployTest):
     """Each kind of change, with asks between all its requests."""
 
-    def change(self, old: dict[str, str], new: dict[str, str], *words: str, roots: tuple[object, object] = (SET_ROOT, SET_ROOT)) -> int:
-        """Deploys one folder and then another; how many asks there were meanwhile, each answered as before or as after."""
+    def change(self, old: dict[str, str], new: dict[str, str], *words: str,
+               roots: tuple[object, object] = (SET_ROOT, SET_ROOT)) -> int:
+        """Deploys one folder and then another; how many asks there were meanwhile, each answered as before
+        or as after."""
         self.deployed(self.written(old, roots[0]))
         before = self.asks()
         folder = self.written(new, roots[1])
@@ -50,7 +55,8 @@ class Changes(DeployTest):
 
     def test_a_new_version(self) -> None:
         self.assertGreater(self.change(files(ANY, P1, Q1), files(ANY, P2, Q1)), 40 * TIMES)
-        self.assertEqual(self.listed(), {("urn:p", "1"): False, ("urn:p", "2"): True, ("urn:q", "1"): True, ("urn:s", "1"): True})
+        self.assertEqual(self.listed(), {("urn:p", "1"): False, ("urn:p", "2"): True, ("urn:q", "1"): True,
+                                         ("urn:s", "1"): True})
 
     def test_two_new_versions(self) -> None:
         self.assertGreater(self.change(files(PINNED1, P1, Q1), files(PINNED2, P2, Q2)), 80 * TIMES)
@@ -62,11 +68,14 @@ class Changes(DeployTest):
 
     def test_rows(self) -> None:
         one = policy("urn:p", "1", "p1", attribute="urn:a")
-        self.change(files(one, rows=rows(row("alice", "urn:a"))), files(one, rows=rows(row("bob", "urn:a"))), roots=("urn:p", "urn:p"))
+        self.change(files(one, rows=rows(row("alice", "urn:a"))), files(one, rows=rows(row("bob", "urn:a"))),
+                    roots=("urn:p", "urn:p"))
 
     def test_rows_and_policies(self) -> None:
-        one, two = policy("urn:p", "1", "p1", attribute="urn:a"), policy("urn:p", "2", "p2", attribute="urn:b")
-        self.change(files(one, rows=rows(row("alice", "urn:a"))), files(two, rows=rows(row("bob", "urn:b"))), roots=("urn:p", "urn:p"))
+        one, two = policy("urn:p", "1", "p1",
+                          attribute="urn:a"), policy("urn:p", "2", "p2", attribute="urn:b")
+        self.change(files(one, rows=rows(row("alice", "urn:a"))), files(two, rows=rows(row("bob", "urn:b"))),
+                    roots=("urn:p", "urn:p"))
 
     def test_a_lower_version(self) -> None:
         self.change(files(ANY, P2, Q1), files(ANY, P1, Q1))
@@ -80,7 +89,8 @@ class Changes(DeployTest):
         folder = self.written(files(ANY, P2, Q2), SET_ROOT)
         before, found = self.asks(), []
         written = self.deployed(folder, "--only-whole", status=1)
-        for words in ("No order keeps answers whole", "the reference of policy set urn:s 1 to urn:p (any version) takes 2 in place of 1"):
+        for words in ("No order keeps answers whole",
+                      "the reference of policy set urn:s 1 to urn:p (any version) takes 2 in place of 1"):
             self.assertIn(words, " ".join(written.split()))
         self.assertEqual(self.asks(), before)
         with self.between(lambda number: found.extend(self.asks())):
@@ -115,7 +125,8 @@ class Words(DeployTest):
             words = ["deploy", "--yes", folder] if word == "deploy" else ["diff", "--live", folder]
             status, written, _ = self.policy(*words)
             self.assertEqual(status, 1)
-            self.assertIn("is on the server with other text. Give it a new Version, as 2", " ".join(written.split()))
+            self.assertIn("is on the server with other text. Give it a new Version, as 2",
+                          " ".join(written.split()))
 
     def test_faults_and_cases_come_first(self) -> None:
         held = files(P1, cases=json.dumps({"Case": [{"Request": json.loads(ASKED[0]), "Decision": "Deny"}]}))
@@ -126,7 +137,8 @@ class Words(DeployTest):
             self.deployed(self.written(files(P1), "urn:none"), status=1)
             self.deployed(self.written({"p.json": P1}, "urn:p", Rots=1), status=1)
         self.assertEqual(count[0], 0)
-        held = files(P1, cases=json.dumps({"Case": [{"Request": json.loads(ASKED[0]), "Decision": "Permit"}]}))
+        held = files(P1,
+                     cases=json.dumps({"Case": [{"Request": json.loads(ASKED[0]), "Decision": "Permit"}]}))
         self.assertIn("1 case: 1 ok", self.deployed(self.written(held, "urn:p", Cases=["cases.json"])))
 
     def test_rollback(self) -> None:
@@ -143,9 +155,11 @@ class Words(DeployTest):
         self.whole(lambda: self.assertEqual(self.policy("rollback", "--yes", "--only-whole", third)[0], 0))
         self.assertEqual((self.asks(), {key for key, is_active in self.listed().items() if is_active}),
                          (one[0], {key for key, is_active in one[1].items() if is_active}))
-        status, written, _ = self.policy("pull", str(self.folder / "back"), "--server", f"http://127.0.0.1:{self.running.port}", "--domain", self.name)
+        status, written, _ = self.policy("pull", str(self.folder / "back"), "--server",
+                                         f"http://127.0.0.1:{self.running.port}", "--domain", self.name)
         self.assertEqual(status, 0, written)
-        self.assertEqual(json.loads((self.folder / "back" / "rows.json").read_text())["Row"][0]["Entity"], "alice")
+        self.assertEqual(json.loads((self.folder / "back" / "rows.json").read_text())["Row"][0]["Entity"],
+                         "alice")
         self.assertEqual(self.policy("rollback", "--yes", third)[0], 4)
         self.assertEqual(self.policy("rollback", "--yes", "--to", "3", third)[0], 0)
         self.assertEqual(self.policy("rollback", "--yes", "--to", "77", third)[0], 4)
@@ -168,7 +182,8 @@ class Words(DeployTest):
         status, written, _ = self.policy("pull", str(there), *place)
         self.assertEqual(status, 0)
         self.assertIn("1 document not active", written)
-        self.assertEqual(sorted(path.name for path in there.iterdir()), ["domain.json", "p-2.json", "q-2.json", "rows.json", "s-2.json"])
+        self.assertEqual(sorted(path.name for path in there.iterdir()),
+                         ["domain.json", "p-2.json", "q-2.json", "rows.json", "s-2.json"])
         self.assertEqual((there / "p-2.json").read_text(), P2)
         self.assertEqual(json.loads((there / "domain.json").read_text())["Root"], root)
         self.assertEqual(self.policy("status", "--strict", str(there))[0], 0)
@@ -181,16 +196,20 @@ class Words(DeployTest):
     def test_a_domain_made_by_hand(self) -> None:
         """No record, so no root that is known: it is said, and may be told."""
         at = f"/domains/{self.name}/pap"
-        made = [serving.message("POST", f"{at}/policies", ADMIN, P1), serving.message("PUT", f"{at}/policy/urn:p/1/active", ADMIN),
+        made = [serving.message("POST", f"{at}/policies", ADMIN, P1),
+                serving.message("PUT", f"{at}/policy/urn:p/1/active", ADMIN),
                 serving.message("PUT", f"{at}/root", ADMIN, '{"PolicyIdReference":{"Id":"urn:p"}}')]
         self.running.sent(*made)
         folder = self.written(files(P1, P2), "urn:p")
         written = self.policy("diff", "--live", folder)[1]
         self.assertIn("What the root is now isn't known", written)
-        self.assertIn("Which answers change isn't known", self.policy("diff", "--live", folder, "--random", "5")[1])
+        self.assertIn("Which answers change isn't known",
+                      self.policy("diff", "--live", folder, "--random", "5")[1])
         self.deployed(folder, "--only-whole", status=1)
-        self.assertIn("5 answers change", self.policy("diff", "--live", folder, "--random", "5", "--live-root", "urn:p")[1])
-        self.assertIn("The root isn't known", self.policy("pull", str(self.folder / "pulled"), "--server", f"http://127.0.0.1:{self.running.port}",
+        self.assertIn("5 answers change", self.policy("diff", "--live", folder, "--random", "5",
+                                                      "--live-root", "urn:p")[1])
+        self.assertIn("The root isn't known", self.policy("pull", str(self.folder / "pulled"), "--server",
+                                                          f"http://127.0.0.1:{self.running.port}",
                                                           "--domain", self.name)[1])
         self.whole(lambda: self.deployed(folder, "--only-whole", "--live-root", "urn:p"))
         self.assertIn("by the record of deployment 1", self.policy("status", folder)[1])
@@ -200,7 +219,8 @@ class Words(DeployTest):
         folder = self.written(files(P2, requests=f"[{ASKED[0]}]"), "urn:p")
         status, written, _ = self.policy("diff", "--live", folder, "--requests", f"{folder}/requests.json")
         self.assertEqual(status, 0)
-        for words in ("before Permit with obligations p1", "after Permit with obligations p2", "1 of 1 answer change"):
+        for words in ("before Permit with obligations p1", "after Permit with obligations p2",
+                      "1 of 1 answer change"):
             self.assertIn(words, " ".join(written.split()))
         self.assertEqual(self.policy("diff", "--live", folder, "--strict")[0], 1)
 
@@ -211,8 +231,10 @@ class Words(DeployTest):
         self.assertEqual(self.listed(), {})
         status, written, _ = self.policy("deploy", "--dry-run", "--json", folder)
         held = json.loads(written)
-        self.assertEqual((status, held["new"], held["done"], held["mixed"]), (0, ["policy urn:p 1"], 0, False))
-        self.assertEqual([one["do"] for one in held["steps"]], ["record", "upload", "activate", "root", "record"])
+        self.assertEqual((status, held["new"], held["done"], held["mixed"]),
+                         (0, ["policy urn:p 1"], 0, False))
+        self.assertEqual([one["do"] for one in held["steps"]], ["record", "upload", "activate", "root",
+                                                                "record"])
         held = json.loads(self.policy("deploy", "--yes", "--json", folder)[1])
         self.assertEqual((held["deployment"], held["done"]), (1, 5))
         held = json.loads(self.policy("status", "--json", folder)[1])
@@ -220,7 +242,8 @@ class Words(DeployTest):
         self.assertEqual(json.loads(self.policy("diff", "--live", "--json", folder)[1])["steps"], [])
 
     def test_records_are_few(self) -> None:
-        folder = self.written(files(P1, rows=rows(*(row(f"{number}" * 40, "urn:a") for number in range(900)))), "urn:p")
+        folder = self.written(files(P1, rows=rows(*(row(f"{number}" * 40, "urn:a")
+                                                    for number in range(900)))), "urn:p")
         self.deployed(folder)
         for number in range(8):
             self.deployed(self.written(files(P1, rows=rows(row(str(number), "urn:a"))), "urn:p"))
@@ -229,7 +252,8 @@ class Words(DeployTest):
         self.assertEqual(self.policy("rollback", "--yes", folder)[0], 0)
 
     def test_a_full_domain(self) -> None:
-        full = [serving.message("POST", f"/domains/{self.name}/pap/policies", ADMIN, policy("urn:x", f"1.{number}", "x")) for number in range(254)]
+        full = [serving.message("POST", f"/domains/{self.name}/pap/policies", ADMIN,
+                                policy("urn:x", f"1.{number}", "x")) for number in range(254)]
         self.running.sent(*full)
         written = self.deployed(self.written(files(P1), "urn:p"), status=4)
         self.assertIn("are its room", " ".join(written.split()))
@@ -240,9 +264,11 @@ class Refused(DeployTest):
 
     def test_tokens(self) -> None:
         folder = self.written(files(P1), "urn:p")
-        for token, status, words in (("wrong-token-1", 4, "401 Unauthorized"), (ASKS, 4, "403 Forbidden"), ("short", 2, "holds no token")):
+        for token, status, words in (("wrong-token-1", 4, "401 Unauthorized"), (ASKS, 4, "403 Forbidden"),
+                                     ("short", 2, "holds no token")):
             with mock.patch.dict(os.environ, {"DALVEZOUR_TOKEN": token}):
-                for given in (["deploy", "--yes"], ["status"], ["diff", "--live"], ["rollback", "--yes"], ["pull"]):
+                for given in (["deploy", "--yes"], ["status"], ["diff", "--live"], ["rollback", "--yes"],
+                              ["pull"]):
                     found, written, said = self.policy(*given, folder)
                     self.assertEqual(found, status, written + said)
                     self.assertIn(words, said)
@@ -265,8 +291,10 @@ class Refused(DeployTest):
         self.assertIn("Connection refused", self.at(f"http://127.0.0.1:{serving.free_port()}")[1])
         for server in ("127.0.0.1:8080", "ftp://127.0.0.1", "http://127.0.0.1:x", "http://user@127.0.0.1"):
             self.assertEqual(self.at(server)[0], 2, server)
-        for held in (b"", b"hello\r\n\r\n", b"HTTP/1.1 200 OK\r\nContent-Length: 2\r\n\r\n[]", b"HTTP/1.1 302 Found\r\nLocation: /\r\nContent-Length: 0\r\n\r\n",
-                     b"HTTP/1.1 200 OK\r\nContent-Length: 13\r\n\r\n{\"Policy\":[1]}", b"HTTP/1.1 200 OK\r\nContent-Length: 99\r\n\r\n{}"):
+        for held in (b"", b"hello\r\n\r\n", b"HTTP/1.1 200 OK\r\nContent-Length: 2\r\n\r\n[]",
+                     b"HTTP/1.1 302 Found\r\nLocation: /\r\nContent-Length: 0\r\n\r\n",
+                     b"HTTP/1.1 200 OK\r\nContent-Length: 13\r\n\r\n{\"Policy\":[1]}",
+                     b"HTTP/1.1 200 OK\r\nContent-Length: 99\r\n\r\n{}"):
             with socket.create_server(("127.0.0.1", 0)) as listening:
                 thread = threading.Thread(target=self.answer, args=(listening, held))
                 thread.start()

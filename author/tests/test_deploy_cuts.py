@@ -1,4 +1,5 @@
-"""Deployments that are cut after each of their requests, by a client or a server that is killed, and two deployments at once."""
+"""Deployments that are cut after each of their requests, by a client or a server that is killed, and two
+deployments at once."""
 from __future__ import annotations
 
 import os
@@ -38,7 +39,8 @@ class Cuts(DeployTest):
         return count[0], before, self.asks()
 
     def gone_on(self, folder: str, before: list[bytes], after: list[bytes]) -> None:
-        """Goes on with a deployment that was cut; each answer meanwhile is the old or the new one, and in the end all is done."""
+        """Goes on with a deployment that was cut; each answer meanwhile is the old or the new one, and in
+        the end all is done."""
         found = [self.asks()]
         with self.between(lambda number: found.append(self.asks())):
             self.deployed(folder)
@@ -46,7 +48,8 @@ class Cuts(DeployTest):
             for answer, *both in zip(answers, before, after):
                 self.assertIn(answer, both)
         self.assertEqual(self.asks(), after)
-        self.assertEqual({key for key, is_active in self.listed().items() if is_active}, {("urn:s", "2"), ("urn:p", "2"), ("urn:q", "2")})
+        self.assertEqual({key for key, is_active in self.listed().items() if is_active},
+                         {("urn:s", "2"), ("urn:p", "2"), ("urn:q", "2")})
         self.assertIn("Nothing is to be done.", self.deployed(folder))
 
     def test_a_client_that_is_cut(self) -> None:
@@ -109,8 +112,10 @@ class Cuts(DeployTest):
         _, before, after = self.wanted()
         for number in range(1, 4):
             folder = self.begun(number)
-            ran = subprocess.Popen([sys.executable, str(AUTHOR / "policy"), "deploy", "--yes", "--program", "none", folder],
-                                   stdout=subprocess.PIPE, stderr=subprocess.DEVNULL, env={**os.environ, "DALVEZOUR_TOKEN": ADMIN})
+            ran = subprocess.Popen([sys.executable, str(AUTHOR / "policy"), "deploy", "--yes", "--program",
+                                    "none", folder],
+                                   stdout=subprocess.PIPE, stderr=subprocess.DEVNULL,
+                                   env={**os.environ, "DALVEZOUR_TOKEN": ADMIN})
             for line in ran.stdout:
                 if b"done" in line:
                     break
@@ -141,12 +146,15 @@ class Cuts(DeployTest):
         """A 503 now and then: the message is sent again."""
         folder, exchange, count = self.begun(1), wire.Client.exchange, [0]
 
+        refused = wire.Reply(503, b'{"Error":"Unavailable"}')
+
         def refusing(client: wire.Client, method: str, path: str, body: bytes | None) -> wire.Reply:
             count[0] += 1
-            return wire.Reply(503, b'{"Error":"Unavailable"}') if count[0] % 3 == 0 else exchange(client, method, path, body)
-        with mock.patch.object(wire.Client, "exchange", refusing), mock.patch.object(wire, "WAITS", (0, 0)):
+            return refused if count[0] % 3 == 0 else exchange(client, method, path, body)
+        self.enterContext(mock.patch.object(wire, "WAITS", (0, 0)))
+        with mock.patch.object(wire.Client, "exchange", refusing):
             self.deployed(folder)
-        with mock.patch.object(wire.Client, "exchange", lambda *_: wire.Reply(503, b'{"Error":"Unavailable"}')), mock.patch.object(wire, "WAITS", (0, 0)):
+        with mock.patch.object(wire.Client, "exchange", lambda *_: refused):
             self.assertIn("503 Unavailable", self.deployed(folder, status=4))
 
 
@@ -154,7 +162,8 @@ class AtOnce(DeployTest):
     """Two deployments of one domain at once."""
 
     def within(self, number: int, first: str, *words: str) -> tuple[int, str, tuple[int, str, str]]:
-        """Runs a first deployment, and a second one behind its request of that number; what became of both."""
+        """Runs a first deployment, and a second one behind its request of that number; what became of
+        both."""
         second: list[tuple[int, str, str]] = []
 
         def other(at: int) -> None:
@@ -185,7 +194,8 @@ class AtOnce(DeployTest):
                     continue
                 self.assertEqual({one, two}, {0, 4}, said + written + more)
                 told = " ".join((said + more).split())
-                self.assertTrue(any(words in told for words in (TOLD if one == 4 else ["isn't finished"])), told)
+                self.assertTrue(any(words in told for words in (TOLD if one == 4 else ["isn't finished"])),
+                                told)
                 self.assertEqual(self.policy("status", "--strict", second if one == 4 else first)[0], 0)
 
     def test_one_that_takes_over(self) -> None:
@@ -230,7 +240,8 @@ class AtOnce(DeployTest):
         with mock.patch.object(wire.Client, "exchange", at_once):
             said = self.deployed(first, status=4)
         self.assertEqual(came_to[0][0], 0)
-        self.assertIn("another deployment began at the same moment, and has the number 1", " ".join(said.split()))
+        self.assertIn("another deployment began at the same moment, and has the number 1",
+                      " ".join(said.split()))
         self.assertEqual(self.policy("status", "--strict", second)[0], 0)
 
     def test_rows_that_another_sets(self) -> None:
