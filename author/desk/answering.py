@@ -6,6 +6,7 @@ their id that fits.
 """
 from __future__ import annotations
 
+import functools
 from collections import namedtuple
 
 from .check import Checked
@@ -18,6 +19,12 @@ State = namedtuple("State", "active root rows")
 # what its answers rest on
 View = namedtuple("View", "tree rows")
 TOO_LARGE, NOWHERE = "too large", "?"
+
+
+@functools.lru_cache(maxsize=1024)
+def active_in(held: bytes) -> linking.Active:
+    """The document of the model that the bytes are."""
+    return linking.active_in(held)
 
 
 def asked_by(document: Document) -> frozenset[tuple[str, str, str]]:
@@ -46,7 +53,7 @@ class Answering:
     def __init__(self, documents: list[Checked], rows: dict[str, list[contexts.SourceRow]]):
         self.keys = [key_of(one) for one in documents]
         self.asked = {key: asked_by(one.document) for key, one in zip(self.keys, documents)}
-        held = {key: linking.active_in(one.source.held).document for key, one in zip(self.keys, documents)}
+        held = {key: active_in(one.source.held).document for key, one in zip(self.keys, documents)}
         self.references = {key: references_of(document) for key, document in held.items()}
         self.sizes = {key: size_of(document) for key, document in held.items()}
         self.rows = {name: self.placed(found) for name, found in rows.items()}

@@ -91,7 +91,7 @@ class Changes:
         """The record of this deployment. From one that goes back to another, a rollback goes on to the one
         before that."""
         before = self.back_to.before if self.back_to is not None else self.records.last() or 0
-        return records.draft(self.records.next_number(), before, self.content)
+        return records.draft(self.records.next_number(), before, self.content, self.roots)
 
     def actions(self, draft: records.Draft) -> list[Action]:
         """All requests, in order."""

@@ -252,7 +252,8 @@ def parser() -> argparse.ArgumentParser:
     from . import deploy, deploy_words  # which stand on this module
     whole = argparse.ArgumentParser(prog="policy",
                                     description="A policy author's desk: what is wrong with a policy, what it decides, and why.",
-                                    epilog="Exit status: 0 fine, 1 faults or failed cases, 2 usage, 3 model and program disagree.")
+                                    epilog="Exit status: 0 fine, 1 faults or failed cases, 2 usage, 3 model and program disagree, "
+                                           "4 the server refuses or is away.")
     words = whole.add_subparsers(dest="word", required=True, metavar="WORD")
     asks = argparse.ArgumentParser(add_help=False)
     asks.add_argument("--program", default="", metavar="PATH",
@@ -297,6 +298,8 @@ def cases_run(options: argparse.Namespace) -> int:
 
 def diff_run(options: argparse.Namespace) -> int:
     """Answers `diff`."""
+    if options.live and options.new is not None:
+        raise setting.Usage("diff --live takes the domain's folder alone")
     if options.live:
         return options.live_run(options)
     if options.new is None:

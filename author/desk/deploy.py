@@ -40,6 +40,11 @@ def told(run: Callable[[argparse.Namespace], int]) -> Callable[[argparse.Namespa
     return telling
 
 
+def beside(options: argparse.Namespace) -> contextlib.AbstractContextManager:
+    """Where text for people goes: beside JSON to standard error."""
+    return contextlib.redirect_stdout(sys.stderr if options.json else sys.stdout)
+
+
 def read_domain(folder: str) -> Domain | None:
     """The domain that the folder is; None where its files have faults, which are said."""
     found, remarks = domain_of(folder)
@@ -121,7 +126,8 @@ def target_of(domain: Domain) -> Target:
 @told
 def status(options: argparse.Namespace) -> int:
     """Answers `status`."""
-    domain = read_domain(options.folder)
+    with beside(options):
+        domain = read_domain(options.folder)
     if domain is None:
         return FAULTS
     live = live_of(client_of(options, domain.server, domain.name))
@@ -143,7 +149,8 @@ def status(options: argparse.Namespace) -> int:
 @told
 def live_diff(options: argparse.Namespace) -> int:
     """Answers `diff --live`."""
-    domain = read_domain(options.old or ".")
+    with beside(options):
+        domain = read_domain(options.old or ".")
     if domain is None:
         return FAULTS
     live = live_of(client_of(options, domain.server, domain.name))
@@ -155,14 +162,14 @@ def live_diff(options: argparse.Namespace) -> int:
     else:
         print_domain(changes)
         print_changes(changes, actions)
-        print("Nothing is to be done." if changes.is_nothing() and not changes.clashes() else "", end="\n"
-              if changes.is_nothing() else "")
         if actions:
             print_mixed(changes, actions)
+        elif not changes.clashes():
+            print("Nothing is to be done.")
     if changes.clashes():
         return FAULTS
     found = cli.chosen_program(options) if options.requests or options.random else None
-    with contextlib.redirect_stdout(sys.stderr if options.json else sys.stdout):
+    with beside(options):
         answered = answers_change(changes, options, found)
     return answered or (FAULTS if options.strict and not changes.is_nothing() else FINE)
 
@@ -170,7 +177,7 @@ def live_diff(options: argparse.Namespace) -> int:
 @told
 def deploy(options: argparse.Namespace) -> int:
     """Answers `deploy`."""
-    with contextlib.redirect_stdout(sys.stderr if options.json else sys.stdout):
+    with beside(options):
         domain = read_domain(options.folder)
         if domain is None:
             return FAULTS
@@ -186,7 +193,7 @@ def deploy(options: argparse.Namespace) -> int:
 @told
 def rollback(options: argparse.Namespace) -> int:
     """Answers `rollback`."""
-    with contextlib.redirect_stdout(sys.stderr if options.json else sys.stdout):
+    with beside(options):
         domain = read_domain(options.folder)
         if domain is None:
             return FAULTS
@@ -237,14 +244,14 @@ def may_go_on(changes: Changes, options: argparse.Namespace) -> None:
         head = changes.records.head(number)
         if head.target != changes.content.digest() and not options.take_over:
             raise ServerFault(f"deployment {number} of something else was begun {head.begun} by {head.by}, "
-                              f"and isn't finished. Wait for it; where it was cut,"
-                              " deploy its folder again, or --take-over puts this one in its place")
+                              "and isn't finished. Wait for it; where it was cut, deploy its folder again, "
+                              "or "
+                              "--take-over puts this one in its place")
 
 
 def carried_out(client: Client, changes: Changes, options: argparse.Namespace, found: Program | None) -> int:
     """Shows the changes, asks, and makes them; the exit status."""
-    is_quiet = options.json
-    with contextlib.redirect_stdout(sys.stderr if is_quiet else sys.stdout):
+    with beside(options):
         print_domain(changes)
         if changes.clashes():
             print_changes(changes, [])
@@ -270,11 +277,11 @@ def finished(client: Client, changes: Changes, draft: records.Draft, actions: li
     wanted = bool(actions) and not options.dry_run and not is_refused and is_wanted(options)
     done: list[Action] = []
     if wanted:
-        Deployment(client, changes, draft, actions).run(lambda place,
-                                                        action: said(place, action, done, options))
+        carrying = Deployment(client, changes, draft, actions)
+        carrying.run(lambda place, action: said(place, action, done, options))
     if options.json:
-        print(json.dumps({"server": client.server, "domain": client.domain, "deployment": draft.head.number
-                          if wanted else changes.records.last(),
+        number = draft.head.number if wanted else changes.records.last()
+        print(json.dumps({"server": client.server, "domain": client.domain, "deployment": number,
                           **changes.as_json(), "steps": [one.as_json() for one in actions],
                           "done": len(done)}, indent=2))
     elif not actions:

@@ -27,7 +27,7 @@ def add_folder(parser: argparse.ArgumentParser) -> None:
                         help="a folder with domain.json; this one where it is left out")
     add_server(parser)
     parser.add_argument("--strict", action="store_true",
-                        help="ends with status 1 for warnings, for a changed answer, and where the folder "
+                        help="ends with status 1 for warnings, and where the folder "
                              "differs from the server")
 
 

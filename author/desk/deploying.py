@@ -96,10 +96,6 @@ class Deployment:
         """Takes the record back where nothing else was done."""
         if self.done == 1:
             try:
-                self.client.asked("DELETE", self.changes_path(), None)
+                self.client.asked("DELETE", records.path_of_number(self.draft.head.number))
             except ServerFault:
                 pass
-
-    def changes_path(self) -> str:
-        """The path of the record's head."""
-        return records.path_of_number(self.draft.head.number)

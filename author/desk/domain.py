@@ -94,27 +94,28 @@ class DomainReader(cases.CaseReader):
         if name is not None and not re.fullmatch(NAME, name):
             self.fault(node.at("Domain"), "A domain's name is 1 to 32 small letters, digits and dashes, of "
                                           "which the first is no dash.")
-        documents, rows = self.documents(node.at("Documents")), self.text(node.at("Rows"))
+        documents, rows = self.documents(node, node.at("Documents")), self.text(node.at("Rows"))
         held = None if rows is None else files.rows(str(self.folder / rows))
         found = [path for path in (self.text(item) for item in self.items(node.at("Cases")))
                  if path is not None]
         root = self.root(node, documents)
+        if root is not None and not documents:
+            self.fault(node, "A root needs documents.")
         if self.remarks.faults():
             return None
         return Domain(self.folder, self.text(node.at("Server")), name, root, documents, held,
                       [files.shown(self.folder / path) for path in found])
 
-    def documents(self, node: Node | None) -> list[Checked]:
+    def documents(self, node: Node, named: Node | None) -> list[Checked]:
         """The documents that are named, or those of the folder."""
-        if node is None:
-            return files.documents([str(self.folder)])
-        found = files.documents([str(self.folder / path)
-                                 for path in (self.text(item) for item in self.items(node))
-                                 if path is not None])
+        paths = [str(self.folder)]
+        if named is not None:
+            paths = [str(self.folder / path) for path in map(self.text, self.items(named))
+                     if path is not None]
+        found = files.documents(paths)
         for one in found:
             if one.document is not None and one.document.id == RECORD_ID:
-                self.fault(node, f"{one.source.path} has the id {RECORD_ID}, under which deployments are "
-                                 f"recorded.")
+                self.fault(node, f"{one.source.path} has the id {RECORD_ID}, which is that of records.")
         return found
 
     def root(self, node: Node, documents: list[Checked]) -> versions.Reference | None:

@@ -34,12 +34,14 @@ def file_name(key: Key, taken: set[str]) -> str:
     return found
 
 
-def files_of(live: Live, is_all: bool) -> dict[str, bytes]:
-    """The files of the documents."""
+def files_of(live: Live, folder: pathlib.Path, is_all: bool) -> dict[str, bytes]:
+    """The files of the documents; one that the folder has under another name stays where it is."""
+    there = {path.read_bytes(): path.name for path in sorted(folder.glob("*.json"))}
     taken, found = {FILE, "rows.json"}, {}
     for key in sorted(live.kept()):
         if live.documents[key]:
-            found[file_name(key, taken)] = live.text(key)
+            text_of = live.text(key)
+            found[there.get(text_of) or file_name(key, taken)] = text_of
         elif is_all:
             found["withdrawn/" + file_name(key, taken)] = live.text(key)
     return found
@@ -66,7 +68,7 @@ def run(live: Live, options: argparse.Namespace) -> int:
     folder = pathlib.Path(options.folder)
     roots, whence = records.root_now(live, records.Records(live), options.live_root)
     root = root_body(roots[0]) if len(roots) == 1 else None
-    held = files_of(live, options.all)
+    held = files_of(live, folder, options.all)
     documents = [name for name in held if "/" not in name]
     held["rows.json"] = rows_file(live)
     if not (folder / FILE).exists() or options.overwrite:

@@ -78,7 +78,7 @@ def content_of(packed: str) -> Content:
     held = json.loads(zlib.decompress(base64.b64decode(packed)))
     documents = {Key(one["Kind"], one["Id"], tuple(versions.numbers(one["Version"]))): one["Digest"]
                  for one in held["Document"]}
-    return Content(route_bodies.root_of(json.dumps(held["Root"]).encode()), documents, held["Row"])
+    return Content(root_in(held["Root"]), documents, held["Row"])
 
 
 def digest_of(held: bytes) -> str:
@@ -138,18 +138,23 @@ def now() -> str:
     return setting.moment_shown(int(time.time()))
 
 
-def draft(number: int, before: int, content: Content) -> Draft:
-    """The record of deployment NUMBER."""
+def draft(number: int, before: int, content: Content, was: list[versions.Reference | None]) -> Draft:
+    """The record of deployment NUMBER. What the root was is one of those; it isn't known where there is none."""
     first, *pieces = content.packed()
-    head = Head(number, before, now(), by_whom(), secrets.token_hex(8), content.digest(), content.root,
+    head = Head(number, before, now(), by_whom(), secrets.token_hex(8), content.digest(), content.root, was,
                 len(pieces), first)
     held = {"Deployment": number, "Before": before, "Begun": head.begun, "By": head.by, "Nonce": head.nonce,
-            "Target": head.target,
-            "Root": json.loads(root_body(head.root)), "Pieces": head.pieces, "Content": first}
-    versions_of = [(number,), *((number, place) for place in range(1, len(pieces) + 1))]
-    texts = [json.dumps(held, ensure_ascii=False), *pieces]
-    return Draft(head, {record_key(*version): document(version, text) for version,
-                        text in zip(versions_of, texts)})
+            "Target": head.target, "Root": json.loads(root_body(head.root)),
+            "Was": [json.loads(root_body(root)) for root in was], "Pieces": head.pieces, "Content": first}
+    parts = {record_key(number): document((number,), json.dumps(held, ensure_ascii=False))}
+    for place, piece in enumerate(pieces, 1):
+        parts[record_key(number, place)] = document((number, place), piece)
+    return Draft(head, parts)
+
+
+def root_in(held: object) -> versions.Reference | None:
+    """The root that a part of a record says."""
+    return route_bodies.root_of(json.dumps(held).encode())
 
 
 @dataclass
@@ -188,9 +193,8 @@ class Records:
         """Reads a head."""
         try:
             held = json.loads(described(self.live.text(record_key(number))))
-            root = route_bodies.root_of(json.dumps(held["Root"]).encode())
             return Head(number, held["Before"], held["Begun"], held["By"], held["Nonce"], held["Target"],
-                        root, held["Pieces"],
+                        root_in(held["Root"]), [root_in(one) for one in held["Was"]], held["Pieces"],
                         held["Content"])
         except (KeyError, TypeError, ValueError, documents_of_model.DocumentFault):
             raise ServerFault(f"policy {RECORD_ID} {number} of the server is no record of a "
@@ -219,22 +223,30 @@ class Records:
 def root_now(live: Live, records: Records, said: str | None) -> tuple[list[versions.Reference | None], str]:
     """What the root may be now, the likely one first, none where it isn't known; and whence that is known."""
     if said is not None:
-        kinds = {key.kind for key in live.kept() if key.id == said}
-        kind, name = said.split(":", 1) if said.startswith(("policy:",
-                                                            "set:")) else (min(kinds, default="policy"), said)
-        return [None if said == "none" else versions.Reference(kind, name, None, None,
-                                                               None)], "as it was said"
+        return [root_said(live, said)], "as it was said"
     last, begun = records.last(), records.begun()
-    roots = [records.head(number).root for number in ([] if last is None else [last]) + begun]
+    was: list[versions.Reference | None] = []
     if last is not None:
-        found = [root for place, root in enumerate(roots) if root not in roots[:place]]
-        return found, f"by the record of deployment {last}" + (f", or of {begun[-1]}, which isn't finished"
-                                                               if begun else "")
-    if not live.active() and has_no_root(live):
-        found = [None, *(root for place, root in enumerate(roots) if root not in roots[:place]
-                         and root is not None)]
-        return found, "since nothing is active, and the answer is NotApplicable"
-    return [], "no route shows it, and no deployment is recorded"
+        was, whence = [records.head(last).root], f"by the record of deployment {last}"
+    elif begun:
+        was, whence = records.head(begun[0]).was, f"by the record of deployment {begun[0]}"
+    if not was and not live.active() and has_no_root(live):
+        was, whence = [None], "since nothing is active, and the answer is NotApplicable"
+    if not was:
+        return [], "no route shows it, and no deployment is recorded"
+    roots = [*was, *(records.head(number).root for number in begun)]
+    more = f", or by that of {begun[-1]}, which isn't finished" if begun else ""
+    return [root for place, root in enumerate(roots) if root not in roots[:place]], whence + more
+
+
+def root_said(live: Live, said: str) -> versions.Reference | None:
+    """The root that is meant: an id, with its kind before it where both have it, or none."""
+    if said == "none":
+        return None
+    kinds = {key.kind for key in live.kept() if key.id == said}
+    is_whole = said.startswith(("policy:", "set:"))
+    kind, name = said.split(":", 1) if is_whole else (min(kinds, default="policy"), said)
+    return versions.Reference(kind, name, None, None, None)
 
 
 def has_no_root(live: Live) -> bool:

@@ -53,15 +53,21 @@ def is_token(text: str) -> bool:
     return 8 <= len(text) <= 64 and all("!" <= letter <= "~" for letter in text)
 
 
+def first_line(path: str) -> str:
+    """The first line of a file."""
+    try:
+        with open(path, encoding="latin-1") as lines:
+            return lines.readline(1000)
+    except OSError as fault:
+        raise Usage(f"{path} can't be read: {fault.strerror}") from None
+
+
 def token_of(path: str | None) -> str:
     """The token: the first line of the file, or else what the environment has."""
     if path is None and TOKEN_VARIABLE not in os.environ:
         raise Usage(f"the token of the domain's administrator is wanted: --token-file FILE, whose first "
                     f"line it is, or {TOKEN_VARIABLE} in the environment")
-    try:
-        held = os.environ[TOKEN_VARIABLE] if path is None else open(path, encoding="latin-1").readline()
-    except OSError as fault:
-        raise Usage(f"{path} can't be read: {fault.strerror}") from None
+    held = os.environ[TOKEN_VARIABLE] if path is None else first_line(path)
     token = held.rstrip("\r\n")
     if not is_token(token):
         raise Usage(f"{path or TOKEN_VARIABLE} holds no token (8 to 64 visible ASCII characters)")

@@ -18,21 +18,31 @@ from desk import wire  # noqa: E402
 
 OLD, NEW = files(PINNED1, P1, Q1), files(PINNED2, P2, Q2)
 OTHER = files(policy("urn:o", "1", "o"))
+MOVED1, MOVED2 = ({"PolicySetIdReference": {"Id": "urn:s", "Version": version}} for version in "12")
+ONE, TWO = (policy("urn:p", version, "p" + version, attribute="urn:" + name) for version,
+            name in ("1a", "2b"))
+# an old folder with its root and a new one: a turn by a set, by the root, from nothing, and with rows in two steps
+KINDS = {"set": (OLD, SET_ROOT, NEW, SET_ROOT), "root": (OLD, MOVED1, NEW, MOVED2),
+         "nothing": (None, None, OLD, SET_ROOT),
+         "rows": ({**files(ONE, rows=rows(row("alice", "urn:a")))}, "urn:p",
+                  files(TWO, rows=rows(row("bob", "urn:b"))), "urn:p")}
 TOLD = ["changes the domain at the same time", "another deployment began at the same moment"]
 
 
 class Cuts(DeployTest):
     """From an old state to a new one, with a cut at each place."""
 
-    def begun(self, number: int) -> str:
+    def begun(self, number: int, kind: str = "set") -> str:
         """A new domain with the old state; the folder of the new one."""
-        self.made(f"{self.name.partition('-')[0]}-{number}")
-        self.deployed(self.written(OLD, SET_ROOT))
-        return self.written(NEW, SET_ROOT)
+        self.made(f"{self.name.partition('-')[0]}-{kind}-{number}")
+        old, old_root, new, new_root = KINDS[kind]
+        if old is not None:
+            self.deployed(self.written(old, old_root))
+        return self.written(new, new_root)
 
-    def wanted(self) -> tuple[int, list[bytes], list[bytes]]:
+    def wanted(self, kind: str = "set") -> tuple[int, list[bytes], list[bytes]]:
         """How many requests a deployment takes, and the answers before and after."""
-        folder = self.begun(0)
+        folder = self.begun(0, kind)
         before = self.asks()
         with self.between(lambda number: None) as count:
             self.deployed(folder)
@@ -43,29 +53,32 @@ class Cuts(DeployTest):
         the end all is done."""
         found = [self.asks()]
         with self.between(lambda number: found.append(self.asks())):
-            self.deployed(folder)
+            self.deployed(folder, "--only-whole")
         for answers in found:
             for answer, *both in zip(answers, before, after):
                 self.assertIn(answer, both)
         self.assertEqual(self.asks(), after)
-        self.assertEqual({key for key, is_active in self.listed().items() if is_active},
-                         {("urn:s", "2"), ("urn:p", "2"), ("urn:q", "2")})
         self.assertIn("Nothing is to be done.", self.deployed(folder))
 
     def test_a_client_that_is_cut(self) -> None:
         """In its place after each request, as if it were killed."""
-        count, before, after = self.wanted()
-        self.assertGreater(count, 20)
-        for number in places(range(count)):
-            with self.subTest(number):
-                folder = self.begun(number + 1)
+        for kind in KINDS:
+            count, before, after = self.wanted(kind)
+            self.assertGreater(count, 15)
+            for number in places(range(count), 8):
+                with self.subTest(kind, number=number):
+                    self.cut_at(number, kind)
+                    self.gone_on(str(self.folder / "at"), before, after)
 
-                def cut(at: int, last: int = number) -> None:
-                    if at == last:
-                        raise Cut
-                with self.assertRaises(Cut), self.between(cut):
-                    self.deployed(folder)
-                self.gone_on(folder, before, after)
+    def cut_at(self, number: int, kind: str) -> None:
+        """Begins a deployment, and cuts it behind its request of that number."""
+        folder = self.begun(number + 1, kind)
+
+        def cut(at: int) -> None:
+            if at == number:
+                raise Cut
+        with self.assertRaises(Cut), self.between(cut):
+            self.deployed(folder)
 
     def test_a_server_that_is_killed(self) -> None:
         """Behind each request, before the next one; then it is started again."""

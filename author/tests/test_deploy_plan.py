@@ -2,6 +2,7 @@
 new one, or is said to be mixed."""
 from __future__ import annotations
 
+import functools
 import itertools
 import random
 import unittest
@@ -9,12 +10,18 @@ import unittest
 from .deploy_tests import ASKED, policy, policy_set, row, rows
 
 from desk import check, plan, setting  # noqa: E402
-from desk.answering import Answering, State, keys_in  # noqa: E402
+from desk.answering import Answering, State, active_in, keys_in  # noqa: E402
 from desk.live import Key, key_of  # noqa: E402
 from desk.model import contexts, decisions, linking, values, versions  # noqa: E402
 
 ROOT = versions.Reference("set", "urn:s", None, None, None)
 ATTRIBUTES = ("urn:a", "urn:b")
+
+
+@functools.lru_cache(maxsize=None)
+def checked(text: str) -> check.Checked:
+    """A document."""
+    return check.checked("x", text.encode())
 
 
 def source(held: list[dict]) -> list[contexts.SourceRow]:
@@ -30,7 +37,7 @@ class Chance:
         self.held: dict[Key, check.Checked] = {}
 
     def add(self, text: str) -> None:
-        found = check.checked("x", text.encode())
+        found = checked(text)
         self.held[key_of(found)] = found
 
     def documents(self) -> None:
@@ -82,7 +89,7 @@ class Orders(unittest.TestCase):
 
     def answers(self, chance: Chance, answering: Answering, state: State) -> list[str]:
         """What the model answers in a state."""
-        active = [linking.active_in(chance.held[key].source.held) for key in sorted(state.active)]
+        active = [active_in(chance.held[key].source.held) for key in sorted(state.active)]
         found = [contexts.SourceRow(place[0], entity, place[1], values.read(place[2], text))
                  for place, entities in answering.rows[state.rows].items() for entity,
                  texts in entities.items() for text in texts]
@@ -138,7 +145,7 @@ class Orders(unittest.TestCase):
         """The model's tree in a state."""
         if state.root is None:
             return None
-        tree = linking.linked([linking.active_in(chance.held[key].source.held)
+        tree = linking.linked([active_in(chance.held[key].source.held)
                                for key in sorted(state.active)], state.root)
         return tree
 
@@ -151,8 +158,8 @@ class Kinds(unittest.TestCase):
               roots: tuple[versions.Reference | None, versions.Reference
                            | None] = (ROOT, ROOT)) -> tuple[list[str], bool]:
         """What is done, in order, and whether answers are mixed."""
-        held = {key_of(one): one for one in (check.checked("x", text.encode()) for text in [*old, *new])}
-        before, goal = ([key_of(check.checked("x", text.encode())) for text in texts]
+        held = {key_of(one): one for one in (checked(text) for text in [*old, *new])}
+        before, goal = ([key_of(checked(text)) for text in texts]
                         for texts in (old, new))
         found = {plan.NOW: source(rows_before or []),
                  plan.NEW: source(rows_after if rows_after is not None else rows_before or [])}
