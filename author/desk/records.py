@@ -139,7 +139,7 @@ def now() -> str:
 
 
 def draft(number: int, before: int, content: Content, was: list[versions.Reference | None]) -> Draft:
-    """The record of deployment NUMBER. What the root was is one of those; it isn't known where there is none."""
+    """The record of deployment NUMBER. The root was one of those; where there is none, it isn't known."""
     first, *pieces = content.packed()
     head = Head(number, before, now(), by_whom(), secrets.token_hex(8), content.digest(), content.root, was,
                 len(pieces), first)

@@ -15,16 +15,17 @@ from .deploy_tests import ADMIN, AUTHOR, Cut, DeployTest, places, policy, row, r
 from .test_deploy import P1, P2, PINNED1, PINNED2, Q1, Q2, SET_ROOT, files
 
 from desk import wire  # noqa: E402
+from desk.deploying import Deployment  # noqa: E402
 
 OLD, NEW = files(PINNED1, P1, Q1), files(PINNED2, P2, Q2)
 OTHER = files(policy("urn:o", "1", "o"))
 MOVED1, MOVED2 = ({"PolicySetIdReference": {"Id": "urn:s", "Version": version}} for version in "12")
-ONE, TWO = (policy("urn:p", version, "p" + version, attribute="urn:" + name) for version,
-            name in ("1a", "2b"))
-# an old folder with its root and a new one: a turn by a set, by the root, from nothing, and with rows in two steps
+ONE = policy("urn:p", "1", "p1", attribute="urn:a")
+TWO = policy("urn:p", "2", "p2", attribute="urn:b")
+# an old folder with its root and a new one: a turn by a set, by the root, from nothing, with rows in two steps
 KINDS = {"set": (OLD, SET_ROOT, NEW, SET_ROOT), "root": (OLD, MOVED1, NEW, MOVED2),
          "nothing": (None, None, OLD, SET_ROOT),
-         "rows": ({**files(ONE, rows=rows(row("alice", "urn:a")))}, "urn:p",
+         "rows": (files(ONE, rows=rows(row("alice", "urn:a"))), "urn:p",
                   files(TWO, rows=rows(row("bob", "urn:b"))), "urn:p")}
 TOLD = ["changes the domain at the same time", "another deployment began at the same moment"]
 
@@ -297,6 +298,13 @@ class AtOnce(DeployTest):
         with mock.patch.object(wire.Client, "exchange", other):
             self.deployed(folder, status=4)
         self.assertNotIn("isn't finished", self.policy("status", folder)[1])
+
+    def test_what_isnt_looked_at_is_noticed(self) -> None:
+        """The tests fail where a deployment doesn't look before its steps."""
+        with mock.patch.object(Deployment, "look", lambda *_: None):
+            for noticing in (self.test_rows_that_another_sets, self.test_documents_that_another_withdraws):
+                with self.assertRaises(AssertionError):
+                    noticing()
 
     def message(self, method: str, path: str, body: str | None = None) -> bytes:
         """A message of somebody else to the domain."""

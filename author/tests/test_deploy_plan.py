@@ -6,6 +6,7 @@ import functools
 import itertools
 import random
 import unittest
+from unittest import mock
 
 from .deploy_tests import ASKED, policy, policy_set, row, rows
 
@@ -229,6 +230,22 @@ class Kinds(unittest.TestCase):
         self.assertEqual(self.order([one], [two], [alice], [bob], root),
                          (["rows between", "activate p 2", "withdraw p 1", "rows"], False))
         self.assertTrue(self.order([one], [same], [alice], [row("bob", "urn:a")], root)[1])
+
+
+class Broken(unittest.TestCase):
+    """The tests of kinds fail where the planner is broken."""
+
+    def test_each_break_is_noticed(self) -> None:
+        for where, name, instead, test in (
+                (plan.Planner, "is_quiet", lambda *_: True, "test_two_new_versions_at_once"),
+                (plan.Planner, "mixed_in", lambda *_: [], "test_two_new_versions_at_once"),
+                (plan.Planner, "parted_rows", lambda _: None, "test_rows"),
+                (Answering, "asked_in", lambda *_: set(), "test_rows"),
+                (Answering, "resolved", lambda *_: None, "test_a_lower_version")):
+            with self.subTest(name), mock.patch.object(where, name, instead):
+                result = unittest.TestResult()
+                Kinds(test).run(result)
+                self.assertFalse(result.wasSuccessful())
 
 
 if __name__ == "__main__":
