@@ -36,7 +36,7 @@ KEPT = 4
 
 @dataclass
 class Head:
-    """What the head of a deployment's record says."""
+    """What the head of a deployment's record says; `was` is what the root may have been, if that is known."""
     number: int
     before: int
     begun: str
@@ -44,6 +44,7 @@ class Head:
     nonce: str
     target: str
     root: versions.Reference | None
+    was: list[versions.Reference | None]
     pieces: int
     first: str
 
