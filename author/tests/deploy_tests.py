@@ -7,6 +7,7 @@ and else the model's server in Python.
 from __future__ import annotations
 
 import contextlib
+import functools
 import http.server
 import io
 import itertools
@@ -91,7 +92,7 @@ ASKED = [request(who) for who in ("alice", "bob", "carol")] + ['{"Request":{}}']
 TIMES = 12 if PDPD else 2
 
 
-def places(chosen: range, seconds: float = 12) -> Iterator[int]:
+def places(chosen: range, seconds: float = 8) -> Iterator[int]:
     """The places in some order, all of them where there is time; on a machine that is slow some of them."""
     until = time.monotonic() + seconds
     for number in random.Random(5).sample(chosen, len(chosen)):
@@ -139,10 +140,17 @@ class ModelServed:
         self.server.server_close()
 
 
+@functools.cache
+def say_which() -> None:
+    """Says, one time, which server the tests speak with."""
+    print(f"Deployment is tested over {PDPD or 'the server of the model in Python, since pdpd is not built'}.")
+
+
 class Running:
     """A server that can be killed, and started again over what it kept."""
 
     def __init__(self) -> None:
+        say_which()
         self.folder = pathlib.Path(tempfile.mkdtemp(prefix="deploy-"))
         (self.folder / "token").write_text(serving.OPERATOR + "\n", encoding="ascii")
         self.model = machines.Server(serving.OPERATOR.encode())

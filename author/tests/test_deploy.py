@@ -11,6 +11,7 @@ import unittest
 from unittest import mock
 
 from .deploy_tests import ADMIN, ASKED, ASKS, TIMES, DeployTest, policy, policy_set, row, rows, serving
+from .desk_tests import PROGRAM
 
 P1, P2, Q1, Q2 = (policy(f"urn:{name}", version, name + version) for name in "pq" for version in "12")
 ANY = policy_set("urn:s", "1", [("urn:p", None), ("urn:q", None)])
@@ -240,6 +241,24 @@ class Words(DeployTest):
         held = json.loads(self.policy("status", "--json", folder)[1])
         self.assertEqual((held["same"], held["deployments"][0]["finished"]), (True, True))
         self.assertEqual(json.loads(self.policy("diff", "--live", "--json", folder)[1])["steps"], [])
+
+    def test_a_program_that_says_otherwise(self) -> None:
+        """Model and program are compared before anything is sent."""
+        folder = self.written(files(P1), "urn:p")
+        liar = pathlib.Path(folder, "liar")
+        liar.write_text("#!/bin/sh\nwhile read -r line; do echo x; done\n")
+        liar.chmod(0o700)
+        status, _, said = self.policy("deploy", "--program", str(liar), "--yes", folder)
+        self.assertEqual((status, self.listed()), (3, {}))
+        self.assertIn("DISAGREE", said)
+
+    @unittest.skipIf(PROGRAM is None, "the program of rows isn't built")
+    def test_with_the_program(self) -> None:
+        folder = self.written(files(P1, requests=f"[{ASKED[0]}]"), "urn:p")
+        status, written, _ = self.policy("deploy", "--program", "", "--yes", "--requests",
+                                         f"{folder}/requests.json", folder)
+        self.assertEqual(status, 0)
+        self.assertIn("by model and program", written)
 
     def test_records_are_few(self) -> None:
         folder = self.written(files(P1, rows=rows(*(row(f"{number}" * 40, "urn:a")

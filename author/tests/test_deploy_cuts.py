@@ -66,7 +66,7 @@ class Cuts(DeployTest):
         for kind in KINDS:
             count, before, after = self.wanted(kind)
             self.assertGreater(count, 15)
-            for number in places(range(count), 8):
+            for number in places(range(count), 5):
                 with self.subTest(kind, number=number):
                     self.cut_at(number, kind)
                     self.gone_on(str(self.folder / "at"), before, after)
