@@ -209,11 +209,13 @@ def rollback(options: argparse.Namespace) -> int:
 
 
 def to_which(held: records.Records, wanted: int | None) -> int:
-    """The deployment to go back to."""
+    """The deployment to go back to: of one that isn't finished the last that is, else the one before it."""
     last = held.last()
     if last is None:
         raise ServerFault("no deployment is recorded on the server")
-    number = held.head(last).before if wanted is None else wanted
+    number = wanted
+    if number is None:
+        number = last if held.begun() else held.head(last).before
     if number == 0:
         raise ServerFault(f"no deployment is recorded before {last}")
     if number not in held.numbers() or not held.is_finished(number):

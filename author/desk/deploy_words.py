@@ -61,7 +61,7 @@ def add_rollback(parser: argparse.ArgumentParser) -> None:
     """The options of `rollback`."""
     add_change(parser)
     parser.add_argument("--to", type=int, metavar="NUMBER",
-                        help="the deployment to go back to; else the one before the last")
+                        help="the deployment to go back to; else the one before")
 
 
 def add_pull(parser: argparse.ArgumentParser) -> None:

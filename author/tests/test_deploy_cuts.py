@@ -138,6 +138,18 @@ class Cuts(DeployTest):
             ran.communicate()
             self.gone_on(folder, before, after)
 
+    def test_back_after_a_cut(self) -> None:
+        """A rollback of a deployment that was cut goes to the last one that is finished."""
+        _, before, _ = self.wanted("root")
+        for number in places(range(7, 29, 3)):
+            with self.subTest(number):
+                self.cut_at(number, "root")
+                folder = str(self.folder / "at")
+                self.assertEqual(self.policy("rollback", "--yes", folder)[0], 4)
+                back = ("rollback", "--yes", "--only-whole", "--take-over", folder)
+                self.whole(lambda: self.assertEqual(self.policy(*back)[0], 0))
+                self.assertEqual(self.asks(), before)
+
     def test_another_folder_after_a_cut(self) -> None:
         """Which root the cut deployment left isn't known: both are reckoned with."""
         roots = [{"PolicySetIdReference": {"Id": "urn:s", "Version": version}} for version in "12"]
