@@ -235,8 +235,8 @@ def add_test(parser: argparse.ArgumentParser) -> None:
 
 def add_diff(parser: argparse.ArgumentParser) -> None:
     """The options of `diff`."""
-    parser.add_argument("old", metavar="OLD", help="a document, or a folder of documents")
-    parser.add_argument("new", metavar="NEW", help="a document, or a folder of documents")
+    parser.add_argument("old", nargs="?", metavar="OLD", help="a document, or a folder of documents; with --live the domain's folder")
+    parser.add_argument("new", nargs="?", metavar="NEW", help="a document, or a folder of documents")
     parser.add_argument("--requests", metavar="FILE", help="an array of requests, a request, or a file of cases")
     parser.add_argument("--random", type=int, default=0, metavar="N",
                         help="makes N requests from the values that the policies name")
@@ -249,9 +249,11 @@ def add_diff(parser: argparse.ArgumentParser) -> None:
 
 def parser() -> argparse.ArgumentParser:
     """The words of the command, with their options."""
+    from . import deploy, deploy_words  # which stand on this module
     whole = argparse.ArgumentParser(prog="policy",
                                     description="A policy author's desk: what is wrong with a policy, what it decides, and why.",
-                                    epilog="Exit status: 0 fine, 1 faults or failed cases, 2 usage, 3 model and program disagree.")
+                                    epilog="Exit status: 0 fine, 1 faults or failed cases, 2 usage, 3 model and program disagree, "
+                                           "4 the server refuses or is away.")
     words = whole.add_subparsers(dest="word", required=True, metavar="WORD")
     asks = argparse.ArgumentParser(add_help=False)
     asks.add_argument("--program", default="", metavar="PATH",
@@ -274,7 +276,11 @@ def parser() -> argparse.ArgumentParser:
     one = word("explain", "shows how a decision comes about", decided, add_question, is_explained=True)
     one.add_argument("--json", action="store_true", help="writes the explanation as JSON")
     word("test", "runs cases", cases_run, add_test)
-    word("diff", "shows requests whose answer changes from one set of documents to another", diff_run, add_diff)
+    one = word("diff", "shows requests whose answer changes from one set of documents to another", diff_run, add_diff)
+    one.add_argument("--live", action="store_true", help="compares what the server has with the domain's folder OLD")
+    deploy_words.add_server(one)
+    one.set_defaults(live_run=deploy.live_diff)
+    deploy_words.add_words(word)
     word("build", "proves and builds the program, and keeps it for the other words", lambda _: program.built(), None)
     word("lints", "lists the lints by their names", lints_run, None)
     return whole
@@ -293,6 +299,12 @@ def cases_run(options: argparse.Namespace) -> int:
 
 def diff_run(options: argparse.Namespace) -> int:
     """Answers `diff`."""
+    if options.live and options.new is not None:
+        raise setting.Usage("diff --live takes the domain's folder alone")
+    if options.live:
+        return options.live_run(options)
+    if options.new is None:
+        raise setting.Usage("diff needs OLD and NEW, or --live")
     old, new = setting_of(options, [options.old]), setting_of(options, [options.new])
     if old is None or new is None:
         return FAULTS

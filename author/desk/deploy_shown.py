@@ -1,0 +1,92 @@
+"""What the words that speak with a server write: what a domain has, and what changes, step by step."""
+from __future__ import annotations
+
+from . import records, text
+from .changes import Action, Changes, root_told
+from .domain import listed_shown
+from .live import Key, Live, key_shown, row_lines, version_shown
+
+
+def counts_of(live: Live) -> str:
+    """How many documents and rows the domain has."""
+    active, kept = len(live.active()), len(live.kept())
+    rows = text.counted(len(live.rows.rows), "row")
+    return f"{text.counted(active, 'document')} active, {kept - active} not; {rows}"
+
+
+def record_told(held: records.Records) -> str:
+    """The last deployment, and those that aren't finished."""
+    last, begun = held.last(), held.begun()
+    found = "none is recorded"
+    if last is not None:
+        found = f"{last}, begun {held.head(last).begun} by {held.head(last).by}"
+    return found + "".join(f"; {one} was begun {held.head(one).begun} by {held.head(one).by}, and isn't "
+                           f"finished" for one in begun)
+
+
+def print_domain(changes: Changes) -> None:
+    """What the domain has."""
+    live = changes.live
+    for label, told_of in (("domain", f"{live.client.domain} on {live.client.server}"),
+                           ("deployed", record_told(changes.records)),
+                           ("root", root_told(changes)), ("has", counts_of(live))):
+        print(text.wrapped(told_of, f"{label:10} ", " " * 11))
+
+
+def rows_told(changes: Changes) -> str:
+    """How rows change."""
+    old, new = row_lines(changes.live.rows), row_lines(changes.target.rows)
+    more = len(new) - sum(line in set(old) for line in new)
+    fewer = len(old) - sum(line in set(new) for line in old)
+    found = f"{len(old)} before, {len(new)} after; {more} new, {fewer} gone"
+    return found + ("" if more or fewer else ", in another order")
+
+
+def clash_told(changes: Changes, key: Key) -> str:
+    """What to do about a document that was changed under its version."""
+    same = [other.version for other in changes.live.documents if other[:2] == key[:2]]
+    latest = max([*same, *(other.version for other in changes.target.documents if other[:2] == key[:2])])
+    path = changes.target.documents[key].source.path
+    version = version_shown((*latest[:-1], latest[-1] + 1))
+    return (f"{path}: {key_shown(key)} is on the server with other text. Give it a new Version,"
+            f" as {version}, which"
+            " the references to it have to admit.")
+
+
+def print_mixed(changes: Changes, actions: list[Action]) -> None:
+    """Whether every ask between is answered as before or as after."""
+    mixed = [place for place, action in enumerate(actions, 1) if action.is_mixed]
+    if not changes.roots:
+        print(text.wrapped("What the root is now isn't known: " + changes.whence
+                           + ". So whether every ask between is answered as before or as after isn't known "
+                             "either;"
+                           " --live-root ID, or --live-root none, says what it is."))
+    elif not mixed:
+        print("Meanwhile every ask is answered as before or as after.")
+    else:
+        print(text.wrapped(text.painted("No order keeps answers whole", "bold", "yellow")
+                           + f": from step {mixed[0]} to step {mixed[-1] + 1} an ask may be answered "
+                             f"neither as before nor as after."))
+        for reason in changes.order.reasons:
+            print(text.wrapped(reason, "    - ", "      "))
+        print(text.wrapped("References that name versions, under a set with a new version of its own and a "
+                           "root that names that, keep answers whole.", "    ", "    "))
+
+
+def print_changes(changes: Changes, actions: list[Action]) -> None:
+    """What will be done, step by step."""
+    for key in changes.clashes():
+        print(text.wrapped(clash_told(changes, key), text.painted("changed", "red") + "    ", " " * 11))
+    idle = [key_shown(key) for key in sorted(set(changes.target.documents) - changes.reached)]
+    if idle:
+        print(text.wrapped(f"{listed_shown(idle)}: the root doesn't reach "
+                           f"{'it' if len(idle) == 1 else 'them'}, so uploaded and not active",
+                           "idle       ", " " * 11))
+    if changes.has_rows():
+        print(text.wrapped(rows_told(changes), "rows       ", " " * 11))
+    for place, action in enumerate(actions, 1):
+        if action.do != "forget":
+            print(text.wrapped(action.shown, f"{place:9}{'*' if action.is_mixed else ' '} ", " " * 11))
+    forgotten = sum(action.do == "forget" for action in actions)
+    if forgotten:
+        print(f"           forget old records ({text.counted(forgotten, 'document')})")

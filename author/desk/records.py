@@ -1,0 +1,262 @@
+"""Records of deployments, which the domain itself keeps: policies of a reserved id that are never active, so
+that no decision uses them.
+
+Version N of that id is the head of deployment N, with what it brings, packed; N.1, N.2 and so on hold the
+rest of that where it is long; N.0 says that the deployment is finished. No route shows a domain's root, and
+rows are gone once others are set: so both stand in the record. The upload of a head is also what tells two
+deployments at once: other bytes under a version that is there are refused, so one of the two has number N,
+and the other is told.
+"""
+from __future__ import annotations
+
+import base64
+import binascii
+import getpass
+import hashlib
+import json
+import secrets
+import socket
+import time
+import zlib
+from dataclasses import dataclass, field
+
+from . import setting
+from .check import Checked
+from .domain import root_body
+from .live import RECORD_ID, Key, Live, is_record, path_of, version_shown
+from .model import documents as documents_of_model
+from .model import route_bodies, versions
+from .wire import ServerFault
+
+ALGORITHM = "urn:oasis:names:tc:xacml:3.0:rule-combining-algorithm:deny-overrides"
+# letters in a piece: a document has at most 65,536 bytes
+PIECE = 50_000
+KEPT = 4
+
+
+@dataclass
+class Head:
+    """What the head of a deployment's record says; `was` is what the root may have been, if that is known."""
+    number: int
+    before: int
+    begun: str
+    by: str
+    nonce: str
+    target: str
+    root: versions.Reference | None
+    was: list[versions.Reference | None]
+    pieces: int
+    first: str
+
+
+@dataclass
+class Content:
+    """What a deployment brings: its root, its active documents with the digests of their texts, and its
+    rows, where it sets them."""
+    root: versions.Reference | None
+    documents: dict[Key, str]
+    rows: list[str] | None
+
+    def text(self) -> str:
+        """The content as a record has it."""
+        found = [{"Kind": key.kind, "Id": key.id, "Version": version_shown(key.version), "Digest": digest}
+                 for key, digest in sorted(self.documents.items())]
+        return json.dumps({"Root": json.loads(root_body(self.root)), "Document": found, "Row": self.rows},
+                          ensure_ascii=False)
+
+    def digest(self) -> str:
+        """The digest of all that."""
+        return hashlib.sha256(self.text().encode()).hexdigest()
+
+    def packed(self) -> list[str]:
+        """The content in pieces."""
+        text = base64.b64encode(zlib.compress(self.text().encode(), 9)).decode()
+        return [text[start:start + PIECE] for start in range(0, len(text), PIECE)]
+
+
+def content_of(packed: str) -> Content:
+    """The content that pieces hold."""
+    held = json.loads(zlib.decompress(base64.b64decode(packed)))
+    documents = {Key(one["Kind"], one["Id"], tuple(versions.numbers(one["Version"]))): one["Digest"]
+                 for one in held["Document"]}
+    return Content(root_in(held["Root"]), documents, held["Row"])
+
+
+def digest_of(held: bytes) -> str:
+    """The digest of a document's text."""
+    return hashlib.sha256(held).hexdigest()
+
+
+def digests(documents: dict[Key, Checked]) -> dict[Key, str]:
+    """The digests of documents' texts."""
+    return {key: digest_of(one.source.held) for key, one in documents.items()}
+
+
+def record_key(*version: int) -> Key:
+    """The key of a part of a record."""
+    return Key("policy", RECORD_ID, version)
+
+
+def path_of_number(number: int) -> str:
+    """The path of a record's head."""
+    return path_of(record_key(number))
+
+
+def document(version: tuple[int, ...], described: str) -> bytes:
+    """The policy that holds a part of a record."""
+    return json.dumps({"Policy": {"PolicyId": RECORD_ID, "Version": version_shown(version),
+                                  "Description": described,
+                                  "RuleCombiningAlgId": ALGORITHM}}, ensure_ascii=False).encode()
+
+
+def described(held: bytes) -> str:
+    """What a part of a record says."""
+    return json.loads(held)["Policy"]["Description"]
+
+
+def by_whom() -> str:
+    """Who deploys, as far as the machine tells."""
+    try:
+        return f"{getpass.getuser()}@{socket.gethostname()}"
+    except (KeyError, OSError):
+        return socket.gethostname()
+
+
+@dataclass
+class Draft:
+    """The record of a deployment that is about to begin: its parts by their keys, the head first, without
+    the last that says that it is finished."""
+    head: Head
+    parts: dict[Key, bytes]
+
+    def finished(self) -> tuple[Key, bytes]:
+        """The part that says that it is finished."""
+        key = record_key(self.head.number, 0)
+        return key, document(key.version, json.dumps({"Finished": now()}))
+
+
+def now() -> str:
+    return setting.moment_shown(int(time.time()))
+
+
+def draft(number: int, before: int, content: Content, was: list[versions.Reference | None]) -> Draft:
+    """The record of deployment NUMBER. The root was one of those; where there is none, it isn't known."""
+    first, *pieces = content.packed()
+    head = Head(number, before, now(), by_whom(), secrets.token_hex(8), content.digest(), content.root, was,
+                len(pieces), first)
+    held = {"Deployment": number, "Before": before, "Begun": head.begun, "By": head.by, "Nonce": head.nonce,
+            "Target": head.target, "Root": json.loads(root_body(head.root)),
+            "Was": [json.loads(root_body(root)) for root in was], "Pieces": head.pieces, "Content": first}
+    parts = {record_key(number): document((number,), json.dumps(held, ensure_ascii=False))}
+    for place, piece in enumerate(pieces, 1):
+        parts[record_key(number, place)] = document((number, place), piece)
+    return Draft(head, parts)
+
+
+def root_in(held: object) -> versions.Reference | None:
+    """The root that a part of a record says."""
+    return route_bodies.root_of(json.dumps(held).encode())
+
+
+@dataclass
+class Records:
+    """The records that a domain keeps."""
+    live: Live
+    heads: dict[int, Head] = field(default_factory=dict)
+
+    def numbers(self) -> list[int]:
+        """The numbers of deployments of which the head is there, in order."""
+        return sorted(key.version[0] for key in self.live.records() if len(key.version) == 1)
+
+    def next_number(self) -> int:
+        """A number under which nothing is kept."""
+        return max((key.version[0] for key in self.live.records()), default=0) + 1
+
+    def is_finished(self, number: int) -> bool:
+        """Whether the deployment is finished."""
+        return record_key(number, 0) in self.live.documents
+
+    def last(self) -> int | None:
+        """The last deployment that is finished; None without one."""
+        return max((number for number in self.numbers() if self.is_finished(number)), default=None)
+
+    def begun(self) -> list[int]:
+        """The deployments that were begun after it and aren't finished."""
+        return [number for number in self.numbers() if number > (self.last() or 0)]
+
+    def head(self, number: int) -> Head:
+        """What the head of a deployment says."""
+        if number not in self.heads:
+            self.heads[number] = self.read(number)
+        return self.heads[number]
+
+    def read(self, number: int) -> Head:
+        """Reads a head."""
+        try:
+            held = json.loads(described(self.live.text(record_key(number))))
+            return Head(number, held["Before"], held["Begun"], held["By"], held["Nonce"], held["Target"],
+                        root_in(held["Root"]), [root_in(one) for one in held["Was"]], held["Pieces"],
+                        held["Content"])
+        except (KeyError, TypeError, ValueError, documents_of_model.DocumentFault):
+            raise ServerFault(f"policy {RECORD_ID} {number} of the server is no record of a "
+                              f"deployment") from None
+
+    def content(self, number: int) -> Content:
+        """What a deployment brought."""
+        try:
+            head = self.head(number)
+            pieces = [described(self.live.text(record_key(number, place)))
+                      for place in range(1, head.pieces + 1)]
+            return content_of("".join([head.first, *pieces]))
+        except (KeyError, TypeError, ValueError, zlib.error, binascii.Error,
+                documents_of_model.DocumentFault):
+            raise ServerFault(f"the record of deployment {number} is damaged") from None
+
+    def stale(self, number: int) -> list[Key]:
+        """The parts of old records that are given up once deployment NUMBER is finished: the head of a
+        record last."""
+        finished = [one for one in self.numbers() if self.is_finished(one) and one < number]
+        kept = {*finished[-(KEPT - 1):], number}
+        return sorted((key for key in self.live.records() if key.version[0] not in kept),
+                      key=lambda key: (key.version[0], len(key.version) == 1, key.version))
+
+
+def root_now(live: Live, records: Records, said: str | None) -> tuple[list[versions.Reference | None], str]:
+    """What the root may be now, the likely one first, none where it isn't known; and whence that is known."""
+    if said is not None:
+        return [root_said(live, said)], "as it was said"
+    last, begun = records.last(), records.begun()
+    was: list[versions.Reference | None] = []
+    if last is not None:
+        was, whence = [records.head(last).root], f"by the record of deployment {last}"
+    elif begun:
+        was, whence = records.head(begun[0]).was, f"by the record of deployment {begun[0]}"
+    if not was and not live.active() and has_no_root(live):
+        was, whence = [None], "since nothing is active, and the answer is NotApplicable"
+    if not was:
+        return [], "no route shows it, and no deployment is recorded"
+    roots = [*was, *(records.head(number).root for number in begun)]
+    more = f", or by that of {begun[-1]}, which isn't finished" if begun else ""
+    return [root for place, root in enumerate(roots) if root not in roots[:place]], whence + more
+
+
+def root_said(live: Live, said: str) -> versions.Reference | None:
+    """The root that is meant: an id, with its kind before it where both have it, or none."""
+    if said == "none":
+        return None
+    kinds = {key.kind for key in live.kept() if key.id == said}
+    is_whole = said.startswith(("policy:", "set:"))
+    kind, name = said.split(":", 1) if is_whole else (min(kinds, default="policy"), said)
+    return versions.Reference(kind, name, None, None, None)
+
+
+def has_no_root(live: Live) -> bool:
+    """Whether a domain without active documents has no root: then it answers NotApplicable, and else
+    Indeterminate."""
+    held = json.loads(live.client.asked("POST", "pdp", b'{"Request":{}}').body)
+    return held["Response"][0]["Decision"] == "NotApplicable"
+
+
+def parts_of_records(live: Live) -> int:
+    """How many documents of the domain are parts of records."""
+    return sum(map(is_record, live.documents))

@@ -1,0 +1,341 @@
+"""The words that speak with a server, over a real one: from nothing, again, each kind of change, going back,
+fetching, and what is refused."""
+from __future__ import annotations
+
+import json
+import os
+import pathlib
+import socket
+import threading
+import unittest
+from unittest import mock
+
+from .deploy_tests import ADMIN, ASKED, ASKS, TIMES, DeployTest, policy, policy_set, row, rows, serving
+from .desk_tests import PROGRAM
+
+P1, P2, Q1, Q2 = (policy(f"urn:{name}", version, name + version) for name in "pq" for version in "12")
+ANY = policy_set("urn:s", "1", [("urn:p", None), ("urn:q", None)])
+PINNED1, PINNED2 = (policy_set("urn:s", version, [("urn:p", version), ("urn:q", version)])
+                    for version in "12")
+SET_ROOT = {"PolicySetIdReference": {"Id": "urn:s"}}
+
+
+def files(*held: str, **more: str) -> dict[str, str]:
+    """A folder's files."""
+    return {**{f"document-{number}.json": one for number, one in enumerate(held)},
+            **{name + ".json": one for name, one in more.items()}}
+
+
+class Changes(DeployTest):
+    """Each kind of change, with asks between all its requests."""
+
+    def change(self, old: dict[str, str], new: dict[str, str], *words: str,
+               roots: tuple[object, object] = (SET_ROOT, SET_ROOT)) -> int:
+        """Deploys one folder and then another; how many asks there were meanwhile, each answered as before
+        or as after."""
+        self.deployed(self.written(old, roots[0]))
+        before = self.asks()
+        folder = self.written(new, roots[1])
+        count = self.whole(lambda: self.deployed(folder, "--only-whole", *words), TIMES)
+        self.assertNotEqual(before, self.asks())
+        self.assertIn("Nothing is to be done.", self.deployed(folder))
+        return count
+
+    def test_from_nothing(self) -> None:
+        folder = self.written(files(ANY, P1, Q1, rows=rows(row("alice", "urn:a"))), SET_ROOT)
+        self.assertEqual(self.policy("status", "--strict", folder)[0], 1)
+        asked = self.whole(lambda: self.deployed(folder, "--only-whole"), TIMES)
+        self.assertGreater(asked, 40 * TIMES)
+        self.assertEqual(self.listed(), {("urn:p", "1"): True, ("urn:q", "1"): True, ("urn:s", "1"): True})
+        with self.between(lambda number: None) as count:
+            self.assertIn("Nothing is to be done.", self.deployed(folder))
+        self.assertLess(count[0], 8)
+        status, written, _ = self.policy("status", "--strict", folder)
+        self.assertEqual(status, 0)
+        self.assertIn("is what runs there", written)
+
+    def test_a_new_version(self) -> None:
+        self.assertGreater(self.change(files(ANY, P1, Q1), files(ANY, P2, Q1)), 40 * TIMES)
+        self.assertEqual(self.listed(), {("urn:p", "1"): False, ("urn:p", "2"): True, ("urn:q", "1"): True,
+                                         ("urn:s", "1"): True})
+
+    def test_two_new_versions(self) -> None:
+        self.assertGreater(self.change(files(PINNED1, P1, Q1), files(PINNED2, P2, Q2)), 80 * TIMES)
+
+    def test_another_root(self) -> None:
+        roots = "policy:urn:p", {"PolicyIdReference": {"Id": "urn:q", "Version": "1"}}
+        self.assertGreater(self.change(files(P1), files(Q1), "--prune", roots=roots), 40 * TIMES)
+        self.assertEqual(self.listed(), {("urn:q", "1"): True})
+
+    def test_rows(self) -> None:
+        one = policy("urn:p", "1", "p1", attribute="urn:a")
+        self.change(files(one, rows=rows(row("alice", "urn:a"))), files(one, rows=rows(row("bob", "urn:a"))),
+                    roots=("urn:p", "urn:p"))
+
+    def test_rows_and_policies(self) -> None:
+        one, two = policy("urn:p", "1", "p1",
+                          attribute="urn:a"), policy("urn:p", "2", "p2", attribute="urn:b")
+        self.change(files(one, rows=rows(row("alice", "urn:a"))), files(two, rows=rows(row("bob", "urn:b"))),
+                    roots=("urn:p", "urn:p"))
+
+    def test_a_lower_version(self) -> None:
+        self.change(files(ANY, P2, Q1), files(ANY, P1, Q1))
+
+    def test_no_root(self) -> None:
+        self.change(files(P1), files(P1), roots=("urn:p", {}))
+        self.assertEqual(self.listed(), {("urn:p", "1"): False})
+
+    def test_where_no_order_is_whole(self) -> None:
+        self.deployed(self.written(files(ANY, P1, Q1), SET_ROOT))
+        folder = self.written(files(ANY, P2, Q2), SET_ROOT)
+        before, found = self.asks(), []
+        written = self.deployed(folder, "--only-whole", status=1)
+        for words in ("No order keeps answers whole",
+                      "the reference of policy set urn:s 1 to urn:p (any version) takes 2 in place of 1"):
+            self.assertIn(words, " ".join(written.split()))
+        self.assertEqual(self.asks(), before)
+        with self.between(lambda number: found.extend(self.asks())):
+            self.deployed(folder)
+        self.assertFalse(set(found) <= {*before, *self.asks()})
+
+    def test_asks_at_the_same_time(self) -> None:
+        self.deployed(self.written(files(PINNED1, P1, Q1), SET_ROOT))
+        before, found, is_over = self.asks(), [], threading.Event()
+
+        def asking() -> None:
+            while not is_over.is_set() or len(found) < 80 * TIMES:
+                found.extend(self.asks())
+        thread = threading.Thread(target=asking)
+        thread.start()
+        for held in (files(PINNED2, P2, Q2), files(PINNED1, P1, Q1), files(PINNED2, P2, Q2)):
+            self.deployed(self.written(held, SET_ROOT))
+        is_over.set()
+        thread.join()
+        after = self.asks()
+        for place, answer in enumerate(found):
+            self.assertIn(answer, (before[place % len(ASKED)], after[place % len(ASKED)]))
+
+
+class Words(DeployTest):
+    """What the words write and refuse."""
+
+    def test_changed_without_a_new_version(self) -> None:
+        self.deployed(self.written(files(P1), "urn:p"))
+        folder = self.written(files(P1.replace("Permit", "Deny")), "urn:p")
+        for word in ("deploy", "diff"):
+            words = ["deploy", "--yes", folder] if word == "deploy" else ["diff", "--live", folder]
+            status, written, _ = self.policy(*words)
+            self.assertEqual(status, 1)
+            self.assertIn("is on the server with other text. Give it a new Version, as 2",
+                          " ".join(written.split()))
+
+    def test_faults_and_cases_come_first(self) -> None:
+        held = files(P1, cases=json.dumps({"Case": [{"Request": json.loads(ASKED[0]), "Decision": "Deny"}]}))
+        with self.between(lambda number: None) as count:
+            written = self.deployed(self.written(held, "urn:p", Cases=["cases.json"]), status=1)
+            self.assertIn("expected Deny, found Permit", written)
+            self.deployed(self.written(files(P1.replace("Permit", "Permitt")), "urn:p"), status=1)
+            self.deployed(self.written(files(P1), "urn:none"), status=1)
+            self.deployed(self.written({"p.json": P1}, "urn:p", Rots=1), status=1)
+        self.assertEqual(count[0], 0)
+        held = files(P1,
+                     cases=json.dumps({"Case": [{"Request": json.loads(ASKED[0]), "Decision": "Permit"}]}))
+        self.assertIn("1 case: 1 ok", self.deployed(self.written(held, "urn:p", Cases=["cases.json"])))
+
+    def test_rollback(self) -> None:
+        first = files(PINNED1, P1, Q1, rows=rows(row("alice", "urn:a")))
+        self.deployed(self.written(first, SET_ROOT))
+        one = self.asks(), self.listed()
+        self.assertEqual(self.policy("rollback", "--yes", str(self.folder / "at"))[0], 4)
+        self.deployed(self.written(files(PINNED2, P2, Q2, rows=rows()), SET_ROOT))
+        two = self.asks()
+        third = self.written(files(policy("urn:r", "1", "r")), "urn:r")
+        self.deployed(third)
+        self.assertEqual(self.policy("rollback", "--yes", third)[0], 0)
+        self.assertEqual(self.asks(), two)
+        self.whole(lambda: self.assertEqual(self.policy("rollback", "--yes", "--only-whole", third)[0], 0))
+        self.assertEqual((self.asks(), {key for key, is_active in self.listed().items() if is_active}),
+                         (one[0], {key for key, is_active in one[1].items() if is_active}))
+        status, written, _ = self.policy("pull", str(self.folder / "back"), "--server",
+                                         f"http://127.0.0.1:{self.running.port}", "--domain", self.name)
+        self.assertEqual(status, 0, written)
+        self.assertEqual(json.loads((self.folder / "back" / "rows.json").read_text())["Row"][0]["Entity"],
+                         "alice")
+        self.assertEqual(self.policy("rollback", "--yes", third)[0], 4)
+        self.assertEqual(self.policy("rollback", "--yes", "--to", "3", third)[0], 0)
+        self.assertEqual(self.policy("rollback", "--yes", "--to", "77", third)[0], 4)
+
+    def test_rollback_of_what_was_deleted(self) -> None:
+        self.deployed(self.written(files(P1), "urn:p"))
+        folder = self.written(files(Q1), "urn:q")
+        self.deployed(folder, "--prune")
+        status, _, said = self.policy("rollback", "--yes", folder)
+        self.assertEqual(status, 4)
+        self.assertIn("was deleted", said)
+
+    def test_pull(self) -> None:
+        held = rows(row("alice", "urn:a"), row("\u00e4lice", "urn:a", '"\\'))
+        root = {"PolicySetIdReference": {"Id": "urn:s", "Version": "2", "LatestVersion": "2"}}
+        self.deployed(self.written(files(PINNED2, P1, P2, Q2, rows=held), root))
+        there = self.folder / "there"
+        place = ("--server", f"http://127.0.0.1:{self.running.port}", "--domain", self.name)
+        self.assertEqual(self.policy("pull", str(there))[0], 2)
+        status, written, _ = self.policy("pull", str(there), *place)
+        self.assertEqual(status, 0)
+        self.assertIn("1 document not active", written)
+        self.assertEqual(sorted(path.name for path in there.iterdir()),
+                         ["domain.json", "p-2.json", "q-2.json", "rows.json", "s-2.json"])
+        self.assertEqual((there / "p-2.json").read_text(), P2)
+        self.assertEqual(json.loads((there / "domain.json").read_text())["Root"], root)
+        self.assertEqual(self.policy("status", "--strict", str(there))[0], 0)
+        self.assertEqual(self.policy("pull", str(there))[0], 0)
+        (there / "p-2.json").write_text("{}")
+        self.assertEqual(self.policy("pull", str(there))[0], 2)
+        self.assertEqual(self.policy("pull", str(there), "--overwrite", "--all")[0], 0)
+        self.assertEqual((there / "withdrawn" / "p-1.json").read_text(), P1)
+
+    def test_a_domain_made_by_hand(self) -> None:
+        """No record, so no root that is known: it is said, and may be told."""
+        at = f"/domains/{self.name}/pap"
+        made = [serving.message("POST", f"{at}/policies", ADMIN, P1),
+                serving.message("PUT", f"{at}/policy/urn:p/1/active", ADMIN),
+                serving.message("PUT", f"{at}/root", ADMIN, '{"PolicyIdReference":{"Id":"urn:p"}}')]
+        self.running.sent(*made)
+        folder = self.written(files(P1, P2), "urn:p")
+        written = self.policy("diff", "--live", folder)[1]
+        self.assertIn("What the root is now isn't known", written)
+        self.assertIn("Which answers change isn't known",
+                      self.policy("diff", "--live", folder, "--random", "5")[1])
+        self.deployed(folder, "--only-whole", status=1)
+        self.assertIn("5 answers change", self.policy("diff", "--live", folder, "--random", "5",
+                                                      "--live-root", "urn:p")[1])
+        self.assertIn("The root isn't known", self.policy("pull", str(self.folder / "pulled"), "--server",
+                                                          f"http://127.0.0.1:{self.running.port}",
+                                                          "--domain", self.name)[1])
+        self.whole(lambda: self.deployed(folder, "--only-whole", "--live-root", "urn:p"))
+        self.assertIn("by the record of deployment 1", self.policy("status", folder)[1])
+
+    def test_answers_that_change(self) -> None:
+        self.deployed(self.written(files(P1), "urn:p"))
+        folder = self.written(files(P2, requests=f"[{ASKED[0]}]"), "urn:p")
+        status, written, _ = self.policy("diff", "--live", folder, "--requests", f"{folder}/requests.json")
+        self.assertEqual(status, 0)
+        for words in ("before Permit with obligations p1", "after Permit with obligations p2",
+                      "1 of 1 answer change"):
+            self.assertIn(words, " ".join(written.split()))
+        self.assertEqual(self.policy("diff", "--live", folder, "--strict")[0], 1)
+
+    def test_for_pipelines(self) -> None:
+        folder = self.written(files(P1), "urn:p")
+        self.assertEqual(self.policy("deploy", folder)[0], 2)
+        self.assertEqual(self.policy("deploy", "--json", folder)[0], 2)
+        self.assertEqual(self.listed(), {})
+        status, written, _ = self.policy("deploy", "--dry-run", "--json", folder)
+        held = json.loads(written)
+        self.assertEqual((status, held["new"], held["done"], held["mixed"]),
+                         (0, ["policy urn:p 1"], 0, False))
+        self.assertEqual([one["do"] for one in held["steps"]], ["record", "upload", "activate", "root",
+                                                                "record"])
+        held = json.loads(self.policy("deploy", "--yes", "--json", folder)[1])
+        self.assertEqual((held["deployment"], held["done"]), (1, 5))
+        held = json.loads(self.policy("status", "--json", folder)[1])
+        self.assertEqual((held["same"], held["deployments"][0]["finished"]), (True, True))
+        self.assertEqual(json.loads(self.policy("diff", "--live", "--json", folder)[1])["steps"], [])
+
+    def test_a_program_that_says_otherwise(self) -> None:
+        """Model and program are compared before anything is sent."""
+        folder = self.written(files(P1), "urn:p")
+        liar = pathlib.Path(folder, "liar")
+        liar.write_text("#!/bin/sh\nwhile read -r line; do echo x; done\n")
+        liar.chmod(0o700)
+        status, _, said = self.policy("deploy", "--program", str(liar), "--yes", folder)
+        self.assertEqual((status, self.listed()), (3, {}))
+        self.assertIn("DISAGREE", said)
+
+    @unittest.skipIf(PROGRAM is None, "the program of rows isn't built")
+    def test_with_the_program(self) -> None:
+        folder = self.written(files(P1, requests=f"[{ASKED[0]}]"), "urn:p")
+        status, written, _ = self.policy("deploy", "--program", "", "--yes", "--requests",
+                                         f"{folder}/requests.json", folder)
+        self.assertEqual(status, 0)
+        self.assertIn("by model and program", written)
+
+    def test_records_are_few(self) -> None:
+        folder = self.written(files(P1, rows=rows(*(row(f"{number}" * 40, "urn:a")
+                                                    for number in range(900)))), "urn:p")
+        self.deployed(folder)
+        for number in range(8):
+            self.deployed(self.written(files(P1, rows=rows(row(str(number), "urn:a"))), "urn:p"))
+        found = self.running.sent(serving.message("GET", f"/domains/{self.name}/pap/policies", ADMIN))[0]
+        self.assertEqual(found.count(b"urn:dalvezour:deployment"), 8)
+        self.assertEqual(self.policy("rollback", "--yes", folder)[0], 0)
+
+    def test_a_full_domain(self) -> None:
+        full = [serving.message("POST", f"/domains/{self.name}/pap/policies", ADMIN,
+                                policy("urn:x", f"1.{number}", "x")) for number in range(254)]
+        self.running.sent(*full)
+        written = self.deployed(self.written(files(P1), "urn:p"), status=4)
+        self.assertIn("are its room", " ".join(written.split()))
+
+
+class Refused(DeployTest):
+    """Tokens, and servers that aren't there or are none."""
+
+    def test_tokens(self) -> None:
+        folder = self.written(files(P1), "urn:p")
+        for token, status, words in (("wrong-token-1", 4, "401 Unauthorized"), (ASKS, 4, "403 Forbidden"),
+                                     ("short", 2, "holds no token")):
+            with mock.patch.dict(os.environ, {"DALVEZOUR_TOKEN": token}):
+                for given in (["deploy", "--yes"], ["status"], ["diff", "--live"], ["rollback", "--yes"],
+                              ["pull"]):
+                    found, written, said = self.policy(*given, folder)
+                    self.assertEqual(found, status, written + said)
+                    self.assertIn(words, said)
+                    self.assertNotIn(token, written + said.replace("holds no token", ""))
+        with mock.patch.dict(os.environ):
+            del os.environ["DALVEZOUR_TOKEN"]
+            self.assertEqual(self.policy("status", folder)[0], 2)
+            path = pathlib.Path(folder, "token")
+            path.write_text(ADMIN + "\nmore")
+            self.assertEqual(self.policy("status", "--token-file", str(path), folder)[0], 0)
+            self.assertEqual(self.policy("status", "--token-file", "/no/such", folder)[0], 2)
+
+    def at(self, server: str, *words: str) -> tuple[int, str]:
+        """The status of a deployment there, and what is said."""
+        folder = self.written(files(P1), "urn:p", Server=server)
+        found, written, said = self.policy("deploy", "--yes", *words, folder)
+        return found, written + said
+
+    def test_servers_that_are_none(self) -> None:
+        self.assertIn("Connection refused", self.at(f"http://127.0.0.1:{serving.free_port()}")[1])
+        for server in ("127.0.0.1:8080", "ftp://127.0.0.1", "http://127.0.0.1:x", "http://user@127.0.0.1"):
+            self.assertEqual(self.at(server)[0], 2, server)
+        for held in (b"", b"hello\r\n\r\n", b"HTTP/1.1 200 OK\r\nContent-Length: 2\r\n\r\n[]",
+                     b"HTTP/1.1 302 Found\r\nLocation: /\r\nContent-Length: 0\r\n\r\n",
+                     b"HTTP/1.1 200 OK\r\nContent-Length: 13\r\n\r\n{\"Policy\":[1]}",
+                     b"HTTP/1.1 200 OK\r\nContent-Length: 99\r\n\r\n{}"):
+            with socket.create_server(("127.0.0.1", 0)) as listening:
+                thread = threading.Thread(target=self.answer, args=(listening, held))
+                thread.start()
+                status, said = self.at(f"http://127.0.0.1:{listening.getsockname()[1]}")
+                thread.join()
+                self.assertEqual(status, 4, said)
+        with socket.create_server(("127.0.0.1", 0)) as listening:
+            status, said = self.at(f"http://127.0.0.1:{listening.getsockname()[1]}", "--timeout", "0.2")
+            self.assertEqual(status, 4)
+            self.assertIn("no answer came in time", said)
+
+    def answer(self, listening: socket.socket, held: bytes) -> None:
+        """Answers one connection with these bytes."""
+        connection, _ = listening.accept()
+        with connection:
+            connection.recv(65_536)
+            connection.sendall(held)
+
+    def test_a_token_that_others_can_read(self) -> None:
+        said = self.at("http://192.0.2.1:9", "--timeout", "0.1")[1]
+        self.assertIn("isn't reached by TLS", said)
+
+
+if __name__ == "__main__":
+    unittest.main()
