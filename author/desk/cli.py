@@ -303,8 +303,8 @@ def diff_run(options: argparse.Namespace) -> int:
         raise setting.Usage("diff --live takes the domain's folder alone")
     if options.live:
         return options.live_run(options)
-    if options.new is None:
-        raise setting.Usage("diff needs OLD and NEW, or --live")
+    if options.new is None or options.json:
+        raise setting.Usage("diff needs OLD and NEW, or --live, with which --json goes")
     old, new = setting_of(options, [options.old]), setting_of(options, [options.new])
     if old is None or new is None:
         return FAULTS

@@ -10,7 +10,7 @@ from unittest import mock
 
 from .deploy_tests import ASKED, policy, policy_set, row, rows
 
-from desk import check, plan, setting  # noqa: E402
+from desk import check, plan  # noqa: E402
 from desk.answering import Answering, State, active_in, keys_in  # noqa: E402
 from desk.live import Key, key_of  # noqa: E402
 from desk.model import contexts, decisions, linking, values, versions  # noqa: E402
