@@ -4,6 +4,8 @@ import sys
 
 TOP = pathlib.Path(__file__).resolve().parents[2]
 sys.path.insert(1, str(TOP / "agreement" / "model"))
+# a text of very many digits is out of range, and nothing that Python refuses to read
+getattr(sys, "set_int_max_str_digits", lambda _: None)(0)
 
 import combining  # noqa: E402, F401
 import contexts  # noqa: E402, F401

@@ -85,7 +85,8 @@ class Program:
 
 
 def found(named: str = "") -> Program | None:
-    """The program: the one that is named, the proved one, or None. `try` is the one that `rt try` compiles, unproved."""
+    """The program: the one that is named, here or by DESK_PROGRAM in the environment, the proved one, or None. `try` is the one that `rt try` compiles, unproved."""
+    named = named or os.environ.get("DESK_PROGRAM", "")
     if named == "none":
         return None
     if named == "try":

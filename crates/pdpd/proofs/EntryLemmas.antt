@@ -20,8 +20,8 @@ use Rattle.xa_server.specs.Replies.{bytes_of}
 use Rattle.xa_server.specs.Served.{IsRun}
 use Rattle.xa_server.specs.World.{World}
 use Rattle.xa_server.proofs.ConnectionLemmas.{appends_none, appends_trans, cuts_trans, has_after, run_trans}
-use Rattle.pdpd.specs.declared.answers.Stop.{Stop}
-use Rattle.pdpd.specs.declared.answers.Stop.TheVariants as stop
+use Rattle.pdpd.specs.declared.answers.BatchEnd.{BatchEnd}
+use Rattle.pdpd.specs.declared.answers.BatchEnd.TheVariants as batch_end
 use Rattle.pdpd.specs.Batch.{AreAnswered, HasTaken, IsBatch}
 use Rattle.pdpd.specs.Entry.{IsEntryAnswered, events_at, reply_entries, reply_entry}
 
@@ -110,7 +110,7 @@ answers_after connection moment a b c ms ns x y z first later =
     }
 
 -- a batch: the messages that were taken, run and written
-pub batch : (connection : ℕ) (moment : ℤ) (old new : World) (stream after : Stream) (events : List Event) (run : List Reply) (reason : Stop) (before now : Option (List ℕ))
+pub batch : (connection : ℕ) (moment : ℤ) (old new : World) (stream after : Stream) (events : List Event) (run : List Reply) (reason : BatchEnd) (before now : Option (List ℕ))
     → HasTaken stream (messages_of events) reason after → events ≡ events_at moment (messages_of events) → IsRun old events run new
     → Appends before now (reply_entries connection (map bytes_of run))
     → IsBatch connection moment old new stream after before now reason
@@ -120,25 +120,25 @@ batch connection moment old new stream after events run reason before now taken 
 
 -- nothing was taken yet
 pub so_far_none : (connection : ℕ) (moment : ℤ) (world : World) (stream : Stream) (before : Option (List ℕ))
-    → IsBatch connection moment world world stream stream before before stop.Full
+    → IsBatch connection moment world world stream stream before before batch_end.Full
 unfolding IsBatch
 so_far_none connection moment world stream before =
     ([], refl, record { run = []; is_run = refl; written = appends_none before })
 
-pub so_far_more : (connection : ℕ) (moment : ℤ) (a b c : World) (s t u : Stream) (x y z : Option (List ℕ)) (reason : Stop)
-    → IsBatch connection moment a b s t x y stop.Full → IsBatch connection moment b c t u y z reason
+pub so_far_more : (connection : ℕ) (moment : ℤ) (a b c : World) (s t u : Stream) (x y z : Option (List ℕ)) (reason : BatchEnd)
+    → IsBatch connection moment a b s t x y batch_end.Full → IsBatch connection moment b c t u y z reason
     → IsBatch connection moment a c s u x z reason
 unfolding IsBatch
-so_far_more connection moment a b c s t u x y z stop.Full first later =
+so_far_more connection moment a b c s t u x y z batch_end.Full first later =
     (first.0 ++ later.0, cuts_trans s t u first.0 later.0 first.1 later.1, answers_after connection moment a b c first.0 later.0 x y z first.2 later.2)
-so_far_more connection moment a b c s t u x y z stop.Unfinished first later =
+so_far_more connection moment a b c s t u x y z batch_end.Unfinished first later =
     (first.0 ++ later.0, has_after s t u first.0 later.0 None first.1 later.1, answers_after connection moment a b c first.0 later.0 x y z first.2 later.2)
-so_far_more connection moment a b c s t u x y z (stop.Fault fault) first later =
+so_far_more connection moment a b c s t u x y z (batch_end.Fault fault) first later =
     (first.0 ++ later.0, has_after s t u first.0 later.0 (Some fault) first.1 later.1, answers_after connection moment a b c first.0 later.0 x y z first.2 later.2)
 
 -- all is answered where the stream wants more bytes
 pub answered_without_fault : (connection : ℕ) (moment : ℤ) (bytes : List ℕ) (old new : World) (stream first after : Stream) (before now : Option (List ℕ))
-    → first ≡ record { held = stream.held ++ bytes; ended = stream.ended } → IsBatch connection moment old new first after before now stop.Unfinished
+    → first ≡ record { held = stream.held ++ bytes; ended = stream.ended } → IsBatch connection moment old new first after before now batch_end.Unfinished
     → IsEntryAnswered connection moment bytes old new stream after before now
 unfolding IsBatch
 answered_without_fault connection moment bytes old new stream first after before now feeds is = (
@@ -157,7 +157,7 @@ answered_without_fault connection moment bytes old new stream first after before
 -- and where it has ended by a fault, once the reply to that is written
 pub answered_with_fault : (connection : ℕ) (moment : ℤ) (bytes : List ℕ) (old new : World) (stream first after : Stream) (before now last : Option (List ℕ))
     (fault : SessionFault) (reply : List ℕ)
-    → first ≡ record { held = stream.held ++ bytes; ended = stream.ended } → IsBatch connection moment old new first after before now (stop.Fault fault)
+    → first ≡ record { held = stream.held ++ bytes; ended = stream.ended } → IsBatch connection moment old new first after before now (batch_end.Fault fault)
     → reply ≡ error_reply (code_of_session_fault fault) → Appends now last (reply_entry connection reply)
     → IsEntryAnswered connection moment bytes old new stream after before last
 unfolding IsBatch

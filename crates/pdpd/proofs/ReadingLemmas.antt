@@ -12,7 +12,7 @@ use Rattle.pdpd.specs.declared.transcript.ReadFault.TheVariants.{Malformed, Fail
 use Rattle.pdpd.specs.declared.transcript_fault.TranscriptFault.{TranscriptFault}
 use Rattle.pdpd.specs.declared.transcript_fault.TranscriptFault.TheVariants.{NoLineFeed}
 use Rattle.pdpd.specs.Reading.{Adds, TakesBody, TakesByte, TakesBytes, TakesHeading}
-use Rattle.pdpd.specs.Transcript.{IsNoBody, IsNoEntry, Reads, Rejects, TakesEntry}
+use Rattle.pdpd.specs.Transcript.{IsNoBody, IsNoEntry, Rejects, TakesEntry, TakesOrRejects}
 
 -- ---- a piece of a list
 
@@ -82,8 +82,8 @@ body_wrong left mid rest count byte bytes taken here other =
     (bytes ++ byte ∷ [], consumes_trans left mid rest bytes (byte ∷ []) taken.0 here, (bytes, taken.1, inr (byte, other, refl)))
 
 -- a fault is passed on
-passed : {X Y : Type 0} (is : X → Type 0) (as_is : Y → Type 0) (wrongs others : TranscriptFault → Type 0) (f : ReadFault) → Reads is wrongs (Err f)
-    → ((wrong : TranscriptFault) → wrongs wrong → others wrong) → Reads as_is others (Err f)
+passed : {X Y : Type 0} (is : X → Type 0) (as_is : Y → Type 0) (wrongs others : TranscriptFault → Type 0) (f : ReadFault) → TakesOrRejects is wrongs (Err f)
+    → ((wrong : TranscriptFault) → wrongs wrong → others wrong) → TakesOrRejects as_is others (Err f)
 passed is as_is wrongs others (Malformed wrong) at on = on wrong at
 passed is as_is wrongs others Failed at on = tt
 passed is as_is wrongs others Memory at on = tt
@@ -94,8 +94,8 @@ entry_done left mid rest heading bytes (first, taken_first, is_heading) (second,
     (first ++ second, consumes_trans left mid rest first second taken_first taken_second, (first, second, is_heading, is_body, refl))
 
 pub entry_wrong : (left mid rest : Option (List ℕ)) (heading : Heading) (bytes others : List ℕ) (f : ReadFault) → TakesHeading left mid (Some heading)
-    → Reads {X = Unit {0}} (λ _. TakesBody mid rest heading.count bytes) (Rejects (IsNoBody heading.count) mid rest) (Err f)
-    → Reads (TakesEntry left rest others) (Rejects IsNoEntry left rest) (Err f)
+    → TakesOrRejects {X = Unit {0}} (λ _. TakesBody mid rest heading.count bytes) (Rejects (IsNoBody heading.count) mid rest) (Err f)
+    → TakesOrRejects (TakesEntry left rest others) (Rejects IsNoEntry left rest) (Err f)
 entry_wrong left mid rest heading bytes others f (first, taken_first, is_heading) wrong =
     passed {X = Unit {0}} (λ _. TakesBody mid rest heading.count bytes) (TakesEntry left rest others) (Rejects (IsNoBody heading.count) mid rest) (Rejects IsNoEntry left rest) f wrong
     (λ (w : TranscriptFault) (is : Rejects (IsNoBody heading.count) mid rest w).

@@ -19,7 +19,7 @@ use Rattle.pdpd.specs.Entry.{IsEntryAnswered, events_at, reply_entries}
 use Rattle.pdpd.specs.Exit.{exit_of_read}
 use Rattle.pdpd.specs.Replay.{AreEntries, AreReplied, Between, ConnectionTakes, Entry, Exchange, IsEntryReplied, IsReplayed, Replays, StreamTakes, followed, no_exchange}
 use Rattle.pdpd.specs.Replaying.{Writes}
-use Rattle.pdpd.specs.Transcript.{IsEntry, IsNoEntry, Reads, Rejects, TakesEntry}
+use Rattle.pdpd.specs.Transcript.{IsEntry, IsNoEntry, Rejects, TakesEntry, TakesOrRejects}
 
 -- ---- one entry
 
@@ -205,7 +205,7 @@ so_far_one_entry old mid new left between rest before written now number heading
 
 -- the next entry can't be read
 pub ends_badly : (old new : Between) (left between rest before now : Option (List ℕ)) (number : ℕ) (is : Option Heading → Type 0) (f : ReadFault)
-    → SoFar old new left between before now number → Reads is (Rejects IsNoEntry between rest) (Err f)
+    → SoFar old new left between before now number → TakesOrRejects is (Rejects IsNoEntry between rest) (Err f)
     → IsReplayed old new left rest before now (Err (exit_of_read number f))
 ends_badly old new left between rest before now number is (Malformed wrong) so_far (behind, taken, is_no) =
     let r = so_far.replays in

@@ -9,12 +9,12 @@ use Rattle.xa_server.specs.Served.{IsRun}
 use Rattle.xa_server.specs.World.{World}
 use Rattle.xa_server.proofs.ConnectionLemmas.{run_trans}
 use Rattle.xa_server.proofs.IsolationLemmas.{isolated}
-use Rattle.pdpd.specs.Connections.{AreIsolated, IsServed}
+use Rattle.pdpd.specs.Connections.{AreIsolated, IsConnectionServed}
 use Rattle.pdpd.specs.Fault.{fault_of_end}
 
 -- a connection was driven to an end after which the next is served
 pub served_one : (driven : Driven) (old new : World) (left rest before now : Option (List ℕ)) (told telling : Option (List ℤ))
-    → IsConnection driven old new left rest told telling before now → fault_of_end driven ≡ None → IsServed old new
+    → IsConnection driven old new left rest told telling before now → fault_of_end driven ≡ None → IsConnectionServed old new
 served_one driven old new left rest before now told telling (bytes, moments, written, after, read, tells, wrote, ended, is) goes_on = record {
   driven = driven;
   bytes = bytes;
@@ -36,7 +36,7 @@ served_none world = record {
 }
 
 -- one connection more
-pub served_more : (count : ℕ) (old mid new : World) → AreIsolated count old mid → IsServed mid new → AreIsolated (count + 1) old new
+pub served_more : (count : ℕ) (old mid new : World) → AreIsolated count old mid → IsConnectionServed mid new → AreIsolated (count + 1) old new
 served_more count old mid new before is =
     let events : List Event = before.events ++ is.is_driven.events in
     let replies : List Reply = before.replies ++ is.is_driven.run in

@@ -1,11 +1,15 @@
 -- The first line of a text.
-use Rattle.std.proofs.Common.{◌≡◌, ◌≢◌, ℕ, ◌+◌, ◌<◌, ◌≤◌, List, [], ◌∷◌, length, get_or, take, false, refl, sym, ap, subst, zero, suc, if◌then◌else◌, Bool, arith}
-use Rattle.std.specs.Prelude.{◌==◌}
-use Rattle.std.specs.List.{All}
+use Rattle.std.proofs.Common.{◌≡◌, ◌≢◌, ℕ, ◌+◌, ◌<◌, ◌≤◌, List, [], ◌∷◌, length, get_or, take, true, false, refl, sym, ap, subst, ◌∙◌, zero, suc, if◌then◌else◌, Bool, Option, None, Some, Ok, Err, IsTrue, arith}
+use Rattle.std.specs.Prelude.{◌==◌, ◌&&◌, nat_le, IfOk, IfSome, IsFalse, MatchResult, Result}
+use Rattle.std.specs.List.{All, list_all}
 use Rattle.std.proofs.lemmas.Bool.Decides.{nat_tests}
 use Rattle.std.proofs.lemmas.List.{take_all}
 use Rattle.std.proofs.lemmas.List.Elements.{All-more}
-use Rattle.pdpd.specs.Token.{first_line}
+use Rattle.sha2.specs.Sha256.{sha256}
+use Rattle.xa_notation.specs.Tokens.{is_token, is_visible}
+use Rattle.pdpd.specs.declared.fault.Fault.{Fault}
+use Rattle.pdpd.specs.declared.fault.Fault.TheVariants.{TokenBad}
+use Rattle.pdpd.specs.Token.{IsOperatorOf, first_line}
 
 -- none of them is a line feed
 abbrev pub NoFeed : List ℕ → Type 0
@@ -37,3 +41,44 @@ line_whole (byte ∷ bytes) none =
 
 pub line_none : (text : List ℕ) (i : ℕ) → length text ≤ i → NoFeed (take i text) → text ≡ first_line text
 line_none text i end none = line_whole text (rw (take_all i text end) at none)
+
+-- a first line that ends before the end of a front is that of the whole text: of one byte more
+first_of_more : (n byte : ℕ) (bytes : List ℕ) (test : Bool) → (byte == 10) ≡ test → length (first_line (byte ∷ take n bytes)) < suc n
+    → (length (first_line (take n bytes)) < n → first_line (take n bytes) ≡ first_line bytes) → first_line (byte ∷ take n bytes) ≡ first_line (byte ∷ bytes)
+first_of_more n byte bytes true feed within rest =
+    subst (λ (t : Bool). (if t then [] else byte ∷ first_line (take n bytes)) ≡ (if t then [] else byte ∷ first_line bytes)) (sym feed) refl
+first_of_more n byte bytes false other within rest =
+    let shorter : length (byte ∷ first_line (take n bytes)) < suc n
+    = subst (λ (t : Bool). length (if t then [] else byte ∷ first_line (take n bytes)) < suc n) other within in
+    subst (λ (t : Bool). (if t then [] else byte ∷ first_line (take n bytes)) ≡ (if t then [] else byte ∷ first_line bytes)) (sym other)
+    (ap (λ (line : List ℕ). byte ∷ line) (rest (omega (arith, shorter))))
+
+first_of_front : (n : ℕ) (text : List ℕ) → length (first_line (take n text)) < n → first_line (take n text) ≡ first_line text
+first_of_front zero text within = absurd (omega (arith, within))
+first_of_front (suc n) [] within = refl
+first_of_front (suc n) (byte ∷ bytes) within = first_of_more n byte bytes (byte == 10) refl within (first_of_front n bytes)
+
+middle : (a b c : Bool) → IsTrue (a && b && c) → b ≡ true
+middle a true c is = refl
+middle true false c is = cc
+middle false false c is = cc
+
+token_length : (line : List ℕ) → IsTrue (is_token line) → length line ≤ 64
+unfolding is_token
+token_length line is =
+    let fits : nat_le (length line) 64 ≡ true = middle (nat_le 8 (length line)) (nat_le (length line) 64) (list_all is_visible line) is in
+    grind (arith, nat_tests)
+
+-- the token of a front of a text is that of the text
+pub known_operator : (known : Option (List ℕ)) (bytes : List ℕ) (result : Result (List ℕ) Fault) → IfSome known (λ text. bytes ≡ take 128 text)
+    → MatchResult result (λ operator. (operator ≡ sha256 (first_line bytes)) × IsTrue (is_token (first_line bytes)))
+    (λ fault. (fault ≡ TokenBad) × IsFalse (is_token (first_line bytes)))
+    → IfOk result (λ operator. IfSome known (IsOperatorOf operator))
+known_operator None bytes (Ok operator) front is = tt
+known_operator (Some text) bytes (Ok operator) front is =
+    let line : List ℕ = first_line (take 128 text) in
+    let token : IsTrue (is_token line) = subst (λ (bs : List ℕ). IsTrue (is_token (first_line bs))) front is.1 in
+    let same : first_line bytes ≡ first_line text =
+    ap first_line front ∙ first_of_front 128 text (omega (arith, token_length line token)) in
+    (is.0 ∙ ap sha256 same, subst (λ (l : List ℕ). IsTrue (is_token l)) same is.1)
+known_operator known bytes (Err fault) front is = tt

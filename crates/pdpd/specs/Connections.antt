@@ -11,7 +11,7 @@ use Rattle.xa_server.specs.World.{World}
 use Rattle.pdpd.specs.Fault.{fault_of_end}
 
 -- one run of the server answered the messages at the front of a connection's bytes, and the connection ended so that the next is served
-pub record IsServed (old new : World) : Type 0 where
+pub record IsConnectionServed (old new : World) : Type 0 where
   pub driven : Driven
   pub bytes : List ℕ
   pub after : Stream
@@ -25,7 +25,7 @@ abbrev pub AreServed : ℕ → World → World → List Event → List Reply →
 AreServed zero old new events replies = (new ≡ old) × (events ≡ []) × (replies ≡ [])
 AreServed (suc count) old new events replies =
     (mid : World) × (before : List Event) × (told : List Reply) × AreServed count old mid before told
-    × (last : IsServed mid new) × (events ≡ before ++ last.is_driven.events) × (replies ≡ told ++ last.is_driven.run)
+    × (last : IsConnectionServed mid new) × (events ≡ before ++ last.is_driven.events) × (replies ≡ told ++ last.is_driven.run)
 
 -- the headline over so many connections: all of their events are one run of the server, and each domain's replies in it, whatever the connections
 -- on which its messages came, are those of its own machine, used by it alone

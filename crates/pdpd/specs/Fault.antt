@@ -1,5 +1,7 @@
 -- Why `pdpd serve` ends before its connections are served, and how the program ends then.
-use Rattle.std.specs.Prelude.{◌≡◌, ◌⊎◌, Option, Some, None}
+use Rattle.std.specs.Prelude.{◌≡◌, ◌⊎◌, Bool, true, false, Option, Some, None}
+use Rattle.std.specs.declared.io.ErrorKind.{ErrorKind}
+use Rattle.std.specs.declared.io.ErrorKind.TheVariants as kind
 use Rattle.xa_server.specs.declared.driven.Driven.{Driven}
 use Rattle.xa_server.specs.declared.driven.Driven.TheVariants as driven
 use Rattle.pdpd.specs.declared.exit.Exit.{Exit}
@@ -29,3 +31,14 @@ abbrev pub fault_of_end : Driven → Option Fault
 fault_of_end driven.NoClock = Some Clock
 fault_of_end driven.Memory = Some Memory
 fault_of_end _ = None
+
+-- whether the next connection may be taken after one that couldn't be: its peer or the network failed, not the listener
+abbrev pub is_passing : ErrorKind → Bool
+is_passing kind.ConnectionAborted = true
+is_passing kind.ConnectionReset = true
+is_passing kind.HostUnreachable = true
+is_passing kind.NetworkUnreachable = true
+is_passing kind.NetworkDown = true
+is_passing kind.TimedOut = true
+is_passing kind.Interrupted = true
+is_passing _ = false

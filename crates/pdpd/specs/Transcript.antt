@@ -50,11 +50,15 @@ IsNoEntry wrong text rest =
     IsNoHeading wrong text rest
     ⊎ ((heading : Heading) × (first : List ℕ) × (second : List ℕ) × IsHeading heading first × IsNoBody heading.count wrong second rest × (text ≡ first ++ second))
 
+-- how often a transcript is read from, in all; after that it ends as at a failed read
+abbrev pub most_reads : ℕ
+most_reads = 1_000_000_000
+
 -- what is read, or why the transcript is malformed; nothing where its reader failed, or memory did
-abbrev pub Reads : {X : Type 0} → (X → Type 0) → (TranscriptFault → Type 0) → Result X ReadFault → Type 0
-Reads is wrongs (Ok x) = is x
-Reads is wrongs (Err (Malformed wrong)) = wrongs wrong
-Reads is wrongs (Err _) = ⊤
+abbrev pub TakesOrRejects : {X : Type 0} → (X → Type 0) → (TranscriptFault → Type 0) → Result X ReadFault → Type 0
+TakesOrRejects is wrongs (Ok x) = is x
+TakesOrRejects is wrongs (Err (Malformed wrong)) = wrongs wrong
+TakesOrRejects is wrongs (Err _) = ⊤
 
 -- a text was taken that is not what is read; `left` is what is known to be left of the transcript before, and `rest` afterwards
 abbrev pub Rejects : (TranscriptFault → List ℕ → Option (List ℕ) → Type 0) → Option (List ℕ) → Option (List ℕ) → TranscriptFault → Type 0

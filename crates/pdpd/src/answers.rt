@@ -18,8 +18,8 @@ use xa_value::Moment;
 const BATCH_MESSAGES: usize = 64;
 
 /// Why no more messages of a stream are answered at once.
-#[derive(Clone, Copy, Debug)]
-pub(crate) enum Stop {
+#[derive(Clone, Copy)]
+pub(crate) enum BatchEnd {
     /// There are as many as are answered at once.
     Full,
     /// The stream holds no further whole message, or has ended with the last.
@@ -34,7 +34,7 @@ fn next_messages(
     alloc: Global,
     moment: Moment,
     session: &mut Session,
-) -> Result<(Vec<(Moment, Message)>, Stop), AllocError>
+) -> Result<(Vec<(Moment, Message)>, BatchEnd), AllocError>
     ensures moment { IfOk result (λ taken. taken.0.items ≡ events_at moment (map (λ event. event.1) taken.0.items)) }
     ensures messages { IfOk result (λ taken. HasTaken session.old (map (λ event. event.1) taken.0.items) taken.1 session.new) }
 {
@@ -42,12 +42,12 @@ fn next_messages(
     for _ in 0..BATCH_MESSAGES {
         match session.next()? {
             Next::Message(message) => events.push((moment, message))?,
-            Next::More => return Ok((events, Stop::Unfinished)),
-            Next::Ended => return Ok((events, Stop::Unfinished)),
-            Next::Fault(fault) => return Ok((events, Stop::Fault(fault))),
+            Next::More => return Ok((events, BatchEnd::Unfinished)),
+            Next::Ended => return Ok((events, BatchEnd::Unfinished)),
+            Next::Fault(fault) => return Ok((events, BatchEnd::Fault(fault))),
         }
     }
-    Ok((events, Stop::Full))
+    Ok((events, BatchEnd::Full))
 }
 
 /// Answers the next whole messages that a stream holds, and writes the replies.
@@ -59,16 +59,16 @@ fn answer_batch<R: Records, W: Write>(
     session: &mut Session,
     connection: usize,
     writer: &mut W,
-) -> Result<Stop, Exit>
-    ensures batch { IfOk result (λ stop. R.sound server.new.records →
-        IsBatch connection moment (world R.kept server.old) (world R.kept server.new) session.old session.new (W.contents writer.old) (W.contents writer.new) stop) }
-    ensures sound { R.sound server.new.records → R.sound server.old.records }
+) -> Result<BatchEnd, Exit>
+    ensures batch { IfOk result (λ reason. (R.custody server.new.records).sound →
+        IsBatch connection moment (world R.custody server.old) (world R.custody server.new) session.old session.new (W.contents writer.old) (W.contents writer.new) reason) }
+    ensures sound { (R.custody server.new.records).sound → (R.custody server.old.records).sound }
     ensures err { IfErr result (λ exit. IsTrue (breaks_off exit)) }
 {
-    let (events, stop) = next_messages(alloc, moment, session)?;
+    let (events, reason) = next_messages(alloc, moment, session)?;
     let replies = server.run(&events)?;
     write_replies(writer, connection, &replies)?;
-    Ok(stop)
+    Ok(reason)
 }
 
 /// Answers the bytes that a stream takes, and writes the replies, some messages at once: what is held doesn't grow with
@@ -83,18 +83,18 @@ pub fn answer<R: Records, W: Write>(
     connection: usize,
     writer: &mut W,
 ) -> Result<(), Exit>
-    ensures replies { IfOk result (λ _. R.sound server.new.records →
-        IsEntryAnswered connection moment bytes.now (world R.kept server.old) (world R.kept server.new) session.old session.new
+    ensures replies { IfOk result (λ _. (R.custody server.new.records).sound →
+        IsEntryAnswered connection moment bytes.now (world R.custody server.old) (world R.custody server.new) session.old session.new
         (W.contents writer.old) (W.contents writer.new)) }
-    ensures sound { R.sound server.new.records → R.sound server.old.records }
+    ensures sound { (R.custody server.new.records).sound → (R.custody server.old.records).sound }
     ensures err { IfErr result (λ exit. IsTrue (breaks_off exit)) }
 {
     session.feed(bytes)?;
     for _ in 0..u64::MAX {
         match answer_batch(alloc, server, moment, session, connection, writer)? {
-            Stop::Full => {}
-            Stop::Unfinished => return Ok(()),
-            Stop::Fault(fault) => {
+            BatchEnd::Full => {}
+            BatchEnd::Unfinished => return Ok(()),
+            BatchEnd::Fault(fault) => {
                 let reply = fault_reply(alloc, fault)?;
                 write_reply(writer, connection, reply.as_slice())?;
                 return Ok(());

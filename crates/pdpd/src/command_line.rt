@@ -12,7 +12,7 @@ const MAX_CONNECTIONS: usize = 1_000_000;
 const WORK: usize = 1_500_000_000;
 
 /// What `pdpd serve` is asked to do.
-#[derive(Debug, Drop)]
+#[derive(Drop)]
 pub struct Serving<'a> {
     /// The path of the store.
     pub database: TextRef<'a>,
@@ -25,7 +25,7 @@ pub struct Serving<'a> {
 }
 
 /// What the command line asks for.
-#[derive(Debug, Drop)]
+#[derive(Drop)]
 pub enum Command<'a> {
     /// How the program is called.
     Help,

@@ -10,7 +10,7 @@ use std::io::{self, ErrorKind};
 use std::process::ExitCode;
 
 /// How the program ends, which its exit status tells.
-#[derive(Clone, Copy, Debug, PartialEq, Eq)]
+#[derive(Clone, Copy)]
 pub enum Exit {
     /// All was answered.
     Done,

@@ -5,11 +5,11 @@ ghost use Rattle.pdpd.specs.Fault.{exit_of_fault};
 
 use crate::command_line::Serving;
 use crate::exit::Exit;
-use std::alloc::{AllocError, AllocFailed};
+use std::alloc::AllocFailed;
 use std::fmt;
 
 /// Why a store can't be opened.
-#[derive(Clone, Copy, Debug, PartialEq, Eq)]
+#[derive(Clone, Copy)]
 pub enum StoreFault {
     /// The file isn't there and can't be made, or can't be opened.
     Unopened,
@@ -47,7 +47,7 @@ impl StoreFault {
 }
 
 /// Why connections aren't served, or no more of them.
-#[derive(Clone, Copy, Debug, PartialEq, Eq)]
+#[derive(Clone, Copy)]
 pub enum Fault {
     /// The address is no IP address with a port.
     Address,
@@ -129,17 +129,6 @@ impl fmt::Display for FaultLine<'_> {
             Some(subject) => write!(f, "pdpd serve: {subject}: {advice}"),
             None => write!(f, "pdpd serve: {advice}"),
         }
-    }
-}
-
-impl From<AllocError> for Fault {
-    ghost use Rattle.std.specs.Prelude.{◌≡◌};
-    ghost use Rattle.pdpd.specs.declared.fault.Fault.TheVariants.{Memory};
-
-    ghost from_gives = { λ _ fault. fault ≡ Memory };
-
-    fn from(_: AllocError) -> Fault {
-        Fault::Memory
     }
 }
 

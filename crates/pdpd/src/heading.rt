@@ -13,7 +13,7 @@ pub const CONNECTIONS: usize = 64;
 pub const MAX_ENTRY_BYTES: usize = 1_048_576;
 
 /// What stands in the line before an entry.
-#[derive(Clone, Copy, Debug)]
+#[derive(Clone, Copy)]
 pub struct Heading {
     /// The connection, from 0 to 63.
     pub connection: usize,
@@ -24,7 +24,7 @@ pub struct Heading {
 }
 
 /// What is wrong with the line before an entry. Of several faults it is the first.
-#[derive(Clone, Copy, Debug, PartialEq, Eq, Error)]
+#[derive(Clone, Copy, Debug, Error)]
 pub enum HeadingFault {
     /// It hasn't three parts, with one space between two.
     #[error("the line before it hasn't three parts, with one space between")]

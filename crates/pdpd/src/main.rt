@@ -47,7 +47,7 @@ fn words(rt: &HostRuntime) -> Result<Vec<String>, Exit> {
 fn report(rt: &HostRuntime, exit: Exit) -> Exit
     ensures { result ≡ exit }
 {
-    if exit != Exit::Done {
+    if !matches!(exit, Exit::Done) {
         let _ = rt.eprintln(exit);
     }
     exit

@@ -57,10 +57,10 @@ impl<R: Records + Drop, W: Write + Drop> Replayer<R, W> {
 
     /// Hands the bytes of an entry to its connection, and writes the replies to them.
     fn entry(&mut self, heading: Heading, bytes: &[u8]) -> Result<(), Exit>
-        ensures replied { IfOk result (λ _. R.sound self.new.server.records →
+        ensures replied { IfOk result (λ _. (R.custody self.new.server.records).sound →
             Writes (writer_contents W.contents self.old.writer) (writer_contents W.contents self.new.writer)
-            (IsEntryReplied heading bytes.now (between R.kept self.old.server self.old.connections.items) (between R.kept self.new.server self.new.connections.items))) }
-        ensures sound { R.sound self.new.server.records → R.sound self.old.server.records }
+            (IsEntryReplied heading bytes.now (between R.custody self.old.server self.old.connections.items) (between R.custody self.new.server self.new.connections.items))) }
+        ensures sound { (R.custody self.new.server.records).sound → (R.custody self.old.server.records).sound }
         ensures err { IfErr result (λ exit. IsTrue (breaks_off exit)) }
     {
         let place = heading.connection;
@@ -91,11 +91,11 @@ impl<R: Records + Drop, W: Write + Drop> Replayer<R, W> {
         heading: Heading,
         bytes: &[u8],
     ) -> Result<Connection, Exit>
-        ensures taken { IfOk result (λ is. R.sound self.new.server.records →
+        ensures taken { IfOk result (λ is. (R.custody self.new.server.records).sound →
             Writes (writer_contents W.contents self.old.writer) (writer_contents W.contents self.new.writer)
-            (ConnectionTakes heading bytes.now was is (world R.kept self.old.server) (world R.kept self.new.server))) }
+            (ConnectionTakes heading bytes.now was is (world R.custody self.old.server) (world R.custody self.new.server))) }
         ensures others { self.new.connections ≡ self.old.connections }
-        ensures sound { R.sound self.new.server.records → R.sound self.old.server.records }
+        ensures sound { (R.custody self.new.server.records).sound → (R.custody self.old.server.records).sound }
         ensures err { IfErr result (λ exit. IsTrue (breaks_off exit)) }
     {
         if bytes.is_empty() {
@@ -116,11 +116,11 @@ impl<R: Records + Drop, W: Write + Drop> Replayer<R, W> {
         heading: Heading,
         bytes: &[u8],
     ) -> Result<Connection, Exit>
-        ensures taken { IfOk result (λ is. R.sound self.new.server.records →
+        ensures taken { IfOk result (λ is. (R.custody self.new.server.records).sound →
             Writes (writer_contents W.contents self.old.writer) (writer_contents W.contents self.new.writer)
-            (StreamTakes heading bytes.now session is (world R.kept self.old.server) (world R.kept self.new.server))) }
+            (StreamTakes heading bytes.now session is (world R.custody self.old.server) (world R.custody self.new.server))) }
         ensures others { self.new.connections ≡ self.old.connections }
-        ensures sound { R.sound self.new.server.records → R.sound self.old.server.records }
+        ensures sound { (R.custody self.new.server.records).sound → (R.custody self.old.server.records).sound }
         ensures err { IfErr result (λ exit. IsTrue (breaks_off exit)) }
     {
         let mut session = session;
@@ -146,11 +146,11 @@ fn answer_all<I: Read, R: Records + Drop, W: Write + Drop>(
     transcript: &mut Transcript<I>,
     replayer: &mut Replayer<R, W>,
 ) -> Result<(), Exit>
-    ensures replayed { R.sound replayer.new.server.records →
-        IsReplayed (between R.kept replayer.old.server replayer.old.connections.items) (between R.kept replayer.new.server replayer.new.connections.items)
+    ensures replayed { (R.custody replayer.new.server.records).sound →
+        IsReplayed (between R.custody replayer.old.server replayer.old.connections.items) (between R.custody replayer.new.server replayer.new.connections.items)
         (remaining_of I.remaining transcript.old) (remaining_of I.remaining transcript.new)
         (writer_contents W.contents replayer.old.writer) (writer_contents W.contents replayer.new.writer) result }
-    ensures sound { R.sound replayer.new.server.records → R.sound replayer.old.server.records }
+    ensures sound { (R.custody replayer.new.server.records).sound → (R.custody replayer.old.server.records).sound }
     ensures err { IfErr result (λ exit. exit ≢ Usage) }
 {
     let mut bytes = Vec::new(replayer.alloc);

@@ -2,10 +2,10 @@
 ghost use Rattle.std.specs.Prelude.{◌≡◌, IfErr, IfOk, MatchResult, Some, None};
 ghost use Rattle.std.specs.Net.Grammar.{IsSocketText, Parses};
 ghost use Rattle.xa_server.specs.World.{world};
-ghost use Rattle.pdpd.specs.Connections.{AreIsolated, IsServed};
+ghost use Rattle.pdpd.specs.Connections.{AreIsolated, IsConnectionServed};
 ghost use Rattle.pdpd.specs.declared.exit.Exit.TheVariants.{Socket, Usage};
 ghost use Rattle.pdpd.specs.declared.fault.Fault.TheVariants.{Address, Connection};
-ghost use Rattle.pdpd.specs.Fault.{EndsBy, fault_of_end};
+ghost use Rattle.pdpd.specs.Fault.{EndsBy, fault_of_end, is_passing};
 
 use crate::command_line::{Serving, work_of};
 use crate::fault::Fault;
@@ -23,7 +23,9 @@ use xa_server::{Clock, Driven, Server, drive};
 const MAX_FAILURES: u32 = 1_000;
 
 /// Whether the next connection may be taken after that failure: it was the peer's or the network's, not the listener's.
-fn is_passing(kind: ErrorKind) -> bool {
+fn is_passing(kind: ErrorKind) -> bool
+    ensures { result ≡ is_passing kind }
+{
     matches!(
         kind,
         ErrorKind::ConnectionAborted
@@ -69,8 +71,8 @@ fn serve_connection<R: Records, C: Clock>(
     stream: &TcpStream,
     clock: &mut C,
 ) -> Result<(), Fault>
-    ensures served { IfOk result (λ _. R.sound server.new.records → IsServed (world R.kept server.old) (world R.kept server.new)) }
-    ensures sound { R.sound server.new.records → R.sound server.old.records }
+    ensures served { IfOk result (λ _. (R.custody server.new.records).sound → IsConnectionServed (world R.custody server.old) (world R.custody server.new)) }
+    ensures sound { (R.custody server.new.records).sound → (R.custody server.old.records).sound }
     ensures err { IfErr result (EndsBy Socket) }
 {
     // A reply that waits for the peer's acknowledgement comes later, and is no other.
@@ -87,8 +89,8 @@ fn serve_connections<R: Records, C: Clock>(
     clock: &mut C,
     connections: usize,
 ) -> Result<(), Fault>
-    ensures served { IfOk result (λ _. R.sound server.new.records → AreIsolated connections (world R.kept server.old) (world R.kept server.new)) }
-    ensures sound { R.sound server.new.records → R.sound server.old.records }
+    ensures served { IfOk result (λ _. (R.custody server.new.records).sound → AreIsolated connections (world R.custody server.old) (world R.custody server.new)) }
+    ensures sound { (R.custody server.new.records).sound → (R.custody server.old.records).sound }
     ensures err { IfErr result (EndsBy Socket) }
 {
     for _ in 0..connections {
@@ -115,8 +117,8 @@ fn serve_at<R: Records>(
     address: SocketAddr,
     serving: &Serving<'_>,
 ) -> Result<(), Fault>
-    ensures served { IfOk result (λ _. R.sound server.new.records → AreIsolated serving.now.connections (world R.kept server.old) (world R.kept server.new)) }
-    ensures sound { R.sound server.new.records → R.sound server.old.records }
+    ensures served { IfOk result (λ _. (R.custody server.new.records).sound → AreIsolated serving.now.connections (world R.custody server.old) (world R.custody server.new)) }
+    ensures sound { (R.custody server.new.records).sound → (R.custody server.old.records).sound }
 {
     let Ok(listener) = TcpListener::bind(rt, address) else {
         return Err(Fault::Socket);

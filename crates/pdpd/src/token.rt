@@ -1,13 +1,14 @@
 //! The operator's token in a file.
-ghost use Rattle.std.specs.Prelude.{◌≡◌, IfErr, IfOk, IsFalse, IsTrue, MatchResult};
+ghost use Rattle.std.specs.Prelude.{◌≡◌, IfErr, IfOk, IfSome, IsFalse, IsTrue, MatchResult, take};
 ghost use Rattle.sha2.specs.Sha256.{sha256};
 ghost use Rattle.xa_notation.specs.Tokens.{is_token};
 ghost use Rattle.pdpd.specs.declared.exit.Exit.TheVariants.{Usage};
 ghost use Rattle.pdpd.specs.declared.fault.Fault.TheVariants.{TokenBad};
 ghost use Rattle.pdpd.specs.Fault.{EndsBy};
-ghost use Rattle.pdpd.specs.Token.{IsOperator, first_line};
+ghost use Rattle.pdpd.specs.Token.{IsOperator, IsOperatorOf, first_line};
 
 use crate::fault::Fault;
+use std::alloc::Global;
 use std::fs::{File, Files};
 use std::io::{self, ErrorKind, Read};
 use xa_notation::is_token;
@@ -42,13 +43,35 @@ fn operator_in(text: &[u8]) -> Result<Digest, Fault>
     }
 }
 
-/// The beginning of the file.
-fn beginning_of(rt: &(impl Files + AllocGlobal), path: &str) -> io::Result<Vec<u8>> {
-    let mut bytes = Vec::new(rt.alloc());
-    File::open(rt, path)?
-        .take(MAX_BYTES)
-        .read_to_end(&mut bytes)?;
+/// The beginning of what a reader gives.
+fn beginning_of<R: Read + Drop>(alloc: Global, reader: R) -> io::Result<Vec<u8>>
+    ensures { IfOk result (λ bytes. IfSome (R.remaining reader) (λ text. bytes.items ≡ take 128 text)) }
+{
+    let mut bytes = Vec::new(alloc);
+    reader.take(MAX_BYTES).read_to_end(&mut bytes)?;
     Ok(bytes)
+}
+
+/// Why there is no token: the file can't be read.
+fn fault_of_reading(error: io::Error) -> Fault
+    ensures { EndsBy Usage result }
+{
+    match error.kind() {
+        ErrorKind::OutOfMemory => Fault::Memory,
+        _ => Fault::TokenUnread,
+    }
+}
+
+/// The digest of the operator's token, which is the first line of what a reader gives.
+fn operator_of<R: Read + Drop>(alloc: Global, reader: R) -> Result<Digest, Fault>
+    ensures known { IfOk result (λ operator. IfSome (R.remaining reader) (IsOperatorOf operator)) }
+    ensures operator { IfOk result IsOperator }
+    ensures err { IfErr result (EndsBy Usage) }
+{
+    match beginning_of(alloc, reader) {
+        Ok(bytes) => operator_in(&bytes),
+        Err(error) => Err(fault_of_reading(error)),
+    }
 }
 
 /// The digest of the operator's token, which is the first line of the file.
@@ -56,9 +79,8 @@ pub fn operator_of_file(rt: &(impl Files + AllocGlobal), path: &str) -> Result<D
     ensures operator { IfOk result IsOperator }
     ensures err { IfErr result (EndsBy Usage) }
 {
-    match beginning_of(rt, path) {
-        Ok(bytes) => operator_in(&bytes),
-        Err(error) if error.kind() == ErrorKind::OutOfMemory => Err(Fault::Memory),
-        Err(_) => Err(Fault::TokenUnread),
+    match File::open(rt, path) {
+        Ok(file) => operator_of(rt.alloc(), file),
+        Err(error) => Err(fault_of_reading(error)),
     }
 }

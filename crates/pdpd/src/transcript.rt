@@ -1,10 +1,11 @@
 //! Transcripts: entries of a line `CONNECTION MOMENT COUNT`, as many bytes as it counts, and a line feed.
-ghost use Rattle.std.specs.Prelude.{◌≡◌, ◌≢◌, [], IfErr, IfOk, OnOk};
+ghost use Rattle.std.specs.Prelude.{◌≡◌, ◌≢◌, ◌≤◌, ◌<◌, [], Err, IfErr, IfOk, OnOk};
 ghost use Rattle.std.specs.Io.KnownBytes.{IsAtEnd, Keeps};
 ghost use Rattle.pdpd.specs.declared.exit.Exit.TheVariants.{Usage};
+ghost use Rattle.pdpd.specs.declared.transcript.ReadFault.TheVariants.{Failed};
 ghost use Rattle.pdpd.specs.Exit.{exit_of_read};
 ghost use Rattle.pdpd.specs.Reading.{Adds, IsOfReader, TakesBody, TakesByte, TakesBytes, TakesHeading, TakesLine, remaining_of};
-ghost use Rattle.pdpd.specs.Transcript.{IsNoBody, IsNoEntry, IsNoHeading, Reads, Rejects, TakesEntry};
+ghost use Rattle.pdpd.specs.Transcript.{IsNoBody, IsNoEntry, IsNoHeading, Rejects, TakesEntry, TakesOrRejects, most_reads};
 
 use crate::exit::Exit;
 use crate::heading::{Heading, heading_of};
@@ -16,11 +17,11 @@ use std::io::{self, ErrorKind, Read};
 /// The most bytes of an entry's line, without its line feed.
 const MAX_LINE_BYTES: usize = 64;
 
-/// How often in a row a read may be interrupted before that counts as a failed read.
-const MAX_INTERRUPTIONS: u32 = 1_000_000_000;
+/// How often a transcript is read from, in all: some minutes of single bytes or of interrupted reads. One read more counts as a failed read.
+const MAX_READS: u64 = 1_000_000_000;
 
 /// Why no further entry is read.
-#[derive(Clone, Copy, Debug, PartialEq, Eq)]
+#[derive(Clone, Copy)]
 pub enum ReadFault {
     /// The next entry is malformed or cut.
     Malformed(TranscriptFault),
@@ -49,6 +50,8 @@ impl ReadFault {
 pub struct Transcript<R> {
     reader: R,
     piece: Piece,
+    /// How often it may still be read from.
+    reads_left: u64,
 }
 
 impl<R: Read> Transcript<R> {
@@ -56,24 +59,30 @@ impl<R: Read> Transcript<R> {
     pub fn new(alloc: Global, reader: R) -> Result<Transcript<R>, AllocError>
     where
         R: Drop,
-        ensures { IfOk result (λ transcript. remaining_of R.remaining transcript ≡ R.remaining reader) }
+        ensures remaining { IfOk result (λ transcript. remaining_of R.remaining transcript ≡ R.remaining reader) }
+        ensures reads { IfOk result (λ transcript. transcript.reads_left ≡ most_reads) }
     {
         Ok(Transcript {
             piece: Piece::new(alloc)?,
             reader,
+            reads_left: MAX_READS,
         })
     }
 
-    /// Reads on, where all that was read is taken. Afterwards the piece is empty only at the transcript's end.
+    /// Reads on, where all that was read is taken. Afterwards the piece is empty only at the transcript's end. Each read is counted, also one that is interrupted.
     fn read_on(&mut self) -> Result<(), ReadFault>
         ensures keeps { OnOk result (Keeps (remaining_of R.remaining self.old) (remaining_of R.remaining self.new)) }
         ensures end { OnOk result (self.new.piece ≡ [] → IsAtEnd (remaining_of R.remaining self.new)) }
+        ensures fewer { self.new.reads_left ≤ self.old.reads_left }
+        ensures counted { OnOk result (self.old.piece ≡ [] → self.new.reads_left < self.old.reads_left) }
+        ensures spent { self.old.piece ≡ [] → self.old.reads_left ≡ 0 → result ≡ Err Failed }
         ensures err { IfErr result IsOfReader }
     {
         if !self.piece.is_empty() {
             return Ok(());
         }
-        for _ in 0..MAX_INTERRUPTIONS {
+        while self.reads_left > 0 {
+            self.reads_left -= 1;
             match self.piece.fill(&mut self.reader) {
                 Ok(()) => return Ok(()),
                 Err(error) if error.kind() == ErrorKind::Interrupted => {}
@@ -106,7 +115,7 @@ impl<R: Read> Transcript<R> {
     /// The line before the next entry, in place of what `line` holds. Whether there is one.
     fn line(&mut self, line: &mut Vec<u8>) -> Result<bool, ReadFault>
         ensures { let left = remaining_of R.remaining self.old in let rest = remaining_of R.remaining self.new in
-            Reads (TakesLine left rest line.new.items) (Rejects IsNoHeading left rest) result }
+            TakesOrRejects (TakesLine left rest line.new.items) (Rejects IsNoHeading left rest) result }
     {
         line.clear();
         for _ in 0..MAX_LINE_BYTES + 1 {
@@ -123,7 +132,7 @@ impl<R: Read> Transcript<R> {
     /// The heading of the next entry, if there is one. Its line takes the place of what `line` holds.
     fn heading(&mut self, line: &mut Vec<u8>) -> Result<Option<Heading>, ReadFault>
         ensures { let left = remaining_of R.remaining self.old in let rest = remaining_of R.remaining self.new in
-            Reads (TakesHeading left rest) (Rejects IsNoHeading left rest) result }
+            TakesOrRejects (TakesHeading left rest) (Rejects IsNoHeading left rest) result }
     {
         if !self.line(line)? {
             return Ok(None);
@@ -137,7 +146,7 @@ impl<R: Read> Transcript<R> {
     /// That many bytes, in place of what `bytes` holds.
     fn take(&mut self, count: usize, bytes: &mut Vec<u8>) -> Result<(), ReadFault>
         ensures { let left = remaining_of R.remaining self.old in let rest = remaining_of R.remaining self.new in
-            Reads (λ _. TakesBytes left rest count bytes.new.items) (Rejects (IsNoBody count) left rest) result }
+            TakesOrRejects (λ _. TakesBytes left rest count bytes.new.items) (Rejects (IsNoBody count) left rest) result }
     {
         bytes.clear();
         while bytes.len() < count {
@@ -151,7 +160,7 @@ impl<R: Read> Transcript<R> {
     /// The bytes of an entry, in place of what `bytes` holds, and the line feed after them.
     fn body(&mut self, count: usize, bytes: &mut Vec<u8>) -> Result<(), ReadFault>
         ensures { let left = remaining_of R.remaining self.old in let rest = remaining_of R.remaining self.new in
-            Reads (λ _. TakesBody left rest count bytes.new.items) (Rejects (IsNoBody count) left rest) result }
+            TakesOrRejects (λ _. TakesBody left rest count bytes.new.items) (Rejects (IsNoBody count) left rest) result }
     {
         self.take(count, bytes)?;
         match self.next_byte()? {
@@ -164,7 +173,7 @@ impl<R: Read> Transcript<R> {
     /// The heading of the next entry, if there is one, and its bytes in place of what `bytes` holds.
     pub fn entry(&mut self, bytes: &mut Vec<u8>) -> Result<Option<Heading>, ReadFault>
         ensures { let left = remaining_of R.remaining self.old in let rest = remaining_of R.remaining self.new in
-            Reads (TakesEntry left rest bytes.new.items) (Rejects IsNoEntry left rest) result }
+            TakesOrRejects (TakesEntry left rest bytes.new.items) (Rejects IsNoEntry left rest) result }
     {
         let Some(heading) = self.heading(bytes)? else {
             return Ok(None);

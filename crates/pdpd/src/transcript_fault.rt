@@ -4,7 +4,7 @@ use crate::heading::HeadingFault;
 use thiserror::Error;
 
 /// What is wrong with an entry.
-#[derive(Clone, Copy, Debug, PartialEq, Eq, Error)]
+#[derive(Clone, Copy, Debug, Error)]
 pub enum TranscriptFault {
     /// The line before it is too long.
     #[error("the line before it has more than 64 bytes")]

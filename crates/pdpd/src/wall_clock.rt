@@ -6,7 +6,7 @@ use xa_server::Clock;
 use xa_value::Moment;
 
 /// The machine's clock, which tells seconds since 1970.
-#[derive(Clone, Copy, Drop)]
+#[derive(Drop)]
 pub struct WallClock {
     rt: HostRuntime,
 }

@@ -1,5 +1,5 @@
 -- One domain that has changed, and the map in which it has.
-use Rattle.std.proofs.Common.{◌≡◌, ◌+◌, ℕ, List, Bool, true, false, refl, sym, ap, ◌∙◌, subst, inl, inr, cond}
+use Rattle.std.proofs.Common.{◌≡◌, ◌+◌, ℕ, List, Bool, true, false, refl, sym, ap, ◌∙◌, subst, inl, inr, cond, arith}
 use Rattle.std.specs.Prelude.{Option, Some, None, Result, Ok, Err, ◌||◌, nat_lt, nat_le, bytes_eq, length}
 use Rattle.std.specs.FinMap.{FinMap, contains_key, from_entries, get, insert, len, remove}
 use Rattle.std.specs.BTreeMap as tree
@@ -14,14 +14,16 @@ use Rattle.xa_policy.specs.declared.reference.Reference.{Reference}
 use Rattle.xa_policy.specs.DocumentKey.{compare_keys}
 use Rattle.xa_records.specs.declared.refusal.ChangeError.{ChangeError}
 use Rattle.xa_records.specs.declared.refusal.ChangeError.TheVariants.{Failed, Refused}
+use Rattle.xa_records.specs.declared.refusal.Failure.{Failure}
+use Rattle.xa_records.specs.declared.refusal.Failure.TheVariants.{Memory, Store}
 use Rattle.xa_records.specs.declared.refusal.Refusal.{Refusal}
 use Rattle.xa_records.specs.declared.refusal.Refusal.TheVariants.{Absent, Exists, SameVersionOtherText, StillActive}
 use Rattle.xa_records.specs.declared.upload.Upload.TheVariants.{Same}
 use Rattle.xa_records.specs.Changes.{activity_set, created, deleted, or_absent, removed, root_set, source_set, token_dropped, token_put, uploaded, uploaded_over, with_document, with_documents, with_tokens, within}
 use Rattle.xa_records.specs.DomainState.{compare_bytes, DomainState, new_domain, StoredDocument}
 use Rattle.xa_records.specs.Keeper.{Changes}
-use Rattle.xa_records.specs.Kept.{Becomes, DecidesAlike, Domain, IsNextNumber, IsRaised, Kept, state_of}
-use Rattle.xa_records.specs.Plain.{activity_at, active_at, Alters, upload_again, with_activity}
+use Rattle.xa_records.specs.Kept.{Becomes, CantRaise, DecidesAlike, Domain, HasNoneLeft, IsGreatest, IsNextNumber, IsRaised, Kept, state_of}
+use Rattle.xa_records.specs.Plain.{activity_at, active_at, Alters, CantRaiseEpoch, RaisesTo, upload_again, with_activity}
 use Rattle.xa_records.proofs.FinMapLemmas.{get_put, get_put_elsewhere, get_taken, get_taken_elsewhere, put_again}
 use Rattle.xa_records.proofs.OrderLemmas.{bytes_exact, bytes_total, keys_exact, keys_total}
 
@@ -44,6 +46,23 @@ rises change old epoch state x next made differs = (state, made, (epoch, inr (di
 pub same : {X : Type 0} (change : DomainChange) (old : Domain) (state : DomainState) (x : X) → change old.state ≡ Ok state → old.state ≡ state → Alters change old old (Ok x)
 same change old state x made e = subst (λ (s : DomainState). Alters change old (record { number = old.number; epoch = old.epoch; state = s }) (Ok x)) (sym e)
     (stays change old state x made (record { documents = ap (λ s. s.documents) e; root = ap (λ s. s.root) e; source = ap (λ s. s.source) e }))
+
+-- a change of something that decides, by what it makes of a domain of epoch 0, can't be made where the epoch is the greatest
+pub cant_rise : {X : Type 0} (change : DomainChange) (number epoch : ℕ) (state after : DomainState) (x : X)
+    → Alters change (record { number = number; epoch = 0; state = state }) (record { number = number; epoch = 1; state = after }) (Ok x) → IsGreatest epoch
+    → CantRaiseEpoch change (record { number = number; epoch = epoch; state = state })
+cant_rise change number epoch state after x (next, made, (risen, inl (alike, stayed), is)) greatest =
+    let one : 1 ≡ risen = ap (λ (d : Domain). d.epoch) is in absurd (omega arith)
+cant_rise change number epoch state after x (next, made, (risen, inr (differs, up), is)) greatest = (next, made, differs, greatest)
+
+-- the first of epochs
+pub first_epoch : IsRaised 0 1
+first_epoch = (refl, omega arith)
+
+-- there is no number after this one
+pub none_after : (number : ℕ) (failure : Failure) → RaisesTo number (Err failure) → IsGreatest number
+none_after number Store is = is
+none_after number Memory is = absurd is
 
 ok_bool : {a b : Bool} → ◌≡◌ {A = Result Bool Refusal} (Ok a) (Ok b) → a ≡ b
 ok_bool e = cc
@@ -171,6 +190,15 @@ there_is m name found e = sym (e ∙ map.found bytes_total m name)
 pub state_is : (m : BTreeMap (List ℕ) Domain) (next : ℕ) (name : List ℕ) (found : Option Domain) → found ≡ tree.get_by (compare_bytes name) m → state_of name (kept_of m next) ≡ option_map (λ d. d.state) found
 state_is m next name found e = ap (option_map (λ d. d.state)) (there_is m name found e)
 
+-- a change of the domain that can't be made there can't be made in the map
+pub cant_alter : (change : DomainChange) (name : List ℕ) (m : BTreeMap (List ℕ) Domain) (next : ℕ) (old : Domain) → Some old ≡ tree.get_by (compare_bytes name) m
+    → CantRaiseEpoch change old → CantRaise (within change) name (kept_of m next)
+cant_alter change name m next old there (state, made, differs, greatest) = (
+  Some state,
+  ap (within change) (state_is m next name (Some old) there) ∙ ap (λ (s : Result DomainState Refusal). s >>= (λ after. Ok (Some after))) made,
+  subst (λ (o : Option Domain). HasNoneLeft next o (Some state)) (sym (there_is m name (Some old) there)) (differs, greatest),
+)
+
 module _ (change : DomainChange) (name : List ℕ) (m n : BTreeMap (List ℕ) Domain) (next : ℕ) where
   pub absent_refused : (X : Type 0) → None ≡ tree.get_by (compare_bytes name) m → n ≡ m → Changes {X = X} (kept_of m next) (kept_of n next) (Err (Refused Absent)) name (within change)
   absent_refused X none e = (ap (within change) (state_is m next name None none), ap (λ (k : BTreeMap (List ℕ) Domain). kept_of k next) e)
@@ -226,6 +254,14 @@ is_created m n next after name key domain x absent here made updates up =
         others = λ other away. ap (λ k. get k other) put ∙ get_put_elsewhere bytes_total bytes_exact (from_entries m.entries) name fresh other away;
         next = subst (λ (o : Option Domain). IsNextNumber next o (Some new_domain) after) (sym at) up;
       },
+    )
+
+pub cant_create : (m : BTreeMap (List ℕ) Domain) (next : ℕ) (name : List ℕ) → is_some (tree.get_by (compare_bytes name) m) ≡ false → IsGreatest next → CantRaise created name (kept_of m next)
+cant_create m next name absent greatest =
+    let none = none_of _ absent in (
+      Some new_domain,
+      ap created (state_is m next name None none),
+      subst (λ (o : Option Domain). HasNoneLeft next o (Some new_domain)) (sym (there_is m name None none)) greatest,
     )
 
 pub is_removed : {X : Type 0} (m n : BTreeMap (List ℕ) Domain) (next : ℕ) (name : List ℕ) (domain : Domain) (x : X) → Some domain ≡ tree.get_by (compare_bytes name) m

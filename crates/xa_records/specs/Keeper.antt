@@ -1,5 +1,5 @@
 -- What a call of a keeper did.
-use Rattle.std.specs.Prelude.{◌≡◌, ◌+◌, ◌^◌, ◌⊎◌, ℕ, List, Result, Ok, Err}
+use Rattle.std.specs.Prelude.{◌≡◌, ◌+◌, ◌^◌, ◌⊎◌, ℕ, List, Result, Ok, Err, OnOk}
 use Rattle.xa_records.specs.declared.refusal.ChangeError.{ChangeError}
 use Rattle.xa_records.specs.declared.refusal.ChangeError.TheVariants.{Failed, Refused}
 use Rattle.xa_records.specs.declared.refusal.Failure.{Failure}
@@ -44,3 +44,38 @@ CountsChange old new (Ok x) = new ≡ old
 CountsChange old new (Err (Refused e)) = new ≡ old
 CountsChange old new (Err (Failed Memory)) = new ≡ old
 CountsChange old new (Err (Failed Store)) = IsOneMore old new
+
+-- what is told of a keeper
+pub record Custody : Type 1 where
+  -- the domains that it keeps
+  pub kept : Kept
+  -- whether that is what it holds: in memory always, in tables while its store is open and nobody else writes there
+  pub sound : Type 0
+  -- whether the disk has given back what was written
+  pub clean : Type 0
+  -- what a crash now may leave
+  pub may_leave : Kept → Type 0
+  -- how many calls have failed for want of storage
+  pub faults : ℕ
+
+-- a call reads what is there
+pub record Reading {X : Type 0} (old new : Custody) (result : Result X Failure) (there : X) : Type 0 where
+  pub reads : new.sound → Reads old.kept new.kept result there
+  pub sound : new.sound → old.sound
+  pub clean : new.clean → old.clean
+  pub stays : new.clean → old.sound → OnOk result new.sound
+  pub leaves : new.clean → old.sound → (left : Kept) → new.may_leave left → old.may_leave left
+  pub faults : CountsReading old.faults new.faults result
+
+-- a call makes a change of the domain of that name
+pub record Changing {X : Type 0} (old new : Custody) (result : Result X ChangeError) (name : List ℕ) (change : Change) : Type 0 where
+  pub does : new.sound → Changes old.kept new.kept result name change
+  pub sound : new.sound → old.sound
+  pub clean : new.clean → old.clean
+  pub stays : new.clean → old.sound → IfAnswered result new.sound
+  pub leaves : new.clean → old.sound → Leaves old.may_leave new.may_leave old.kept name change
+  pub faults : CountsChange old.faults new.faults result
+
+-- the keeper in memory: always sound, and a crash leaves nothing
+abbrev pub in_memory : Kept → ℕ → Custody
+in_memory kept faults = record { kept = kept; sound = Unit {0}; clean = Unit {0}; may_leave = λ _. ⊥; faults = faults }

@@ -1,5 +1,5 @@
 -- What is kept of all domains, and how one of them changes in it.
-use Rattle.std.specs.Prelude.{◌≡◌, ◌≢◌, ◌<◌, ◌+◌, ◌^◌, ◌⊎◌, ℕ, List, Option, Some, None, option_map, Ok}
+use Rattle.std.specs.Prelude.{◌≡◌, ◌≢◌, ◌<◌, ◌≤◌, ◌+◌, ◌^◌, ◌⊎◌, ℕ, List, Option, Some, None, option_map, Ok}
 use Rattle.std.specs.FinMap.{FinMap, empty, get, keys}
 use Rattle.xa_records.specs.Changes.{Change}
 use Rattle.xa_records.specs.DomainState.{DomainState, compare_bytes}
@@ -72,3 +72,19 @@ pub record IsChanged (old new : Kept) (name : List ℕ) (state : Option DomainSt
 -- the change was made of the domain of that name
 abbrev pub IsMade : Change → List ℕ → Kept → Kept → Type 0
 IsMade change name old new = (state : Option DomainState) × (change (state_of name old) ≡ Ok state) × IsChanged old new name state
+
+-- ---- no number is left
+
+-- one more would be past 2^63 - 1
+abbrev pub IsGreatest : ℕ → Type 0
+IsGreatest number = 2 ^ 63 ≤ number + 1
+
+-- in order to go over into that state the domain would have to raise what is at its greatest: the next number where it is made, its epoch where it decides otherwise
+abbrev pub HasNoneLeft : ℕ → Option Domain → Option DomainState → Type 0
+HasNoneLeft next old None = ⊥
+HasNoneLeft next None (Some state) = IsGreatest next
+HasNoneLeft next (Some domain) (Some state) = (¬ DecidesAlike domain.state state) × IsGreatest domain.epoch
+
+-- the change is not refused, and would have to raise what is at its greatest
+abbrev pub CantRaise : Change → List ℕ → Kept → Type 0
+CantRaise change name old = (state : Option DomainState) × (change (state_of name old) ≡ Ok state) × HasNoneLeft old.next (get old.domains name) state

@@ -1,5 +1,5 @@
 -- What the contracts of the keeper in memory cite beside the trait's.
-use Rattle.std.specs.Prelude.{◌≡◌, ◌≤◌, ◌+◌, ◌^◌, ℕ, Bool, List, bytes_eq, if◌then◌else◌, map, filter, Option, Some, None, Result, Ok, Err}
+use Rattle.std.specs.Prelude.{◌≡◌, ℕ, Bool, List, bytes_eq, if◌then◌else◌, map, filter, Option, Some, None, Result, Ok, Err}
 use Rattle.std.specs.FinMap.{FinMap, get, insert}
 use Rattle.xa_policy.specs.declared.document_key.DocumentKey.{DocumentKey}
 use Rattle.xa_policy.specs.DocumentKey.{compare_keys}
@@ -14,12 +14,12 @@ use Rattle.xa_records.specs.declared.upload.Upload.TheVariants.{Same}
 use Rattle.xa_value.specs.Gives.{◌>>=◌}
 use Rattle.xa_records.specs.Changes.{or_absent}
 use Rattle.xa_records.specs.DomainState.{DomainState, StoredDocument}
-use Rattle.xa_records.specs.Kept.{Domain, IsNextEpoch, IsRaised, Kept}
+use Rattle.xa_records.specs.Kept.{DecidesAlike, Domain, IsGreatest, IsNextEpoch, IsRaised}
 
 -- one more, up to the greatest number
 abbrev pub RaisesTo : ℕ → Result ℕ Failure → Type 0
 RaisesTo number (Ok next) = IsRaised number next
-RaisesTo number (Err Store) = 2 ^ 63 ≤ number + 1
+RaisesTo number (Err Store) = IsGreatest number
 RaisesTo number (Err Memory) = ⊥
 
 -- the documents where that one is active or not
@@ -52,6 +52,6 @@ Alters change old new (Ok x) = (state : DomainState) × (change old.state ≡ Ok
 Alters change old new (Err (Refused e)) = (change old.state ≡ Err e) × (new ≡ old)
 Alters change old new (Err (Failed failure)) = new ≡ old
 
--- the domain of that name is there, and its epoch is the greatest
-abbrev pub HasNoEpochLeft : List ℕ → Kept → Type 0
-HasNoEpochLeft name kept = (domain : Domain) × (get kept.domains name ≡ Some domain) × (2 ^ 63 ≤ domain.epoch + 1)
+-- the change of one domain is not refused, and would have to raise its epoch, which is the greatest
+abbrev pub CantRaiseEpoch : (DomainState → Result DomainState Refusal) → Domain → Type 0
+CantRaiseEpoch change old = (state : DomainState) × (change old.state ≡ Ok state) × (¬ DecidesAlike old.state state) × IsGreatest old.epoch

@@ -1,7 +1,7 @@
 -- A decision that is held, and one that is worked out, as the machine tells it.
 use Rattle.std.proofs.Common.{◌≡◌, ℕ, ℤ, List, refl, sym, ap, ◌∙◌, subst, cond, true, false}
 use Rattle.std.specs.Option.{ok_or}
-use Rattle.std.specs.Prelude.{Bool, nat_le, length, Option, Some, None, option_map, Result, Ok, Err, IfSome}
+use Rattle.std.specs.Prelude.{Bool, ◌&&◌, nat_le, length, Option, Some, None, option_map, Result, Ok, Err, IfSome}
 use Rattle.std.specs.FinMap.{get}
 use Rattle.xa_value.specs.Gives.{◌>>=◌}
 use Rattle.xa_cache.specs.Bodies.{found}
@@ -22,13 +22,13 @@ use Rattle.xa_server.specs.declared.opened.Opened.{Opened}
 use Rattle.xa_server.specs.declared.stop.Stop.{Stop}
 use Rattle.xa_server.specs.declared.stop.Stop.TheVariants.{Code, Failed}
 use Rattle.xa_server.specs.Gates.{opened_by, opened_of}
-use Rattle.xa_server.specs.Handling.{Answers, IsFresh, IsReplied, Tells, key_opened, reply_told, response_told, view_told, worked_in}
+use Rattle.xa_server.specs.Handling.{Answers, IsFresh, IsNoted, IsResponseReply, Shows, key_opened, key_within, reply_told, response_told, view_told, worked_in}
 use Rattle.xa_server.specs.Machine.{by_domain_command, response_to}
 use Rattle.xa_server.specs.Replies.{decision_reply}
 use Rattle.xa_server.specs.Tally.{Tally}
 use Rattle.xa_server.specs.ValidCache.{AreValid, response_body_at}
 use Rattle.xa_server.specs.View.{view_of}
-use Rattle.xa_server.specs.Work.{body_held, response_of}
+use Rattle.xa_server.specs.Work.{IsHeld, IsWorkedOut, body_held, response_of}
 use Rattle.xa_server.proofs.GrowthLemmas.{stays}
 use Rattle.xa_server.proofs.ValidLemmas.{found_right}
 use Rattle.xa_server.proofs.WorkLemmas.{domain_opened}
@@ -62,11 +62,11 @@ by_view (Some state) view body moment is =
 
 -- the reply is that of the domain
 pub replied : (old new : Kept) (name body : List ℕ) (moment : ℤ) (view : Viewed) (result : Result (List ℕ) Stop) → view_told (state_of name old) ≡ Ok view
-    → IsReplied (response_of view body moment) result → new ≡ old → Tells old new result (reply_told body moment (state_of name old))
+    → IsResponseReply (response_of view body moment) result → new ≡ old → Shows old new result (reply_told body moment (state_of name old))
 replied old new name body moment view result is meant same =
-    subst (λ told. Tells old new result (told >>= (λ response. Ok (decision_reply response.0)))) (sym (by_view (state_of name old) view body moment is))
+    subst (λ told. Shows old new result (told >>= (λ response. Ok (decision_reply response.0)))) (sym (by_view (state_of name old) view body moment is))
     (by_response (response_of view body moment) result meant) where
-      by_response : (response : Option (List ℕ × Bool)) (r : Result (List ℕ) Stop) → IsReplied response r → Tells old new r (ok_or response (error.Body NotJson) >>= (λ pair. Ok (decision_reply pair.0)))
+      by_response : (response : Option (List ℕ × Bool)) (r : Result (List ℕ) Stop) → IsResponseReply response r → Shows old new r (ok_or response (error.Body NotJson) >>= (λ pair. Ok (decision_reply pair.0)))
       by_response (Some pair) (Ok bytes) meant = (let e : decision_reply pair.0 ≡ bytes = cc in ap Ok e, same)
       by_response None (Ok bytes) meant = absurd cc
       by_response (Some pair) (Err (Code code)) (none, no_json) = absurd cc
@@ -102,7 +102,7 @@ machine_tells (Some state) body moment = by_answer (decision.answer (view_of sta
   by_answer None e = rw e refl
   by_answer (Some answered) e = rw e refl
 
-pub answers : (old new : Kept) (name body : List ℕ) (moment : ℤ) (result : Result (List ℕ) Stop) → Tells old new result (reply_told body moment (state_of name old))
+pub answers : (old new : Kept) (name body : List ℕ) (moment : ℤ) (result : Result (List ℕ) Stop) → Shows old new result (reply_told body moment (state_of name old))
     → Answers old new name result (by_domain_command domain.Decide body moment (state_of name old))
 answers old new name body moment (Ok bytes) (meant, same) =
     (state_of name old, machine_tells (state_of name old) body moment ∙ ap (λ told. told >>= λ bs. Ok (bs, state_of name old)) meant, stays old new name same)
@@ -111,10 +111,45 @@ answers old new name body moment (Err (Code code)) (meant, same) =
 answers old new name body moment (Err (Failed failure)) same = same
 
 -- nothing has changed
-pub told_same : (old new : Kept) (result : Result (List ℕ) Stop) (meant : Result (List ℕ) ErrorCode) → Tells old new result meant → new ≡ old
+pub told_same : (old new : Kept) (result : Result (List ℕ) Stop) (meant : Result (List ℕ) ErrorCode) → Shows old new result meant → new ≡ old
 told_same old new (Ok bytes) meant told = told.1
 told_same old new (Err (Code code)) meant told = told.1
 told_same old new (Err (Failed failure)) meant same = same
+
+-- ---- the key of a body
+
+and_false : (a other : Bool) → (a && (false && other)) ≡ false
+and_false true other = refl
+and_false false other = refl
+
+-- a decision that was worked out is held under the key of its body, if that isn't too large
+pub noted : (key : Key) (given : Option Key) (body : List ℕ) (timeless : Bool) (old new : Tally) → given ≡ key_within key → IsNoted given body timeless old new
+    → IsWorkedOut key (Some (body, timeless)) old new
+noted key given body timeless old new is = subst (λ (g : Option Key). IsNoted g body timeless old new → IsWorkedOut key (Some (body, timeless)) old new) (sym is) (by_size (nat_le (length key.body) 16_384) refl) where
+  by_size : (small : Bool) → nat_le (length key.body) 16_384 ≡ small → IsNoted (cond small (Some key) None) body timeless old new → IsWorkedOut key (Some (body, timeless)) old new
+  by_size true e work = work
+  by_size false e (more, held, unkept) =
+      (more, subst (λ (b : Bool). IsHeld b key body old new) (sym (ap (λ (b : Bool). timeless && (b && nat_le (length body) 16_384)) e ∙ and_false timeless (nat_le (length body) 16_384))) (held, unkept))
+
+-- the key is the one that was given, and what is held under it is found
+pub key_is : (key small : Key) → Some small ≡ key_within key → small ≡ key
+key_is key small is = by_size (nat_le (length key.body) 16_384) is where
+  by_size : (b : Bool) → Some small ≡ cond b (Some key) None → small ≡ key
+  by_size true e = cc
+  by_size false e = absurd cc
+
+pub held_within : (key small : Key) (tally : Tally) → Some small ≡ key_within key → body_held key key.body tally ≡ found small tally.held
+held_within key small tally is = by_size (nat_le (length key.body) 16_384) is where
+  by_size : (b : Bool) → Some small ≡ cond b (Some key) None → cond b (found key tally.held) None ≡ found small tally.held
+  by_size true e = let same : small ≡ key = cc in ap (λ k. found k tally.held) (sym same)
+  by_size false e = absurd cc
+
+-- without a key nothing is
+pub held_beyond : (key : Key) (tally : Tally) → None ≡ key_within key → body_held key key.body tally ≡ None
+held_beyond key tally is = by_size (nat_le (length key.body) 16_384) is where
+  by_size : (b : Bool) → None ≡ cond b (Some key) None → cond b (found key tally.held) None ≡ None
+  by_size true e = absurd cc
+  by_size false e = refl
 
 -- ---- a decision that is held
 

@@ -11,7 +11,7 @@ use Rattle.xa_server.specs.Alone.{Event}
 use Rattle.xa_server.specs.declared.replies.Reply.{Reply}
 use Rattle.xa_server.specs.Connection.{HasMessages}
 use Rattle.xa_server.specs.Driven.{Tells}
-use Rattle.xa_server.specs.Driving.{IsSent}
+use Rattle.xa_server.specs.Driving.{IsWritten}
 use Rattle.xa_server.specs.Served.{IsRun}
 use Rattle.xa_server.specs.World.{World}
 
@@ -100,7 +100,7 @@ pub part_sent : (a b c : Option (List ℕ)) (bytes : List ℕ) (s n : ℕ) → A
 part_sent a b c bytes s n before here =
     subst (λ (bs : List ℕ). Appends a c bs) (sym (take_on s n bytes)) (appends_trans a b c (take s bytes) (take n (drop s bytes)) before here)
 
-pub failed_sending : (a b c : Option (List ℕ)) (bytes : List ℕ) (s : ℕ) → Appends a b (take s bytes) → Appends b c [] → IsSent false a c bytes
+pub failed_sending : (a b c : Option (List ℕ)) (bytes : List ℕ) (s : ℕ) → Appends a b (take s bytes) → Appends b c [] → IsWritten false a c bytes
 failed_sending a b c bytes s before here = (
   take s bytes,
   drop s bytes,
@@ -108,10 +108,10 @@ failed_sending a b c bytes s before here = (
   subst (λ (bs : List ℕ). Appends a c bs) (append-nil (take s bytes)) (appends_trans a b c (take s bytes) [] before here),
 )
 
-pub stopped_sending : (a b : Option (List ℕ)) (bytes : List ℕ) (s : ℕ) → Appends a b (take s bytes) → IsSent false a b bytes
+pub stopped_sending : (a b : Option (List ℕ)) (bytes : List ℕ) (s : ℕ) → Appends a b (take s bytes) → IsWritten false a b bytes
 stopped_sending a b bytes s before = (take s bytes, drop s bytes, sym (take_and_drop s bytes), before)
 
-pub all_sent : (ok : Bool) (a b c : Option (List ℕ)) (bytes : List ℕ) (s : ℕ) → Appends a b (take s bytes) → s ≡ length bytes → Keeps b c → IsSent ok a c bytes
+pub all_sent : (ok : Bool) (a b c : Option (List ℕ)) (bytes : List ℕ) (s : ℕ) → Appends a b (take s bytes) → s ≡ length bytes → Keeps b c → IsWritten ok a c bytes
 all_sent false a b c bytes s before same kept = failed_sending a b c bytes s before (appends_kept b c kept)
 all_sent true a b c bytes s before same kept =
     let whole : take s bytes ≡ bytes = take_all s bytes (omega (arith, same)) in

@@ -21,7 +21,7 @@ use Rattle.xa_server.specs.declared.driven.Driven.TheVariants.{Ended, ReadFault,
 use Rattle.xa_server.specs.declared.replies.Reply.{Reply}
 use Rattle.xa_server.specs.Connection.{all_replies, fault_replies, messages_of, moments_of}
 use Rattle.xa_server.specs.Driven.{AreWritten, HasEnded, IsConnection, IsDriven, StopsAfter, Tells, stream_of}
-use Rattle.xa_server.specs.Driving.{EndsAs, HasAnswered, HasClosed, HasRead, IsAnsweredAs, IsFaultAnswered, IsHeldAnswered, IsRead, IsSent, IsTurn, IsWaiting}
+use Rattle.xa_server.specs.Driving.{EndsAs, HasAnswered, HasClosed, HasRead, IsAnsweredAs, IsFaultAnswered, IsHeldAnswered, IsRead, IsWritten, IsTurn, IsWaiting}
 use Rattle.xa_server.specs.ErrorCode.{code_of_session_fault, error_reply}
 use Rattle.xa_server.specs.Replies.{bytes_of}
 use Rattle.xa_server.specs.Served.{IsServed}
@@ -164,7 +164,7 @@ one_answered a b s t message k l x y moment reply first served tells wrote = rec
 
 -- its reply was cut short
 one_cut_short : (a b : World) (s t : Stream) (message : Message) (k l : Option (List ℤ)) (x y : Option (List ℕ)) (moment : ℤ) (reply : Reply)
-    → IsFirst s message t → IsServed a b moment message reply → Tells k l (moment ∷ []) → IsSent false x y (bytes_of reply) → EndsAs WriteFault a b s t k l x y
+    → IsFirst s message t → IsServed a b moment message reply → Tells k l (moment ∷ []) → IsWritten false x y (bytes_of reply) → EndsAs WriteFault a b s t k l x y
 one_cut_short a b s t message k l x y moment reply first served tells sent = record {
   moments = moment ∷ [];
   written = sent.0;

@@ -25,6 +25,7 @@ use Rattle.xa_server.specs.Machine.{Answer, admitted, digest_shown, permitted}
 use Rattle.xa_server.specs.Stock.{AllStand, AreGates, IsGate, Stock, forgetting, remembering, using_gate}
 use Rattle.xa_server.specs.Tokens.{role_in}
 use Rattle.xa_server.proofs.AdmissionLemmas.{role_is}
+use Rattle.xa_server.proofs.GrowthLemmas.{grows}
 use Rattle.xa_server.proofs.ReadyLemmas.{ready_grown}
 use Rattle.xa_server.proofs.ValidLemmas.{valid_grown}
 use Rattle.xa_server.proofs.WorkLemmas.{gate_opens}
@@ -112,10 +113,10 @@ gates_left old new name others (entry ∷ gates) none are = (elim (bytes_eq name
 -- after a message of that domain, whose gate was forgotten first
 pub changed_stands : (old new : Kept) (name : List ℕ) (result : Result (List ℕ) Stop) (meant : Answer) (stock : Stock) → Answers old new name result meant → AllStand old stock
     → lookup (bytes_eq name) (without_gate name stock.gates) ≡ None → AllStand new (forgetting name stock)
-changed_stands old new name (Ok bytes) meant stock (after, is, moved) stand none = record {
-  held = valid_grown old new moved.grows stock.tally.held stand.held;
-  views = ready_grown old new moved.grows stock.room.views stand.views;
-  gates = gates_left old new name moved.others (without_gate name stock.gates) none (all_removed (IsGate old) (bytes_eq name) stock.gates stand.gates);
+changed_stands old new name (Ok bytes) meant stock (after, is, changed) stand none = record {
+  held = valid_grown old new (grows old new name after changed) stock.tally.held stand.held;
+  views = ready_grown old new (grows old new name after changed) stock.room.views stand.views;
+  gates = gates_left old new name changed.others (without_gate name stock.gates) none (all_removed (IsGate old) (bytes_eq name) stock.gates stand.gates);
 }
 changed_stands old new name (Err (Code code)) meant stock answers stand none = same_stands old new (forgetting name stock) answers.1 (forgotten_stands old name stock stand)
 changed_stands old new name (Err (Failed failure)) meant stock answers stand none = same_stands old new (forgetting name stock) answers (forgotten_stands old name stock stand)

@@ -1,13 +1,14 @@
 -- Numbers and epochs go on through every change.
 use Rattle.std.proofs.Common.{◌≡◌, ◌≤◌, ℕ, List, refl, sym, ap, ◌∙◌, subst, inl, inr, arith}
-use Rattle.std.specs.Prelude.{Option, Some, None, ◌⊎◌, option_map}
+use Rattle.std.specs.Prelude.{Option, Some, None, Ok, ◌⊎◌, option_map}
 use Rattle.std.specs.FinMap.{get}
 use Rattle.xa_records.specs.DomainState.{DomainState}
 use Rattle.xa_records.specs.Kept.{Becomes, Domain, IsChanged, IsNextEpoch, IsNextNumber, Kept, state_of}
 use Rattle.xa_records.proofs.FinMapLemmas.{different, here_or_elsewhere}
 use Rattle.xa_records.proofs.OrderLemmas.{bytes_exact, bytes_total}
 use Rattle.xa_server.specs.Growth.{GoesOn, Grows}
-use Rattle.xa_server.specs.Handling.{IsMoved}
+use Rattle.xa_server.specs.Handling.{Answers}
+use Rattle.xa_server.specs.Machine.{Answer}
 
 nothing : (d : Domain) → None ≡ Some d → ⊥
 nothing d e = cc
@@ -51,27 +52,31 @@ grows old new name state changed = record {
   ];
 }
 
-pub same_grows : (old : Kept) → Grows old old
-same_grows old = record { next = omega arith; each = λ name domain there. inr (domain, there, same_goes_on domain) }
-
 state_after : (next : ℕ) (old : Option Domain) (state : Option DomainState) (new : Option Domain) → Becomes next old state new → option_map (λ d. d.state) new ≡ state
 state_after next None None new becomes = rw becomes refl
 state_after next (Some before) None new becomes = rw becomes refl
 state_after next None (Some state) new becomes = rw becomes refl
 state_after next (Some before) (Some state) new (epoch, is, becomes) = rw becomes refl
 
--- a change of the domain of that name
-pub moves : (old new : Kept) (name : List ℕ) (state : Option DomainState) → IsChanged old new name state → IsMoved old new name state
-moves old new name state changed = record {
-  here = state_after old.next (get old.domains name) state (get new.domains name) changed.domain;
-  others = changed.others;
-  grows = grows old new name state changed;
-}
+-- the domain that has gone over is in that state
+pub changed_state : (old new : Kept) (name : List ℕ) (state : Option DomainState) → IsChanged old new name state → state_of name new ≡ state
+changed_state old new name state changed = state_after old.next (get old.domains name) state (get new.domains name) changed.domain
 
--- nothing has changed
-pub stays : (old new : Kept) (name : List ℕ) → new ≡ old → IsMoved old new name (state_of name old)
-stays old new name same = record {
-  here = ap (state_of name) same;
-  others = λ other apart. ap (λ k. get k.domains other) same;
-  grows = subst (Grows old) (sym same) (same_grows old);
-}
+-- where nothing has changed, the domain has gone over into the state in which it was
+becomes_same : (next : ℕ) (old : Option Domain) → Becomes next old (option_map (λ d. d.state) old) old
+becomes_same next None = refl
+becomes_same next (Some domain) = (domain.epoch, inl (record { documents = refl; root = refl; source = refl }, refl), refl)
+
+number_same : (next : ℕ) (old : Option Domain) → IsNextNumber next old (option_map (λ d. d.state) old) next
+number_same next None = refl
+number_same next (Some domain) = refl
+
+unchanged : (old : Kept) (name : List ℕ) → IsChanged old old name (state_of name old)
+unchanged old name = record { domain = becomes_same old.next (get old.domains name); others = λ other apart. refl; next = number_same old.next (get old.domains name) }
+
+pub stays : (old new : Kept) (name : List ℕ) → new ≡ old → IsChanged old new name (state_of name old)
+stays old new name same = subst (λ k. IsChanged old k name (state_of name old)) (sym same) (unchanged old name)
+
+-- what is read is answered so, and nothing has changed
+pub reads : (old new : Kept) (name bytes : List ℕ) (meant : Answer) → meant ≡ Ok (bytes, state_of name old) → new ≡ old → Answers old new name (Ok bytes) meant
+reads old new name bytes meant is same = (state_of name old, is, stays old new name same)

@@ -1,6 +1,6 @@
 -- The headline, from what serving does with one message after another.
 use Rattle.std.proofs.Common.{◌≡◌, ◌≢◌, ℕ, List, [], ◌∷◌, Option, Some, None, refl, ap, sym, ◌∙◌, subst}
-use Rattle.std.specs.Prelude.{Bool, true, false, map, bytes_eq}
+use Rattle.std.specs.Prelude.{Bool, true, false, map, bytes_eq, option_map}
 use Rattle.std.proofs.lemmas.Bool.Decides.{not_from_Decides}
 use Rattle.std.proofs.lemmas.Slice.Eq.{bytes_eq-Decides}
 use Rattle.xa_server.specs.declared.replies.Reply.{Reply}
@@ -9,8 +9,9 @@ use Rattle.xa_server.specs.Alone.{Event, is_owner, is_own, own_events, replies_a
 use Rattle.xa_server.specs.Isolation.{AllSent, IsAlone, IsIsolated, TwoWorldsAgree, answered_events, replies_to, sent_replies}
 use Rattle.xa_server.specs.Machine.{step}
 use Rattle.xa_server.specs.Owner.{owner}
-use Rattle.xa_server.specs.Served.{IsRun, IsSent, IsUnmoved, state}
+use Rattle.xa_server.specs.Served.{IsRun, IsSent, state}
 use Rattle.xa_server.specs.World.{World}
+use Rattle.xa_server.proofs.GrowthLemmas.{changed_state}
 
 -- a message of another goes before a run that is the domain's alone
 passed_over : (domain : List ℕ) (old mid new : World) (event : Event) (bytes : List ℕ) (events : List Event) (replies : List Reply)
@@ -23,11 +24,8 @@ passed_over domain old mid new event bytes events replies other same operator re
 
 -- a refusal goes before
 unmoved : (domain : List ℕ) (old mid new : World) (events : List Event) (replies : List Reply)
-    → IsUnmoved old mid → IsAlone mid new events replies domain → IsAlone old new events replies domain
-unmoved domain old mid new events replies same rest = record {
-  told = rw (← same.states domain, ← same.operator) rest.told;
-  left = rw (← same.states domain, ← same.operator) rest.left;
-}
+    → mid ≡ old → IsAlone mid new events replies domain → IsAlone old new events replies domain
+unmoved domain old mid new events replies same rest = subst (λ (w : World). IsAlone w new events replies domain) same rest
 
 -- a message of the domain goes before
 goes_before : (domain : List ℕ) (old mid new : World) (event : Event) (bytes : List ℕ) (events : List Event) (replies : List Reply)
@@ -51,15 +49,15 @@ by_owner : (domain : List ℕ) (old mid new : World) (event : Event) (bytes : Li
     (named : Option (List ℕ)) → owner event.1 ≡ named → IsSent old mid event.0 event.1 bytes named
     → IsAlone mid new events replies domain → IsAlone old new (event ∷ events) (Sent bytes ∷ replies) domain
 by_owner domain old mid new event bytes events replies None e step' rest =
-    passed_over domain old mid new event bytes events replies (ap (is_owner domain) e) (step'.same.states domain) step'.same.operator rest
+    passed_over domain old mid new event bytes events replies (ap (is_owner domain) e) (ap (state domain) step'.same) (ap (λ (w : World). w.operator) step'.same) rest
 by_owner domain old mid new event bytes events replies (Some name) e step' rest = by_name (bytes_eq name domain) refl where
   by_name : (b : Bool) → bytes_eq name domain ≡ b → IsAlone old new (event ∷ events) (Sent bytes ∷ replies) domain
   by_name true t =
       let same : name ≡ domain = (bytes_eq-Decides name domain).0 t in
-      goes_before domain old mid new event bytes events replies (ap (is_owner domain) e ∙ t) (rw same at step'.reply) (rw same at step'.next) step'.operator rest
+      goes_before domain old mid new event bytes events replies (ap (is_owner domain) e ∙ t) (rw same at step'.reply) (rw same at (changed_state old.kept mid.kept name _ step'.next)) step'.operator rest
   by_name false t =
       let apart : domain ≢ name = λ same. not_from_Decides (bytes_eq name domain) (bytes_eq-Decides name domain) t (sym same) in
-      passed_over domain old mid new event bytes events replies (ap (is_owner domain) e ∙ t) (step'.others domain apart) step'.operator rest
+      passed_over domain old mid new event bytes events replies (ap (is_owner domain) e ∙ t) (ap (option_map (λ d. d.state)) (step'.next.others domain apart)) step'.operator rest
 
 -- the headline beside refusals, from a run
 pub isolated : (domain : List ℕ) (old new : World) (events : List Event) (replies : List Reply)

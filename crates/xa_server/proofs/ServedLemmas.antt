@@ -1,24 +1,28 @@
 -- What one message does, by its owner.
 use Rattle.std.proofs.Common.{◌≡◌, ℕ, ℤ, List, [], ◌∷◌, ◌++◌, Option, Some, None, Result, Ok, Err, inl, inr, refl, ap, sym, ◌∙◌, subst}
-use Rattle.std.specs.Prelude.{option_map}
+use Rattle.std.specs.Prelude.{OnErr}
 use Rattle.xa_http.specs.declared.message.Message.{Message}
 use Rattle.xa_records.specs.declared.refusal.Failure.TheVariants.{Memory, Store}
-use Rattle.xa_records.specs.Kept.{state_of}
+use Rattle.xa_records.specs.Kept.{IsChanged, Kept}
 use Rattle.xa_server.specs.Alone.{Event}
 use Rattle.xa_server.specs.declared.error_code.ErrorCode.{ErrorCode}
 use Rattle.xa_server.specs.declared.replies.Reply.{Reply}
 use Rattle.xa_server.specs.declared.stop.Stop.{Stop}
 use Rattle.xa_server.specs.declared.stop.Stop.TheVariants.{Code, Failed}
 use Rattle.xa_server.specs.ErrorCode.{error_reply}
-use Rattle.xa_server.specs.Handling.{AnswersMessage, Counts, CountsReply, IsReplyOf}
-use Rattle.xa_server.specs.Machine.{general_reply, reply_and_state, reply_or_error, step}
+use Rattle.xa_server.specs.Handling.{AnswersMessage, Counts, IsReplyOf}
+use Rattle.xa_server.specs.Machine.{Answer, general_reply, reply_and_state, reply_or_error, step}
 use Rattle.xa_server.specs.Owner.{owner}
-use Rattle.xa_server.specs.Served.{IsRun, IsSent, IsServed, IsUnmoved, state}
+use Rattle.xa_server.specs.Served.{CountsReply, IsRun, IsSent, IsServed, state}
 use Rattle.xa_server.specs.World.{World}
+use Rattle.xa_server.proofs.GrowthLemmas.{stays}
 
--- nothing that is kept has changed
-unmoved : (old new : World) → new.kept ≡ old.kept → new.operator ≡ old.operator → IsUnmoved old new
-unmoved old new kept operator = record { states = λ domain. ap (state_of domain) kept; operator = operator }
+abbrev over : List ℕ → Kept → World
+over operator kept = record { operator = operator; kept = kept }
+
+-- nothing that is kept has changed, nor the operator
+unmoved : (old new : World) → new.kept ≡ old.kept → new.operator ≡ old.operator → new ≡ old
+unmoved old new kept operator = ap (over new.operator) kept ∙ ap (λ (o : List ℕ). over o old.kept) operator
 
 -- a message that was answered with success, by its owner
 sent : (old new : World) (named : Option (List ℕ)) (message : Message) (moment : ℤ) (bytes : List ℕ)
@@ -26,10 +30,10 @@ sent : (old new : World) (named : Option (List ℕ)) (message : Message) (moment
 unfolding general_reply step
 sent old new None message moment bytes answered operator =
     record { reply = sym (ap reply_or_error answered.0); same = unmoved old new answered.1 operator }
-sent old new (Some name) message moment bytes (after, meant, moved) operator = record {
+sent old new (Some name) message moment bytes (after, meant, changed) operator = record {
   reply = sym (ap (λ a. (reply_and_state (state name old) a).0) meant);
-  next = moved.here ∙ sym (ap (λ a. (reply_and_state (state name old) a).1) meant);
-  others = λ other apart. ap (option_map (λ d. d.state)) (moved.others other apart);
+  next = subst (IsChanged old.kept new.kept name) (sym (ap (λ a. (reply_and_state (state name old) a).1) meant)) changed;
+  error_answer = subst (λ (a : Answer). OnErr a (new ≡ old)) (sym meant) tt;
   operator = operator;
 }
 
@@ -42,8 +46,8 @@ turned_away old new None message moment code answered operator =
     record { reply = sym (ap reply_or_error answered.0); same = unmoved old new answered.1 operator }
 turned_away old new (Some name) message moment code answered operator = record {
   reply = sym (ap (λ a. (reply_and_state (state name old) a).0) answered.0);
-  next = ap (state_of name) answered.1 ∙ sym (ap (λ a. (reply_and_state (state name old) a).1) answered.0);
-  others = λ other apart. ap (state_of other) answered.1;
+  next = subst (IsChanged old.kept new.kept name) (sym (ap (λ a. (reply_and_state (state name old) a).1) answered.0)) (stays old.kept new.kept name answered.1);
+  error_answer = subst (λ (a : Answer). OnErr a (new ≡ old)) (sym answered.0) (unmoved old new answered.1 operator);
   operator = operator;
 }
 

@@ -21,14 +21,14 @@ use Rattle.xa_server.specs.Served.{IsRun, IsServed}
 use Rattle.xa_server.specs.World.{World}
 
 -- the bytes went to the writer, or a part from their front
-abbrev pub IsSent : Bool → Option (List ℕ) → Option (List ℕ) → List ℕ → Type 0
-IsSent true before now bytes = Appends before now bytes
-IsSent false before now bytes = (part rest : List ℕ) × (bytes ≡ part ++ rest) × Appends before now part
+abbrev pub IsWritten : Bool → Option (List ℕ) → Option (List ℕ) → List ℕ → Type 0
+IsWritten true before now bytes = Appends before now bytes
+IsWritten false before now bytes = (part rest : List ℕ) × (bytes ≡ part ++ rest) × Appends before now part
 
 -- a message was answered at a moment that was told, and its reply is sent, or a part of it is
 abbrev pub IsReplied : Bool → World → World → Message → Option (List ℤ) → Option (List ℤ) → Option (List ℕ) → Option (List ℕ) → Type 0
 IsReplied whole old new message told telling before now =
-    (moment : ℤ) × (reply : Reply) × IsServed old new moment message reply × Tells told telling (moment ∷ []) × IsSent whole before now (bytes_of reply)
+    (moment : ℤ) × (reply : Reply) × IsServed old new moment message reply × Tells told telling (moment ∷ []) × IsWritten whole before now (bytes_of reply)
 
 -- what became of a message
 unfoldable pub IsAnsweredAs : Turn → World → World → Message → Option (List ℤ) → Option (List ℤ) → Option (List ℕ) → Option (List ℕ) → Type 0
@@ -39,8 +39,8 @@ IsAnsweredAs _ old new message told telling before now = ⊥
 
 -- what became of the reply to a fault
 unfoldable pub IsFaultAnswered : Driven → SessionFault → Option (List ℕ) → Option (List ℕ) → Type 0
-IsFaultAnswered Ended fault before now = IsSent true before now (error_reply (code_of_session_fault fault))
-IsFaultAnswered WriteFault fault before now = IsSent false before now (error_reply (code_of_session_fault fault))
+IsFaultAnswered Ended fault before now = IsWritten true before now (error_reply (code_of_session_fault fault))
+IsFaultAnswered WriteFault fault before now = IsWritten false before now (error_reply (code_of_session_fault fault))
 IsFaultAnswered Memory fault before now = now ≡ before
 IsFaultAnswered _ fault before now = ⊥
 

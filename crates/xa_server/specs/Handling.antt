@@ -1,7 +1,7 @@
--- How the code answers a message: words that only contracts of private functions cite, but for `CountsReply`, which `Server::serve` does.
+-- How the code answers a message: words that only contracts of private functions cite.
 use Rattle.std.specs.Option.{ok_or}
 use Rattle.std.specs.FinMap.{get}
-use Rattle.std.specs.Prelude.{◌≡◌, ◌≢◌, ◌⊎◌, ℕ, ℤ, Bool, List, Option, Some, None, option_and_then, option_map, Result, Ok, Err}
+use Rattle.std.specs.Prelude.{◌≡◌, ◌⊎◌, ℕ, ℤ, Bool, List, length, nat_le, Option, Some, None, option_and_then, option_map, Result, Ok, Err, if◌then◌else◌}
 use Rattle.xa_value.specs.Gives.{◌>>=◌}
 use Rattle.xa_notation.specs.declared.notation_error.NotationError.{NotationError}
 use Rattle.xa_notation.specs.declared.notation_error.NotationError.TheVariants.{NotJson}
@@ -12,7 +12,7 @@ use Rattle.xa_http.specs.declared.route.Route.{Route}
 use Rattle.xa_http.specs.Routes.{route_of}
 use Rattle.xa_records.specs.declared.refusal.Failure.TheVariants.{Memory, Store}
 use Rattle.xa_records.specs.DomainState.{DomainState}
-use Rattle.xa_records.specs.Keeper.{IsOneMore}
+use Rattle.xa_records.specs.Keeper.{Custody, IsOneMore}
 use Rattle.xa_records.specs.Kept.{Domain, IsChanged, Kept, names_of, state_of}
 use Rattle.xa_server.specs.declared.error_code.ErrorCode.{ErrorCode}
 use Rattle.xa_server.specs.declared.error_code.ErrorCode.TheVariants as error
@@ -24,7 +24,6 @@ use Rattle.xa_server.specs.declared.replies.Reply.{Reply}
 use Rattle.xa_server.specs.declared.replies.Reply.TheVariants.{Sent, Refused}
 use Rattle.xa_server.specs.ErrorCode.{error_reply}
 use Rattle.xa_server.specs.Replies.{decision_reply}
-use Rattle.xa_server.specs.Growth.{Grows}
 use Rattle.xa_cache.specs.declared.key.Key.{Key}
 use Rattle.xa_decide.specs.Decision.{Viewed}
 use Rattle.xa_server.specs.Tally.{Tally}
@@ -36,23 +35,17 @@ use Rattle.xa_server.specs.Machine.{Answer, answer, by_route, general_answer, ge
 abbrev pub by_body : {X : Type 0} → (X → Option DomainState → Answer) → Result X NotationError → Option DomainState → Answer
 by_body answer given state = or_body_fault given >>= (λ x. answer x state)
 
--- the domain of that name is in that state, every other domain is as it was, and numbers and epochs have gone on
-pub record IsMoved (old new : Kept) (name : List ℕ) (after : Option DomainState) : Type 0 where
-  pub here : state_of name new ≡ after
-  pub others : (other : List ℕ) → other ≢ name → get new.domains other ≡ get old.domains other
-  pub grows : Grows old new
-
 -- a message of the domain of that name was answered as its machine answers it, or it failed; nothing has changed but by a reply
 abbrev pub Answers : Kept → Kept → List ℕ → Result (List ℕ) Stop → Answer → Type 0
-Answers old new name (Ok bytes) meant = (after : Option DomainState) × (meant ≡ Ok (bytes, after)) × IsMoved old new name after
+Answers old new name (Ok bytes) meant = (after : Option DomainState) × (meant ≡ Ok (bytes, after)) × IsChanged old new name after
 Answers old new name (Err (Code code)) meant = (meant ≡ Err code) × (new ≡ old)
 Answers old new name (Err (Failed failure)) meant = new ≡ old
 
 -- a message was answered so, or it failed; and nothing has changed
-abbrev pub Tells : {X : Type 0} → Kept → Kept → Result X Stop → Result X ErrorCode → Type 0
-Tells old new (Ok x) meant = (meant ≡ Ok x) × (new ≡ old)
-Tells old new (Err (Code code)) meant = (meant ≡ Err code) × (new ≡ old)
-Tells old new (Err (Failed failure)) meant = new ≡ old
+abbrev pub Shows : {X : Type 0} → Kept → Kept → Result X Stop → Result X ErrorCode → Type 0
+Shows old new (Ok x) meant = (meant ≡ Ok x) × (new ≡ old)
+Shows old new (Err (Code code)) meant = (meant ≡ Err code) × (new ≡ old)
+Shows old new (Err (Failed failure)) meant = new ≡ old
 
 -- a message was let in: then that is what is there, as the gate of the domain of that name
 abbrev pub Opens : {X : Type 0} → Kept → Kept → Option X → Result X Stop → Result (Unit {0}) ErrorCode → Type 0
@@ -69,12 +62,12 @@ admitted_by for_decisions state shown = do
 
 -- a message that asks for this was answered, by the domain that its path names, if it names one
 abbrev pub AnswersRoute : List ℕ → Kept → Kept → Option (List ℕ) → Message → ℤ → Route → Result (List ℕ) Stop → Type 0
-AnswersRoute operator old new None message moment route result = Tells old new result (general_by_route operator (names_of old) message route)
+AnswersRoute operator old new None message moment route result = Shows old new result (general_by_route operator (names_of old) message route)
 AnswersRoute operator old new (Some name) message moment route result = Answers old new name result (by_route operator (state_of name old) message moment route)
 
 -- a message was answered
 abbrev pub AnswersMessage : List ℕ → Kept → Kept → Option (List ℕ) → Message → ℤ → Result (List ℕ) Stop → Type 0
-AnswersMessage operator old new None message moment result = Tells old new result (general_answer operator (names_of old) message)
+AnswersMessage operator old new None message moment result = Shows old new result (general_answer operator (names_of old) message)
 AnswersMessage operator old new (Some name) message moment result = Answers old new name result (answer operator (state_of name old) message moment)
 
 -- the keeper has counted one more failure for want of storage, where that is why, and else none
@@ -89,12 +82,6 @@ abbrev pub IsReplyOf : Result (List ℕ) Stop → Reply → Type 0
 IsReplyOf (Ok bytes) reply = reply ≡ Sent bytes
 IsReplyOf (Err (Failed failure)) reply = reply ≡ Refused failure
 IsReplyOf (Err (Code code)) reply = (reply ≡ Sent (error_reply code)) ⊎ (reply ≡ Refused Memory)
-
--- and so of a reply
-abbrev pub CountsReply : ℕ → ℕ → Reply → Type 0
-CountsReply old new (Sent bytes) = new ≡ old
-CountsReply old new (Refused Memory) = new ≡ old
-CountsReply old new (Refused Store) = IsOneMore old new
 
 -- ---- asking for a decision
 
@@ -117,10 +104,10 @@ IsResponse meant (Err (Code code)) = (meant ≡ None) × (code ≡ error.Body No
 IsResponse meant (Err (Failed failure)) = failure ≡ Memory
 
 -- the reply to what was worked out, or the body is no JSON, or there was no memory
-abbrev pub IsReplied : Option (List ℕ × Bool) → Result (List ℕ) Stop → Type 0
-IsReplied meant (Ok bytes) = option_map (λ response. decision_reply response.0) meant ≡ Some bytes
-IsReplied meant (Err (Code code)) = (meant ≡ None) × (code ≡ error.Body NotJson)
-IsReplied meant (Err (Failed failure)) = failure ≡ Memory
+abbrev pub IsResponseReply : Option (List ℕ × Bool) → Result (List ℕ) Stop → Type 0
+IsResponseReply meant (Ok bytes) = option_map (λ response. decision_reply response.0) meant ≡ Some bytes
+IsResponseReply meant (Err (Code code)) = (meant ≡ None) × (code ≡ error.Body NotJson)
+IsResponseReply meant (Err (Failed failure)) = failure ≡ Memory
 
 -- what decides was made ready, at that epoch; or an error answer says why not, or that failed; and nothing has changed
 abbrev pub MakesReady : Kept → Kept → ℕ → Result Ready Stop → Result Viewed ErrorCode → Type 0
@@ -135,6 +122,15 @@ reply_told body moment state = response_told body moment state >>= (λ response.
 -- under which key a decision is held, by the number and the epoch of the domain that lets the message in
 abbrev pub key_opened : Opened → List ℕ → Key
 key_opened opened body = record { number = opened.number; epoch = opened.epoch; body = body }
+
+-- the same, where the body isn't too large: it has at most 16,384 bytes
+abbrev pub key_within : Key → Option Key
+key_within key = if nat_le (length key.body) 16_384 then Some key else None
+
+-- a decision was worked out, and counted; without a key it isn't held
+abbrev pub IsNoted : Option Key → List ℕ → Bool → Tally → Tally → Type 0
+IsNoted (Some key) body timeless old new = IsWorkedOut key (Some (body, timeless)) old new
+IsNoted None body timeless old new = IsOneMore old.evaluations new.evaluations × (new.held ≡ old.held) × (new.unkept ≡ old.unkept)
 
 -- the decision was worked out, with success; by an error answer nothing was there to be worked out, and a failure has left all
 abbrev pub IsFresh : Key → Option (List ℕ × Bool) → Result (List ℕ) Stop → Tally → Tally → Type 0
@@ -198,3 +194,25 @@ LeavesRoute before after operator old (Some name) message moment route = LeavesA
 abbrev pub LeavesMessage : (Kept → Type 0) → (Kept → Type 0) → List ℕ → Kept → Option (List ℕ) → Message → ℤ → Type 0
 LeavesMessage before after operator old None message moment = LeavesNoMore before after
 LeavesMessage before after operator old (Some name) message moment = LeavesAnswer before after old name (answer operator (state_of name old) message moment)
+
+-- ---- what is done for a message
+
+-- a part of a message was handled: so it was answered, and this a crash may leave, or it failed
+pub record Handles {X : Type 0} (old new : Custody) (result : Result X Stop) (is_answered leaves_so : Type 0) : Type 0 where
+  pub answers : new.sound → is_answered
+  pub sound : new.sound → old.sound
+  pub clean : new.clean → old.clean
+  pub stays : new.clean → old.sound → IfTold result new.sound
+  pub leaves : new.clean → old.sound → leaves_so
+  pub counts : Counts old.faults new.faults result
+
+-- as that machine of the domain of that name answers
+abbrev pub HandlesChange : Custody → Custody → List ℕ → Result (List ℕ) Stop → (Option DomainState → Answer) → Type 0
+HandlesChange old new name result machine =
+    Handles old new result (Answers old.kept new.kept name result (machine (state_of name old.kept)))
+    (LeavesAnswer old.may_leave new.may_leave old.kept name (machine (state_of name old.kept)))
+
+-- as that machine answers, which changes nothing
+abbrev pub HandlesReading : Custody → Custody → List ℕ → Result (List ℕ) Stop → (Option DomainState → Answer) → Type 0
+HandlesReading old new name result machine =
+    Handles old new result (Answers old.kept new.kept name result (machine (state_of name old.kept))) (LeavesNoMore old.may_leave new.may_leave)

@@ -1,12 +1,14 @@
 -- What serving does to a world: one message, and one after another.
-use Rattle.std.specs.Prelude.{◌≡◌, ◌≢◌, ℕ, ℤ, List, [], ◌∷◌, Option, Some, None}
+use Rattle.std.specs.Prelude.{◌≡◌, ℕ, ℤ, List, [], ◌∷◌, OnErr, Option, Some, None}
 use Rattle.xa_http.specs.declared.message.Message.{Message}
 use Rattle.xa_records.specs.DomainState.{DomainState}
-use Rattle.xa_records.specs.Kept.{names_of, state_of}
+use Rattle.xa_records.specs.declared.refusal.Failure.TheVariants.{Memory, Store}
+use Rattle.xa_records.specs.Keeper.{IsOneMore}
+use Rattle.xa_records.specs.Kept.{IsChanged, names_of, state_of}
 use Rattle.xa_server.specs.declared.replies.Reply.{Reply}
 use Rattle.xa_server.specs.declared.replies.Reply.TheVariants.{Sent, Refused}
 use Rattle.xa_server.specs.Alone.{Event}
-use Rattle.xa_server.specs.Machine.{step, general_reply}
+use Rattle.xa_server.specs.Machine.{answer, general_reply, step}
 use Rattle.xa_server.specs.Owner.{owner}
 use Rattle.xa_server.specs.World.{World}
 
@@ -14,22 +16,18 @@ use Rattle.xa_server.specs.World.{World}
 abbrev pub state : List ℕ → World → Option DomainState
 state domain world = state_of domain world.kept
 
--- a domain's message was answered by its machine, and no other domain's state has moved
+-- a domain's message was answered by its machine, and the domain has gone over into the state that this gives, with the number and the epoch that belong to it;
+-- no other domain has changed in anything, and by an error answer nothing has
 pub record IsStep (old new : World) (domain : List ℕ) (moment : ℤ) (message : Message) (bytes : List ℕ) : Type 0 where
   pub reply : bytes ≡ (step old.operator (state domain old) message moment).0
-  pub next : state domain new ≡ (step old.operator (state domain old) message moment).1
-  pub others : (other : List ℕ) → other ≢ domain → state other new ≡ state other old
+  pub next : IsChanged old.kept new.kept domain (step old.operator (state domain old) message moment).1
+  pub error_answer : OnErr (answer old.operator (state domain old) message moment) (new ≡ old)
   pub operator : new.operator ≡ old.operator
 
--- no state has moved
-pub record IsUnmoved (old new : World) : Type 0 where
-  pub states : (domain : List ℕ) → state domain new ≡ state domain old
-  pub operator : new.operator ≡ old.operator
-
--- a message without an owner was answered, and no state has moved
+-- a message without an owner was answered, and nothing has changed
 pub record IsGeneral (old new : World) (message : Message) (bytes : List ℕ) : Type 0 where
   pub reply : bytes ≡ general_reply old.operator (names_of old.kept) message
-  pub same : IsUnmoved old new
+  pub same : new ≡ old
 
 abbrev pub IsSent : World → World → ℤ → Message → List ℕ → Option (List ℕ) → Type 0
 IsSent old new moment message bytes None = IsGeneral old new message bytes
@@ -38,7 +36,13 @@ IsSent old new moment message bytes (Some domain) = IsStep old new domain moment
 -- what the server did with a message: a refused one has changed nothing
 abbrev pub IsServed : World → World → ℤ → Message → Reply → Type 0
 IsServed old new moment message (Sent bytes) = IsSent old new moment message bytes (owner message)
-IsServed old new moment message (Refused _) = IsUnmoved old new
+IsServed old new moment message (Refused _) = new ≡ old
+
+-- the keeper has counted one more failure where a message was refused for want of storage, and else none
+abbrev pub CountsReply : ℕ → ℕ → Reply → Type 0
+CountsReply old new (Sent bytes) = new ≡ old
+CountsReply old new (Refused Memory) = new ≡ old
+CountsReply old new (Refused Store) = IsOneMore old new
 
 -- the server did these things with the messages of these events, one after another
 abbrev pub IsRun : World → List Event → List Reply → World → Type 0

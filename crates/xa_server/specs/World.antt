@@ -1,5 +1,6 @@
 -- What the replies of a server may depend on.
 use Rattle.std.specs.Prelude.{ℕ, List}
+use Rattle.xa_records.specs.Keeper.{Custody}
 use Rattle.xa_records.specs.Kept.{Kept}
 use Rattle.xa_server.specs.Tally.{Tally}
 
@@ -15,5 +16,5 @@ pub record Serving (R : Type 0) : Type 0 where
   pub tally : Tally
 
 -- the world of a server, by what its keeper keeps
-abbrev pub world : {R : Type 0} → (R → Kept) → Serving R → World
-world kept server = record { operator = server.operator; kept = kept server.records }
+abbrev pub world : {R : Type 0} → (R → Custody) → Serving R → World
+world custody server = record { operator = server.operator; kept = (custody server.records).kept }

@@ -3,7 +3,7 @@ ghost use Rattle.std.specs.Prelude.{◌≡◌, true, Some};
 ghost use Rattle.xa_records.specs.Kept.{state_of};
 ghost use Rattle.xa_records.specs.Readings.{gate_of};
 ghost use Rattle.xa_server.specs.Gates.{opened_of};
-ghost use Rattle.xa_server.specs.Handling.{Counts, IfTold, LeavesNoMore, Opens, Tells, admitted_by};
+ghost use Rattle.xa_server.specs.Handling.{Counts, IfTold, LeavesNoMore, Opens, Shows, admitted_by};
 ghost use Rattle.xa_server.specs.Machine.{admitted, by_operator, digest_shown, is_decision, permitted};
 ghost use Rattle.xa_server.specs.Stock.{AllStand};
 ghost use Rattle.xa_server.specs.Tokens.{role_in};
@@ -78,12 +78,12 @@ fn gate_opened<R: Records>(
     for_decisions: bool,
     digest: &Digest,
 ) -> Result<Gate, Stop>
-    ensures tells { R.sound records.new → Opens (R.kept records.old) (R.kept records.new) (gate_of name.now (R.kept records.old)) result (admitted_by for_decisions (state_of name.now (R.kept records.old)) (Some digest.now)) }
-    ensures sound { R.sound records.new → R.sound records.old }
-    ensures clean { R.clean records.new → R.clean records.old }
-    ensures stays { R.clean records.new → R.sound records.old → IfTold result (R.sound records.new) }
-    ensures leaves { R.clean records.new → R.sound records.old → LeavesNoMore (R.may_leave records.old) (R.may_leave records.new) }
-    ensures counts { Counts (R.faults records.old) (R.faults records.new) result }
+    ensures tells { (R.custody records.new).sound → Opens (R.custody records.old).kept (R.custody records.new).kept (gate_of name.now (R.custody records.old).kept) result (admitted_by for_decisions (state_of name.now (R.custody records.old).kept) (Some digest.now)) }
+    ensures sound { (R.custody records.new).sound → (R.custody records.old).sound }
+    ensures clean { (R.custody records.new).clean → (R.custody records.old).clean }
+    ensures stays { (R.custody records.new).clean → (R.custody records.old).sound → IfTold result (R.custody records.new).sound }
+    ensures leaves { (R.custody records.new).clean → (R.custody records.old).sound → LeavesNoMore (R.custody records.old).may_leave (R.custody records.new).may_leave }
+    ensures counts { Counts (R.custody records.old).faults (R.custody records.new).faults result }
 {
     let gate = records.gate(alloc, name)?;
     let gate = gate.ok_or(ErrorCode::Unauthorized)?;
@@ -100,12 +100,12 @@ pub(crate) fn admission<R: Records>(
     for_decisions: bool,
     message: &Message,
 ) -> Result<(), Stop>
-    ensures tells { R.sound records.new → Tells (R.kept records.old) (R.kept records.new) result (admitted for_decisions (state_of name.now (R.kept records.old)) message.now) }
-    ensures sound { R.sound records.new → R.sound records.old }
-    ensures clean { R.clean records.new → R.clean records.old }
-    ensures stays { R.clean records.new → R.sound records.old → IfTold result (R.sound records.new) }
-    ensures leaves { R.clean records.new → R.sound records.old → LeavesNoMore (R.may_leave records.old) (R.may_leave records.new) }
-    ensures counts { Counts (R.faults records.old) (R.faults records.new) result }
+    ensures tells { (R.custody records.new).sound → Shows (R.custody records.old).kept (R.custody records.new).kept result (admitted for_decisions (state_of name.now (R.custody records.old).kept) message.now) }
+    ensures sound { (R.custody records.new).sound → (R.custody records.old).sound }
+    ensures clean { (R.custody records.new).clean → (R.custody records.old).clean }
+    ensures stays { (R.custody records.new).clean → (R.custody records.old).sound → IfTold result (R.custody records.new).sound }
+    ensures leaves { (R.custody records.new).clean → (R.custody records.old).sound → LeavesNoMore (R.custody records.old).may_leave (R.custody records.new).may_leave }
+    ensures counts { Counts (R.custody records.old).faults (R.custody records.new).faults result }
 {
     let digest = digest_shown(message).ok_or(ErrorCode::Unauthorized)?;
     gate_opened(alloc, records, name, for_decisions, &digest)?;
@@ -122,15 +122,15 @@ pub(crate) fn admitting_domain<R: Records>(
     name: &Text,
     message: &Message,
 ) -> Result<Opened, Stop>
-    ensures tells { AllStand (R.kept records.old) resources.old → R.sound records.new → Opens (R.kept records.old) (R.kept records.new) (opened_of name.now (R.kept records.old)) result (admitted true (state_of name.now (R.kept records.old)) message.now) }
-    ensures stands { AllStand (R.kept records.old) resources.old → R.sound records.new → AllStand (R.kept records.old) resources.new }
+    ensures tells { AllStand (R.custody records.old).kept resources.old → (R.custody records.new).sound → Opens (R.custody records.old).kept (R.custody records.new).kept (opened_of name.now (R.custody records.old).kept) result (admitted true (state_of name.now (R.custody records.old).kept) message.now) }
+    ensures stands { AllStand (R.custody records.old).kept resources.old → (R.custody records.new).sound → AllStand (R.custody records.old).kept resources.new }
     ensures tally { resources.new.tally ≡ resources.old.tally }
     ensures room { resources.new.room ≡ resources.old.room }
-    ensures sound { R.sound records.new → R.sound records.old }
-    ensures clean { R.clean records.new → R.clean records.old }
-    ensures stays { R.clean records.new → R.sound records.old → IfTold result (R.sound records.new) }
-    ensures leaves { R.clean records.new → R.sound records.old → LeavesNoMore (R.may_leave records.old) (R.may_leave records.new) }
-    ensures counts { Counts (R.faults records.old) (R.faults records.new) result }
+    ensures sound { (R.custody records.new).sound → (R.custody records.old).sound }
+    ensures clean { (R.custody records.new).clean → (R.custody records.old).clean }
+    ensures stays { (R.custody records.new).clean → (R.custody records.old).sound → IfTold result (R.custody records.new).sound }
+    ensures leaves { (R.custody records.new).clean → (R.custody records.old).sound → LeavesNoMore (R.custody records.old).may_leave (R.custody records.new).may_leave }
+    ensures counts { Counts (R.custody records.old).faults (R.custody records.new).faults result }
 {
     let digest = digest_shown(message).ok_or(ErrorCode::Unauthorized)?;
     if let Some(opened) = resources.domain_by_gate(name, &digest) {

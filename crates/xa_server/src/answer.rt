@@ -5,7 +5,7 @@ ghost use Rattle.xa_http.specs.Routes.{named_by};
 ghost use Rattle.xa_http.specs.declared.route.Route.TheVariants as to;
 ghost use Rattle.xa_records.specs.DomainName.{is_domain_name};
 ghost use Rattle.xa_records.specs.Kept.{state_of};
-ghost use Rattle.xa_server.specs.Handling.{Answers, AnswersMessage, AnswersRoute, Counts, IfTold, LeavesAnswer, LeavesMessage, LeavesNoMore, LeavesRoute, WorksMessage, WorksOf, WorksRoute};
+ghost use Rattle.xa_server.specs.Handling.{Answers, AnswersMessage, AnswersRoute, HandlesChange, Counts, IfTold, LeavesAnswer, LeavesMessage, LeavesNoMore, LeavesRoute, WorksMessage, WorksOf, WorksRoute};
 ghost use Rattle.xa_server.specs.Machine.{by_document_command, by_domain_command, by_operator_command};
 ghost use Rattle.xa_server.specs.Owner.{name_if, owner};
 ghost use Rattle.xa_server.specs.Stock.{AllStand};
@@ -40,12 +40,7 @@ fn by_operator_command<R: Records>(
     body: &[u8],
 ) -> Result<Items<u8>, Stop>
     requires { IsTrue (is_domain_name name.now) }
-    ensures answers { R.sound records.new → Answers (R.kept records.old) (R.kept records.new) name.now result (by_operator_command command body.now (state_of name.now (R.kept records.old))) }
-    ensures sound { R.sound records.new → R.sound records.old }
-    ensures clean { R.clean records.new → R.clean records.old }
-    ensures stays { R.clean records.new → R.sound records.old → IfTold result (R.sound records.new) }
-    ensures leaves { R.clean records.new → R.sound records.old → LeavesAnswer (R.may_leave records.old) (R.may_leave records.new) (R.kept records.old) name.now (by_operator_command command body.now (state_of name.now (R.kept records.old))) }
-    ensures counts { Counts (R.faults records.old) (R.faults records.new) result }
+    ensures { HandlesChange (R.custody records.old) (R.custody records.new) name.now result (by_operator_command command body.now) }
 {
     match command {
         OperatorCommand::Create => create(alloc, records, name),
@@ -64,12 +59,12 @@ fn by_domain_command<R: Records>(
     body: &[u8],
 ) -> Result<Items<u8>, Stop>
     requires { command ≢ in_domain.Decide }
-    ensures answers { (moment : ℤ) → R.sound records.new → Answers (R.kept records.old) (R.kept records.new) name.now result (by_domain_command command body.now moment (state_of name.now (R.kept records.old))) }
-    ensures sound { R.sound records.new → R.sound records.old }
-    ensures clean { R.clean records.new → R.clean records.old }
-    ensures stays { R.clean records.new → R.sound records.old → IfTold result (R.sound records.new) }
-    ensures leaves { (moment : ℤ) → R.clean records.new → R.sound records.old → LeavesAnswer (R.may_leave records.old) (R.may_leave records.new) (R.kept records.old) name.now (by_domain_command command body.now moment (state_of name.now (R.kept records.old))) }
-    ensures counts { Counts (R.faults records.old) (R.faults records.new) result }
+    ensures answers { (moment : ℤ) → (R.custody records.new).sound → Answers (R.custody records.old).kept (R.custody records.new).kept name.now result (by_domain_command command body.now moment (state_of name.now (R.custody records.old).kept)) }
+    ensures sound { (R.custody records.new).sound → (R.custody records.old).sound }
+    ensures clean { (R.custody records.new).clean → (R.custody records.old).clean }
+    ensures stays { (R.custody records.new).clean → (R.custody records.old).sound → IfTold result (R.custody records.new).sound }
+    ensures leaves { (moment : ℤ) → (R.custody records.new).clean → (R.custody records.old).sound → LeavesAnswer (R.custody records.old).may_leave (R.custody records.new).may_leave (R.custody records.old).kept name.now (by_domain_command command body.now moment (state_of name.now (R.custody records.old).kept)) }
+    ensures counts { Counts (R.custody records.old).faults (R.custody records.new).faults result }
 {
     match command {
         DomainCommand::Decide => unreachable!(),
@@ -89,12 +84,7 @@ fn by_document_command<R: Records>(
     command: DocumentCommand,
     key: &DocumentKey,
 ) -> Result<Items<u8>, Stop>
-    ensures answers { R.sound records.new → Answers (R.kept records.old) (R.kept records.new) name.now result (by_document_command command key.now (state_of name.now (R.kept records.old))) }
-    ensures sound { R.sound records.new → R.sound records.old }
-    ensures clean { R.clean records.new → R.clean records.old }
-    ensures stays { R.clean records.new → R.sound records.old → IfTold result (R.sound records.new) }
-    ensures leaves { R.clean records.new → R.sound records.old → LeavesAnswer (R.may_leave records.old) (R.may_leave records.new) (R.kept records.old) name.now (by_document_command command key.now (state_of name.now (R.kept records.old))) }
-    ensures counts { Counts (R.faults records.old) (R.faults records.new) result }
+    ensures { HandlesChange (R.custody records.old) (R.custody records.new) name.now result (by_document_command command key.now) }
 {
     match command {
         DocumentCommand::Show => show(alloc, records, name, key),
@@ -115,15 +105,15 @@ fn operator_route<R: Records>(
     domain: Items<u8>,
     command: OperatorCommand,
 ) -> Result<Items<u8>, Stop>
-    ensures answers { (moment : ℤ) → R.sound records.new → AnswersRoute operator (R.kept records.old) (R.kept records.new) (name_if domain) message.now moment (to.Operator domain command) result }
-    ensures stands { AllStand (R.kept records.old) resources.old → R.sound records.new → AllStand (R.kept records.new) resources.new }
+    ensures answers { (moment : ℤ) → (R.custody records.new).sound → AnswersRoute operator (R.custody records.old).kept (R.custody records.new).kept (name_if domain) message.now moment (to.Operator domain command) result }
+    ensures stands { AllStand (R.custody records.old).kept resources.old → (R.custody records.new).sound → AllStand (R.custody records.new).kept resources.new }
     ensures tally { resources.new.tally ≡ resources.old.tally }
     ensures room { resources.new.room ≡ resources.old.room }
-    ensures sound { R.sound records.new → R.sound records.old }
-    ensures clean { R.clean records.new → R.clean records.old }
-    ensures stays { R.clean records.new → R.sound records.old → IfTold result (R.sound records.new) }
-    ensures leaves { (moment : ℤ) → R.clean records.new → R.sound records.old → LeavesRoute (R.may_leave records.old) (R.may_leave records.new) operator (R.kept records.old) (name_if domain) message.now moment (to.Operator domain command) }
-    ensures counts { Counts (R.faults records.old) (R.faults records.new) result }
+    ensures sound { (R.custody records.new).sound → (R.custody records.old).sound }
+    ensures clean { (R.custody records.new).clean → (R.custody records.old).clean }
+    ensures stays { (R.custody records.new).clean → (R.custody records.old).sound → IfTold result (R.custody records.new).sound }
+    ensures leaves { (moment : ℤ) → (R.custody records.new).clean → (R.custody records.old).sound → LeavesRoute (R.custody records.old).may_leave (R.custody records.new).may_leave operator (R.custody records.old).kept (name_if domain) message.now moment (to.Operator domain command) }
+    ensures counts { Counts (R.custody records.old).faults (R.custody records.new).faults result }
 {
     by_operator(operator, message)?;
     let name = name_if(domain).ok_or(ErrorCode::BadDomain)?;
@@ -141,15 +131,15 @@ fn ask_reply<R: Records>(
     message: &Message,
     moment: Moment,
 ) -> Result<Items<u8>, Stop>
-    ensures answers { (operator part : List ℕ) → AllStand (R.kept records.old) resources.old → R.sound records.new → AnswersRoute operator (R.kept records.old) (R.kept records.new) (Some name.now) message.now moment (to.Domain part in_domain.Decide) result }
-    ensures works { AllStand (R.kept records.old) resources.old → R.sound records.new → WorksOf (domain_asked (R.kept records.old) message.now name.now) message.now.body moment result resources.old.tally resources.new.tally }
-    ensures stands { AllStand (R.kept records.old) resources.old → R.sound records.new → AllStand (R.kept records.new) resources.new }
+    ensures answers { (operator part : List ℕ) → AllStand (R.custody records.old).kept resources.old → (R.custody records.new).sound → AnswersRoute operator (R.custody records.old).kept (R.custody records.new).kept (Some name.now) message.now moment (to.Domain part in_domain.Decide) result }
+    ensures works { AllStand (R.custody records.old).kept resources.old → (R.custody records.new).sound → WorksOf (domain_asked (R.custody records.old).kept message.now name.now) message.now.body moment result resources.old.tally resources.new.tally }
+    ensures stands { AllStand (R.custody records.old).kept resources.old → (R.custody records.new).sound → AllStand (R.custody records.new).kept resources.new }
     ensures room { OnErr result (resources.new.room ≡ resources.old.room) }
-    ensures sound { R.sound records.new → R.sound records.old }
-    ensures clean { R.clean records.new → R.clean records.old }
-    ensures stays { R.clean records.new → R.sound records.old → IfTold result (R.sound records.new) }
-    ensures leaves { R.clean records.new → R.sound records.old → LeavesNoMore (R.may_leave records.old) (R.may_leave records.new) }
-    ensures counts { Counts (R.faults records.old) (R.faults records.new) result }
+    ensures sound { (R.custody records.new).sound → (R.custody records.old).sound }
+    ensures clean { (R.custody records.new).clean → (R.custody records.old).clean }
+    ensures stays { (R.custody records.new).clean → (R.custody records.old).sound → IfTold result (R.custody records.new).sound }
+    ensures leaves { (R.custody records.new).clean → (R.custody records.old).sound → LeavesNoMore (R.custody records.old).may_leave (R.custody records.new).may_leave }
+    ensures counts { Counts (R.custody records.old).faults (R.custody records.new).faults result }
 {
     let opened = admitting_domain(alloc, resources, records, name, message)?;
     let body = message.body.as_slice();
@@ -167,15 +157,15 @@ fn administration_reply<R: Records>(
     command: DomainCommand,
 ) -> Result<Items<u8>, Stop>
     requires { command ≢ in_domain.Decide }
-    ensures answers { (operator part : List ℕ) (moment : ℤ) → R.sound records.new → AnswersRoute operator (R.kept records.old) (R.kept records.new) (Some name.now) message.now moment (to.Domain part command) result }
-    ensures stands { AllStand (R.kept records.old) resources.old → R.sound records.new → AllStand (R.kept records.new) resources.new }
+    ensures answers { (operator part : List ℕ) (moment : ℤ) → (R.custody records.new).sound → AnswersRoute operator (R.custody records.old).kept (R.custody records.new).kept (Some name.now) message.now moment (to.Domain part command) result }
+    ensures stands { AllStand (R.custody records.old).kept resources.old → (R.custody records.new).sound → AllStand (R.custody records.new).kept resources.new }
     ensures tally { resources.new.tally ≡ resources.old.tally }
     ensures room { resources.new.room ≡ resources.old.room }
-    ensures sound { R.sound records.new → R.sound records.old }
-    ensures clean { R.clean records.new → R.clean records.old }
-    ensures stays { R.clean records.new → R.sound records.old → IfTold result (R.sound records.new) }
-    ensures leaves { (operator part : List ℕ) (moment : ℤ) → R.clean records.new → R.sound records.old → LeavesRoute (R.may_leave records.old) (R.may_leave records.new) operator (R.kept records.old) (Some name.now) message.now moment (to.Domain part command) }
-    ensures counts { Counts (R.faults records.old) (R.faults records.new) result }
+    ensures sound { (R.custody records.new).sound → (R.custody records.old).sound }
+    ensures clean { (R.custody records.new).clean → (R.custody records.old).clean }
+    ensures stays { (R.custody records.new).clean → (R.custody records.old).sound → IfTold result (R.custody records.new).sound }
+    ensures leaves { (operator part : List ℕ) (moment : ℤ) → (R.custody records.new).clean → (R.custody records.old).sound → LeavesRoute (R.custody records.old).may_leave (R.custody records.new).may_leave operator (R.custody records.old).kept (Some name.now) message.now moment (to.Domain part command) }
+    ensures counts { Counts (R.custody records.old).faults (R.custody records.new).faults result }
 {
     admission(alloc, records, name, is_decision(command), message)?;
     resources.forget(name);
@@ -192,15 +182,15 @@ fn named_domain_route<R: Records>(
     moment: Moment,
     command: DomainCommand,
 ) -> Result<Items<u8>, Stop>
-    ensures answers { (operator part : List ℕ) → name_if part ≡ Some name.now → AllStand (R.kept records.old) resources.old → R.sound records.new → AnswersRoute operator (R.kept records.old) (R.kept records.new) (name_if part) message.now moment (to.Domain part command) result }
-    ensures works { (part : List ℕ) → name_if part ≡ Some name.now → AllStand (R.kept records.old) resources.old → R.sound records.new → WorksRoute (R.kept records.old) message.now moment (to.Domain part command) result resources.old.tally resources.new.tally }
-    ensures stands { AllStand (R.kept records.old) resources.old → R.sound records.new → AllStand (R.kept records.new) resources.new }
+    ensures answers { (operator part : List ℕ) → name_if part ≡ Some name.now → AllStand (R.custody records.old).kept resources.old → (R.custody records.new).sound → AnswersRoute operator (R.custody records.old).kept (R.custody records.new).kept (name_if part) message.now moment (to.Domain part command) result }
+    ensures works { (part : List ℕ) → name_if part ≡ Some name.now → AllStand (R.custody records.old).kept resources.old → (R.custody records.new).sound → WorksRoute (R.custody records.old).kept message.now moment (to.Domain part command) result resources.old.tally resources.new.tally }
+    ensures stands { AllStand (R.custody records.old).kept resources.old → (R.custody records.new).sound → AllStand (R.custody records.new).kept resources.new }
     ensures room { OnErr result (resources.new.room ≡ resources.old.room) }
-    ensures sound { R.sound records.new → R.sound records.old }
-    ensures clean { R.clean records.new → R.clean records.old }
-    ensures stays { R.clean records.new → R.sound records.old → IfTold result (R.sound records.new) }
-    ensures leaves { (operator part : List ℕ) → name_if part ≡ Some name.now → R.clean records.new → R.sound records.old → LeavesRoute (R.may_leave records.old) (R.may_leave records.new) operator (R.kept records.old) (name_if part) message.now moment (to.Domain part command) }
-    ensures counts { Counts (R.faults records.old) (R.faults records.new) result }
+    ensures sound { (R.custody records.new).sound → (R.custody records.old).sound }
+    ensures clean { (R.custody records.new).clean → (R.custody records.old).clean }
+    ensures stays { (R.custody records.new).clean → (R.custody records.old).sound → IfTold result (R.custody records.new).sound }
+    ensures leaves { (operator part : List ℕ) → name_if part ≡ Some name.now → (R.custody records.new).clean → (R.custody records.old).sound → LeavesRoute (R.custody records.old).may_leave (R.custody records.new).may_leave operator (R.custody records.old).kept (name_if part) message.now moment (to.Domain part command) }
+    ensures counts { Counts (R.custody records.old).faults (R.custody records.new).faults result }
 {
     match command {
         DomainCommand::Decide => ask_reply(alloc, resources, records, name, message, moment),
@@ -218,15 +208,15 @@ fn domain_route<R: Records>(
     domain: Items<u8>,
     command: DomainCommand,
 ) -> Result<Items<u8>, Stop>
-    ensures answers { (operator : List ℕ) → AllStand (R.kept records.old) resources.old → R.sound records.new → AnswersRoute operator (R.kept records.old) (R.kept records.new) (name_if domain) message.now moment (to.Domain domain command) result }
-    ensures works { AllStand (R.kept records.old) resources.old → R.sound records.new → WorksRoute (R.kept records.old) message.now moment (to.Domain domain command) result resources.old.tally resources.new.tally }
-    ensures stands { AllStand (R.kept records.old) resources.old → R.sound records.new → AllStand (R.kept records.new) resources.new }
+    ensures answers { (operator : List ℕ) → AllStand (R.custody records.old).kept resources.old → (R.custody records.new).sound → AnswersRoute operator (R.custody records.old).kept (R.custody records.new).kept (name_if domain) message.now moment (to.Domain domain command) result }
+    ensures works { AllStand (R.custody records.old).kept resources.old → (R.custody records.new).sound → WorksRoute (R.custody records.old).kept message.now moment (to.Domain domain command) result resources.old.tally resources.new.tally }
+    ensures stands { AllStand (R.custody records.old).kept resources.old → (R.custody records.new).sound → AllStand (R.custody records.new).kept resources.new }
     ensures room { OnErr result (resources.new.room ≡ resources.old.room) }
-    ensures sound { R.sound records.new → R.sound records.old }
-    ensures clean { R.clean records.new → R.clean records.old }
-    ensures stays { R.clean records.new → R.sound records.old → IfTold result (R.sound records.new) }
-    ensures leaves { (operator : List ℕ) → R.clean records.new → R.sound records.old → LeavesRoute (R.may_leave records.old) (R.may_leave records.new) operator (R.kept records.old) (name_if domain) message.now moment (to.Domain domain command) }
-    ensures counts { Counts (R.faults records.old) (R.faults records.new) result }
+    ensures sound { (R.custody records.new).sound → (R.custody records.old).sound }
+    ensures clean { (R.custody records.new).clean → (R.custody records.old).clean }
+    ensures stays { (R.custody records.new).clean → (R.custody records.old).sound → IfTold result (R.custody records.new).sound }
+    ensures leaves { (operator : List ℕ) → (R.custody records.new).clean → (R.custody records.old).sound → LeavesRoute (R.custody records.old).may_leave (R.custody records.new).may_leave operator (R.custody records.old).kept (name_if domain) message.now moment (to.Domain domain command) }
+    ensures counts { Counts (R.custody records.old).faults (R.custody records.new).faults result }
 {
     let name = name_if(domain).ok_or(ErrorCode::Unauthorized)?;
     named_domain_route(alloc, resources, records, &name, message, moment, command)
@@ -243,15 +233,15 @@ fn document_route<R: Records>(
     parts: DocumentParts,
     command: DocumentCommand,
 ) -> Result<Items<u8>, Stop>
-    ensures answers { (operator : List ℕ) (moment : ℤ) → R.sound records.new → AnswersRoute operator (R.kept records.old) (R.kept records.new) (name_if domain) message.now moment (to.Document domain parts command) result }
-    ensures stands { AllStand (R.kept records.old) resources.old → R.sound records.new → AllStand (R.kept records.new) resources.new }
+    ensures answers { (operator : List ℕ) (moment : ℤ) → (R.custody records.new).sound → AnswersRoute operator (R.custody records.old).kept (R.custody records.new).kept (name_if domain) message.now moment (to.Document domain parts command) result }
+    ensures stands { AllStand (R.custody records.old).kept resources.old → (R.custody records.new).sound → AllStand (R.custody records.new).kept resources.new }
     ensures tally { resources.new.tally ≡ resources.old.tally }
     ensures room { resources.new.room ≡ resources.old.room }
-    ensures sound { R.sound records.new → R.sound records.old }
-    ensures clean { R.clean records.new → R.clean records.old }
-    ensures stays { R.clean records.new → R.sound records.old → IfTold result (R.sound records.new) }
-    ensures leaves { (operator : List ℕ) (moment : ℤ) → R.clean records.new → R.sound records.old → LeavesRoute (R.may_leave records.old) (R.may_leave records.new) operator (R.kept records.old) (name_if domain) message.now moment (to.Document domain parts command) }
-    ensures counts { Counts (R.faults records.old) (R.faults records.new) result }
+    ensures sound { (R.custody records.new).sound → (R.custody records.old).sound }
+    ensures clean { (R.custody records.new).clean → (R.custody records.old).clean }
+    ensures stays { (R.custody records.new).clean → (R.custody records.old).sound → IfTold result (R.custody records.new).sound }
+    ensures leaves { (operator : List ℕ) (moment : ℤ) → (R.custody records.new).clean → (R.custody records.old).sound → LeavesRoute (R.custody records.old).may_leave (R.custody records.new).may_leave operator (R.custody records.old).kept (name_if domain) message.now moment (to.Document domain parts command) }
+    ensures counts { Counts (R.custody records.old).faults (R.custody records.new).faults result }
 {
     let name = name_if(domain).ok_or(ErrorCode::Unauthorized)?;
     admission(alloc, records, &name, false, message)?;
@@ -270,15 +260,15 @@ fn answer_route<R: Records>(
     moment: Moment,
     route: Route,
 ) -> Result<Items<u8>, Stop>
-    ensures answers { AllStand (R.kept records.old) resources.old → R.sound records.new → AnswersRoute operator (R.kept records.old) (R.kept records.new) (option_and_then name_if (named_by route)) message.now moment route result }
-    ensures works { AllStand (R.kept records.old) resources.old → R.sound records.new → WorksRoute (R.kept records.old) message.now moment route result resources.old.tally resources.new.tally }
-    ensures stands { AllStand (R.kept records.old) resources.old → R.sound records.new → AllStand (R.kept records.new) resources.new }
+    ensures answers { AllStand (R.custody records.old).kept resources.old → (R.custody records.new).sound → AnswersRoute operator (R.custody records.old).kept (R.custody records.new).kept (option_and_then name_if (named_by route)) message.now moment route result }
+    ensures works { AllStand (R.custody records.old).kept resources.old → (R.custody records.new).sound → WorksRoute (R.custody records.old).kept message.now moment route result resources.old.tally resources.new.tally }
+    ensures stands { AllStand (R.custody records.old).kept resources.old → (R.custody records.new).sound → AllStand (R.custody records.new).kept resources.new }
     ensures room { OnErr result (resources.new.room ≡ resources.old.room) }
-    ensures sound { R.sound records.new → R.sound records.old }
-    ensures clean { R.clean records.new → R.clean records.old }
-    ensures stays { R.clean records.new → R.sound records.old → IfTold result (R.sound records.new) }
-    ensures leaves { R.clean records.new → R.sound records.old → LeavesRoute (R.may_leave records.old) (R.may_leave records.new) operator (R.kept records.old) (option_and_then name_if (named_by route)) message.now moment route }
-    ensures counts { Counts (R.faults records.old) (R.faults records.new) result }
+    ensures sound { (R.custody records.new).sound → (R.custody records.old).sound }
+    ensures clean { (R.custody records.new).clean → (R.custody records.old).clean }
+    ensures stays { (R.custody records.new).clean → (R.custody records.old).sound → IfTold result (R.custody records.new).sound }
+    ensures leaves { (R.custody records.new).clean → (R.custody records.old).sound → LeavesRoute (R.custody records.old).may_leave (R.custody records.new).may_leave operator (R.custody records.old).kept (option_and_then name_if (named_by route)) message.now moment route }
+    ensures counts { Counts (R.custody records.old).faults (R.custody records.new).faults result }
 {
     match route {
         Route::Domains => {
@@ -311,15 +301,15 @@ pub(crate) fn answer<R: Records>(
     moment: Moment,
     message: &Message,
 ) -> Result<Items<u8>, Stop>
-    ensures answers { AllStand (R.kept records.old) resources.old → R.sound records.new → AnswersMessage operator (R.kept records.old) (R.kept records.new) (owner message.now) message.now moment result }
-    ensures works { AllStand (R.kept records.old) resources.old → R.sound records.new → WorksMessage (R.kept records.old) message.now moment result resources.old.tally resources.new.tally }
-    ensures stands { AllStand (R.kept records.old) resources.old → R.sound records.new → AllStand (R.kept records.new) resources.new }
+    ensures answers { AllStand (R.custody records.old).kept resources.old → (R.custody records.new).sound → AnswersMessage operator (R.custody records.old).kept (R.custody records.new).kept (owner message.now) message.now moment result }
+    ensures works { AllStand (R.custody records.old).kept resources.old → (R.custody records.new).sound → WorksMessage (R.custody records.old).kept message.now moment result resources.old.tally resources.new.tally }
+    ensures stands { AllStand (R.custody records.old).kept resources.old → (R.custody records.new).sound → AllStand (R.custody records.new).kept resources.new }
     ensures room { OnErr result (resources.new.room ≡ resources.old.room) }
-    ensures sound { R.sound records.new → R.sound records.old }
-    ensures clean { R.clean records.new → R.clean records.old }
-    ensures stays { R.clean records.new → R.sound records.old → IfTold result (R.sound records.new) }
-    ensures leaves { R.clean records.new → R.sound records.old → LeavesMessage (R.may_leave records.old) (R.may_leave records.new) operator (R.kept records.old) (owner message.now) message.now moment }
-    ensures counts { Counts (R.faults records.old) (R.faults records.new) result }
+    ensures sound { (R.custody records.new).sound → (R.custody records.old).sound }
+    ensures clean { (R.custody records.new).clean → (R.custody records.old).clean }
+    ensures stays { (R.custody records.new).clean → (R.custody records.old).sound → IfTold result (R.custody records.new).sound }
+    ensures leaves { (R.custody records.new).clean → (R.custody records.old).sound → LeavesMessage (R.custody records.old).may_leave (R.custody records.new).may_leave operator (R.custody records.old).kept (owner message.now) message.now moment }
+    ensures counts { Counts (R.custody records.old).faults (R.custody records.new).faults result }
 {
     let route = routes.route(alloc, message)?;
     answer_route(alloc, operator, resources, records, message, moment, route)

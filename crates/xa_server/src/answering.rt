@@ -30,9 +30,9 @@ fn answer_message<R: Records, W: Write, C: Clock>(
     writer: &mut W,
     clock: &mut C,
 ) -> Turn
-    ensures answered { R.sound server.new.records → IsAnsweredAs result (world R.kept server.old) (world R.kept server.new) message.now
+    ensures answered { (R.custody server.new.records).sound → IsAnsweredAs result (world R.custody server.old) (world R.custody server.new) message.now
         (C.told clock.old) (C.told clock.new) (W.contents writer.old) (W.contents writer.new) }
-    ensures sound { R.sound server.new.records → R.sound server.old.records }
+    ensures sound { (R.custody server.new.records).sound → (R.custody server.old.records).sound }
 {
     let Some(moment) = clock.now() else {
         return Turn::Ends(Driven::NoClock);
@@ -69,9 +69,9 @@ fn answer_next<R: Records, W: Write, C: Clock>(
     writer: &mut W,
     clock: &mut C,
 ) -> Turn
-    ensures turn { R.sound server.new.records → IsTurn result (world R.kept server.old) (world R.kept server.new) session.old session.new
+    ensures turn { (R.custody server.new.records).sound → IsTurn result (world R.custody server.old) (world R.custody server.new) session.old session.new
         (C.told clock.old) (C.told clock.new) (W.contents writer.old) (W.contents writer.new) }
-    ensures sound { R.sound server.new.records → R.sound server.old.records }
+    ensures sound { (R.custody server.new.records).sound → (R.custody server.old.records).sound }
 {
     match session.next() {
         Ok(Next::Message(message)) => answer_message(server, &message, writer, clock),
@@ -91,9 +91,9 @@ pub(crate) fn answer_held<R: Records, W: Write, C: Clock>(
     writer: &mut W,
     clock: &mut C,
 ) -> Option<Driven>
-    ensures held { R.sound server.new.records → IsHeldAnswered result (world R.kept server.old) (world R.kept server.new) session.old session.new
+    ensures held { (R.custody server.new.records).sound → IsHeldAnswered result (world R.custody server.old) (world R.custody server.new) session.old session.new
         (C.told clock.old) (C.told clock.new) (W.contents writer.old) (W.contents writer.new) }
-    ensures sound { R.sound server.new.records → R.sound server.old.records }
+    ensures sound { (R.custody server.new.records).sound → (R.custody server.old.records).sound }
 {
     for _ in 0..u64::MAX {
         match answer_next(alloc, server, session, writer, clock) {

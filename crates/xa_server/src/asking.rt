@@ -4,12 +4,12 @@ ghost use Rattle.std.specs.Prelude.{◌≡◌, Some, OnErr};
 ghost use Rattle.xa_http.specs.declared.command.DomainCommand.TheVariants as domain;
 ghost use Rattle.xa_records.specs.Kept.{state_of};
 ghost use Rattle.xa_server.specs.Gates.{opened_of};
-ghost use Rattle.xa_server.specs.Handling.{Answers, Counts, IfTold, IsAsked, IsFresh, IsReplied, IsResponse, LeavesNoMore, MakesReady, Tells, key_opened, reply_told, view_told, worked_in};
+ghost use Rattle.xa_server.specs.Handling.{Answers, Counts, IfTold, IsAsked, IsFresh, IsResponseReply, IsResponse, LeavesNoMore, MakesReady, Shows, key_opened, key_within, reply_told, view_told, worked_in};
 ghost use Rattle.xa_server.specs.Machine.{by_domain_command};
 ghost use Rattle.xa_server.specs.Stock.{AllStand};
 ghost use Rattle.xa_server.specs.Work.{body_held, response_of};
 
-use crate::decisions::Decisions;
+use crate::decisions::{Decisions, key_within};
 use crate::error_code::ErrorCode;
 use crate::opened::Opened;
 use crate::ready::{Ready, bytes_of_tree, bytes_of_view};
@@ -35,12 +35,12 @@ fn ready_view<R: Records>(
     epoch: u64,
     limit: u64,
 ) -> Result<Ready, Stop>
-    ensures tells { R.sound records.new → MakesReady (R.kept records.old) (R.kept records.new) epoch result (view_told (state_of name.now (R.kept records.old))) }
-    ensures sound { R.sound records.new → R.sound records.old }
-    ensures clean { R.clean records.new → R.clean records.old }
-    ensures stays { R.clean records.new → R.sound records.old → IfTold result (R.sound records.new) }
-    ensures leaves { R.clean records.new → R.sound records.old → LeavesNoMore (R.may_leave records.old) (R.may_leave records.new) }
-    ensures counts { Counts (R.faults records.old) (R.faults records.new) result }
+    ensures tells { (R.custody records.new).sound → MakesReady (R.custody records.old).kept (R.custody records.new).kept epoch result (view_told (state_of name.now (R.custody records.old).kept)) }
+    ensures sound { (R.custody records.new).sound → (R.custody records.old).sound }
+    ensures clean { (R.custody records.new).clean → (R.custody records.old).clean }
+    ensures stays { (R.custody records.new).clean → (R.custody records.old).sound → IfTold result (R.custody records.new).sound }
+    ensures leaves { (R.custody records.new).clean → (R.custody records.old).sound → LeavesNoMore (R.custody records.old).may_leave (R.custody records.new).may_leave }
+    ensures counts { Counts (R.custody records.old).faults (R.custody records.new).faults result }
 {
     let kept = records
         .view(alloc, name)?
@@ -69,13 +69,15 @@ fn response_by(alloc: Global, view: &View, body: &[u8], moment: Moment) -> Resul
 fn reply_by(
     alloc: Global,
     decisions: &mut Decisions,
-    key: Key,
+    opened: Opened,
+    key: Option<Key>,
     view: &View,
     body: &[u8],
     moment: Moment,
 ) -> Result<Items<u8>, Stop>
-    ensures tells { IsReplied (response_of view.now body.now moment) result }
-    ensures works { IsFresh key (response_of view.now body.now moment) result decisions.old decisions.new }
+    requires { key ≡ key_within (key_opened opened body.now) }
+    ensures tells { IsResponseReply (response_of view.now body.now moment) result }
+    ensures works { IsFresh (key_opened opened body.now) (response_of view.now body.now moment) result decisions.old decisions.new }
 {
     let responded = response_by(alloc, view, body, moment)?;
     let reply = decision_reply(alloc, responded.body.as_slice())?;
@@ -91,20 +93,20 @@ fn reply_by_kept<R: Records>(
     records: &mut R,
     name: &Text,
     opened: Opened,
-    key: Key,
+    key: Option<Key>,
     body: &[u8],
     moment: Moment,
 ) -> Result<Items<u8>, Stop>
-    requires { key ≡ key_opened opened body.now }
-    ensures tells { R.sound records.new → Tells (R.kept records.old) (R.kept records.new) result (reply_told body.now moment (state_of name.now (R.kept records.old))) }
-    ensures works { R.sound records.new → IsFresh key (worked_in (state_of name.now (R.kept records.old)) body.now moment) result resources.old.tally resources.new.tally }
-    ensures stands { opened_of name.now (R.kept records.old) ≡ Some opened → AllStand (R.kept records.old) resources.old → R.sound records.new → AllStand (R.kept records.old) resources.new }
+    requires { key ≡ key_within (key_opened opened body.now) }
+    ensures tells { (R.custody records.new).sound → Shows (R.custody records.old).kept (R.custody records.new).kept result (reply_told body.now moment (state_of name.now (R.custody records.old).kept)) }
+    ensures works { (R.custody records.new).sound → IsFresh (key_opened opened body.now) (worked_in (state_of name.now (R.custody records.old).kept) body.now moment) result resources.old.tally resources.new.tally }
+    ensures stands { opened_of name.now (R.custody records.old).kept ≡ Some opened → AllStand (R.custody records.old).kept resources.old → (R.custody records.new).sound → AllStand (R.custody records.old).kept resources.new }
     ensures room { OnErr result (resources.new.room ≡ resources.old.room) }
-    ensures sound { R.sound records.new → R.sound records.old }
-    ensures clean { R.clean records.new → R.clean records.old }
-    ensures stays { R.clean records.new → R.sound records.old → IfTold result (R.sound records.new) }
-    ensures leaves { R.clean records.new → R.sound records.old → LeavesNoMore (R.may_leave records.old) (R.may_leave records.new) }
-    ensures counts { Counts (R.faults records.old) (R.faults records.new) result }
+    ensures sound { (R.custody records.new).sound → (R.custody records.old).sound }
+    ensures clean { (R.custody records.new).clean → (R.custody records.old).clean }
+    ensures stays { (R.custody records.new).clean → (R.custody records.old).sound → IfTold result (R.custody records.new).sound }
+    ensures leaves { (R.custody records.new).clean → (R.custody records.old).sound → LeavesNoMore (R.custody records.old).may_leave (R.custody records.new).may_leave }
+    ensures counts { Counts (R.custody records.old).faults (R.custody records.new).faults result }
 {
     let ready = ready_view(
         alloc,
@@ -117,6 +119,7 @@ fn reply_by_kept<R: Records>(
     let reply = reply_by(
         alloc,
         &mut resources.decisions,
+        opened,
         key,
         &ready.view,
         body,
@@ -133,23 +136,31 @@ fn fresh_reply<R: Records>(
     records: &mut R,
     name: &Text,
     opened: Opened,
-    key: Key,
+    key: Option<Key>,
     body: &[u8],
     moment: Moment,
 ) -> Result<Items<u8>, Stop>
-    requires { key ≡ key_opened opened body.now }
-    ensures tells { opened_of name.now (R.kept records.old) ≡ Some opened → AllStand (R.kept records.old) resources.old → R.sound records.new → Tells (R.kept records.old) (R.kept records.new) result (reply_told body.now moment (state_of name.now (R.kept records.old))) }
-    ensures works { opened_of name.now (R.kept records.old) ≡ Some opened → AllStand (R.kept records.old) resources.old → R.sound records.new → IsFresh key (worked_in (state_of name.now (R.kept records.old)) body.now moment) result resources.old.tally resources.new.tally }
-    ensures stands { opened_of name.now (R.kept records.old) ≡ Some opened → AllStand (R.kept records.old) resources.old → R.sound records.new → AllStand (R.kept records.old) resources.new }
+    requires { key ≡ key_within (key_opened opened body.now) }
+    ensures tells { opened_of name.now (R.custody records.old).kept ≡ Some opened → AllStand (R.custody records.old).kept resources.old → (R.custody records.new).sound → Shows (R.custody records.old).kept (R.custody records.new).kept result (reply_told body.now moment (state_of name.now (R.custody records.old).kept)) }
+    ensures works { opened_of name.now (R.custody records.old).kept ≡ Some opened → AllStand (R.custody records.old).kept resources.old → (R.custody records.new).sound → IsFresh (key_opened opened body.now) (worked_in (state_of name.now (R.custody records.old).kept) body.now moment) result resources.old.tally resources.new.tally }
+    ensures stands { opened_of name.now (R.custody records.old).kept ≡ Some opened → AllStand (R.custody records.old).kept resources.old → (R.custody records.new).sound → AllStand (R.custody records.old).kept resources.new }
     ensures room { OnErr result (resources.new.room ≡ resources.old.room) }
-    ensures sound { R.sound records.new → R.sound records.old }
-    ensures clean { R.clean records.new → R.clean records.old }
-    ensures stays { R.clean records.new → R.sound records.old → IfTold result (R.sound records.new) }
-    ensures leaves { R.clean records.new → R.sound records.old → LeavesNoMore (R.may_leave records.old) (R.may_leave records.new) }
-    ensures counts { Counts (R.faults records.old) (R.faults records.new) result }
+    ensures sound { (R.custody records.new).sound → (R.custody records.old).sound }
+    ensures clean { (R.custody records.new).clean → (R.custody records.old).clean }
+    ensures stays { (R.custody records.new).clean → (R.custody records.old).sound → IfTold result (R.custody records.new).sound }
+    ensures leaves { (R.custody records.new).clean → (R.custody records.old).sound → LeavesNoMore (R.custody records.old).may_leave (R.custody records.new).may_leave }
+    ensures counts { Counts (R.custody records.old).faults (R.custody records.new).faults result }
 {
     if let Some(view) = resources.views.find(opened.number, opened.epoch) {
-        let reply = reply_by(alloc, &mut resources.decisions, key, view, body, moment)?;
+        let reply = reply_by(
+            alloc,
+            &mut resources.decisions,
+            opened,
+            key,
+            view,
+            body,
+            moment,
+        )?;
         resources.views.touch(opened.number);
         return Ok(reply);
     }
@@ -167,20 +178,23 @@ pub(crate) fn decide<R: Records>(
     body: &[u8],
     moment: Moment,
 ) -> Result<Items<u8>, Stop>
-    ensures answers { opened_of name.now (R.kept records.old) ≡ Some opened → AllStand (R.kept records.old) resources.old → R.sound records.new → Answers (R.kept records.old) (R.kept records.new) name.now result (by_domain_command domain.Decide body.now moment (state_of name.now (R.kept records.old))) }
-    ensures same { opened_of name.now (R.kept records.old) ≡ Some opened → AllStand (R.kept records.old) resources.old → R.sound records.new → R.kept records.new ≡ R.kept records.old }
-    ensures works { opened_of name.now (R.kept records.old) ≡ Some opened → AllStand (R.kept records.old) resources.old → R.sound records.new → IsAsked (key_opened opened body.now) (body_held (key_opened opened body.now) body.now resources.old.tally) (worked_in (state_of name.now (R.kept records.old)) body.now moment) result resources.old.tally resources.new.tally }
-    ensures stands { opened_of name.now (R.kept records.old) ≡ Some opened → AllStand (R.kept records.old) resources.old → R.sound records.new → AllStand (R.kept records.old) resources.new }
+    ensures answers { opened_of name.now (R.custody records.old).kept ≡ Some opened → AllStand (R.custody records.old).kept resources.old → (R.custody records.new).sound → Answers (R.custody records.old).kept (R.custody records.new).kept name.now result (by_domain_command domain.Decide body.now moment (state_of name.now (R.custody records.old).kept)) }
+    ensures same { opened_of name.now (R.custody records.old).kept ≡ Some opened → AllStand (R.custody records.old).kept resources.old → (R.custody records.new).sound → (R.custody records.new).kept ≡ (R.custody records.old).kept }
+    ensures works { opened_of name.now (R.custody records.old).kept ≡ Some opened → AllStand (R.custody records.old).kept resources.old → (R.custody records.new).sound → IsAsked (key_opened opened body.now) (body_held (key_opened opened body.now) body.now resources.old.tally) (worked_in (state_of name.now (R.custody records.old).kept) body.now moment) result resources.old.tally resources.new.tally }
+    ensures stands { opened_of name.now (R.custody records.old).kept ≡ Some opened → AllStand (R.custody records.old).kept resources.old → (R.custody records.new).sound → AllStand (R.custody records.old).kept resources.new }
     ensures room { OnErr result (resources.new.room ≡ resources.old.room) }
-    ensures sound { R.sound records.new → R.sound records.old }
-    ensures clean { R.clean records.new → R.clean records.old }
-    ensures stays { R.clean records.new → R.sound records.old → IfTold result (R.sound records.new) }
-    ensures leaves { R.clean records.new → R.sound records.old → LeavesNoMore (R.may_leave records.old) (R.may_leave records.new) }
-    ensures counts { Counts (R.faults records.old) (R.faults records.new) result }
+    ensures sound { (R.custody records.new).sound → (R.custody records.old).sound }
+    ensures clean { (R.custody records.new).clean → (R.custody records.old).clean }
+    ensures stays { (R.custody records.new).clean → (R.custody records.old).sound → IfTold result (R.custody records.new).sound }
+    ensures leaves { (R.custody records.new).clean → (R.custody records.old).sound → LeavesNoMore (R.custody records.old).may_leave (R.custody records.new).may_leave }
+    ensures counts { Counts (R.custody records.old).faults (R.custody records.new).faults result }
 {
-    let key = Key::new(alloc, opened.number, opened.epoch, body)?;
-    if let Some(reply) = resources.decisions.held_reply(alloc, &key, body)? {
+    let Some(key) = key_within(alloc, opened, body)? else {
+        return fresh_reply(alloc, resources, records, name, opened, None, body, moment);
+    };
+    if let Some(reply) = resources.decisions.held_reply(alloc, &key)? {
         return Ok(reply);
     }
+    let key = Some(key);
     fresh_reply(alloc, resources, records, name, opened, key, body, moment)
 }

@@ -8,8 +8,7 @@ ghost use Rattle.xa_decide.specs.Rows.{rows_of};
 ghost use Rattle.xa_records.specs.Changes.{activity_set, created, removed, root_set, source_set, upload_of, uploaded, within};
 ghost use Rattle.xa_records.specs.DomainName.{is_domain_name};
 ghost use Rattle.xa_records.specs.DomainState.{key_of};
-ghost use Rattle.xa_records.specs.Kept.{state_of};
-ghost use Rattle.xa_server.specs.Handling.{Answers, Counts, IfTold, LeavesAnswer, by_body};
+ghost use Rattle.xa_server.specs.Handling.{HandlesChange, by_body};
 ghost use Rattle.xa_server.specs.Machine.{by_document_command, by_operator_command, changed, upload_reply};
 ghost use Rattle.xa_server.specs.Replies.{created_reply, done_reply};
 
@@ -23,19 +22,13 @@ use xa_records::{Digest, Records, Upload};
 use xa_value::{Items, Text};
 
 /// Makes a domain in which nothing has been put yet.
-#[tactic(auto, using(crate::proofs::GrowthLemmas::moves))]
 pub(crate) fn create<R: Records>(
     alloc: Global,
     records: &mut R,
     name: &Text,
 ) -> Result<Items<u8>, Stop>
     requires { IsTrue (is_domain_name name.now) }
-    ensures answers { R.sound records.new → Answers (R.kept records.old) (R.kept records.new) name.now result (changed created_reply created (state_of name.now (R.kept records.old))) }
-    ensures sound { R.sound records.new → R.sound records.old }
-    ensures clean { R.clean records.new → R.clean records.old }
-    ensures stays { R.clean records.new → R.sound records.old → IfTold result (R.sound records.new) }
-    ensures leaves { R.clean records.new → R.sound records.old → LeavesAnswer (R.may_leave records.old) (R.may_leave records.new) (R.kept records.old) name.now (changed created_reply created (state_of name.now (R.kept records.old))) }
-    ensures counts { Counts (R.faults records.old) (R.faults records.new) result }
+    ensures { HandlesChange (R.custody records.old) (R.custody records.new) name.now result (changed created_reply created) }
 {
     let reply = created_reply(alloc)?;
     records.create(alloc, name)?;
@@ -43,18 +36,12 @@ pub(crate) fn create<R: Records>(
 }
 
 /// Removes the domain with all that is in it.
-#[tactic(auto, using(crate::proofs::GrowthLemmas::moves))]
 pub(crate) fn remove<R: Records>(
     alloc: Global,
     records: &mut R,
     name: &Text,
 ) -> Result<Items<u8>, Stop>
-    ensures answers { R.sound records.new → Answers (R.kept records.old) (R.kept records.new) name.now result (changed done_reply removed (state_of name.now (R.kept records.old))) }
-    ensures sound { R.sound records.new → R.sound records.old }
-    ensures clean { R.clean records.new → R.clean records.old }
-    ensures stays { R.clean records.new → R.sound records.old → IfTold result (R.sound records.new) }
-    ensures leaves { R.clean records.new → R.sound records.old → LeavesAnswer (R.may_leave records.old) (R.may_leave records.new) (R.kept records.old) name.now (changed done_reply removed (state_of name.now (R.kept records.old))) }
-    ensures counts { Counts (R.faults records.old) (R.faults records.new) result }
+    ensures { HandlesChange (R.custody records.old) (R.custody records.new) name.now result (changed done_reply removed) }
 {
     let reply = done_reply(alloc)?;
     records.remove(alloc, name)?;
@@ -62,19 +49,13 @@ pub(crate) fn remove<R: Records>(
 }
 
 /// Puts the token of the body into the domain, or gives it another role.
-#[tactic(auto, using(crate::proofs::GrowthLemmas::moves))]
 pub(crate) fn put_token<R: Records>(
     alloc: Global,
     records: &mut R,
     name: &Text,
     body: &[u8],
 ) -> Result<Items<u8>, Stop>
-    ensures answers { R.sound records.new → Answers (R.kept records.old) (R.kept records.new) name.now result (by_operator_command operator.PutToken body.now (state_of name.now (R.kept records.old))) }
-    ensures sound { R.sound records.new → R.sound records.old }
-    ensures clean { R.clean records.new → R.clean records.old }
-    ensures stays { R.clean records.new → R.sound records.old → IfTold result (R.sound records.new) }
-    ensures leaves { R.clean records.new → R.sound records.old → LeavesAnswer (R.may_leave records.old) (R.may_leave records.new) (R.kept records.old) name.now (by_operator_command operator.PutToken body.now (state_of name.now (R.kept records.old))) }
-    ensures counts { Counts (R.faults records.old) (R.faults records.new) result }
+    ensures { HandlesChange (R.custody records.old) (R.custody records.new) name.now result (by_operator_command operator.PutToken body.now) }
 {
     let new = read_new_token(alloc, body)?;
     let reply = done_reply(alloc)?;
@@ -84,19 +65,13 @@ pub(crate) fn put_token<R: Records>(
 }
 
 /// Takes the token of the body from the domain.
-#[tactic(auto, using(crate::proofs::GrowthLemmas::moves))]
 pub(crate) fn drop_token<R: Records>(
     alloc: Global,
     records: &mut R,
     name: &Text,
     body: &[u8],
 ) -> Result<Items<u8>, Stop>
-    ensures answers { R.sound records.new → Answers (R.kept records.old) (R.kept records.new) name.now result (by_operator_command operator.DropToken body.now (state_of name.now (R.kept records.old))) }
-    ensures sound { R.sound records.new → R.sound records.old }
-    ensures clean { R.clean records.new → R.clean records.old }
-    ensures stays { R.clean records.new → R.sound records.old → IfTold result (R.sound records.new) }
-    ensures leaves { R.clean records.new → R.sound records.old → LeavesAnswer (R.may_leave records.old) (R.may_leave records.new) (R.kept records.old) name.now (by_operator_command operator.DropToken body.now (state_of name.now (R.kept records.old))) }
-    ensures counts { Counts (R.faults records.old) (R.faults records.new) result }
+    ensures { HandlesChange (R.custody records.old) (R.custody records.new) name.now result (by_operator_command operator.DropToken body.now) }
 {
     let token = read_old_token(alloc, body)?;
     let reply = done_reply(alloc)?;
@@ -116,19 +91,13 @@ fn key_of(parsed: &Parsed) -> Result<DocumentKey, AllocError>
 }
 
 /// Keeps the document that the body is; the very text again changes nothing. Which of both it is isn't known before, so both replies are made.
-#[tactic(auto, using(crate::proofs::GrowthLemmas::moves))]
 pub(crate) fn upload<R: Records>(
     alloc: Global,
     records: &mut R,
     name: &Text,
     body: &[u8],
 ) -> Result<Items<u8>, Stop>
-    ensures answers { R.sound records.new → Answers (R.kept records.old) (R.kept records.new) name.now result (by_body (λ parsed state. changed (upload_reply (upload_of (key_of parsed) state)) (within (uploaded (key_of parsed) body.now)) state) (document_of body.now) (state_of name.now (R.kept records.old))) }
-    ensures sound { R.sound records.new → R.sound records.old }
-    ensures clean { R.clean records.new → R.clean records.old }
-    ensures stays { R.clean records.new → R.sound records.old → IfTold result (R.sound records.new) }
-    ensures leaves { R.clean records.new → R.sound records.old → LeavesAnswer (R.may_leave records.old) (R.may_leave records.new) (R.kept records.old) name.now (by_body (λ parsed state. changed (upload_reply (upload_of (key_of parsed) state)) (within (uploaded (key_of parsed) body.now)) state) (document_of body.now) (state_of name.now (R.kept records.old))) }
-    ensures counts { Counts (R.faults records.old) (R.faults records.new) result }
+    ensures { HandlesChange (R.custody records.old) (R.custody records.new) name.now result (by_body (λ parsed state. changed (upload_reply (upload_of (key_of parsed) state)) (within (uploaded (key_of parsed) body.now)) state) (document_of body.now)) }
 {
     let parsed = Parsed::read(alloc, body)?;
     let key = key_of(&parsed)?;
@@ -141,19 +110,13 @@ pub(crate) fn upload<R: Records>(
 }
 
 /// Sets the root to the reference of the body, or takes it away.
-#[tactic(auto, using(crate::proofs::GrowthLemmas::moves))]
 pub(crate) fn set_root<R: Records>(
     alloc: Global,
     records: &mut R,
     name: &Text,
     body: &[u8],
 ) -> Result<Items<u8>, Stop>
-    ensures answers { R.sound records.new → Answers (R.kept records.old) (R.kept records.new) name.now result (by_body (λ root. changed done_reply (within (root_set root))) (root_of body.now) (state_of name.now (R.kept records.old))) }
-    ensures sound { R.sound records.new → R.sound records.old }
-    ensures clean { R.clean records.new → R.clean records.old }
-    ensures stays { R.clean records.new → R.sound records.old → IfTold result (R.sound records.new) }
-    ensures leaves { R.clean records.new → R.sound records.old → LeavesAnswer (R.may_leave records.old) (R.may_leave records.new) (R.kept records.old) name.now (by_body (λ root. changed done_reply (within (root_set root))) (root_of body.now) (state_of name.now (R.kept records.old))) }
-    ensures counts { Counts (R.faults records.old) (R.faults records.new) result }
+    ensures { HandlesChange (R.custody records.old) (R.custody records.new) name.now result (by_body (λ root. changed done_reply (within (root_set root))) (root_of body.now)) }
 {
     let root = read_root(alloc, body)?;
     let reply = done_reply(alloc)?;
@@ -162,19 +125,13 @@ pub(crate) fn set_root<R: Records>(
 }
 
 /// Puts the rows of the body into the source of attributes, in place of all that were there.
-#[tactic(auto, using(crate::proofs::GrowthLemmas::moves))]
 pub(crate) fn set_source<R: Records>(
     alloc: Global,
     records: &mut R,
     name: &Text,
     body: &[u8],
 ) -> Result<Items<u8>, Stop>
-    ensures answers { R.sound records.new → Answers (R.kept records.old) (R.kept records.new) name.now result (by_body (λ rows. changed done_reply (within (source_set rows))) (rows_of body.now) (state_of name.now (R.kept records.old))) }
-    ensures sound { R.sound records.new → R.sound records.old }
-    ensures clean { R.clean records.new → R.clean records.old }
-    ensures stays { R.clean records.new → R.sound records.old → IfTold result (R.sound records.new) }
-    ensures leaves { R.clean records.new → R.sound records.old → LeavesAnswer (R.may_leave records.old) (R.may_leave records.new) (R.kept records.old) name.now (by_body (λ rows. changed done_reply (within (source_set rows))) (rows_of body.now) (state_of name.now (R.kept records.old))) }
-    ensures counts { Counts (R.faults records.old) (R.faults records.new) result }
+    ensures { HandlesChange (R.custody records.old) (R.custody records.new) name.now result (by_body (λ rows. changed done_reply (within (source_set rows))) (rows_of body.now)) }
 {
     let rows = read_rows(alloc, body)?;
     let reply = done_reply(alloc)?;
@@ -183,19 +140,13 @@ pub(crate) fn set_source<R: Records>(
 }
 
 /// Deletes a document.
-#[tactic(auto, using(crate::proofs::GrowthLemmas::moves))]
 pub(crate) fn delete<R: Records>(
     alloc: Global,
     records: &mut R,
     name: &Text,
     key: &DocumentKey,
 ) -> Result<Items<u8>, Stop>
-    ensures answers { R.sound records.new → Answers (R.kept records.old) (R.kept records.new) name.now result (by_document_command document.Delete key.now (state_of name.now (R.kept records.old))) }
-    ensures sound { R.sound records.new → R.sound records.old }
-    ensures clean { R.clean records.new → R.clean records.old }
-    ensures stays { R.clean records.new → R.sound records.old → IfTold result (R.sound records.new) }
-    ensures leaves { R.clean records.new → R.sound records.old → LeavesAnswer (R.may_leave records.old) (R.may_leave records.new) (R.kept records.old) name.now (by_document_command document.Delete key.now (state_of name.now (R.kept records.old))) }
-    ensures counts { Counts (R.faults records.old) (R.faults records.new) result }
+    ensures { HandlesChange (R.custody records.old) (R.custody records.new) name.now result (by_document_command document.Delete key.now) }
 {
     let reply = done_reply(alloc)?;
     records.delete(alloc, name, key)?;
@@ -203,7 +154,6 @@ pub(crate) fn delete<R: Records>(
 }
 
 /// Lets references resolve to a document, or no longer.
-#[tactic(auto, using(crate::proofs::GrowthLemmas::moves))]
 pub(crate) fn set_active<R: Records>(
     alloc: Global,
     records: &mut R,
@@ -211,12 +161,7 @@ pub(crate) fn set_active<R: Records>(
     key: &DocumentKey,
     active: bool,
 ) -> Result<Items<u8>, Stop>
-    ensures answers { R.sound records.new → Answers (R.kept records.old) (R.kept records.new) name.now result (changed done_reply (within (activity_set key.now active)) (state_of name.now (R.kept records.old))) }
-    ensures sound { R.sound records.new → R.sound records.old }
-    ensures clean { R.clean records.new → R.clean records.old }
-    ensures stays { R.clean records.new → R.sound records.old → IfTold result (R.sound records.new) }
-    ensures leaves { R.clean records.new → R.sound records.old → LeavesAnswer (R.may_leave records.old) (R.may_leave records.new) (R.kept records.old) name.now (changed done_reply (within (activity_set key.now active)) (state_of name.now (R.kept records.old))) }
-    ensures counts { Counts (R.faults records.old) (R.faults records.new) result }
+    ensures { HandlesChange (R.custody records.old) (R.custody records.new) name.now result (changed done_reply (within (activity_set key.now active))) }
 {
     let reply = done_reply(alloc)?;
     records.set_active(alloc, name, key, active)?;

@@ -29,9 +29,9 @@ fn read_on<R: Records, I: Read, W: Write, C: Clock>(
     clock: &mut C,
     piece: &mut [u8; PIECE_BYTES],
 ) -> Option<Driven>
-    ensures read { R.sound server.new.records → IsRead result (world R.kept server.old) (world R.kept server.new) session.old session.new
+    ensures read { (R.custody server.new.records).sound → IsRead result (world R.custody server.old) (world R.custody server.new) session.old session.new
         (I.remaining reader.old) (I.remaining reader.new) (C.told clock.old) (C.told clock.new) (W.contents writer.old) (W.contents writer.new) }
-    ensures sound { R.sound server.new.records → R.sound server.old.records }
+    ensures sound { (R.custody server.new.records).sound → (R.custody server.old.records).sound }
 {
     let count = match reader.read(piece) {
         Ok(count) => count,
@@ -57,9 +57,9 @@ pub fn drive<R: Records, I: Read, W: Write, C: Clock>(
     writer: &mut W,
     clock: &mut C,
 ) -> Driven
-    ensures connection { R.sound server.new.records → IsConnection result (world R.kept server.old) (world R.kept server.new)
+    ensures connection { (R.custody server.new.records).sound → IsConnection result (world R.custody server.old) (world R.custody server.new)
         (I.remaining reader.old) (I.remaining reader.new) (C.told clock.old) (C.told clock.new) (W.contents writer.old) (W.contents writer.new) }
-    ensures sound { R.sound server.new.records → R.sound server.old.records }
+    ensures sound { (R.custody server.new.records).sound → (R.custody server.old.records).sound }
 {
     let mut session = Session::new(alloc);
     let mut piece = [0; PIECE_BYTES];

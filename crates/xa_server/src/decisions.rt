@@ -1,10 +1,12 @@
 //! The decisions that are held, with their counts.
-ghost use Rattle.std.specs.Prelude.{◌≡◌, true, Some, option_map, IfOk};
-ghost use Rattle.xa_server.specs.Handling.{IsLookedUp};
+ghost use Rattle.std.specs.Prelude.{◌≡◌, true, option_map, IfOk};
+ghost use Rattle.xa_cache.specs.Bodies.{found};
+ghost use Rattle.xa_server.specs.Handling.{IsLookedUp, IsNoted, key_opened, key_within};
 ghost use Rattle.xa_server.specs.Tally.{nothing_held};
-ghost use Rattle.xa_server.specs.Work.{IsHeld, IsWorkedOut, body_held};
+ghost use Rattle.xa_server.specs.Work.{IsHeld};
 ghost use Rattle.xa_server.specs.Replies.{decision_reply};
 
+use crate::opened::Opened;
 use crate::replies::decision_reply;
 use std::alloc::{AllocError, Global};
 use std::marker::Model;
@@ -13,7 +15,7 @@ use xa_decide::Responded;
 use xa_records::Digest;
 use xa_value::Items;
 
-/// The most bytes of a request whose decision is looked up.
+/// The most bytes of a request whose decision is looked up and held.
 const MAX_HELD_BYTES: usize = 16_384;
 
 /// The cache of decisions, and what was counted of them.
@@ -67,14 +69,10 @@ impl Decisions {
         &mut self,
         alloc: Global,
         key: &Key,
-        body: &[u8],
     ) -> Result<Option<Items<u8>>, AllocError>
-        ensures found { IfOk result (λ reply. reply ≡ option_map decision_reply (body_held key.now body.now self.old)) }
-        ensures moves { IsLookedUp (body_held key.now body.now self.old) key.now self.old self.new }
+        ensures found { IfOk result (λ reply. reply ≡ option_map decision_reply (found key.now self.old.held)) }
+        ensures moves { IsLookedUp (found key.now self.old.held) key.now self.old self.new }
     {
-        if body.len() > MAX_HELD_BYTES {
-            return Ok(None);
-        }
         match self.cache.look(key) {
             Some(body) => Ok(Some(decision_reply(alloc, body)?)),
             None => Ok(None),
@@ -91,13 +89,30 @@ impl Decisions {
         }
     }
 
-    /// Counts a decision that was worked out, and holds it where it is the same at every moment and neither body is too large.
-    pub(crate) fn note(&mut self, key: Key, responded: Responded)
-        ensures { IsWorkedOut key (Some (responded.body, responded.timeless)) self.old self.new }
+    /// Counts a decision that was worked out, and holds it where there is a key for it, it is the same at every moment and neither body is too large.
+    pub(crate) fn note(&mut self, key: Option<Key>, responded: Responded)
+        ensures { IsNoted key responded.body responded.timeless self.old self.new }
     {
         self.evaluations = self.evaluations.saturating_add(1);
+        let Some(key) = key else {
+            return;
+        };
         if responded.timeless && fits(&key, &responded.body) {
             self.hold(key, responded.body);
         }
     }
+}
+
+/// The key under which a decision on that body is looked up and held, in the domain that lets the message in. A body that is too large for that has none, and isn't copied.
+pub(crate) fn key_within(
+    alloc: Global,
+    opened: Opened,
+    body: &[u8],
+) -> Result<Option<Key>, AllocError>
+    ensures { IfOk result (λ key. key ≡ key_within (key_opened opened body.now)) }
+{
+    if body.len() > MAX_HELD_BYTES {
+        return Ok(None);
+    }
+    Ok(Some(Key::new(alloc, opened.number, opened.epoch, body)?))
 }

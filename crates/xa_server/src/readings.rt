@@ -2,10 +2,10 @@
 ghost use Rattle.std.specs.Prelude.{◌≡◌, Ok};
 ghost use Rattle.xa_http.specs.declared.command.DocumentCommand.TheVariants as document;
 ghost use Rattle.xa_decide.specs.Rows.{rows_body};
-ghost use Rattle.xa_records.specs.Kept.{names_of, state_of};
+ghost use Rattle.xa_records.specs.Kept.{names_of};
 ghost use Rattle.xa_records.specs.Listing.{listing_body, names_body};
 ghost use Rattle.xa_records.specs.Readings.{listing_of_state};
-ghost use Rattle.xa_server.specs.Handling.{Answers, Counts, IfTold, LeavesNoMore, Tells};
+ghost use Rattle.xa_server.specs.Handling.{Counts, IfTold, LeavesNoMore, HandlesReading, Shows};
 ghost use Rattle.xa_server.specs.Machine.{by_document_command, told};
 ghost use Rattle.xa_server.specs.Replies.{json_reply};
 
@@ -22,18 +22,13 @@ use xa_value::{Items, Text};
 const ABSENT: ErrorCode = ErrorCode::Refused(Refusal::Absent);
 
 /// The domain's documents.
-#[tactic(auto, using(crate::proofs::GrowthLemmas::stays))]
+#[tactic(auto, using(crate::proofs::GrowthLemmas::reads))]
 pub(crate) fn list<R: Records>(
     alloc: Global,
     records: &mut R,
     name: &Text,
 ) -> Result<Items<u8>, Stop>
-    ensures answers { R.sound records.new → Answers (R.kept records.old) (R.kept records.new) name.now result (told (λ kept. Ok (json_reply (listing_body (listing_of_state kept)))) (state_of name.now (R.kept records.old))) }
-    ensures sound { R.sound records.new → R.sound records.old }
-    ensures clean { R.clean records.new → R.clean records.old }
-    ensures stays { R.clean records.new → R.sound records.old → IfTold result (R.sound records.new) }
-    ensures leaves { R.clean records.new → R.sound records.old → LeavesNoMore (R.may_leave records.old) (R.may_leave records.new) }
-    ensures counts { Counts (R.faults records.old) (R.faults records.new) result }
+    ensures { HandlesReading (R.custody records.old) (R.custody records.new) name.now result (told (λ kept. Ok (json_reply (listing_body (listing_of_state kept))))) }
 {
     let documents = records.list(alloc, name)?.ok_or(ABSENT)?;
     let body = write_listing(alloc, documents.as_slice())?;
@@ -41,18 +36,13 @@ pub(crate) fn list<R: Records>(
 }
 
 /// The rows of the domain's source of attributes.
-#[tactic(auto, using(crate::proofs::GrowthLemmas::stays))]
+#[tactic(auto, using(crate::proofs::GrowthLemmas::reads))]
 pub(crate) fn source<R: Records>(
     alloc: Global,
     records: &mut R,
     name: &Text,
 ) -> Result<Items<u8>, Stop>
-    ensures answers { R.sound records.new → Answers (R.kept records.old) (R.kept records.new) name.now result (told (λ kept. Ok (json_reply (rows_body kept.source))) (state_of name.now (R.kept records.old))) }
-    ensures sound { R.sound records.new → R.sound records.old }
-    ensures clean { R.clean records.new → R.clean records.old }
-    ensures stays { R.clean records.new → R.sound records.old → IfTold result (R.sound records.new) }
-    ensures leaves { R.clean records.new → R.sound records.old → LeavesNoMore (R.may_leave records.old) (R.may_leave records.new) }
-    ensures counts { Counts (R.faults records.old) (R.faults records.new) result }
+    ensures { HandlesReading (R.custody records.old) (R.custody records.new) name.now result (told (λ kept. Ok (json_reply (rows_body kept.source)))) }
 {
     let kept = records.view(alloc, name)?.ok_or(ABSENT)?;
     let body = write_rows(alloc, kept.source.as_slice())?;
@@ -60,19 +50,14 @@ pub(crate) fn source<R: Records>(
 }
 
 /// The text of a document, as it was uploaded.
-#[tactic(auto, using(crate::proofs::GrowthLemmas::stays))]
+#[tactic(auto, using(crate::proofs::GrowthLemmas::reads))]
 pub(crate) fn show<R: Records>(
     alloc: Global,
     records: &mut R,
     name: &Text,
     key: &DocumentKey,
 ) -> Result<Items<u8>, Stop>
-    ensures answers { R.sound records.new → Answers (R.kept records.old) (R.kept records.new) name.now result (by_document_command document.Show key.now (state_of name.now (R.kept records.old))) }
-    ensures sound { R.sound records.new → R.sound records.old }
-    ensures clean { R.clean records.new → R.clean records.old }
-    ensures stays { R.clean records.new → R.sound records.old → IfTold result (R.sound records.new) }
-    ensures leaves { R.clean records.new → R.sound records.old → LeavesNoMore (R.may_leave records.old) (R.may_leave records.new) }
-    ensures counts { Counts (R.faults records.old) (R.faults records.new) result }
+    ensures { HandlesReading (R.custody records.old) (R.custody records.new) name.now result (by_document_command document.Show key.now) }
 {
     let text = records.document(alloc, name, key)?.ok_or(ABSENT)?;
     Ok(json_reply(alloc, text.as_slice())?)
@@ -80,12 +65,12 @@ pub(crate) fn show<R: Records>(
 
 /// The names of all domains. What this costs grows with their number.
 pub(crate) fn domains<R: Records>(alloc: Global, records: &mut R) -> Result<Items<u8>, Stop>
-    ensures tells { R.sound records.new → Tells (R.kept records.old) (R.kept records.new) result (Ok (json_reply (names_body (names_of (R.kept records.old))))) }
-    ensures sound { R.sound records.new → R.sound records.old }
-    ensures clean { R.clean records.new → R.clean records.old }
-    ensures stays { R.clean records.new → R.sound records.old → IfTold result (R.sound records.new) }
-    ensures leaves { R.clean records.new → R.sound records.old → LeavesNoMore (R.may_leave records.old) (R.may_leave records.new) }
-    ensures counts { Counts (R.faults records.old) (R.faults records.new) result }
+    ensures tells { (R.custody records.new).sound → Shows (R.custody records.old).kept (R.custody records.new).kept result (Ok (json_reply (names_body (names_of (R.custody records.old).kept)))) }
+    ensures sound { (R.custody records.new).sound → (R.custody records.old).sound }
+    ensures clean { (R.custody records.new).clean → (R.custody records.old).clean }
+    ensures stays { (R.custody records.new).clean → (R.custody records.old).sound → IfTold result (R.custody records.new).sound }
+    ensures leaves { (R.custody records.new).clean → (R.custody records.old).sound → LeavesNoMore (R.custody records.old).may_leave (R.custody records.new).may_leave }
+    ensures counts { Counts (R.custody records.old).faults (R.custody records.new).faults result }
 {
     let names = records.domains(alloc)?;
     let body = write_names(alloc, names.as_slice())?;

@@ -1,7 +1,7 @@
 //! What is sent to the peer of a connection.
 ghost use Rattle.std.specs.Prelude.{◌≤◌, [], length, take, IfSome, MatchOption};
 ghost use Rattle.std.specs.Io.KnownBytes.{Appends};
-ghost use Rattle.xa_server.specs.Driving.{IsSent};
+ghost use Rattle.xa_server.specs.Driving.{IsWritten};
 
 use std::io::{ErrorKind, Write};
 
@@ -22,7 +22,7 @@ fn send_some<W: Write>(writer: &mut W, bytes: &[u8]) -> Option<usize>
 /// Sends the bytes, whole and once. Whether that went well; if not, a part from their front may have been sent.
 #[tactic(auto, using(crate::proofs::ConnectionLemmas::nothing_sent, crate::proofs::ConnectionLemmas::part_sent, crate::proofs::ConnectionLemmas::failed_sending, crate::proofs::ConnectionLemmas::stopped_sending, crate::proofs::ConnectionLemmas::all_sent))]
 pub(crate) fn send<W: Write>(writer: &mut W, bytes: &[u8]) -> bool
-    ensures { IsSent result (W.contents writer.old) (W.contents writer.new) bytes.now }
+    ensures { IsWritten result (W.contents writer.old) (W.contents writer.new) bytes.now }
 {
     let mut sent = 0;
     for _ in 0..u64::MAX {

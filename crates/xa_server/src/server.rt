@@ -1,7 +1,7 @@
 //! The server: a keeper of all domains, one message after another.
 ghost use Rattle.std.specs.Prelude.{◌≡◌, IfOk, OnErr, MatchResult};
 ghost use Rattle.xa_server.specs.Isolation.{TwoWorldsAgree};
-ghost use Rattle.xa_server.specs.Handling.{CountsReply, IsReplyOf};
+ghost use Rattle.xa_server.specs.Handling.{IsReplyOf};
 
 use crate::answer::answer;
 use crate::replies::Reply;
@@ -35,7 +35,7 @@ impl<R: Records> Model for Server<R> {
 
     ghost view = { λ s. record { operator = s.operator; records = s.records; tally = s.resources.tally } };
 
-    ghost invariant = { λ s. R.sound s.records → AllStand (R.kept s.records) s.resources };
+    ghost invariant = { λ s. (R.custody s.records).sound → AllStand (R.custody s.records).kept s.resources };
 }
 
 /// What goes back for a message that was answered, or wasn't.
@@ -55,7 +55,7 @@ fn reply_of(alloc: Global, answered: Result<Items<u8>, Stop>) -> Reply
 impl<R: Records> Server<R> {
     ghost use Rattle.xa_server.specs.Crash.{IfSent, LeavesStep};
     ghost use Rattle.xa_server.specs.Isolation.{IsIsolated, IsIsolatedBesideRefusals};
-    ghost use Rattle.xa_server.specs.Served.{IsRun, IsServed};
+    ghost use Rattle.xa_server.specs.Served.{CountsReply, IsRun, IsServed};
     ghost use Rattle.xa_server.specs.Tally.{nothing_held};
     ghost use Rattle.xa_server.specs.Work.{IsWork, IsWorkOfRun};
     ghost use Rattle.xa_server.specs.World.{world};
@@ -155,13 +155,13 @@ impl<R: Records> Server<R> {
     /// a crash after the message leaves what one before it might have left, or that domain as its machine leaves it and all others as they were, whatever became
     /// of it; once a reply of its own is there, the keeper is sound as before.
     pub fn serve(&mut self, moment: Moment, message: &Message) -> Reply
-        ensures served { R.sound self.new.records → IsServed (world R.kept self.old) (world R.kept self.new) moment message.now result }
-        ensures sound { R.sound self.new.records → R.sound self.old.records }
-        ensures clean { R.clean self.new.records → R.clean self.old.records }
-        ensures stays { R.clean self.new.records → R.sound self.old.records → IfSent result (R.sound self.new.records) }
-        ensures crash { R.clean self.new.records → R.sound self.old.records → LeavesStep (R.may_leave self.old.records) (R.may_leave self.new.records) (world R.kept self.old) moment message.now }
-        ensures counts { CountsReply (R.faults self.old.records) (R.faults self.new.records) result }
-        ensures work { R.sound self.new.records → IsWork (R.kept self.old.records) moment message.now result self.old.tally self.new.tally }
+        ensures served { (R.custody self.new.records).sound → IsServed (world R.custody self.old) (world R.custody self.new) moment message.now result }
+        ensures sound { (R.custody self.new.records).sound → (R.custody self.old.records).sound }
+        ensures clean { (R.custody self.new.records).clean → (R.custody self.old.records).clean }
+        ensures stays { (R.custody self.new.records).clean → (R.custody self.old.records).sound → IfSent result (R.custody self.new.records).sound }
+        ensures crash { (R.custody self.new.records).clean → (R.custody self.old.records).sound → LeavesStep (R.custody self.old.records).may_leave (R.custody self.new.records).may_leave (world R.custody self.old) moment message.now }
+        ensures counts { CountsReply (R.custody self.old.records).faults (R.custody self.new.records).faults result }
+        ensures work { (R.custody self.new.records).sound → IsWork (R.custody self.old.records).kept moment message.now result self.old.tally self.new.tally }
     {
         let answered = answer(
             self.alloc,
@@ -179,11 +179,11 @@ impl<R: Records> Server<R> {
     /// are those of its own machine, used by it alone; with refusals, as if the refused messages had never come. Room for
     /// all replies is taken first, and without it nothing is answered.
     pub fn run(&mut self, events: &[(Moment, Message)]) -> Result<Vec<Reply>, AllocError>
-        ensures headline { IfOk result (λ replies. R.sound self.new.records → IsIsolated (world R.kept self.old) (world R.kept self.new) events.now replies.items) }
-        ensures beside_refusals { IfOk result (λ replies. R.sound self.new.records → IsIsolatedBesideRefusals (world R.kept self.old) (world R.kept self.new) events.now replies.items) }
-        ensures run { IfOk result (λ replies. R.sound self.new.records → IsRun (world R.kept self.old) events.now replies.items (world R.kept self.new)) }
-        ensures work { IfOk result (λ replies. R.sound self.new.records → IsWorkOfRun (world R.kept self.old) self.old.tally events.now replies.items (world R.kept self.new) self.new.tally) }
-        ensures sound { R.sound self.new.records → R.sound self.old.records }
+        ensures headline { IfOk result (λ replies. (R.custody self.new.records).sound → IsIsolated (world R.custody self.old) (world R.custody self.new) events.now replies.items) }
+        ensures beside_refusals { IfOk result (λ replies. (R.custody self.new.records).sound → IsIsolatedBesideRefusals (world R.custody self.old) (world R.custody self.new) events.now replies.items) }
+        ensures run { IfOk result (λ replies. (R.custody self.new.records).sound → IsRun (world R.custody self.old) events.now replies.items (world R.custody self.new)) }
+        ensures work { IfOk result (λ replies. (R.custody self.new.records).sound → IsWorkOfRun (world R.custody self.old) self.old.tally events.now replies.items (world R.custody self.new) self.new.tally) }
+        ensures sound { (R.custody self.new.records).sound → (R.custody self.old.records).sound }
         ensures err { OnErr result (self.new ≡ self.old) }
     {
         let mut replies = Vec::with_capacity(self.alloc, events.len())?;

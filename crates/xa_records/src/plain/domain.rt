@@ -1,10 +1,10 @@
 //! One domain, in memory.
-ghost use Rattle.std.specs.Prelude.{◌≡◌, ◌≤◌, ◌^◌, ◌+◌, IfOk, IsErrOf, Some};
+ghost use Rattle.std.specs.Prelude.{◌≡◌, IfOk, IsErrOf, Some};
 ghost use Rattle.xa_records.specs.declared.refusal.ChangeError.TheVariants.{Failed};
 ghost use Rattle.xa_records.specs.declared.refusal.Failure.TheVariants.{Store};
 ghost use Rattle.xa_records.specs.Changes.{activity_set, deleted, root_set, source_set, token_dropped, token_put, upload_of, uploaded};
 ghost use Rattle.xa_records.specs.DomainState.{new_domain};
-ghost use Rattle.xa_records.specs.Plain.{activity_at, Alters, upload_again};
+ghost use Rattle.xa_records.specs.Plain.{activity_at, Alters, CantRaiseEpoch, upload_again};
 ghost use Rattle.xa_records.specs.Readings.{gate_of_domain, listing_of_state, text_in, view_of_state};
 
 use crate::digest::Digest;
@@ -139,7 +139,7 @@ impl PlainDomain {
     /// Sets the root, or takes it away.
     pub(crate) fn set_root(&mut self, root: Option<Reference>) -> Result<(), ChangeError>
         ensures does { Alters (root_set root) self.old self.new result }
-        ensures store { IsErrOf result (Failed Store) → 2 ^ 63 ≤ self.old.epoch + 1 }
+        ensures store { IsErrOf result (Failed Store) → CantRaiseEpoch (root_set root) self.old }
     {
         if is_same_root(&self.root, &root) {
             return Ok(());
@@ -152,7 +152,7 @@ impl PlainDomain {
     /// Puts these rows into the source of attributes, in place of all that were there.
     pub(crate) fn set_source(&mut self, rows: Items<SourceRow>) -> Result<(), ChangeError>
         ensures does { Alters (source_set rows) self.old self.new result }
-        ensures store { IsErrOf result (Failed Store) → 2 ^ 63 ≤ self.old.epoch + 1 }
+        ensures store { IsErrOf result (Failed Store) → CantRaiseEpoch (source_set rows) self.old }
     {
         if !may_be_kept(&rows) {
             return Err(Refusal::Quota.into());
@@ -174,7 +174,7 @@ impl PlainDomain {
     ) -> Result<Upload, ChangeError>
         ensures does { Alters (uploaded key text.now) self.old self.new result }
         ensures which { IfOk result (λ u. u ≡ upload_of key (Some self.old.state)) }
-        ensures store { IsErrOf result (Failed Store) → 2 ^ 63 ≤ self.old.epoch + 1 }
+        ensures store { IsErrOf result (Failed Store) → CantRaiseEpoch (uploaded key text.now) self.old }
     {
         if let Some(document) = self.documents.get(&key) {
             return again(document, text);
@@ -192,7 +192,7 @@ impl PlainDomain {
     /// Says whether references may resolve to the document of that key.
     pub(crate) fn set_active(&mut self, key: &DocumentKey, active: bool) -> Result<(), ChangeError>
         ensures does { Alters (activity_set key.now active) self.old self.new result }
-        ensures store { IsErrOf result (Failed Store) → 2 ^ 63 ≤ self.old.epoch + 1 }
+        ensures store { IsErrOf result (Failed Store) → CantRaiseEpoch (activity_set key.now active) self.old }
     {
         let before = self.activity_of(key)?;
         if is_same_activity(before, active) {
@@ -206,7 +206,7 @@ impl PlainDomain {
     /// Deletes the document of that key, which must not be active.
     pub(crate) fn delete(&mut self, key: &DocumentKey) -> Result<(), ChangeError>
         ensures does { Alters (deleted key.now) self.old self.new result }
-        ensures store { IsErrOf result (Failed Store) → 2 ^ 63 ≤ self.old.epoch + 1 }
+        ensures store { IsErrOf result (Failed Store) → CantRaiseEpoch (deleted key.now) self.old }
     {
         if self.activity_of(key)? {
             return Err(Refusal::StillActive.into());

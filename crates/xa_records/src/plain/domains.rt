@@ -1,11 +1,10 @@
 //! The domains and the next number, in memory, and each change of them.
-ghost use Rattle.std.specs.Prelude.{◌≡◌, ◌≤◌, ◌+◌, ◌^◌, IfOk, IsErrOf};
+ghost use Rattle.std.specs.Prelude.{◌≡◌, IfOk, IsErrOf};
 ghost use Rattle.xa_records.specs.declared.refusal.ChangeError.TheVariants.{Failed};
 ghost use Rattle.xa_records.specs.declared.refusal.Failure.TheVariants.{Store};
 ghost use Rattle.xa_records.specs.Changes.{activity_set, created, deleted, removed, root_set, source_set, token_dropped, token_put, upload_of, uploaded, within};
 ghost use Rattle.xa_records.specs.Keeper.{Changes};
-ghost use Rattle.xa_records.specs.Kept.{names_of, nothing_kept, state_of};
-ghost use Rattle.xa_records.specs.Plain.{HasNoEpochLeft};
+ghost use Rattle.xa_records.specs.Kept.{CantRaise, names_of, nothing_kept, state_of};
 ghost use Rattle.xa_records.specs.Readings.{gate_of, listing_of, text_of, view_of};
 
 use crate::digest::Digest;
@@ -119,7 +118,7 @@ impl Domains {
     /// Makes a domain in which nothing has been put yet, of the next number.
     pub(crate) fn create(&mut self, alloc: Global, name: &Text) -> Result<(), ChangeError>
         ensures does { Changes self.old self.new result name.now created }
-        ensures store { IsErrOf result (Failed Store) → 2 ^ 63 ≤ self.old.next + 1 }
+        ensures store { IsErrOf result (Failed Store) → CantRaise created name.now self.old }
     {
         if self.by_name.contains_key(name) {
             return Err(ChangeError::Refused(Refusal::Exists));
@@ -179,7 +178,7 @@ impl Domains {
     ) -> Result<Upload, ChangeError>
         ensures does { Changes self.old self.new result name.now (within (uploaded key text.now)) }
         ensures which { IfOk result (λ u. u ≡ upload_of key (state_of name.now self.old)) }
-        ensures store { IsErrOf result (Failed Store) → HasNoEpochLeft name.now self.old }
+        ensures store { IsErrOf result (Failed Store) → CantRaise (within (uploaded key text.now)) name.now self.old }
     {
         let Some(domain) = self.by_name.get_mut(name) else {
             return Err(ChangeError::Refused(Refusal::Absent));
@@ -195,7 +194,7 @@ impl Domains {
         active: bool,
     ) -> Result<(), ChangeError>
         ensures does { Changes self.old self.new result name.now (within (activity_set key.now active)) }
-        ensures store { IsErrOf result (Failed Store) → HasNoEpochLeft name.now self.old }
+        ensures store { IsErrOf result (Failed Store) → CantRaise (within (activity_set key.now active)) name.now self.old }
     {
         let Some(domain) = self.by_name.get_mut(name) else {
             return Err(ChangeError::Refused(Refusal::Absent));
@@ -206,7 +205,7 @@ impl Domains {
     /// Deletes the document of that key, which must not be active.
     pub(crate) fn delete(&mut self, name: &Text, key: &DocumentKey) -> Result<(), ChangeError>
         ensures does { Changes self.old self.new result name.now (within (deleted key.now)) }
-        ensures store { IsErrOf result (Failed Store) → HasNoEpochLeft name.now self.old }
+        ensures store { IsErrOf result (Failed Store) → CantRaise (within (deleted key.now)) name.now self.old }
     {
         let Some(domain) = self.by_name.get_mut(name) else {
             return Err(ChangeError::Refused(Refusal::Absent));
@@ -221,7 +220,7 @@ impl Domains {
         root: Option<Reference>,
     ) -> Result<(), ChangeError>
         ensures does { Changes self.old self.new result name.now (within (root_set root)) }
-        ensures store { IsErrOf result (Failed Store) → HasNoEpochLeft name.now self.old }
+        ensures store { IsErrOf result (Failed Store) → CantRaise (within (root_set root)) name.now self.old }
     {
         let Some(domain) = self.by_name.get_mut(name) else {
             return Err(ChangeError::Refused(Refusal::Absent));
@@ -236,7 +235,7 @@ impl Domains {
         rows: Items<SourceRow>,
     ) -> Result<(), ChangeError>
         ensures does { Changes self.old self.new result name.now (within (source_set rows)) }
-        ensures store { IsErrOf result (Failed Store) → HasNoEpochLeft name.now self.old }
+        ensures store { IsErrOf result (Failed Store) → CantRaise (within (source_set rows)) name.now self.old }
     {
         let Some(domain) = self.by_name.get_mut(name) else {
             return Err(ChangeError::Refused(Refusal::Absent));

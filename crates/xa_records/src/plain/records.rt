@@ -1,6 +1,11 @@
 //! The keeper in memory.
-ghost use Rattle.std.specs.Prelude.{◌≡◌};
-ghost use Rattle.xa_records.specs.Kept.{IsNumbered, nothing_kept};
+ghost use Rattle.std.specs.Prelude.{◌≡◌, IfOk, IsErrOf};
+ghost use Rattle.xa_records.specs.declared.refusal.ChangeError.TheVariants.{Failed};
+ghost use Rattle.xa_records.specs.declared.refusal.Failure.TheVariants.{Store};
+ghost use Rattle.xa_records.specs.Changes.{activity_set, created, deleted, removed, root_set, source_set, token_dropped, token_put, upload_of, uploaded, within};
+ghost use Rattle.xa_records.specs.Keeper.{Changing, Reading, in_memory};
+ghost use Rattle.xa_records.specs.Kept.{CantRaise, IsNumbered, names_of, nothing_kept, state_of};
+ghost use Rattle.xa_records.specs.Readings.{gate_of, listing_of, text_of, view_of};
 ghost use Rattle.std.proofs.Props.{props};
 
 use crate::digest::Digest;
@@ -28,9 +33,9 @@ pub struct PlainRecords {
 impl PlainRecords {
     /// A keeper of no domains; the first that is made gets the number 1. Nothing is allocated.
     pub fn new(alloc: Global) -> PlainRecords
-        ensures kept { ⟦<PlainRecords as Records>⟧.kept result ≡ nothing_kept }
-        ensures sound { ⟦<PlainRecords as Records>⟧.sound result }
-        ensures faults { ⟦<PlainRecords as Records>⟧.faults result ≡ 0 }
+        ensures kept { (⟦<PlainRecords as Records>⟧.custody result).kept ≡ nothing_kept }
+        ensures sound { (⟦<PlainRecords as Records>⟧.custody result).sound }
+        ensures faults { (⟦<PlainRecords as Records>⟧.custody result).faults ≡ 0 }
     {
         PlainRecords {
             domains: Domains::new(alloc),
@@ -40,25 +45,25 @@ impl PlainRecords {
 }
 
 impl Records for PlainRecords {
-    ghost kept = { λ r. r.domains };
-
-    ghost sound = { λ _. Unit {0} };
-
-    ghost clean = { λ _. Unit {0} };
-
-    ghost may_leave = { λ _ _. ⊥ };
-
-    ghost faults = { λ r. r.faults };
+    ghost custody = { λ r. in_memory r.domains r.faults };
 
     fn faults(&self) -> u64 {
         self.faults
     }
 
-    fn gate(&mut self, alloc: Global, name: &Text) -> Result<Option<Gate>, Failure> {
+    fn gate(&mut self, alloc: Global, name: &Text) -> Result<Option<Gate>, Failure>
+        ensures reads { Reading (in_memory self.old.domains self.old.faults) (in_memory self.new.domains self.new.faults)
+            result (gate_of name.now self.old.domains) }
+        ensures store { ¬ IsErrOf result Store }
+    {
         Ok(self.domains.gate(alloc, name)?)
     }
 
-    fn view(&mut self, alloc: Global, name: &Text) -> Result<Option<KeptView>, Failure> {
+    fn view(&mut self, alloc: Global, name: &Text) -> Result<Option<KeptView>, Failure>
+        ensures reads { Reading (in_memory self.old.domains self.old.faults) (in_memory self.new.domains self.new.faults)
+            result (view_of name.now self.old.domains) }
+        ensures store { ¬ IsErrOf result Store }
+    {
         Ok(self.domains.view(alloc, name)?)
     }
 
@@ -67,25 +72,45 @@ impl Records for PlainRecords {
         alloc: Global,
         name: &Text,
         key: &DocumentKey,
-    ) -> Result<Option<Items<u8>>, Failure> {
+    ) -> Result<Option<Items<u8>>, Failure>
+        ensures reads { Reading (in_memory self.old.domains self.old.faults) (in_memory self.new.domains self.new.faults)
+            result (text_of name.now key.now self.old.domains) }
+        ensures store { ¬ IsErrOf result Store }
+    {
         Ok(self.domains.document(alloc, name, key)?)
     }
 
-    fn list(&mut self, alloc: Global, name: &Text) -> Result<Option<Items<Listed>>, Failure> {
+    fn list(&mut self, alloc: Global, name: &Text) -> Result<Option<Items<Listed>>, Failure>
+        ensures reads { Reading (in_memory self.old.domains self.old.faults) (in_memory self.new.domains self.new.faults)
+            result (listing_of name.now self.old.domains) }
+        ensures store { ¬ IsErrOf result Store }
+    {
         Ok(self.domains.list(alloc, name)?)
     }
 
-    fn domains(&mut self, alloc: Global) -> Result<Items<Text>, Failure> {
+    fn domains(&mut self, alloc: Global) -> Result<Items<Text>, Failure>
+        ensures reads { Reading (in_memory self.old.domains self.old.faults) (in_memory self.new.domains self.new.faults)
+            result (names_of self.old.domains) }
+        ensures store { ¬ IsErrOf result Store }
+    {
         Ok(self.domains.names(alloc)?)
     }
 
-    fn create(&mut self, alloc: Global, name: &Text) -> Result<(), ChangeError> {
+    fn create(&mut self, alloc: Global, name: &Text) -> Result<(), ChangeError>
+        ensures does { Changing (in_memory self.old.domains self.old.faults) (in_memory self.new.domains self.new.faults)
+            result name.now created }
+        ensures store { IsErrOf result (Failed Store) → CantRaise created name.now self.old.domains }
+    {
         let done = self.domains.create(alloc, name);
         count_failure(&mut self.faults, &done);
         done
     }
 
-    fn remove(&mut self, _alloc: Global, name: &Text) -> Result<(), ChangeError> {
+    fn remove(&mut self, _alloc: Global, name: &Text) -> Result<(), ChangeError>
+        ensures does { Changing (in_memory self.old.domains self.old.faults) (in_memory self.new.domains self.new.faults)
+            result name.now removed }
+        ensures store { ¬ IsErrOf result (Failed Store) }
+    {
         let done = self.domains.remove(name);
         count_failure(&mut self.faults, &done);
         done
@@ -97,18 +122,21 @@ impl Records for PlainRecords {
         name: &Text,
         digest: Digest,
         role: Role,
-    ) -> Result<(), ChangeError> {
+    ) -> Result<(), ChangeError>
+        ensures does { Changing (in_memory self.old.domains self.old.faults) (in_memory self.new.domains self.new.faults)
+            result name.now (within (token_put digest role)) }
+        ensures store { ¬ IsErrOf result (Failed Store) }
+    {
         let done = self.domains.put_token(name, digest, role);
         count_failure(&mut self.faults, &done);
         done
     }
 
-    fn drop_token(
-        &mut self,
-        _alloc: Global,
-        name: &Text,
-        digest: Digest,
-    ) -> Result<(), ChangeError> {
+    fn drop_token(&mut self, _alloc: Global, name: &Text, digest: Digest) -> Result<(), ChangeError>
+        ensures does { Changing (in_memory self.old.domains self.old.faults) (in_memory self.new.domains self.new.faults)
+            result name.now (within (token_dropped digest)) }
+        ensures store { ¬ IsErrOf result (Failed Store) }
+    {
         let done = self.domains.drop_token(name, digest);
         count_failure(&mut self.faults, &done);
         done
@@ -120,7 +148,12 @@ impl Records for PlainRecords {
         name: &Text,
         key: DocumentKey,
         text: &[u8],
-    ) -> Result<Upload, ChangeError> {
+    ) -> Result<Upload, ChangeError>
+        ensures does { Changing (in_memory self.old.domains self.old.faults) (in_memory self.new.domains self.new.faults)
+            result name.now (within (uploaded key text.now)) }
+        ensures which { IfOk result (λ u. u ≡ upload_of key (state_of name.now self.old.domains)) }
+        ensures store { IsErrOf result (Failed Store) → CantRaise (within (uploaded key text.now)) name.now self.old.domains }
+    {
         let done = self.domains.upload(name, alloc, key, text);
         count_failure(&mut self.faults, &done);
         done
@@ -132,18 +165,21 @@ impl Records for PlainRecords {
         name: &Text,
         key: &DocumentKey,
         active: bool,
-    ) -> Result<(), ChangeError> {
+    ) -> Result<(), ChangeError>
+        ensures does { Changing (in_memory self.old.domains self.old.faults) (in_memory self.new.domains self.new.faults)
+            result name.now (within (activity_set key.now active)) }
+        ensures store { IsErrOf result (Failed Store) → CantRaise (within (activity_set key.now active)) name.now self.old.domains }
+    {
         let done = self.domains.set_active(name, key, active);
         count_failure(&mut self.faults, &done);
         done
     }
 
-    fn delete(
-        &mut self,
-        _alloc: Global,
-        name: &Text,
-        key: &DocumentKey,
-    ) -> Result<(), ChangeError> {
+    fn delete(&mut self, _alloc: Global, name: &Text, key: &DocumentKey) -> Result<(), ChangeError>
+        ensures does { Changing (in_memory self.old.domains self.old.faults) (in_memory self.new.domains self.new.faults)
+            result name.now (within (deleted key.now)) }
+        ensures store { IsErrOf result (Failed Store) → CantRaise (within (deleted key.now)) name.now self.old.domains }
+    {
         let done = self.domains.delete(name, key);
         count_failure(&mut self.faults, &done);
         done
@@ -154,7 +190,11 @@ impl Records for PlainRecords {
         _alloc: Global,
         name: &Text,
         root: Option<Reference>,
-    ) -> Result<(), ChangeError> {
+    ) -> Result<(), ChangeError>
+        ensures does { Changing (in_memory self.old.domains self.old.faults) (in_memory self.new.domains self.new.faults)
+            result name.now (within (root_set root)) }
+        ensures store { IsErrOf result (Failed Store) → CantRaise (within (root_set root)) name.now self.old.domains }
+    {
         let done = self.domains.set_root(name, root);
         count_failure(&mut self.faults, &done);
         done
@@ -165,7 +205,11 @@ impl Records for PlainRecords {
         _alloc: Global,
         name: &Text,
         rows: Items<SourceRow>,
-    ) -> Result<(), ChangeError> {
+    ) -> Result<(), ChangeError>
+        ensures does { Changing (in_memory self.old.domains self.old.faults) (in_memory self.new.domains self.new.faults)
+            result name.now (within (source_set rows)) }
+        ensures store { IsErrOf result (Failed Store) → CantRaise (within (source_set rows)) name.now self.old.domains }
+    {
         let done = self.domains.set_source(name, rows);
         count_failure(&mut self.faults, &done);
         done

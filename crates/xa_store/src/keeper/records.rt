@@ -1,9 +1,5 @@
 //! The keeper of tables as a keeper of domains.
-ghost use Rattle.sqlite.specs.Held.{state};
-ghost use Rattle.sqlite.specs.State.{HasCleanDisk};
-ghost use Rattle.xa_store.specs.Keeper.{IsSound};
-ghost use Rattle.xa_store.specs.KeeperReading.{kept_by};
-ghost use Rattle.xa_store.specs.Sound.{LeavesWorld};
+ghost use Rattle.xa_store.specs.KeeperReading.{custody_by};
 
 use super::SqlRecords;
 use sqlite::Alter;
@@ -15,15 +11,7 @@ use xa_records::{ChangeError, Digest, Failure, Gate, KeptView, Listed, Records, 
 use xa_value::{Items, Text};
 
 impl<S: Alter> Records for SqlRecords<S> {
-    ghost kept = { kept_by S.Store };
-
-    ghost sound = { IsSound S.Store };
-
-    ghost clean = { λ r. HasCleanDisk (state S.Store r.conn) };
-
-    ghost may_leave = { λ r. LeavesWorld (state S.Store r.conn) };
-
-    ghost faults = { λ r. r.faults };
+    ghost custody = { custody_by S.Store };
 
     ghost numbered = { λ r is. is.1.ours.domains.numbered };
 

@@ -9,8 +9,8 @@ use Rattle.pdpd.proofs.answers.answer_batch.Goals as goal
 
 pub returns-clause-batch : goal.returns-clause-batch
 returns-clause-batch g c = λ sound.
-    let old : World = world g.R.Records.kept c.args.server.now in
-    let new : World = world g.R.Records.kept c.run.new.self in
+    let old : World = world g.R.Records.custody c.args.server.now in
+    let new : World = world g.R.Records.custody c.run.new.self in
     let before = g.W.Write.contents c.args.writer.now in
     let now = g.W.Write.contents c.write_replies.new.writer in
     let events = c.in_ok-events.events.items in
@@ -18,4 +18,4 @@ returns-clause-batch g c = λ sound.
     let ran : IsRun old events replies new = rw c.deref.ensures.value at (c.in_ok-replies.ensures.run sound) in
     let wrote : Appends before now (reply_entries c.args.connection (map bytes_of replies)) = rw c.deref-2.ensures.value at c.in_ok-write_replies.ensures in
     batch c.args.connection c.args.moment old new c.args.session.now c.next_messages.new.session events replies
-    c.in_ok-events.stop before now c.in_ok-events.ensures.messages c.in_ok-events.ensures.moment ran wrote
+    c.in_ok-events.reason before now c.in_ok-events.ensures.messages c.in_ok-events.ensures.moment ran wrote

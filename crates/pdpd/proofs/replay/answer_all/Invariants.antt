@@ -7,9 +7,9 @@ use Rattle.pdpd.proofs.replay.answer_all.Given as goal
 -- the entries before the one of that number are answered
 abbrev pub invariant-loop-number : goal.invariant-loop-number
 invariant-loop-number g l = record {
-  sound : g.R.Records.sound l.replayer.server.records → g.R.Records.sound l.fn.replayer.server.records;
-  so_far : g.R.Records.sound l.replayer.server.records →
-      SoFar (between g.R.Records.kept l.fn.replayer.server l.fn.replayer.connections.items) (between g.R.Records.kept l.replayer.server l.replayer.connections.items)
+  sound : (g.R.Records.custody l.replayer.server.records).sound → (g.R.Records.custody l.fn.replayer.server.records).sound;
+  so_far : (g.R.Records.custody l.replayer.server.records).sound →
+      SoFar (between g.R.Records.custody l.fn.replayer.server l.fn.replayer.connections.items) (between g.R.Records.custody l.replayer.server l.replayer.connections.items)
       (remaining_of g.I.Read.remaining l.fn.transcript) (remaining_of g.I.Read.remaining l.transcript)
       (writer_contents g.W.Write.contents l.fn.replayer.writer) (writer_contents g.W.Write.contents l.replayer.writer) l.number;
 }

@@ -8,9 +8,9 @@ use Rattle.xa_server.proofs.answer.administration_reply.Goals as goal
 
 pub returns-clause-stands : goal.returns-clause-stands
 returns-clause-stands g c = λ stand sound.
-    let old = g.R.Records.kept c.args.records.now in
-    let between = g.R.Records.kept c.admission.new.records in
-    let new = g.R.Records.kept c.by_domain_command.new.records in
+    let old = (g.R.Records.custody c.args.records.now).kept in
+    let between = (g.R.Records.custody c.admission.new.records).kept in
+    let new = (g.R.Records.custody c.by_domain_command.new.records).kept in
     let same : between ≡ old = search (rules, c.by_domain_command.ensures.sound sound) in
     subst (AllStand new) (sym c.forget.ensures.forgotten)
     (changed_stands between new c.args.name.now c.by_domain_command.result _ c.args.resources.now (c.by_domain_command.ensures.answers (pos 0) sound)

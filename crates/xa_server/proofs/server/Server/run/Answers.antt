@@ -23,10 +23,10 @@ loop-event-preserved g c =
 
 pub returns-clause-headline : goal.returns-clause-headline
 returns-clause-headline g c =
-    λ sound. let run : IsRun (world g.R.Records.kept c.args.self.now) c.args.events.now c.loop-event.replies.items (world g.R.Records.kept c.loop-event.self) =
+    λ sound. let run : IsRun (world g.R.Records.custody c.args.self.now) c.args.events.now c.loop-event.replies.items (world g.R.Records.custody c.loop-event.self) =
     search (rules, common_steps, c.loop-event.invariant.run sound) in headline _ _ _ _ run
 
 pub returns-clause-beside_refusals : goal.returns-clause-beside_refusals
 returns-clause-beside_refusals g c =
-    λ sound. let run : IsRun (world g.R.Records.kept c.args.self.now) c.args.events.now c.loop-event.replies.items (world g.R.Records.kept c.loop-event.self) =
+    λ sound. let run : IsRun (world g.R.Records.custody c.args.self.now) c.args.events.now c.loop-event.replies.items (world g.R.Records.custody c.loop-event.self) =
     search (rules, common_steps, c.loop-event.invariant.run sound) in λ domain. isolated domain _ _ _ _ run

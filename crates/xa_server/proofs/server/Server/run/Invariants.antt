@@ -7,9 +7,9 @@ use Rattle.xa_server.proofs.server.Server.run.Given as goal
 -- the run so far, and room for the replies that are left
 abbrev pub invariant-loop-event : goal.invariant-loop-event
 invariant-loop-event g l = record {
-  run : g.R.Records.sound l.self.records → IsRun (world g.R.Records.kept l.fn.self) (take l.event-index l.events) l.replies.items (world g.R.Records.kept l.self);
-  work : g.R.Records.sound l.self.records → IsWorkOfRun (world g.R.Records.kept l.fn.self) l.fn.self.tally (take l.event-index l.events) l.replies.items (world g.R.Records.kept l.self) l.self.tally;
-  sound : g.R.Records.sound l.self.records → g.R.Records.sound l.fn.self.records;
+  run : (g.R.Records.custody l.self.records).sound → IsRun (world g.R.Records.custody l.fn.self) (take l.event-index l.events) l.replies.items (world g.R.Records.custody l.self);
+  work : (g.R.Records.custody l.self.records).sound → IsWorkOfRun (world g.R.Records.custody l.fn.self) l.fn.self.tally (take l.event-index l.events) l.replies.items (world g.R.Records.custody l.self) l.self.tally;
+  sound : (g.R.Records.custody l.self.records).sound → (g.R.Records.custody l.fn.self.records).sound;
   told : vec_len l.replies ≡ l.event-index;
   room : length l.events ≤ vec_capacity l.replies;
 }

@@ -1,5 +1,3 @@
-use Rattle.std.proofs.Common.{Some, sym, ap, ◌∙◌}
-use Rattle.std.specs.FinMap.{get}
 use Rattle.xa_records.specs.Changes.{root_set}
 use Rattle.xa_records.proofs.PlainLemmas as plain
 use Rattle.xa_records.proofs.plain.domains.Domains.set_root.Goals as goal
@@ -11,4 +9,4 @@ pub returns-clause-does : goal.returns-clause-does
 returns-clause-does c = rw (← c.self.view_is) (plain.altered (root_set c.args.root) c.args.name.now c.self.inside.by_name (c.get_mut.follows.lender c.set_root.new.self) c.self.inside.next c.in-Some.domain.now c.set_root.new.self c.in-Some.ensures.value (c.get_mut.follows.holds c.set_root.new.self) c.set_root.result c.set_root.ensures.does)
 
 pub returns-clause-store : goal.returns-clause-store
-returns-clause-store c = λ h. (c.in-Some.domain.now, ap (λ k. get k.domains c.args.name.now) (sym c.self.view_is) ∙ plain.there_is c.self.inside.by_name c.args.name.now (Some c.in-Some.domain.now) c.in-Some.ensures.value, c.set_root.ensures.store h)
+returns-clause-store c = λ h. rw (← c.self.view_is) (plain.cant_alter (root_set c.args.root) c.args.name.now c.self.inside.by_name c.self.inside.next c.in-Some.domain.now c.in-Some.ensures.value (c.set_root.ensures.store h))

@@ -1,6 +1,5 @@
 use Rattle.std.proofs.Common.{◌≡◌, Some, sym, subst, ap, ◌∙◌}
 use Rattle.std.specs.Prelude.{Option, IfOk}
-use Rattle.std.specs.FinMap.{get}
 use Rattle.xa_records.specs.Changes.{upload_of, uploaded}
 use Rattle.xa_records.specs.DomainState.{DomainState}
 use Rattle.xa_records.specs.Kept.{state_of}
@@ -15,7 +14,7 @@ pub returns-clause-does : goal.returns-clause-does
 returns-clause-does c = rw (← c.self.view_is) (plain.altered (uploaded c.args.key c.args.text.now) c.args.name.now c.self.inside.by_name (c.get_mut.follows.lender c.upload.new.self) c.self.inside.next c.in-Some.domain.now c.upload.new.self c.in-Some.ensures.value (c.get_mut.follows.holds c.upload.new.self) c.upload.result c.upload.ensures.does)
 
 pub returns-clause-store : goal.returns-clause-store
-returns-clause-store c = λ h. (c.in-Some.domain.now, ap (λ k. get k.domains c.args.name.now) (sym c.self.view_is) ∙ plain.there_is c.self.inside.by_name c.args.name.now (Some c.in-Some.domain.now) c.in-Some.ensures.value, c.upload.ensures.store h)
+returns-clause-store c = λ h. rw (← c.self.view_is) (plain.cant_alter (uploaded c.args.key c.args.text.now) c.args.name.now c.self.inside.by_name c.self.inside.next c.in-Some.domain.now c.in-Some.ensures.value (c.upload.ensures.store h))
 
 pub returns-clause-which : goal.returns-clause-which
 returns-clause-which c = subst (λ (s : Option DomainState). IfOk c.upload.result (λ u. u ≡ upload_of c.args.key s))
