@@ -26,7 +26,10 @@ fn store_after_statements(
 ) -> Result<Connection<MemStore>, NoAnswer> {
     let mut conn = new_store(alloc, word)?;
     for field in statements {
-        if conn.execute_batch(kept_text(alloc, field)?.as_str()).is_err() {
+        if conn
+            .execute_batch(kept_text(alloc, field)?.as_str())
+            .is_err()
+        {
             return Err(NoAnswer::Malformed);
         }
     }
@@ -59,7 +62,10 @@ fn contents(alloc: Global, conn: &mut Connection<MemStore>) -> Result<String, No
 }
 
 /// Whether the store that is opened has a keeper's tables and no others, or why it isn't opened; and its connection.
-fn judgement_of(alloc: Global, conn: Connection<MemStore>) -> (Result<bool, OpenError>, Connection<MemStore>) {
+fn judgement_of(
+    alloc: Global,
+    conn: Connection<MemStore>,
+) -> (Result<bool, OpenError>, Connection<MemStore>) {
     match SqlRecords::open(alloc, conn) {
         Ok(keeper) => {
             let is_ours = keeper.is_ours();
