@@ -3,7 +3,7 @@ import collections
 
 from contexts import FIRST_MOMENT, LAST_MOMENT, Context, SourceRow
 from documents import DocumentFault
-from identifiers import STATUS
+from identifiers import STATUS, category as category_named
 from json_texts import NotJson
 from linking import TooLarge, active_of, linked
 from policies import PROCESSING_ERROR, tree_value, without_duties
@@ -60,7 +60,7 @@ def row_of(field):
     """The source row of a field `CATEGORY|ENTITY|ID|TYPE=TEXT`."""
     place, held = field.split("=", 1)
     category, entity, attribute_id, data_type = place.split("|")
-    return SourceRow(text_of(category), text_of(entity), text_of(attribute_id), value_of(f"{data_type}:{held}"))
+    return SourceRow(category_named(text_of(category)), text_of(entity), text_of(attribute_id), value_of(f"{data_type}:{held}"))
 
 
 def given(fields):

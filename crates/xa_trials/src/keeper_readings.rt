@@ -97,7 +97,11 @@ pub fn list<R: Records>(answer: &mut Answer, records: &mut R, name: &Text) -> Re
         return Ok(());
     };
     for listed in documents.as_slice() {
-        let word = if listed.active { "active:" } else { "inactive:" };
+        let word = if listed.active {
+            "active:"
+        } else {
+            "inactive:"
+        };
         push_key(answer, word, &listed.key)?;
     }
     answer.word(".");

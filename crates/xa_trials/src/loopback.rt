@@ -80,11 +80,7 @@ impl<R: Records + Drop> Sockets<R> {
 }
 
 /// Lets the events happen over sockets of a server over a keeper of tables.
-fn connections(
-    answer: &mut Answer,
-    rt: &HostRuntime,
-    events: &[&str],
-) -> Result<(), NoAnswer> {
+fn connections(answer: &mut Answer, rt: &HostRuntime, events: &[&str]) -> Result<(), NoAnswer> {
     let alloc = answer.alloc();
     let mut sockets = Sockets {
         rt: *rt,

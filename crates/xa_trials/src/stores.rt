@@ -1,40 +1,43 @@
 //! Rows of stores that are opened as a keeper's. The first field behind the kind says how the store begins: `empty`, or `keeper`, with the tables of a
-//! keeper without domains. Statements of SQL follow, which are run; then the store's file, which is in memory, is closed and opened again. The answer says
+//! keeper without domains. Statements of SQL follow, which are run. The answer says
 //! whether the keeper is opened and the store has a keeper's tables and no others, and of a store that is refused whether it holds something else than before.
 use crate::answer::Answer;
 use crate::field::kept_text;
-use crate::keepers::{InFiles, new_connection, reopened, tables};
+use crate::keepers::{connection, tables};
 use crate::no_answer::NoAnswer;
-use sqlite::{Connection, Row};
+use sqlite::{Connection, MemStore, Row};
 use std::alloc::Global;
 use xa_store::{OpenError, SqlRecords};
 
 /// A store in memory that begins so.
-fn new_store(alloc: Global, word: &str) -> Result<Connection<InFiles>, NoAnswer> {
+fn new_store(alloc: Global, word: &str) -> Result<Connection<MemStore>, NoAnswer> {
     match word {
-        "empty" => new_connection(alloc),
+        "empty" => connection(alloc),
         "keeper" => Ok(tables(alloc)?.into_connection()),
         _ => Err(NoAnswer::Malformed),
     }
 }
 
-/// The store, in which the statements were run, as it is in its files.
+/// The store, in which the statements were run.
 fn store_after_statements(
     alloc: Global,
     word: &str,
     statements: &[&str],
-) -> Result<Connection<InFiles>, NoAnswer> {
+) -> Result<Connection<MemStore>, NoAnswer> {
     let mut conn = new_store(alloc, word)?;
     for field in statements {
-        if conn.execute_batch(kept_text(alloc, field)?.as_str()).is_err() {
+        if conn
+            .execute_batch(kept_text(alloc, field)?.as_str())
+            .is_err()
+        {
             return Err(NoAnswer::Malformed);
         }
     }
-    reopened(alloc, conn)
+    Ok(conn)
 }
 
 /// The rows that the query shows.
-fn rows_of(conn: &mut Connection<InFiles>, sql: &str) -> Result<Vec<Row>, NoAnswer> {
+fn rows_of(conn: &mut Connection<MemStore>, sql: &str) -> Result<Vec<Row>, NoAnswer> {
     match conn.query_all(sql, &[]) {
         Ok(rows) => Ok(rows),
         Err(_) => Err(NoAnswer::Malformed),
@@ -42,7 +45,7 @@ fn rows_of(conn: &mut Connection<InFiles>, sql: &str) -> Result<Vec<Row>, NoAnsw
 }
 
 /// What the store holds: each table by the statement that made it, and its rows.
-fn contents(alloc: Global, conn: &mut Connection<InFiles>) -> Result<String, NoAnswer> {
+fn contents(alloc: Global, conn: &mut Connection<MemStore>) -> Result<String, NoAnswer> {
     let made = rows_of(
         conn,
         "SELECT name, sql FROM sqlite_schema WHERE type = 'table' ORDER BY name",
@@ -59,7 +62,10 @@ fn contents(alloc: Global, conn: &mut Connection<InFiles>) -> Result<String, NoA
 }
 
 /// Whether the store that is opened has a keeper's tables and no others, or why it isn't opened; and its connection.
-fn judgement_of(alloc: Global, conn: Connection<InFiles>) -> (Result<bool, OpenError>, Connection<InFiles>) {
+fn judgement_of(
+    alloc: Global,
+    conn: Connection<MemStore>,
+) -> (Result<bool, OpenError>, Connection<MemStore>) {
     match SqlRecords::open(alloc, conn) {
         Ok(keeper) => {
             let is_ours = keeper.is_ours();
