@@ -7,7 +7,7 @@ SHELL := bash
 NAME ?= $(word 2,$(MAKECMDGOALS))
 crate = $(or $(NAME),$(error make $@ NAME: the name of a crate is missing, one of $(notdir $(wildcard crates/*))))
 
-.PHONY: help run pdpd try check test api memory edits fmt rows agreement author-test bench
+.PHONY: help run test prove pdpd try check api memory edits fmt rows agreement author-test bench
 
 help:
 	@awk -F ':.*## ' '/^[a-z-]+:.*## / { printf "  make %-12s %s\n", $$1 ($$1 ~ /^(try|check|edits)$$/ ? " NAME" : ""), $$2 }' Makefile
@@ -15,13 +15,19 @@ help:
 run: ## serves the ward's example and asks it by curl; over a file and once more after a restart, where the program is built
 	@examples/ward/walk
 
+test: ## all tests, in minutes: over the proved programs, where they are built of these very sources, else over what is compiled without proof
+	@tests/all
+
+prove: ## the gate, in an hour and more: proves everything, tries the wrong bodies, and runs all tests over the proved programs
+	@tests/prove
+
 # the word after `try`, `check` or `edits` is a crate's name, and no target
 ifneq (,$(filter try check edits,$(firstword $(MAKECMDGOALS))))
 $(wordlist 2,2,$(MAKECMDGOALS)):
 	@:
 else
 pdpd: ## proves pdpd and what it stands on, and leaves the program in build/pdpd
-	cd crates/pdpd; rt run -- $$(cat args) < stdin | cmp - stdout
+	cd crates/pdpd; ../../tests/programs.py proved pdpd rt run -- $$(cat args) < stdin | cmp - stdout
 	install -D crates/pdpd/out/pdpd build/pdpd
 endif
 
@@ -30,13 +36,6 @@ try: ## runs a crate's tests, or a program on its stored input, without proving
 
 check: ## proves a crate, over what earlier checks kept
 	@cd crates/$(crate); rt check
-
-test: ## the gate: every proof, the must-fail edits, the tests and the stored runs; then the real program from outside
-	rt ci
-	tests/program
-	tests/api
-	tests/serve
-	tests/tables
 
 api: pdpd ## proves and builds pdpd, and sends it every example of the API reference (docs/API.md, docs/openapi.yaml)
 	tests/api

@@ -12,12 +12,14 @@ import sys
 
 import folders  # noqa: F401
 from answers import answer
+from asked import BY_OTHERS, Row, by_others
 from bodies import Bodies
 from breaking import Breaking
 from combining import ALGORITHMS, DECISIONS
 from commands import Commands
 from exchanges import Exchanges
 from functions import BAG_FUNCTIONS, DURATIONS, FUNCTIONS, HIGHER_ORDER, V1, V3
+from inputs import as_read, as_written
 from keeping import Keeping
 from rows import encoded, line
 from small_bodies import SmallBodies
@@ -174,10 +176,16 @@ class Rows:
         return self.makers[kind]()
 
 
+def asked(rows):
+    """The rows that are asked of the program: in place of some others that ask the same, with their answers."""
+    for fields in rows:
+        yield from by_others(fields, answer(fields)) if fields[0] in BY_OTHERS else [Row(fields, None)]
+
+
 def in_files(rows):
     """The lines of the rows, as many together as a file may have."""
     held, size = [], 0
-    for text in map(line, rows):
+    for text in (line(as_read(row.fields)) for row in rows):
         if held and (len(held) == ROWS_A_FILE or size + len(text) > BYTES_A_FILE):
             yield held
             held, size = [], 0
@@ -193,7 +201,8 @@ def answers_of(path):
 
 
 def compare(answers, rows):
-    wanted = [line(answer(fields))[:-1] for fields in rows]
+    wanted = [line(as_written(row.fields, row.answer or answer(row.fields)))[:-1] for row in rows]
+    rows = [row.fields for row in rows]
     differ = [it for it in zip(rows, wanted, answers) if it[1] != it[2]]
     for fields, by_model, found in differ[:20]:
         print(f"{line(fields)[:2000].rstrip()}\n    model    {by_model[:2000]}\n    program  {found[:2000]}")
@@ -208,7 +217,7 @@ def compare(answers, rows):
 def main():
     verb, path, seed, count = sys.argv[1], sys.argv[2], int(sys.argv[3]), int(sys.argv[4])
     source = Rows(seed, sys.argv[5:])
-    rows = [source.next() for _ in range(count)]
+    rows = list(asked(source.next() for _ in range(count)))
     if verb == "compare":
         return compare(answers_of(path), rows)
     for place, held in enumerate(in_files(rows)):

@@ -208,7 +208,7 @@ class Checks:
 def is_program(name, program):
     if os.path.isfile(program):
         return True
-    print(f"{name}: {program} is not there: `make test` or `make pdpd` builds it")
+    print(f"{name}: {program} is not there: `make prove` or `make pdpd` builds it")
     return False
 
 

@@ -13,7 +13,7 @@ import route_bodies
 import routes
 import servers
 import versions
-from contexts import moment_as
+from contexts import FIRST_MOMENT, LAST_MOMENT, moment_as
 from functions import BAG_FUNCTIONS, BAG_SIGNATURES, FUNCTIONS, HIGHER_ORDER, bag_function_named, fits, higher_order
 from identifiers import DATA_TYPES, NAMESPACE, SHORTHANDS, STATUS, SUBJECTS, category
 from names import NAMES
@@ -21,7 +21,6 @@ from rows import bag_shown, decoded, encoded, shown, text_of, value_of
 from values import MAX_DAY_TIME, MAX_MONTHS, TYPES, Fault, key, read
 
 ORDERED = ("integer", "string", "time", "date", "dateTime")
-FIRST_MOMENT, LAST_MOMENT = -62_135_596_800, 253_402_300_799
 
 
 def arguments_of(fields):
@@ -169,15 +168,6 @@ def held(field):
     return [shown(value_of(field))]
 
 
-def keys(*texts):
-    return [encoded(text) for text in sorted({decoded(text) for text in texts})]
-
-
-def bag(data_type, *fields):
-    taken = [value_of(field)[0] == data_type for field in fields]
-    return ["true" if is_taken else "false" for is_taken in taken] + [str(sum(taken))]
-
-
 def digest(text, field):
     return ["true" if hashlib.sha256(decoded(text)).digest() == decoded(field) else "false"]
 
@@ -186,7 +176,7 @@ KINDS = {
     "read": read_row, "type": type_row, "category": category_row, "numbered": numbered, "plain": plain, "same": same, "order": order, "moment": moment, "function": function,
     "apply": apply, "higher": higher, "token": token, "domain": domain, "number": number,
     "evaluate": questions.evaluate, "target": questions.target,
-    "months": months, "nanoseconds": nanoseconds, "held": held, "keys": keys, "bag": bag, "digest": digest,
+    "months": months, "nanoseconds": nanoseconds, "held": held, "digest": digest,
     "server": servers.server, "loopback": servers.loopback, "stream": messages.stream, "route": routes.route, "combine": combining.combine,
     "version": versions.version, "pattern": versions.pattern, "matches": versions.matches, "versions": versions.versions,
     "resolve": versions.resolve, "document": documents.document,

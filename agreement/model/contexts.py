@@ -8,6 +8,8 @@ IDS = "urn:oasis:names:tc:xacml:1.0:"
 ENVIRONMENT = SHORTHANDS["Environment"]
 # what of the clock each attribute is, by its id and its type
 CLOCK = {(IDS + "environment:current-" + data_type, data_type) for data_type in ("time", "date", "dateTime")}
+# the first and the last moment, in seconds after 1970: those of the years 1 to 9999
+FIRST_MOMENT, LAST_MOMENT = -62_135_596_800, 253_402_300_799
 SourceRow = collections.namedtuple("SourceRow", "category entity attribute_id value")
 
 

@@ -1,7 +1,7 @@
 """Decisions on a request: its individual requests, each by the tree of the root (XACML 3.0, core, section 7.17; Multiple Decision Profile)."""
 import collections
 
-from contexts import Context, SourceRow
+from contexts import FIRST_MOMENT, LAST_MOMENT, Context, SourceRow
 from documents import DocumentFault
 from identifiers import STATUS
 from json_texts import NotJson
@@ -14,6 +14,10 @@ from versions import reference_of
 
 SYNTAX_ERROR = STATUS + "syntax-error"
 View = collections.namedtuple("View", "active root source")
+
+
+class NoMoment(Exception):
+    """The clock never stands there."""
 
 
 def indeterminate(status):
@@ -72,6 +76,8 @@ def given(fields):
             view.source.append(row_of(text))
         elif word == "moment":
             moment = int(text)
+            if not FIRST_MOMENT <= moment <= LAST_MOMENT:
+                raise NoMoment
     return view, moment
 
 
@@ -82,5 +88,5 @@ def decide(*fields):
         return [encoded(response(view, decoded(fields[-1]), moment))]
     except NotJson:
         return ["!NotJson"]
-    except DocumentFault:
+    except (DocumentFault, NoMoment):
         return ["!Malformed"]

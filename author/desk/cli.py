@@ -7,7 +7,7 @@ import json
 import sys
 from collections.abc import Callable
 
-from . import ask, asking, cases, diff, explain, explained, files, laid_out, lints, program, setting, text, together
+from . import ask, asking, cases, diff, exchange, explain, explained, files, laid_out, lints, program, setting, text, together
 from .check import Checked, Disagreement, Rows
 from .faults import Remark, Remarks
 from .model import documents as documents_of_model
@@ -267,6 +267,7 @@ def parser() -> argparse.ArgumentParser:
         one.set_defaults(run=run, **more)
         return one
 
+    exchange.add_words(word)
     word("check", "names all faults of documents, with their places", check, add_check)
     one = word("ask", "decides on a request", decided, add_question, is_explained=False)
     one.add_argument("--raw", action="store_true", help="writes the body of the response alone")

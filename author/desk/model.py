@@ -4,6 +4,8 @@ import sys
 
 TOP = pathlib.Path(__file__).resolve().parents[2]
 sys.path.insert(1, str(TOP / "agreement" / "model"))
+# a text of very many digits is out of range, and nothing that Python refuses to read
+getattr(sys, "set_int_max_str_digits", lambda _: None)(0)
 
 import combining  # noqa: E402, F401
 import contexts  # noqa: E402, F401
@@ -12,6 +14,7 @@ import documents  # noqa: E402, F401
 import expressions  # noqa: E402, F401
 import functions  # noqa: E402, F401
 import identifiers  # noqa: E402, F401
+import inputs  # noqa: E402, F401
 import json_texts  # noqa: E402, F401
 import linking  # noqa: E402, F401
 import policies  # noqa: E402, F401

@@ -9,7 +9,7 @@ import subprocess
 import tempfile
 from dataclasses import dataclass
 
-from .model import TOP, rows
+from .model import TOP, inputs, rows
 
 CRATE = TOP / "crates" / "xa_trials"
 PLACES = (CRATE / "out" / "xa_trials", TOP / "build" / "xa_trials")
@@ -57,7 +57,7 @@ class Program:
         """The fields of the answer to each row."""
         if not asked:
             return []
-        held = "".join(map(rows.line, asked))
+        held = "".join(rows.line(inputs.as_read(fields)) for fields in asked)
         written = self.tried(held) if self.is_tried else self.run(held)
         found = [line.split("\t") for line in written.split("\n")[:-1]]
         if len(found) != len(asked):
@@ -85,7 +85,8 @@ class Program:
 
 
 def found(named: str = "") -> Program | None:
-    """The program: the one that is named, the proved one, or None. `try` is the one that `rt try` compiles, unproved."""
+    """The program: the one that is named, here or by DESK_PROGRAM in the environment, the proved one, or None. `try` is the one that `rt try` compiles, unproved."""
+    named = named or os.environ.get("DESK_PROGRAM", "")
     if named == "none":
         return None
     if named == "try":

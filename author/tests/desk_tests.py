@@ -90,7 +90,7 @@ def run(*words: str, files: dict[str, str] | None = None, program: str = "none")
             path.parent.mkdir(exist_ok=True)
             path.write_text(held, encoding="utf-8")
         given = [str(pathlib.Path(folder, word[1:])) if word.startswith("@") else word for word in words]
-        if given and given[0] in ("check", "ask", "explain", "test", "diff") and program:
+        if given and given[0] in ("check", "ask", "explain", "test", "diff", "import", "conformance") and program:
             given[1:1] = ["--program", program.replace("@", folder + "/")]
         out, err = io.StringIO(), io.StringIO()
         with contextlib.redirect_stdout(out), contextlib.redirect_stderr(err):

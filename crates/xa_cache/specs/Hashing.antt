@@ -2,7 +2,9 @@
 use Rattle.std.specs.Prelude.{ℕ, ◌+◌, ◌*◌, ◌/◌, ◌%◌, ◌^◌, List, [], ◌∷◌, length, drop, map, sum, zip}
 use Rattle.std.specs.List.{fold}
 use Rattle.std.specs.Simd.{first_chunks}
+use Rattle.std.specs.Hash.DefaultHasher as siphash
 use Rattle.xa_cache.specs.declared.seeded.Polynomial.{Polynomial}
+use Rattle.xa_cache.specs.declared.seeded.Seeded.{Seeded}
 
 -- the same number modulo 2^61 - 1, and a shorter one
 abbrev pub folded : ℕ → ℕ
@@ -44,3 +46,16 @@ hashed hasher bytes =
     let fours = length parts / 4 in
     let value = valued hasher.point (valued_by_four hasher (first_chunks 4 fours parts)) (drop (fours * 4) parts) in
     record { point = hasher.point; square = hasher.square; cube = hasher.cube; fourth = hasher.fourth; value = term hasher.point value (part (drop (whole * 7) bytes)) }
+
+-- the hasher at a point, with its powers, that begins with a value
+abbrev pub hasher_at : ℕ → ℕ → Polynomial
+hasher_at point value =
+    let square = term point point 0 in
+    let cube = term point square 0 in
+    record { point = point; square = square; cube = cube; fourth = term point cube 0; value = value }
+
+-- hashers that begin with a secret: their point follows from its SipHash, and their value from that of the secret written twice, without the last three bits of each
+abbrev pub seeded_by : List ℕ → Seeded
+seeded_by secret =
+    let once = siphash.write siphash.initial secret in
+    record { start = hasher_at (siphash.finish once / 8) (siphash.finish (siphash.write once secret) / 8) }

@@ -1,6 +1,6 @@
 //! How keys are hashed: a body's parts of seven bytes are the coefficients of a polynomial, whose value at a secret point is the hash.
 ghost use Rattle.std.specs.Prelude.{◌≡◌, ◌+◌, ◌*◌, ◌<◌, ◌^◌, fold, drop};
-ghost use Rattle.xa_cache.specs.Hashing.{folded, hashed, term, terms, valued, valued_by_four, part};
+ghost use Rattle.xa_cache.specs.Hashing.{folded, hashed, hasher_at, seeded_by, term, terms, valued, valued_by_four, part};
 
 use std::hash::{BuildHasher, DefaultHasher, Hasher};
 
@@ -25,7 +25,9 @@ pub(crate) struct Polynomial {
 
 impl Seeded {
     /// Hashers whose point follows from the secret.
-    pub(crate) fn new(secret: &[u8]) -> Seeded {
+    pub(crate) fn new(secret: &[u8]) -> Seeded
+        ensures { result ≡ seeded_by secret.now }
+    {
         let mut point = DefaultHasher::new();
         point.write(secret);
         let mut value = point;
@@ -48,7 +50,9 @@ impl BuildHasher for Seeded {
 
 impl Polynomial {
     /// The hasher at the point that begins with the value.
-    fn at(point: u64, value: u64) -> Polynomial {
+    fn at(point: u64, value: u64) -> Polynomial
+        ensures { result ≡ hasher_at point value }
+    {
         let square = term(point, point, 0);
         let cube = term(point, square, 0);
         Polynomial {

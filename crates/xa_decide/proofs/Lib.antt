@@ -2,5 +2,6 @@ mod IndexLemmas
 mod KeyLemmas
 mod LookLemmas
 mod NamingLemmas
+pub mod PlacesLemmas
 pub mod TimelessLemmas
 mod TypeLemmas

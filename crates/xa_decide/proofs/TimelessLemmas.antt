@@ -27,7 +27,7 @@ use Rattle.xa_profile.specs.Request.{request_of}
 use Rattle.xa_decide.specs.declared.source_row.SourceRow.{SourceRow}
 use Rattle.xa_decide.specs.Context.{clock_value, clock_value_in, entity, if_any, or_else, outside_values, request_values, source_values, values_of}
 use Rattle.xa_decide.specs.Decision.{Viewed, answer, answer_to, by_tree, decided, decision, objects_at, result_of, result_without_objects, results_of, tree_of}
-use Rattle.xa_decide.specs.Timeless.{TimelessAnswersStay, are_timeless, is_timeless_answer, is_timeless_read, is_timeless_request, is_timeless_tree}
+use Rattle.xa_decide.specs.Timeless.{ContextsDifferInTheClock, TimelessAnswersStay, TimelessRequestsStay, are_timeless, is_timeless_answer, is_timeless_read, is_timeless_request, is_timeless_tree}
 
 -- ---- the clock
 
@@ -77,8 +77,7 @@ without_clock objects source moment d e =
     (cond (is_none d.issuer) (or_else (if_any given) (source_values source (entity objects d.category) d)) [])) (clock_silent moment d e)
 
 -- it differs at two moments in the clock's attributes alone
-same_but_for_the_clock : (objects : List CategoryObject) (source : List SourceRow) (first second : ℤ)
-    → SameButForTheClock (values_of (record { objects = objects; source = source; moment = first })) (values_of (record { objects = objects; source = source; moment = second }))
+pub same_but_for_the_clock : ContextsDifferInTheClock
 same_but_for_the_clock objects source first second d e = without_clock objects source first d e ∙ sym (without_clock objects source second d e)
 
 by_tree_same : (tree : Option (Result Linked LinkError)) → is_timeless_tree tree ≡ true → (a b : Attributes) → SameButForTheClock a b → by_tree a tree ≡ by_tree b tree
@@ -113,7 +112,7 @@ results_same : (view : Viewed) (them : Result (List Individual) TooMany) → are
 results_same view (Ok them) timeless objects first second = each_same view timeless objects first second them
 results_same view (Err e) timeless objects first second = refl
 
-decided_same : (view : Viewed) (request : Request) → is_timeless_request view request ≡ true → (first second : ℤ) → decided view request first ≡ decided view request second
+pub decided_same : TimelessRequestsStay
 unfolding decided is_timeless_request
 decided_same view request timeless first second = by_combined request.combined_decision timeless where
   by_combined : (b : Bool) → cond b true (are_timeless view (individuals request)) ≡ true

@@ -1,5 +1,6 @@
 pub mod Context
 pub mod Decision
 pub mod indexing
+pub mod Places
 pub mod Rows
 pub mod Timeless

@@ -1,17 +1,20 @@
 -- Whether what is answered to a body is the same at every moment: no attribute that the clock gives is asked for (XACML 3.0, core, section
 -- 7.3.6 and appendix B.7).
 use Rattle.std.specs.Prelude.{◌≡◌, ℕ, Bool, true, List, Option, Some, None, Result, Ok, Err, ℤ, if◌then◌else◌}
-use Rattle.xa_expr.specs.Timeless.{is_timeless}
+use Rattle.xa_expr.specs.Timeless.{SameButForTheClock, is_timeless}
 use Rattle.xa_policy.specs.declared.linked.Linked.{Linked}
 use Rattle.xa_policy.specs.Designators.{designators_of_linked}
 use Rattle.xa_link.specs.declared.link_error.LinkError.{LinkError}
+use Rattle.xa_profile.specs.declared.category_object.CategoryObject.{CategoryObject}
 use Rattle.xa_profile.specs.declared.individuals.Individual.{Individual}
 use Rattle.xa_profile.specs.declared.individuals.TooMany.{TooMany}
 use Rattle.xa_profile.specs.declared.request.Request.{Request}
 use Rattle.xa_profile.specs.declared.request_error.RequestError.{RequestError}
 use Rattle.xa_profile.specs.Individuals.{individuals}
 use Rattle.xa_profile.specs.Request.{request_of}
-use Rattle.xa_decide.specs.Decision.{Viewed, answer, tree_of}
+use Rattle.xa_decide.specs.declared.source_row.SourceRow.{SourceRow}
+use Rattle.xa_decide.specs.Context.{values_of}
+use Rattle.xa_decide.specs.Decision.{Viewed, answer, decided, tree_of}
 
 -- no designator of the tree names the clock. Where there is no tree, and where it is too large, no attribute is asked for
 abbrev pub is_timeless_tree : Option (Result Linked LinkError) → Bool
@@ -36,6 +39,17 @@ is_timeless_read view (Err e) = true
 -- what is answered to a body
 unfoldable pub is_timeless_answer : Viewed → List ℕ → Bool
 is_timeless_answer view body = is_timeless_read view (request_of body)
+
+-- law: what a context gives to designators differs at two moments in the clock's attributes alone
+abbrev pub ContextsDifferInTheClock : Type 0
+ContextsDifferInTheClock =
+    (objects : List CategoryObject) (source : List SourceRow) (first second : ℤ)
+    → SameButForTheClock (values_of (record { objects = objects; source = source; moment = first })) (values_of (record { objects = objects; source = source; moment = second }))
+
+-- law: what is decided of such a request is the same at every two moments
+abbrev pub TimelessRequestsStay : Type 0
+TimelessRequestsStay =
+    (view : Viewed) (request : Request) → is_timeless_request view request ≡ true → (first second : ℤ) → decided view request first ≡ decided view request second
 
 -- law: such an answer is the same at every two moments
 abbrev pub TimelessAnswersStay : Type 0

@@ -1,13 +1,16 @@
 //! Whether what is answered is the same at every moment.
 ghost use Rattle.std.specs.Prelude.{◌≡◌};
-ghost use Rattle.xa_decide.specs.Timeless.{TimelessAnswersStay, is_timeless_tree};
+ghost use Rattle.xa_decide.specs.Timeless.{ContextsDifferInTheClock, TimelessAnswersStay, TimelessRequestsStay, is_timeless_tree};
 
 use xa_link::LinkError;
 use xa_policy::{Linked, timeless};
 
-/// Law: what is answered to a body is the same at every two moments, where no attribute that the clock gives is asked for.
+/// Law: what is answered to a body, and what is decided of a request, is the same at every two moments, where no attribute that the clock gives is
+/// asked for. The contexts at two moments differ in these attributes alone.
 pub fn timeless_answers_stay()
-    ensures { TimelessAnswersStay }
+    ensures contexts { ContextsDifferInTheClock }
+    ensures requests { TimelessRequestsStay }
+    ensures answers { TimelessAnswersStay }
 {}
 
 /// Whether no designator of the tree names the clock (XACML 3.0, core, appendix B.7). Where there is no tree, and where it is too large, none is

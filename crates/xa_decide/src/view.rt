@@ -2,6 +2,7 @@
 ghost use Rattle.std.specs.Prelude.{◌≡◌, IfOk};
 ghost use Rattle.xa_link.specs.Linking.{link};
 ghost use Rattle.xa_decide.specs.Decision.{tree_of};
+ghost use Rattle.xa_decide.specs.Places.{counted, places, places_of_all, places_of_tree};
 ghost use Rattle.xa_decide.specs.Timeless.{is_timeless_tree};
 
 use crate::source::Source;
@@ -74,7 +75,10 @@ fn tree_of(
 
 /// How many places the tree has: its policies and policy sets, and the references that lead nowhere. What this costs grows with them, as linking did.
 #[cycle(places)]
-fn places_of(tree: &Linked) -> usize {
+#[tactic(auto, using(crate::proofs::PlacesLemmas::one_counted))]
+fn places_of(tree: &Linked) -> usize
+    ensures { result ≡ counted (places tree.now) }
+{
     match tree {
         Linked::PolicySet(_, children) => {
             places_of_all(children.get().as_slice()).saturating_add(1)
@@ -85,7 +89,10 @@ fn places_of(tree: &Linked) -> usize {
 
 /// How many places the trees have.
 #[cycle(places)]
-fn places_of_all(trees: &[Linked]) -> usize {
+#[tactic(auto, using(crate::proofs::PlacesLemmas::more_counted, crate::proofs::PlacesLemmas::counted_once, crate::proofs::PlacesLemmas::all_counted))]
+fn places_of_all(trees: &[Linked]) -> usize
+    ensures { result ≡ counted (places_of_all trees.now) }
+{
     let mut places = 0usize;
     for tree in trees {
         places = places.saturating_add(places_of(tree));
@@ -147,7 +154,9 @@ impl View {
 
     /// How many places the linked tree has: its policies and policy sets, and the references that lead nowhere, of which a set may have many; 0 where there is no
     /// tree. The memory of a view grows with them beside its documents and rows.
-    pub fn places(&self) -> usize {
+    pub fn places(&self) -> usize
+        ensures { result ≡ places_of_tree (tree_of self.now.active self.now.root) }
+    {
         match &self.tree {
             Some(Ok(linked)) => places_of(linked),
             Some(Err(_)) | None => 0,

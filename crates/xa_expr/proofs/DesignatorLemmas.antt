@@ -11,7 +11,7 @@ use Rattle.xa_expr.specs.declared.typed.Typed.TheOpen.{Typed-F}
 use Rattle.xa_expr.specs.declared.variables.Definition.{Definition}
 use Rattle.xa_expr.specs.Designators.{AgreeOn, RestsOn, designators, designators_step, designators_of_definitions, designators_of_match, designators_of_all_of, designators_of_any_of, designators_of_target}
 use Rattle.xa_expr.specs.Evaluation.{Attributes, Outcome, attribute, applied, higher_applied, outcome, outcome_step, outcomes, outcomes_after, value_of}
-use Rattle.xa_expr.specs.Match.{Question}
+use Rattle.xa_expr.specs.declared.match_.Match.{Match}
 use Rattle.xa_expr.specs.Target.{match_on, match_value, all_match, all_of_value, any_of_value, some_match, target_value}
 
 -- what agrees on two lists of designators does on each
@@ -80,7 +80,7 @@ pub value_same : (ds : List Definition) (a b : Attributes) → AgreeOn (designat
 value_same ds a b defined t agree = ap (λ variables. outcome a variables t) (outcomes_rest ds [] a b defined) ∙ outcome_rests (outcomes b ds) t a b agree
 
 -- a target and its parts
-match_rests : (q : Question) → RestsOn (designators_of_match q) (λ a. match_value a q)
+match_rests : (q : Match) → RestsOn (designators_of_match q) (λ a. match_value a q)
 match_rests q a b agree = ap (match_on q) (attribute_rests q.designator a b agree)
 
 all_of_rests : (part : AllOf) → RestsOn (designators_of_all_of part) (λ a. all_of_value a part)

@@ -10,6 +10,7 @@ pub mod MatchLemmas
 pub mod MisfitLemmas
 pub mod PlaceLemmas
 pub mod TargetLemmas
+pub mod TargetMisfitLemmas
 pub mod TimelessLemmas
 pub mod TypedLemmas
 pub mod UnderLemmas

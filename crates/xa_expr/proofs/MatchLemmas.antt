@@ -1,17 +1,22 @@
 -- What a match's function takes, and what equality makes of a match.
 use Rattle.std.proofs.Common.{◌≡◌, Bool, true, false, cond, ◌&&◌, ◌||◌, List, [], ◌∷◌, map, refl, ap, sym, subst, ◌∙◌}
 use Rattle.std.specs.Prelude.{if◌then◌else◌, Ok, Err}
+use Rattle.std.proofs.Props.{props}
+use Rattle.std.proofs.lemmas.Bool.{true≢false}
 use Rattle.std.specs.List.{list_any}
 use Rattle.xa_value.specs.declared.data_type.DataType.{DataType}
 use Rattle.xa_value.specs.declared.value.Value.{Value}
 use Rattle.xa_value.specs.declared.value.Value.TheVariants as value
 use Rattle.xa_value.specs.Order.{type_of, same}
+use Rattle.xa_func.specs.declared.func_id.FuncId.{FuncId}
 use Rattle.xa_func.specs.declared.func_id.FuncId.TheVariants as function
 use Rattle.xa_func.specs.Application.{applied}
 use Rattle.xa_func.specs.Signature.{TakesKinds, kind_of, signature_of}
 use Rattle.xa_func.specs.Table.{is_scalar}
 use Rattle.xa_bag.specs.declared.value_or_bag.ValueOrBag.TheVariants as given
 use Rattle.xa_bag.specs.Bag.{bag_of}
+use Rattle.xa_expr.specs.declared.check_error.CheckError.TheVariants.{WrongType}
+use Rattle.xa_expr.specs.declared.designator.Designator.{Designator}
 use Rattle.xa_expr.specs.declared.fault.Fault.TheVariants.{MissingAttribute}
 use Rattle.xa_expr.specs.declared.looked.Looked.TheVariants.{Nothing, Found, NotFound}
 use Rattle.xa_expr.specs.declared.matching.Matching.{Matching}
@@ -19,7 +24,9 @@ use Rattle.xa_expr.specs.declared.matching.Matching.TheVariants as matching
 use Rattle.xa_expr.specs.Evaluation.{Attributes, is_empty}
 use Rattle.xa_expr.specs.Fault.{of_function}
 use Rattle.xa_expr.specs.Looked.{looked, match_by}
-use Rattle.xa_expr.specs.Match.{Question, IsRight, argument_kinds}
+use Rattle.xa_expr.specs.declared.match_.Match.{Match}
+use Rattle.xa_expr.specs.Match.{matched_where}
+use Rattle.xa_expr.specs.MatchTypes.{argument_kinds, may_ask}
 use Rattle.xa_expr.specs.Target.{answer, match_on, match_value, matching_of, some_match}
 use Rattle.xa_expr.specs.Typed.{accepted}
 use Rattle.xa_expr.proofs.KindLemmas.{accepts_of}
@@ -33,23 +40,26 @@ second_of true b e = e
 second_of false b e = cc
 
 -- a match's function takes the literal and a value of the designator's type
-pub takes_arguments : (q : Question) (v : Value) → IsRight q → type_of v ≡ q.designator.data_type → TakesKinds q.function (map kind_of (q.literal ∷ v ∷ []))
-takes_arguments q v right of_type =
-    let scalar : is_scalar q.function ≡ true = first_of _ _ right in
-    let accepts : accepted (signature_of q.function) (argument_kinds q.literal q.designator.data_type) ≡ true = first_of _ _ (second_of (is_scalar q.function) _ right) in
-    (scalar, accepts_of (signature_of q.function) _ (ap (λ t. accepted (signature_of q.function) (argument_kinds q.literal t)) of_type ∙ accepts))
+pub takes_arguments : (m : Match) (v : Value) → type_of v ≡ m.designator.data_type → TakesKinds m.function (map kind_of (m.literal ∷ v ∷ []))
+takes_arguments m v of_type =
+    let scalar : is_scalar m.function ≡ true = first_of _ _ m.right in
+    let accepts : accepted (signature_of m.function) (argument_kinds m.literal m.designator.data_type) ≡ true = first_of _ _ (second_of (is_scalar m.function) _ m.right) in
+    (scalar, accepts_of (signature_of m.function) _ (ap (λ t. accepted (signature_of m.function) (argument_kinds m.literal t)) of_type ∙ accepts))
 
--- the same of a match that is seen as another
-pub takes_given : (q seen : Question) (v : Value) (vs : List Value)
-    → q ≡ seen → IsRight q → type_of v ≡ seen.designator.data_type → vs ≡ seen.literal ∷ v ∷ [] → TakesKinds q.function (map kind_of vs)
-takes_given q seen v vs is right of_type given =
-    let same_arguments : q.literal ∷ v ∷ [] ≡ vs = ap (λ r. r.literal ∷ v ∷ []) is ∙ sym given in
-    subst (λ us. TakesKinds q.function (map kind_of us)) same_arguments (takes_arguments q v right (of_type ∙ sym (ap (λ r. r.designator.data_type) is)))
+pub takes_given : (m : Match) (v : Value) (vs : List Value) → type_of v ≡ m.designator.data_type → vs ≡ m.literal ∷ v ∷ [] → TakesKinds m.function (map kind_of vs)
+takes_given m v vs of_type given = subst (λ us. TakesKinds m.function (map kind_of us)) (sym given) (takes_arguments m v of_type)
 
-pub answer_given : (q seen : Question) (v : Value) (vs : List Value) (m : Matching)
-    → q ≡ seen → vs ≡ seen.literal ∷ v ∷ [] → m ≡ matching_of (of_function (applied q.function vs)) → m ≡ answer seen v
-answer_given q seen v vs m is given says =
-    says ∙ ap (λ us. matching_of (of_function (applied q.function us))) given ∙ ap (λ r. matching_of (of_function (applied r.function (seen.literal ∷ v ∷ [])))) is
+-- a match that may not be made, and one that may
+pub none_made : (f : FuncId) (literal : Value) (d : Designator) (b : Bool) (e : may_ask f (argument_kinds literal d.data_type) ≡ b)
+    → b ≡ false → matched_where f literal d b e ≡ Err WrongType
+none_made f literal d true e false_too = absurd (true≢false false_too)
+none_made f literal d false e false_too = refl
+
+pub made : (m : Match) (b : Bool) (e : may_ask m.function (argument_kinds m.literal m.designator.data_type) ≡ b) → matched_where m.function m.literal m.designator b e ≡ Ok m
+made m true e =
+    let once : (x y : may_ask m.function (argument_kinds m.literal m.designator.data_type) ≡ true) → x ≡ y = Prim.hlevel props in
+    ap (λ right. Ok (record { function = m.function; literal = m.literal; designator = m.designator; right = right })) (once e m.right)
+made m false e = absurd (true≢false (sym m.right ∙ e))
 
 -- it matches, or it does not
 abbrev matching_where : Bool → Matching
@@ -59,11 +69,11 @@ one_more : (b c : Bool) (rest : List Matching) → some_match rest ≡ matching_
 one_more true c rest so_far = refl
 one_more false c rest so_far = so_far
 
-answer_of_equal : (q : Question) (t : DataType) (v : Value) → q.function ≡ function.Equal t → answer q v ≡ matching_of (Ok (value.Boolean (same q.literal v)))
+answer_of_equal : (q : Match) (t : DataType) (v : Value) → q.function ≡ function.Equal t → answer q v ≡ matching_of (Ok (value.Boolean (same q.literal v)))
 answer_of_equal q t v is = ap (λ f. matching_of (of_function (applied f (q.literal ∷ v ∷ [])))) is
 
 -- a match of an equality matches where some value is the same as the literal
-equal_answers : (q : Question) (t : DataType) (vs : List Value)
+equal_answers : (q : Match) (t : DataType) (vs : List Value)
     → q.function ≡ function.Equal t → some_match (map (answer q) vs) ≡ (if list_any (same q.literal) vs then matching.Match else matching.NoMatch)
 equal_answers q t [] is = refl
 equal_answers q t (v ∷ vs) is =
@@ -71,7 +81,7 @@ equal_answers q t (v ∷ vs) is =
     ∙ one_more (same q.literal v) (list_any (same q.literal) vs) (map (answer q) vs) (equal_answers q t vs is)
 
 -- so it is what a look for the literal says
-found_on : (q : Question) (t : DataType) (vs : List Value) → q.function ≡ function.Equal t
+found_on : (q : Match) (t : DataType) (vs : List Value) → q.function ≡ function.Equal t
     → match_on q (cond (is_empty vs && q.designator.must_be_present) (Err MissingAttribute) (Ok (given.Bag (bag_of q.designator.data_type vs))))
     ≡ match_by q.designator.must_be_present (looked q.literal vs)
 found_on q t [] is = by_case q.designator.must_be_present where
@@ -83,6 +93,6 @@ found_on q t (v ∷ vs) is = equal_answers q t (v ∷ vs) is ∙ by_case (list_a
   by_case true must = refl
   by_case false must = refl
 
-pub found_answers : (attributes : Attributes) (q : Question) (t : DataType)
+pub found_answers : (attributes : Attributes) (q : Match) (t : DataType)
     → q.function ≡ function.Equal t → match_by q.designator.must_be_present (looked q.literal (attributes q.designator)) ≡ match_value attributes q
 found_answers attributes q t is = sym (found_on q t (attributes q.designator) is)

@@ -10,7 +10,7 @@ use Rattle.xa_expr.specs.declared.typed.Typed.{Typed, fold-Typed}
 use Rattle.xa_expr.specs.declared.typed.Typed.TheOpen.{Typed-F}
 use Rattle.xa_expr.specs.declared.variables.Definition.{Definition}
 use Rattle.xa_expr.specs.Evaluation.{Attributes}
-use Rattle.xa_expr.specs.Match.{Question}
+use Rattle.xa_expr.specs.declared.match_.Match.{Match}
 
 -- those of each expression, by those of the expressions in it; a variable has none, since its definition has them
 abbrev pub designators_step : Typed-F (List Designator) → List Designator
@@ -28,7 +28,7 @@ abbrev pub designators_of_definitions : List Definition → List Designator
 designators_of_definitions definitions = flat_map (λ d. designators d.expression) definitions
 
 -- those of a match, an AllOf, an AnyOf and a target: one in each match
-abbrev pub designators_of_match : Question → List Designator
+abbrev pub designators_of_match : Match → List Designator
 designators_of_match q = q.designator ∷ []
 
 abbrev pub designators_of_all_of : AllOf → List Designator

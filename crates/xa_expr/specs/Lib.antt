@@ -5,9 +5,11 @@ pub mod Evaluation
 pub mod Fault
 pub mod Looked
 pub mod Match
+pub mod MatchTypes
 pub mod Misfits
 pub mod Results
 pub mod Target
+pub mod TargetMisfits
 pub mod Timeless
 pub mod Typed
 pub mod Typing

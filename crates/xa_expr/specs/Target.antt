@@ -13,7 +13,7 @@ use Rattle.xa_expr.specs.declared.target.AnyOf.{AnyOf}
 use Rattle.xa_expr.specs.declared.target.Target.{Target}
 use Rattle.xa_expr.specs.Evaluation.{Attributes, Outcome, attribute}
 use Rattle.xa_expr.specs.Fault.{of_function}
-use Rattle.xa_expr.specs.Match.{Question}
+use Rattle.xa_expr.specs.declared.match_.Match.{Match}
 
 -- Match; of a single match the standard says True
 abbrev pub is_match : Matching → Bool
@@ -49,16 +49,16 @@ matching_of (Ok _) = matching.NoMatch
 matching_of (Err fault) = matching.Indeterminate fault
 
 -- what a match's function says of the literal, its first argument, and a value of the bag, its second
-abbrev pub answer : Question → Value → Matching
+abbrev pub answer : Match → Value → Matching
 answer q v = matching_of (of_function (applied q.function (q.literal ∷ v ∷ [])))
 
 -- a match on what its designator gives: Indeterminate at a fault, else whether the function gives True for some value of the bag
-abbrev pub match_on : Question → Outcome → Matching
+abbrev pub match_on : Match → Outcome → Matching
 match_on q (Err fault) = matching.Indeterminate fault
 match_on q (Ok bag) = some_match (map (answer q) (values_of bag))
 
 -- the value of a match (7.6)
-abbrev pub match_value : Attributes → Question → Matching
+abbrev pub match_value : Attributes → Match → Matching
 match_value attributes q = match_on q (attribute attributes q.designator)
 
 -- AllOf: all its matches are true

@@ -26,9 +26,9 @@ pub trait Context {
     fn keeps_types(&self)
         ensures { KeepsTypes (values_of self.now) };
 
-    /// What a look for the value in the designator's bag comes to. A context that has the values itself looks at them where they are; by
-    /// default the bag is asked for. That takes the units of the bag and those of a look at each value; a context that searches the values by
-    /// their order takes those of its search.
+    /// What a look for the value in the designator's bag comes to. By default the bag is asked for, which takes the units of the bag and those of a look
+    /// at each value. A context that has the values itself looks at them where they are, and one that looks at one after another takes the same units,
+    /// though no bag is made. One that searches them by their order takes those of its search instead.
     fn look_for(
         &self,
         alloc: Global,

@@ -1,25 +1,17 @@
 //! Matches of a literal against the values of an attribute.
-ghost use Rattle.std.specs.Prelude.{◌≡◌, [], ◌∷◌, ◌++◌, map, Some, Ok, IfOk};
-ghost use Rattle.xa_value.specs.Order.{type_of};
-ghost use Rattle.xa_func.specs.Application.{applied};
-ghost use Rattle.xa_func.specs.Signature.{TakesKinds, kind_of};
-ghost use Rattle.xa_bag.specs.Bag.{OfType};
-ghost use Rattle.xa_expr.specs.Fault.{of_function};
-ghost use Rattle.xa_expr.specs.Looked.{looked, match_by};
-ghost use Rattle.xa_expr.specs.Match.{argument_kinds, may_ask, matched, matched_by};
-ghost use Rattle.xa_expr.specs.Target.{answer, match_value, matching_of, some_match};
+ghost use Rattle.std.specs.Prelude.{◌≡◌, ◌∷◌, [], IsTrue};
+ghost use Rattle.xa_expr.specs.MatchTypes.{argument_kinds, may_ask};
 ghost use Rattle.xa_expr.specs.Typed.{accepted};
 
+use crate::answering::{answer_for, push_copy};
 use crate::check_error::CheckError;
 use crate::context::Context;
 use crate::designator::Designator;
-use crate::fault::Fault;
 use crate::looked::Looked;
 use crate::matching::Matching;
 use crate::scope::attribute;
 use crate::work::{STEP, units_of, units_of_values};
 use std::alloc::{AllocError, Global};
-use std::marker::Model;
 use xa_func::{FuncId, HasKind, Kind, Signature};
 use xa_value::{DataType, OrMemory, Value};
 
@@ -30,19 +22,17 @@ pub struct Match {
     function: FuncId,
     literal: Value,
     designator: Designator,
-}
-
-impl Model for Match {
-    ghost use Rattle.xa_expr.specs.Match.{Question, IsRight};
-
-    ghost Value = { Question };
-
-    ghost view = { λ m. record { function = m.function; literal = m.literal; designator = m.designator } };
-
-    ghost invariant = { λ m. IsRight (record { function = m.function; literal = m.literal; designator = m.designator }) };
+    pub ghost right: { IsTrue (may_ask function (argument_kinds literal designator.data_type)) },
 }
 
 impl Match {
+    ghost use Rattle.std.specs.Prelude.{◌++◌, map, Some, IfOk};
+    ghost use Rattle.xa_value.specs.Order.{type_of};
+    ghost use Rattle.xa_bag.specs.Bag.{OfType};
+    ghost use Rattle.xa_expr.specs.Looked.{looked, match_by};
+    ghost use Rattle.xa_expr.specs.Match.{matched, matched_by};
+    ghost use Rattle.xa_expr.specs.Target.{answer, match_value, some_match};
+
     /// The match of the function of that name (core, sections 5.9 and 7.6). The literal is the function's first argument, each value of the bag its
     /// second. UnknownFunction where no function has the name; WrongType of one that doesn't take the two, or gives no boolean.
     pub fn new(function: &str, literal: Value, designator: Designator) -> Result<Match, CheckError>
@@ -55,6 +45,7 @@ impl Match {
     }
 
     /// The match of the function.
+    #[tactic(auto, using(crate::proofs::MatchLemmas::none_made))]
     fn of(function: FuncId, literal: Value, designator: Designator) -> Result<Match, CheckError>
         ensures { result ≡ matched_by (Some function) literal designator }
     {
@@ -191,35 +182,4 @@ fn takes_both(signature: Signature, first: Kind, second: Kind) -> bool
     ensures { result ≡ accepted signature (first ∷ second ∷ []) }
 {
     signature.accepts(&[first, second])
-}
-
-/// Puts a copy of the value at the end.
-fn push_copy(values: &mut Vec<Value>, value: &Value) -> Result<(), AllocError>
-    ensures { IfOk result (λ _. values.new.items ≡ values.old.items ++ value.now ∷ []) }
-{
-    values.push(value.clone()?)?;
-    Ok(())
-}
-
-/// What the function says, of arguments that it takes.
-fn answer_for(function: FuncId, alloc: Global, arguments: &[Value]) -> Result<Matching, AllocError>
-    requires { TakesKinds function (map kind_of arguments.now) }
-    ensures { IfOk result (λ m. m ≡ matching_of (of_function (applied function arguments.now))) }
-{
-    match function.apply(alloc, arguments) {
-        Ok(value) => Ok(matching_of(&value)),
-        Err(OrMemory::Error(fault)) => Ok(Matching::Indeterminate(Fault::with(fault.status()))),
-        Err(OrMemory::Memory) => Err(AllocError),
-    }
-}
-
-/// What the boolean says of a match.
-fn matching_of(value: &Value) -> Matching
-    ensures { result ≡ matching_of (Ok value.now) }
-{
-    if matches!(value, Value::Boolean(true)) {
-        Matching::Match
-    } else {
-        Matching::NoMatch
-    }
 }

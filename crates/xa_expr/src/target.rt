@@ -2,6 +2,7 @@
 ghost use Rattle.std.specs.Prelude.{◌≡◌, [], Ok, IfOk};
 ghost use Rattle.xa_expr.specs.declared.matching.Matching.TheVariants as matching;
 ghost use Rattle.xa_expr.specs.Target.{all_of_value, any_of_value, target_value};
+ghost use Rattle.xa_expr.specs.TargetMisfits.{TargetFits};
 
 use crate::context::Context;
 use crate::match_::Match;
@@ -69,12 +70,14 @@ impl AnyOf {
 
 impl Target {
     /// Whether every part of the target matches (core, section 7.7). The first that does not settles it. An empty target matches, whatever
-    /// memory there is.
+    /// memory there is. Clause `fits`: no wrong type is met, in any part of the target.
     #[tactic(auto, using(crate::proofs::TargetLemmas::all_match_joined, crate::proofs::TargetLemmas::all_match_single))]
     pub fn matching<C: Context>(&self, alloc: Global, context: &C) -> Result<Matching, AllocError>
         ensures value { IfOk result (λ m. m ≡ target_value (C.values_of context.now) self.now) }
         ensures empty { self.now.any_of ≡ [] → result ≡ Ok matching.Match }
+        ensures fits { TargetFits (C.values_of context.now) self.now }
     {
+        context.keeps_types();
         let mut so_far = Matching::Match;
         for child in self.any_of.as_slice() {
             so_far = so_far.and(child.matching(alloc, context)?);

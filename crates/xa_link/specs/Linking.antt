@@ -27,8 +27,9 @@ abbrev pub replaced_in : (Reference → Linked) → Option Active → Linked
 replaced_in replacement None = Unresolved
 replaced_in replacement (Some active) = replaced replacement active.document.document
 
--- a document to which a path leads back makes a circle. Documents are told apart by their places in the list: `resolve` gives one place
--- alone to each kind, id and version
+-- a document to which a path leads back makes a circle. Documents are told apart by their places in the list. Such circles are those of the
+-- definition by documents, which tells them apart by kind, id and version: two references that stand for documents of one kind, id and version stand
+-- for the document at one place. That is the clause of `one_place_for_each_version` (`OnePlaceForEachVersion` of `specs/Resolution`)
 abbrev pub unless_circular : List ℕ → Option ℕ → Option ℕ
 unless_circular path None = None
 unless_circular path (Some place) = if list_any (λ p. p == place) path then None else Some place

@@ -66,7 +66,8 @@ fn unless_circular(path: &[usize], place: Option<usize>) -> Option<usize>
     Some(place)
 }
 
-/// Whether the part of a document is a reference that leads to nothing at the end of the path: to no document, back to one on the path, or one too far.
+/// Whether the part of a document is a reference that leads to nothing at the end of the path: to no document, back to one on the path, or one too far. That
+/// such a part is unresolved is all that is proved: where this says false, a part that leads to nothing is linked as any other, to the same leaf.
 #[tactic(auto, using(crate::proofs::LinkingLemmas::no_further, crate::proofs::LinkingLemmas::nowhere))]
 fn leads_nowhere(path: &Path<'_>, part: &Placed) -> bool
     ensures { IsTrue result → (active : List Document) → linked (led_within path.now.more active path.now.places.now) part.now ≡ Unresolved }

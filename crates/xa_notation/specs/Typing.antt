@@ -9,7 +9,8 @@ use Rattle.xa_expr.specs.declared.target.AnyOf.{AnyOf}
 use Rattle.xa_expr.specs.declared.target.Target.{Target}
 use Rattle.xa_expr.specs.declared.typed.Typed.{Typed}
 use Rattle.xa_expr.specs.declared.variables.Definition.{Definition}
-use Rattle.xa_expr.specs.Match.{Question, matched}
+use Rattle.xa_expr.specs.declared.match_.Match.{Match}
+use Rattle.xa_expr.specs.Match.{matched}
 use Rattle.xa_expr.specs.Typing.{checked}
 use Rattle.xa_expr.specs.Variables.{is_defined}
 use Rattle.xa_policy.specs.declared.rule.Rule.{Rule}
@@ -29,7 +30,7 @@ use Rattle.xa_notation.specs.declared.written.WrittenTree.TheOpen.{WrittenTree-F
 use Rattle.xa_notation.specs.declared.written.WrittenVariable.{WrittenVariable}
 
 -- a match (5.9)
-abbrev pub typed_match : WrittenMatch → Result Question CheckError
+abbrev pub typed_match : WrittenMatch → Result Match CheckError
 typed_match m = matched m.function m.literal m.designator
 
 -- a target (5.6 to 5.8): its matches, in order

@@ -59,10 +59,10 @@ cant_rise change number epoch state after x (next, made, (risen, inr (differs, u
 pub first_epoch : IsRaised 0 1
 first_epoch = (refl, omega arith)
 
--- why there is no number after this one
-pub none_after : (number : ℕ) (failure : Failure) → RaisesTo number (Err failure) → failure ≡ Store → IsGreatest number
-none_after number Store is e = is
-none_after number Memory is e = absurd is
+-- there is no number after this one
+pub none_after : (number : ℕ) (failure : Failure) → RaisesTo number (Err failure) → IsGreatest number
+none_after number Store is = is
+none_after number Memory is = absurd is
 
 ok_bool : {a b : Bool} → ◌≡◌ {A = Result Bool Refusal} (Ok a) (Ok b) → a ≡ b
 ok_bool e = cc

@@ -1,12 +1,14 @@
 -- Numbers and epochs go on through every change.
 use Rattle.std.proofs.Common.{◌≡◌, ◌≤◌, ℕ, List, refl, sym, ap, ◌∙◌, subst, inl, inr, arith}
-use Rattle.std.specs.Prelude.{Option, Some, None, ◌⊎◌, option_map}
+use Rattle.std.specs.Prelude.{Option, Some, None, Ok, ◌⊎◌, option_map}
 use Rattle.std.specs.FinMap.{get}
 use Rattle.xa_records.specs.DomainState.{DomainState}
 use Rattle.xa_records.specs.Kept.{Becomes, Domain, IsChanged, IsNextEpoch, IsNextNumber, Kept, state_of}
 use Rattle.xa_records.proofs.FinMapLemmas.{different, here_or_elsewhere}
 use Rattle.xa_records.proofs.OrderLemmas.{bytes_exact, bytes_total}
 use Rattle.xa_server.specs.Growth.{GoesOn, Grows}
+use Rattle.xa_server.specs.Handling.{Answers}
+use Rattle.xa_server.specs.Machine.{Answer}
 
 nothing : (d : Domain) → None ≡ Some d → ⊥
 nothing d e = cc
@@ -74,3 +76,7 @@ unchanged old name = record { domain = becomes_same old.next (get old.domains na
 
 pub stays : (old new : Kept) (name : List ℕ) → new ≡ old → IsChanged old new name (state_of name old)
 stays old new name same = subst (λ k. IsChanged old k name (state_of name old)) (sym same) (unchanged old name)
+
+-- what is read is answered so, and nothing has changed
+pub reads : (old new : Kept) (name bytes : List ℕ) (meant : Answer) → meant ≡ Ok (bytes, state_of name old) → new ≡ old → Answers old new name (Ok bytes) meant
+reads old new name bytes meant is same = (state_of name old, is, stays old new name same)

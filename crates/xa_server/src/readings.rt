@@ -22,7 +22,7 @@ use xa_value::{Items, Text};
 const ABSENT: ErrorCode = ErrorCode::Refused(Refusal::Absent);
 
 /// The domain's documents.
-#[tactic(auto, using(crate::proofs::GrowthLemmas::stays))]
+#[tactic(auto, using(crate::proofs::GrowthLemmas::reads))]
 pub(crate) fn list<R: Records>(
     alloc: Global,
     records: &mut R,
@@ -36,7 +36,7 @@ pub(crate) fn list<R: Records>(
 }
 
 /// The rows of the domain's source of attributes.
-#[tactic(auto, using(crate::proofs::GrowthLemmas::stays))]
+#[tactic(auto, using(crate::proofs::GrowthLemmas::reads))]
 pub(crate) fn source<R: Records>(
     alloc: Global,
     records: &mut R,
@@ -50,7 +50,7 @@ pub(crate) fn source<R: Records>(
 }
 
 /// The text of a document, as it was uploaded.
-#[tactic(auto, using(crate::proofs::GrowthLemmas::stays))]
+#[tactic(auto, using(crate::proofs::GrowthLemmas::reads))]
 pub(crate) fn show<R: Records>(
     alloc: Global,
     records: &mut R,

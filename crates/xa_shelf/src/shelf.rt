@@ -1,8 +1,8 @@
 //! The shelf: at most 128 documents, of which the one that was not asked for for the longest time goes.
-ghost use Rattle.std.specs.Prelude.{◌≡◌, Ok, IfOk, OnErr, IfSome, IsOk, IsErr};
+ghost use Rattle.std.specs.Prelude.{◌≡◌, ◌∷◌, [], true, false, take, is_some, Ok, IfOk, OnOk, OnErr, IfSome, IsOk, IsErr};
 ghost use Rattle.xa_value.specs.Gives.{Gives};
 ghost use Rattle.xa_notation.specs.Document.{document_of};
-ghost use Rattle.xa_shelf.specs.Readings.{AreDocuments, CountsOne, one_more};
+ghost use Rattle.xa_shelf.specs.Readings.{AreDocuments, IsRead, asked_for, found, is_among, one_more, texts_of};
 
 use lru::LruCache;
 use std::alloc::{AllocError, Global};
@@ -14,7 +14,8 @@ use xa_value::{OrMemory, Shared};
 /// The most documents that are kept: their texts, of at most 65,536 bytes each, come to 8 MiB at most.
 const MAX_DOCUMENTS: usize = 128;
 
-/// Documents, each under its whole text. Contracts see the number of texts that were read and not found.
+/// Documents, each under its whole text. Contracts see the texts, the one that was asked for last first, and the number of texts that were read and not
+/// found.
 #[derive(Drop)]
 pub struct Shelf {
     alloc: Global,
@@ -23,12 +24,12 @@ pub struct Shelf {
 }
 
 impl Model for Shelf {
-    ghost use Rattle.std.specs.Prelude.{◌≡◌, ℕ};
-    ghost use Rattle.xa_shelf.specs.Readings.{AreDocuments};
+    ghost use Rattle.std.specs.Prelude.{◌≡◌};
+    ghost use Rattle.xa_shelf.specs.Readings.{AreDocuments, Shelved, texts_of};
 
-    ghost Value = { ℕ };
+    ghost Value = { Shelved };
 
-    ghost view = { λ shelf. shelf.readings };
+    ghost view = { λ shelf. record { texts = texts_of shelf.documents.entries; readings = shelf.readings } };
 
     ghost invariant = { λ shelf. AreDocuments shelf.documents.entries × (shelf.documents.cap ≡ 128) };
 }
@@ -36,7 +37,7 @@ impl Model for Shelf {
 impl Shelf {
     /// No documents, and no readings.
     pub fn new(alloc: Global) -> Result<Shelf, AllocError>
-        ensures { IfOk result (λ shelf. shelf ≡ 0) }
+        ensures { IfOk result (λ shelf. shelf ≡ record { texts = []; readings = 0 }) }
     {
         let size = NonZeroUsize::new(MAX_DOCUMENTS).unwrap();
         Ok(Shelf {
@@ -50,9 +51,12 @@ impl Shelf {
     /// the one that was asked for last. A fault isn't kept, nor a document for which there is no memory.
     pub fn get_or_read(&mut self, text: &[u8]) -> Result<Shared<Parsed>, OrMemory<NotationError>>
         ensures value { Gives result (document_of text.now) }
-        ensures counted { CountsOne self.old self.new }
-        ensures faulty { IsErr (document_of text.now) → self.new ≡ one_more self.old }
+        ensures found { is_among text.now self.old.texts ≡ true → self.new ≡ found text.now self.old }
+        ensures read { is_among text.now self.old.texts ≡ false → IsRead text.now self.old self.new }
+        ensures faulty { IsErr (document_of text.now) → self.new ≡ record { texts = self.old.texts; readings = one_more self.old.readings } }
     {
+        // Nothing is done with the documents: by their keys, which are `String`s, the prover knows that each text that is held is UTF-8.
+        let _documents = &self.documents;
         let Ok(written) = str::from_utf8(text) else {
             return self.read(text);
         };
@@ -64,7 +68,7 @@ impl Shelf {
 
     /// How many texts were read and not found, as far as they can be counted.
     pub fn readings(&self) -> u64
-        ensures { result ≡ self.now }
+        ensures { result ≡ self.now.readings }
     {
         self.readings
     }
@@ -72,17 +76,19 @@ impl Shelf {
     /// Reads the text.
     fn read(&mut self, text: &[u8]) -> Result<Shared<Parsed>, OrMemory<NotationError>>
         ensures value { Gives result (document_of text.now) }
-        ensures counted { self.new ≡ one_more self.old }
+        ensures counted { self.new ≡ record { texts = self.old.texts; readings = one_more self.old.readings } }
     {
         self.readings = self.readings.saturating_add(1);
         let document = Parsed::read(self.alloc, text)?;
         Ok(Shared::new(self.alloc, document)?)
     }
 
-    /// Reads the text, and keeps its document.
+    /// Reads the text, which isn't held, and keeps its document.
     fn read_and_keep(&mut self, text: &str) -> Result<Shared<Parsed>, OrMemory<NotationError>>
+        requires { is_among text.now self.old.texts ≡ false }
         ensures value { Gives result (document_of text.now) }
-        ensures counted { self.new ≡ one_more self.old }
+        ensures read { IsRead text.now self.old self.new }
+        ensures faulty { IsErr (document_of text.now) → self.new ≡ record { texts = self.old.texts; readings = one_more self.old.readings } }
     {
         let document = self.read(text.as_bytes())?;
         let _put = put_up(&mut self.documents, self.alloc, text, &document);
@@ -98,8 +104,10 @@ fn shelved(
     requires { AreDocuments documents.old.entries }
     ensures documents { AreDocuments documents.new.entries }
     ensures cap { documents.new.cap ≡ documents.old.cap }
+    ensures texts { texts_of documents.new.entries ≡ asked_for text.now (texts_of documents.old.entries) }
+    ensures among { IfOk result (λ there. is_some there ≡ is_among text.now (texts_of documents.old.entries)) }
     ensures found { IfOk result (λ there. IfSome there (λ document. document_of text.now ≡ Ok document)) }
-    ensures unshared { OnErr result (IsOk (document_of text.now)) }
+    ensures unshared { OnErr result (IsOk (document_of text.now) × (is_among text.now (texts_of documents.old.entries) ≡ true)) }
 {
     match documents.get(text) {
         Some(document) => Ok(Some(document.clone()?)),
@@ -114,9 +122,13 @@ fn put_up(
     text: &str,
     document: &Shared<Parsed>,
 ) -> Result<(), AllocError>
-    requires { AreDocuments documents.old.entries × (document_of text.now ≡ Ok document.now) }
+    requires documents { AreDocuments documents.old.entries × (document_of text.now ≡ Ok document.now) }
+    requires cap { documents.old.cap ≡ 128 }
+    requires new { is_among text.now (texts_of documents.old.entries) ≡ false }
     ensures documents { AreDocuments documents.new.entries }
-    ensures cap { documents.new.cap ≡ documents.old.cap }
+    ensures cap { documents.new.cap ≡ 128 }
+    ensures kept { OnOk result (texts_of documents.new.entries ≡ take 128 (text.now ∷ texts_of documents.old.entries)) }
+    ensures left { OnErr result (documents.new ≡ documents.old) }
 {
     let text = String::from_str(alloc, text)?;
     let share = document.clone()?;

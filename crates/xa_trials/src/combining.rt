@@ -17,18 +17,6 @@ fn decision_named(name: &str) -> Result<Decision, NoAnswer> {
     }
 }
 
-/// The name of a decision.
-fn name_of(decision: Decision) -> &'static str {
-    match decision {
-        Decision::Permit => "Permit",
-        Decision::Deny => "Deny",
-        Decision::NotApplicable => "NotApplicable",
-        Decision::IndeterminatePermit => "{P}",
-        Decision::IndeterminateDeny => "{D}",
-        Decision::IndeterminateDenyPermit => "{DP}",
-    }
-}
-
 /// The algorithm of that name, as it stands at the end of its URI.
 fn algorithm_named(name: &str) -> Result<Alg, NoAnswer> {
     match name {
@@ -70,6 +58,6 @@ pub fn combination(answer: &mut Answer, algorithm: &str, fields: &[&str]) -> Res
     for field in fields {
         children.push(child_of(field)?)?;
     }
-    answer.word(name_of(combine(algorithm, &children)));
+    answer.name("", &combine(algorithm, &children));
     Ok(())
 }

@@ -1,10 +1,10 @@
 //! Rows of decisions: the response to a request, by active documents, a root and a source of attributes, at a moment.
 use crate::answer::Answer;
-use crate::documents::active;
+use crate::bodies::rows_of;
+use crate::documents::active_of;
 use crate::field::{bytes_of, number_of};
 use crate::no_answer::NoAnswer;
-use crate::references::reference_of;
-use crate::source_rows::source_row;
+use crate::references::root_of;
 use std::alloc::Global;
 use xa_decide::{SourceRow, View};
 use xa_link::Active;
@@ -29,22 +29,13 @@ pub fn moment_of(seconds: &str) -> Result<Moment, NoAnswer> {
 }
 
 impl Case {
-    /// A case in which nothing decides, at moment 0.
-    fn new(alloc: Global) -> Result<Case, NoAnswer> {
-        Ok(Case {
-            active: Items::new(alloc),
-            root: None,
-            source: Items::new(alloc),
-            moment: moment_of("0")?,
-        })
-    }
-
-    /// Takes in what the word and the text behind it describe.
-    fn take(&mut self, alloc: Global, word: &str, text: &str) -> Result<(), NoAnswer> {
+    /// Takes in what the field describes.
+    fn take(&mut self, alloc: Global, field: &str) -> Result<(), NoAnswer> {
+        let (word, text) = field.split_once(':').unwrap_or((field, ""));
         match word {
-            "active" => self.active.push(active(alloc, &bytes_of(alloc, text)?)?)?,
-            "root" => self.root = Some(reference_of(alloc, text)?),
-            "row" => self.source.push(source_row(alloc, text)?)?,
+            "active" => self.active.push(active_of(alloc, text)?)?,
+            "root" => self.root = root_of(alloc, text)?,
+            "source" => self.source = rows_of(alloc, text)?,
             "moment" => self.moment = moment_of(text)?,
             _ => return Err(NoAnswer::Malformed),
         }
@@ -52,14 +43,16 @@ impl Case {
     }
 }
 
-/// The case of the fields.
+/// The case of the fields, and moment 0 where none says another.
 fn case_of(alloc: Global, fields: &[&str]) -> Result<Case, NoAnswer> {
-    let mut case = Case::new(alloc)?;
+    let mut case = Case {
+        active: Items::new(alloc),
+        root: None,
+        source: Items::new(alloc),
+        moment: moment_of("0")?,
+    };
     for field in fields {
-        let Some((word, text)) = field.split_once(':') else {
-            return Err(NoAnswer::Malformed);
-        };
-        case.take(alloc, word, text)?;
+        case.take(alloc, field)?;
     }
     Ok(case)
 }
@@ -72,8 +65,7 @@ pub fn decision(answer: &mut Answer, fields: &[&str]) -> Result<(), NoAnswer> {
     let alloc = answer.alloc();
     let case = case_of(alloc, fields)?;
     let view = View::new(alloc, case.active, case.root, case.source)?;
-    let body = bytes_of(alloc, body)?;
-    match xa_decide::answer(alloc, &view, &body, case.moment)? {
+    match xa_decide::answer(alloc, &view, &bytes_of(alloc, body)?, case.moment)? {
         Some(body) => answer.field("", &body),
         None => answer.word("!NotJson"),
     }

@@ -29,17 +29,11 @@ fn show(answer: &mut Answer, parsed: &Parsed) -> Result<(), NoAnswer> {
     Ok(())
 }
 
-/// The document of the text.
-pub fn document_of(alloc: Global, text: &[u8]) -> Result<Parsed, NoAnswer> {
-    match Parsed::read(alloc, text) {
-        Ok(parsed) => Ok(parsed),
-        Err(_) => Err(NoAnswer::Malformed),
-    }
-}
-
-/// The active document of the text.
-pub fn active(alloc: Global, text: &[u8]) -> Result<Active, NoAnswer> {
-    let parsed = document_of(alloc, text)?;
+/// The active document of the field.
+pub fn active_of(alloc: Global, field: &str) -> Result<Active, NoAnswer> {
+    let Ok(parsed) = Parsed::read(alloc, &bytes_of(alloc, field)?) else {
+        return Err(NoAnswer::Malformed);
+    };
     Ok(Active {
         kind: parsed.kind(),
         id: parsed.id().clone()?,

@@ -1,25 +1,13 @@
 //! Changes that a row asks of a keeper of records.
-ghost use Rattle.std.specs.Prelude.{IfOk};
-ghost use Rattle.xa_records.specs.DomainState.{IsDocumentOf};
-
 use crate::answer::Answer;
 use crate::bodies::rows_of;
 use crate::field::bytes_of;
+use crate::keeper::first_word_and_rest;
 use crate::no_answer::NoAnswer;
-use crate::references::{key_of, reference_of};
-use std::alloc::Global;
-use xa_notation::{Parsed, Role};
-use xa_policy::DocumentKey;
+use crate::references::{key_in, key_of, root_of};
+use xa_notation::Role;
 use xa_records::{ChangeError, Digest, Failure, Records, is_domain_name};
 use xa_value::Text;
-
-/// Adds what a change has come to.
-fn push_done(answer: &mut Answer, done: Result<(), ChangeError>) {
-    match done {
-        Ok(()) => answer.word("ok"),
-        Err(error) => push_error(answer, error),
-    }
-}
 
 fn push_error(answer: &mut Answer, error: ChangeError) {
     match error {
@@ -29,22 +17,29 @@ fn push_error(answer: &mut Answer, error: ChangeError) {
     }
 }
 
-/// Makes the domain, where the name is one.
-pub fn create<R: Records>(
-    answer: &mut Answer,
-    records: &mut R,
-    name: &Text,
-) -> Result<(), NoAnswer> {
-    if !is_domain_name(name.as_bytes()) {
-        return Err(NoAnswer::Malformed);
+/// Adds what a change has come to.
+fn push_done(answer: &mut Answer, done: Result<(), ChangeError>) -> Result<(), NoAnswer> {
+    match done {
+        Ok(()) => answer.word("ok"),
+        Err(error) => push_error(answer, error),
     }
-    push_done(answer, records.create(answer.alloc(), name));
     Ok(())
 }
 
-/// Removes the domain.
-pub fn remove<R: Records>(answer: &mut Answer, records: &mut R, name: &Text) {
-    push_done(answer, records.remove(answer.alloc(), name));
+/// Makes the domain, where the name is one, or removes it.
+pub fn change_domain<R: Records>(
+    answer: &mut Answer,
+    records: &mut R,
+    name: &Text,
+    is_made: bool,
+) -> Result<(), NoAnswer> {
+    if !is_made {
+        return push_done(answer, records.remove(answer.alloc(), name));
+    }
+    if !is_domain_name(name.as_bytes()) {
+        return Err(NoAnswer::Malformed);
+    }
+    push_done(answer, records.create(answer.alloc(), name))
 }
 
 fn role_named(word: &str) -> Result<Role, NoAnswer> {
@@ -62,39 +57,10 @@ pub fn put_token<R: Records>(
     name: &Text,
     text: &str,
 ) -> Result<(), NoAnswer> {
-    let Some((role, token)) = text.split_once(' ') else {
-        return Err(NoAnswer::Malformed);
-    };
+    let (role, token) = first_word_and_rest(text);
     let digest = Digest::of(&bytes_of(answer.alloc(), token)?);
     let done = records.put_token(answer.alloc(), name, digest, role_named(role)?);
-    push_done(answer, done);
-    Ok(())
-}
-
-/// Takes the token away.
-pub fn drop_token<R: Records>(
-    answer: &mut Answer,
-    records: &mut R,
-    name: &Text,
-    token: &str,
-) -> Result<(), NoAnswer> {
-    let digest = Digest::of(&bytes_of(answer.alloc(), token)?);
-    push_done(answer, records.drop_token(answer.alloc(), name, digest));
-    Ok(())
-}
-
-/// The key of the document that the text is.
-fn key_in(alloc: Global, text: &[u8]) -> Result<DocumentKey, NoAnswer>
-    ensures { IfOk result (λ key. IsDocumentOf key text.now) }
-{
-    match Parsed::read(alloc, text) {
-        Ok(parsed) => Ok(DocumentKey {
-            kind: parsed.kind(),
-            id: parsed.id().clone()?,
-            version: *parsed.version(),
-        }),
-        Err(_) => Err(NoAnswer::Malformed),
-    }
+    push_done(answer, done)
 }
 
 /// Uploads the document.
@@ -106,7 +72,7 @@ pub fn upload<R: Records>(
 ) -> Result<(), NoAnswer> {
     let bytes = bytes_of(answer.alloc(), text)?;
     let document = bytes.as_slice();
-    let key = key_in(answer.alloc(), document)?;
+    let key = key_of(answer.alloc(), document)?;
     match records.upload(answer.alloc(), name, key, document) {
         Ok(upload) => answer.name("", &upload),
         Err(error) => push_error(answer, error),
@@ -114,57 +80,36 @@ pub fn upload<R: Records>(
     Ok(())
 }
 
-/// Makes the document of the key active, or inactive.
-pub fn activate<R: Records>(
+/// Makes the document of that key active, or inactive, or deletes it.
+pub fn change_document<R: Records>(
     answer: &mut Answer,
     records: &mut R,
-    name: &Text,
-    key: &str,
-    active: bool,
-) -> Result<(), NoAnswer> {
-    let key = key_of(answer.alloc(), key)?;
-    push_done(
-        answer,
-        records.set_active(answer.alloc(), name, &key, active),
-    );
-    Ok(())
-}
-
-/// Deletes the document of the key.
-pub fn delete<R: Records>(
-    answer: &mut Answer,
-    records: &mut R,
-    name: &Text,
-    key: &str,
-) -> Result<(), NoAnswer> {
-    let key = key_of(answer.alloc(), key)?;
-    push_done(answer, records.delete(answer.alloc(), name, &key));
-    Ok(())
-}
-
-/// Sets the root to the reference, and to none without a text.
-pub fn set_root<R: Records>(
-    answer: &mut Answer,
-    records: &mut R,
+    word: &str,
     name: &Text,
     text: &str,
 ) -> Result<(), NoAnswer> {
-    let root = match text {
-        "" => None,
-        _ => Some(reference_of(answer.alloc(), text)?),
-    };
-    push_done(answer, records.set_root(answer.alloc(), name, root));
-    Ok(())
+    let alloc = answer.alloc();
+    let key = key_in(alloc, text)?;
+    match word {
+        "activate" => push_done(answer, records.set_active(alloc, name, &key, true)),
+        "deactivate" => push_done(answer, records.set_active(alloc, name, &key, false)),
+        _ => push_done(answer, records.delete(alloc, name, &key)),
+    }
 }
 
-/// Sets the rows of the source of attributes to those of the body.
-pub fn set_source<R: Records>(
+/// Takes the token away, sets the root to that of the body, or the rows of the source of attributes to those of the body.
+pub fn change_held<R: Records>(
     answer: &mut Answer,
     records: &mut R,
+    word: &str,
     name: &Text,
-    body: &str,
+    text: &str,
 ) -> Result<(), NoAnswer> {
-    let rows = rows_of(answer.alloc(), body)?;
-    push_done(answer, records.set_source(answer.alloc(), name, rows));
-    Ok(())
+    let alloc = answer.alloc();
+    let done = match word {
+        "drop" => records.drop_token(alloc, name, Digest::of(&bytes_of(alloc, text)?)),
+        "root" => records.set_root(alloc, name, root_of(alloc, text)?),
+        _ => records.set_source(alloc, name, rows_of(alloc, text)?),
+    };
+    push_done(answer, done)
 }

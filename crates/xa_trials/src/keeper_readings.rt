@@ -3,9 +3,9 @@ use crate::answer::Answer;
 use crate::bodies::{push_root, push_rows};
 use crate::field::bytes_of;
 use crate::no_answer::NoAnswer;
-use crate::references::{key_of, push_key};
+use crate::references::{key_in, push_key};
 use xa_notation::Role;
-use xa_records::{Digest, Failure, Listed, Records, Token};
+use xa_records::{Digest, Failure, Records, Token};
 use xa_value::Text;
 
 /// What a reading found; its failure, or that there is nothing, is answered.
@@ -30,16 +30,6 @@ pub fn domains<R: Records>(answer: &mut Answer, records: &mut R) {
     }
 }
 
-/// The domain's number and epoch, and how many tokens it has.
-pub fn gate<R: Records>(answer: &mut Answer, records: &mut R, name: &Text) {
-    let read = records.gate(answer.alloc(), name);
-    if let Some(gate) = finding_of(answer, read) {
-        answer.name("number ", &gate.number);
-        answer.append(" epoch ", &gate.epoch);
-        answer.append(" tokens ", &gate.tokens.as_slice().len());
-    }
-}
-
 /// The role of the token of that digest.
 fn role_of(tokens: &[Token], digest: Digest) -> Option<Role> {
     for token in tokens {
@@ -50,8 +40,8 @@ fn role_of(tokens: &[Token], digest: Digest) -> Option<Role> {
     None
 }
 
-/// The role of the token in the domain.
-pub fn role<R: Records>(
+/// The domain's number and epoch, and how many tokens it has; or the role of the token, where one is named.
+pub fn gate<R: Records>(
     answer: &mut Answer,
     records: &mut R,
     name: &Text,
@@ -59,7 +49,14 @@ pub fn role<R: Records>(
 ) -> Result<(), NoAnswer> {
     let digest = Digest::of(&bytes_of(answer.alloc(), token)?);
     let read = records.gate(answer.alloc(), name);
-    if let Some(gate) = finding_of(answer, read) {
+    let Some(gate) = finding_of(answer, read) else {
+        return Ok(());
+    };
+    if token.is_empty() {
+        answer.name("number ", &gate.number);
+        answer.append(" epoch ", &gate.epoch);
+        answer.append(" tokens ", &gate.tokens.as_slice().len());
+    } else {
         answer.name_or_none(role_of(gate.tokens.as_slice(), digest));
     }
     Ok(())
@@ -85,19 +82,12 @@ pub fn document<R: Records>(
     name: &Text,
     key: &str,
 ) -> Result<(), NoAnswer> {
-    let key = key_of(answer.alloc(), key)?;
+    let key = key_in(answer.alloc(), key)?;
     let read = records.document(answer.alloc(), name, &key);
     if let Some(text) = finding_of(answer, read) {
         answer.field("", text.as_slice());
     }
     Ok(())
-}
-
-fn push_listed(answer: &mut Answer, listed: &Listed) -> Result<(), NoAnswer> {
-    if listed.active {
-        return push_key(answer, "active:", &listed.key);
-    }
-    push_key(answer, "inactive:", &listed.key)
 }
 
 /// The keys of the domain's documents, and of each whether it is active.
@@ -107,7 +97,8 @@ pub fn list<R: Records>(answer: &mut Answer, records: &mut R, name: &Text) -> Re
         return Ok(());
     };
     for listed in documents.as_slice() {
-        push_listed(answer, listed)?;
+        let word = if listed.active { "active:" } else { "inactive:" };
+        push_key(answer, word, &listed.key)?;
     }
     answer.word(".");
     Ok(())

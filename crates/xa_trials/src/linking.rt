@@ -1,21 +1,15 @@
 //! Rows of linking: the tree that a reference leads to.
 use crate::answer::Answer;
-use crate::documents::active;
-use crate::field::bytes_of;
 use crate::no_answer::NoAnswer;
-use crate::references::reference_of;
+use crate::references::{documents_of, reference_of};
 use xa_link::link;
 use xa_policy::Linked;
 
 /// The tree that the reference leads to among the active documents of these texts.
 pub fn tree(answer: &mut Answer, root: &str, texts: &[&str]) -> Result<(), NoAnswer> {
-    let alloc = answer.alloc();
-    let root = reference_of(alloc, root)?;
-    let mut documents = Vec::new(alloc);
-    for text in texts {
-        documents.push(active(alloc, &bytes_of(alloc, text)?)?)?;
-    }
-    if let Some(tree) = answer.success(link(alloc, &documents, &root)) {
+    let root = reference_of(answer.alloc(), root)?;
+    let documents = documents_of(answer.alloc(), texts)?;
+    if let Some(tree) = answer.success(link(answer.alloc(), &documents, &root)) {
         show(answer, &tree);
     }
     Ok(())

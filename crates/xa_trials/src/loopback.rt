@@ -1,19 +1,18 @@
-//! Rows of connections: what a client of this process receives from a server over a socket. After the fields that make the server's domains stand events, as in
-//! rows of a server: `piece:BYTES`, which the client writes, `moment:SECONDS`, at which the server's clock stands from then on, and `close:`, which begins another
-//! connection. A connection has its ends in one thread, one after the other: the client connects, writes, and ends its writing side; then the server takes the
-//! connection, answers it and closes it; then the client reads.
+//! Rows of connections: what a client of this process receives from a server over a socket. Events are as in rows of a server: `made:BYTES`, `piece:BYTES`, which
+//! the client writes, `moment:SECONDS`, at which the server's clock stands from then on, and `close:`, which ends the connection and begins another. A connection has
+//! its ends in one thread, one after the other: the client connects, writes, and ends its writing side; then the server takes the connection, answers it and
+//! closes it; then the client reads.
 use crate::answer::Answer;
 use crate::decisions::moment_of;
 use crate::field::bytes_of;
 use crate::keepers::tables;
 use crate::no_answer::NoAnswer;
-use crate::server::fields_before_events;
-use crate::setup::server_of;
+use crate::server::{answered, make, server_over};
 use std::io::{Read, Write};
 use std::net::{Ipv4Addr, Shutdown, TcpListener, TcpStream};
 use std::rt::HostRuntime;
 use xa_records::Records;
-use xa_server::{Clock, Driven, Server, drive};
+use xa_server::{Clock, Server, drive};
 use xa_value::Moment;
 
 /// A clock that stands.
@@ -26,114 +25,81 @@ impl Clock for StandingClock {
     }
 }
 
-/// A server, the address at which it takes connections, and the client's end of the last one.
+/// A server, where it takes connections, and what the client of the next one writes.
 #[derive(Drop)]
 struct Sockets<R: Records + Drop> {
     rt: HostRuntime,
     server: Server<R>,
     listener: TcpListener,
-    client: TcpStream,
     clock: StandingClock,
-}
-
-/// A connection to the listener, which hasn't taken it yet.
-fn connection_to(rt: &HostRuntime, listener: &TcpListener) -> Result<TcpStream, NoAnswer> {
-    let address = listener.local_addr()?;
-    Ok(TcpStream::connect(rt, address)?)
+    written: Vec<u8>,
 }
 
 impl<R: Records + Drop> Sockets<R> {
-    /// The server with a connection, which it hasn't taken yet.
-    fn new(rt: &HostRuntime, server: Server<R>) -> Result<Sockets<R>, NoAnswer> {
-        let listener = TcpListener::bind(rt, (Ipv4Addr::LOCALHOST, 0))?;
-        let client = connection_to(rt, &listener)?;
-        Ok(Sockets {
-            rt: *rt,
-            server,
-            listener,
-            client,
-            clock: StandingClock(moment_of("0")?),
-        })
-    }
-
-    /// Takes the connection, answers it and closes it. How it has ended.
-    fn serve(&mut self) -> Result<Driven, NoAnswer> {
+    /// Has a client connect and write, and the server take the connection, answer it and close it. Adds how that has ended for the server and what the client has
+    /// received.
+    fn connection(&mut self, answer: &mut Answer) -> Result<(), NoAnswer> {
+        let alloc = answer.alloc();
+        let mut client = TcpStream::connect(&self.rt, self.listener.local_addr()?)?;
+        client.write_all(&self.written)?;
+        client.shutdown(Shutdown::Write)?;
         let (stream, _peer) = self.listener.accept()?;
-        let alloc = self.rt.alloc();
-        Ok(drive(
+        let driven = drive(
             alloc,
             &mut self.server,
             &mut &stream,
             &mut &stream,
             &mut self.clock,
-        ))
-    }
-
-    /// Ends the client's writing side, has the connection served, and adds how it has ended and what the client has received.
-    fn end(&mut self, answer: &mut Answer) -> Result<(), NoAnswer> {
-        self.client.shutdown(Shutdown::Write)?;
-        let driven = self.serve()?;
-        let mut received = Vec::new(answer.alloc());
-        self.client.read_to_end(&mut received)?;
+        );
+        drop(stream);
+        self.written.clear();
+        client.read_to_end(&mut self.written)?;
         answer.name("", &driven);
-        if !received.is_empty() {
-            answer.field("", &received);
+        if !self.written.is_empty() {
+            answer.field("", &self.written);
         }
-        Ok(())
-    }
-
-    /// Writes what the field stands for.
-    fn write(&mut self, answer: &Answer, field: &str) -> Result<(), NoAnswer> {
-        let bytes = bytes_of(answer.alloc(), field)?;
-        Ok(self.client.write_all(&bytes)?)
-    }
-
-    /// Ends the connection, and begins another.
-    fn next(&mut self, answer: &mut Answer) -> Result<(), NoAnswer> {
-        self.end(answer)?;
-        self.client = connection_to(&self.rt, &self.listener)?;
+        self.written.clear();
         Ok(())
     }
 
     /// Lets happen what the field says.
     fn step(&mut self, answer: &mut Answer, field: &str) -> Result<(), NoAnswer> {
-        let Some((word, text)) = field.split_once(':') else {
-            return Err(NoAnswer::Malformed);
-        };
+        let (word, text) = field.split_once(':').unwrap_or((field, ""));
         match word {
-            "piece" => self.write(answer, text),
-            "close" => self.next(answer),
-            "moment" => {
-                self.clock = StandingClock(moment_of(text)?);
-                Ok(())
+            "piece" => {
+                let bytes = bytes_of(answer.alloc(), text)?;
+                self.written.extend_from_slice(&bytes)?;
             }
-            _ => Err(NoAnswer::Malformed),
+            "close" => self.connection(answer)?,
+            "moment" => self.clock = StandingClock(moment_of(text)?),
+            "made" => make(answer, &mut self.server, text)?,
+            _ => return Err(NoAnswer::Malformed),
         }
+        Ok(())
     }
 }
 
-/// Lets the events happen over sockets of the server.
-fn connections<R: Records + Drop>(
+/// Lets the events happen over sockets of a server over a keeper of tables.
+fn connections(
     answer: &mut Answer,
     rt: &HostRuntime,
-    server: Server<R>,
     events: &[&str],
 ) -> Result<(), NoAnswer> {
-    let mut sockets = Sockets::new(rt, server)?;
+    let alloc = answer.alloc();
+    let mut sockets = Sockets {
+        rt: *rt,
+        server: server_over(alloc, tables(alloc)?)?,
+        listener: TcpListener::bind(rt, (Ipv4Addr::LOCALHOST, 0))?,
+        clock: StandingClock(moment_of("0")?),
+        written: Vec::new(alloc),
+    };
     for event in events {
         sockets.step(answer, event)?;
     }
-    sockets.end(answer)
+    sockets.connection(answer)
 }
 
-/// What clients receive from the server with the domains of the first fields, over a keeper of tables, when the events of the others happen.
-pub fn loopback(answer: &mut Answer, rt: &HostRuntime, fields: &[&str]) -> Result<(), NoAnswer> {
-    let count = fields_before_events(fields);
-    let domains = fields.get(..count).unwrap_or(&[]);
-    let events = fields.get(count..).unwrap_or(&[]);
-    let alloc = answer.alloc();
-    match server_of(alloc, tables(alloc)?, domains) {
-        Ok(server) => connections(answer, rt, server, events),
-        Err(error) => error.tell(answer),
-    }
+/// What clients receive when the events happen.
+pub fn loopback(answer: &mut Answer, rt: &HostRuntime, events: &[&str]) -> Result<(), NoAnswer> {
+    answered(connections(answer, rt, events))
 }

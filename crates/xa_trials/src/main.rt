@@ -3,15 +3,12 @@
 
 mod answer;
 mod arguments;
-mod attributes;
 mod bodies;
 mod combining;
 mod decisions;
 mod documents;
-mod expressions;
 mod field;
 mod functions;
-mod holders;
 mod keeper;
 mod keeper_changes;
 mod keeper_readings;
@@ -24,9 +21,6 @@ mod plain;
 mod references;
 mod requests;
 mod server;
-mod setup;
-mod setup_messages;
-mod source_rows;
 mod stores;
 mod values;
 mod versions;
@@ -42,37 +36,26 @@ fn answer_one(answer: &mut Answer, kind: &str, field: &str) -> Result<(), NoAnsw
         "type" => values::data_type(answer, field),
         "numbered" => values::data_type_of_number(answer, field),
         "category" => values::category(answer, field),
-        "moment" => values::moment(answer, field),
-        "months" => values::months(answer, field),
-        "nanoseconds" => values::nanoseconds(answer, field),
-        "held" => holders::held_value(answer, field),
+        "months" | "nanoseconds" => values::duration(answer, kind, field),
         "function" => functions::function(answer, field),
+        "token" | "domain" => messages::shape(answer, kind, field),
+        "version" => versions::version(answer, field),
+        "pattern" => versions::pattern(answer, field),
         _ => answer_text(answer, kind, field),
     }
 }
 
-/// Answers a row of a text behind the kind.
+/// Answers a row of a text behind the kind that is a document or a body.
 fn answer_text(answer: &mut Answer, kind: &str, text: &str) -> Result<(), NoAnswer> {
     match kind {
-        "token" => messages::token(answer, text),
-        "domain" => messages::domain(answer, text),
-        "version" => versions::version(answer, text),
-        "pattern" => versions::pattern(answer, text),
         "document" => documents::document(answer, text),
         "request" => requests::request(answer, text),
         "individuals" => requests::individuals(answer, text),
-        _ => answer_body(answer, kind, text),
-    }
-}
-
-/// Answers a row of the body of a route behind the kind.
-fn answer_body(answer: &mut Answer, kind: &str, body: &str) -> Result<(), NoAnswer> {
-    match kind {
-        "new_token" => bodies::new_token(answer, body),
-        "old_token" => bodies::old_token(answer, body),
-        "root" => bodies::root(answer, body),
-        "rows" => bodies::rows(answer, body),
-        _ => answer_many(answer, kind, &[body]),
+        "new_token" => bodies::new_token(answer, text),
+        "old_token" => bodies::old_token(answer, text),
+        "root" => bodies::root(answer, text),
+        "rows" => bodies::rows(answer, text),
+        _ => answer_many(answer, kind, &[text]),
     }
 }
 
@@ -80,14 +63,11 @@ fn answer_body(answer: &mut Answer, kind: &str, body: &str) -> Result<(), NoAnsw
 fn answer_two(answer: &mut Answer, kind: &str, first: &str, second: &str) -> Result<(), NoAnswer> {
     match kind {
         "read" => values::read(answer, first, second),
-        "same" => values::same(answer, first, second),
-        "order" => values::order(answer, first, second),
+        "same" | "order" => values::comparison(answer, kind, first, second),
         "number" => values::number(answer, first, second),
         "plain" => plain::plain(answer, first, second),
         "digest" => messages::digest(answer, first, second),
         "route" => messages::route(answer, first, second),
-        "matches" => versions::matching(answer, first, second),
-        "versions" => versions::order(answer, first, second),
         _ => answer_many(answer, kind, &[first, second]),
     }
 }
@@ -95,18 +75,8 @@ fn answer_two(answer: &mut Answer, kind: &str, first: &str, second: &str) -> Res
 /// Answers a row of any number of fields behind the kind.
 fn answer_many(answer: &mut Answer, kind: &str, fields: &[&str]) -> Result<(), NoAnswer> {
     match kind {
-        "evaluate" => expressions::evaluate(answer, fields),
-        "target" => expressions::target(answer, fields),
-        "keys" => holders::keys(answer, fields),
         "stream" => messages::stream(answer, fields),
         "decide" => decisions::decision(answer, fields),
-        _ => answer_kept(answer, kind, fields),
-    }
-}
-
-/// Answers a row of what is kept.
-fn answer_kept(answer: &mut Answer, kind: &str, fields: &[&str]) -> Result<(), NoAnswer> {
-    match kind {
         "server" => server::server(answer, fields),
         "server_in_memory" => server::server_in_memory(answer, fields),
         "keeper" => keeper::keeper(answer, fields),
@@ -123,7 +93,6 @@ fn answer_first(answer: &mut Answer, kind: &str, fields: &[&str]) -> Result<(), 
     match kind {
         "apply" => functions::apply(answer, first, fields),
         "higher" => functions::higher(answer, first, fields),
-        "bag" => holders::bag(answer, first, fields),
         "combine" => combining::combination(answer, first, fields),
         "resolve" => references::resolution(answer, first, fields),
         "link" => linking::tree(answer, first, fields),
@@ -133,22 +102,15 @@ fn answer_first(answer: &mut Answer, kind: &str, fields: &[&str]) -> Result<(), 
 }
 
 /// Answers a row, whose first field says what is asked.
-fn answer_row(answer: &mut Answer, fields: &[&str]) -> Result<(), NoAnswer> {
+fn answer_row(rt: &HostRuntime, answer: &mut Answer, fields: &[&str]) -> Result<(), NoAnswer> {
     let [kind, fields @ ..] = fields else {
         return Err(NoAnswer::Malformed);
     };
     match fields {
+        _ if *kind == "loopback" => loopback::loopback(answer, rt, fields),
         [field] => answer_one(answer, kind, field),
         [first, second] => answer_two(answer, kind, first, second),
         _ => answer_many(answer, kind, fields),
-    }
-}
-
-/// Answers a row, over sockets if it asks for them.
-fn answer_over(rt: &HostRuntime, answer: &mut Answer, fields: &[&str]) -> Result<(), NoAnswer> {
-    match fields {
-        ["loopback", fields @ ..] => loopback::loopback(answer, rt, fields),
-        _ => answer_row(answer, fields),
     }
 }
 
@@ -156,8 +118,8 @@ fn answer_over(rt: &HostRuntime, answer: &mut Answer, fields: &[&str]) -> Result
 fn answer_to(rt: &HostRuntime, line: &str) -> Result<Answer, AllocError> {
     let mut answer = Answer::new(rt.alloc());
     let fields: Vec<&str> = line.split('\t').collect(rt.alloc())?;
-    match answer_over(rt, &mut answer, &fields) {
-        Ok(()) => {}
+    match answer_row(rt, &mut answer, &fields) {
+        Ok(()) | Err(NoAnswer::Answered) => {}
         Err(NoAnswer::Memory) => answer.cut(),
         Err(NoAnswer::Malformed) => answer.word("!Malformed"),
         Err(NoAnswer::Socket) => answer.word("!Socket"),

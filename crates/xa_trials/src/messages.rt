@@ -3,10 +3,7 @@ use crate::answer::Answer;
 use crate::field::bytes_of;
 use crate::no_answer::NoAnswer;
 use std::alloc::Global;
-use xa_http::{
-    DocumentCommand, DocumentParts, DomainCommand, Message, Next, OperatorCommand, Route,
-    RouteFault, Routes, Session,
-};
+use xa_http::{Message, Next, Route, RouteFault, Routes, Session};
 use xa_notation::is_token;
 use xa_records::{Digest, is_domain_name};
 use xa_value::{Items, OrMemory};
@@ -69,57 +66,28 @@ fn message_of(alloc: Global, method: &str, target: &str) -> Result<Message, NoAn
     })
 }
 
-fn operator_word(command: OperatorCommand) -> &'static str {
-    match command {
-        OperatorCommand::Create => "create:",
-        OperatorCommand::Remove => "remove:",
-        OperatorCommand::PutToken => "put:",
-        OperatorCommand::DropToken => "drop:",
-    }
-}
-
-fn domain_word(command: DomainCommand) -> &'static str {
-    match command {
-        DomainCommand::Decide => "decide:",
-        DomainCommand::Upload => "upload:",
-        DomainCommand::List => "list:",
-        DomainCommand::SetRoot => "root:",
-        DomainCommand::SetSource => "source:",
-        DomainCommand::Source => "rows:",
-    }
-}
-
-fn document_word(command: DocumentCommand) -> &'static str {
-    match command {
-        DocumentCommand::Show => "document:",
-        DocumentCommand::Delete => "delete:",
-        DocumentCommand::Activate => "activate:",
-        DocumentCommand::Deactivate => "deactivate:",
-    }
-}
-
-/// Adds the parts of a path that name a document.
-fn push_parts(answer: &mut Answer, parts: &DocumentParts) {
-    answer.field("", parts.kind.as_slice());
-    answer.field("", parts.id.as_slice());
-    answer.field("", parts.version.as_slice());
-}
-
 /// Adds what is asked for and the domain, and of a document the parts of its key.
 fn push_route(answer: &mut Answer, route: &Route) {
     match route {
         Route::Domains => answer.word("domains"),
         Route::Operator { domain, command } => {
-            answer.field(operator_word(*command), domain.as_slice())
+            answer.name("", command);
+            answer.field("", domain.as_slice());
         }
-        Route::Domain { domain, command } => answer.field(domain_word(*command), domain.as_slice()),
+        Route::Domain { domain, command } => {
+            answer.name("", command);
+            answer.field("", domain.as_slice());
+        }
         Route::Document {
             domain,
             parts,
             command,
         } => {
-            answer.field(document_word(*command), domain.as_slice());
-            push_parts(answer, parts);
+            answer.name("", command);
+            answer.field("", domain.as_slice());
+            answer.field("", parts.kind.as_slice());
+            answer.field("", parts.id.as_slice());
+            answer.field("", parts.version.as_slice());
         }
     }
 }
@@ -137,17 +105,15 @@ pub fn route(answer: &mut Answer, method: &str, target: &str) -> Result<(), NoAn
     Ok(())
 }
 
-/// Whether the text has the shape of a token.
-pub fn token(answer: &mut Answer, field: &str) -> Result<(), NoAnswer> {
+/// Whether the text has the shape of a token, or of a domain's name.
+pub fn shape(answer: &mut Answer, kind: &str, field: &str) -> Result<(), NoAnswer> {
     let text = bytes_of(answer.alloc(), field)?;
-    answer.name("", &is_token(&text));
-    Ok(())
-}
-
-/// Whether the text is a domain's name.
-pub fn domain(answer: &mut Answer, field: &str) -> Result<(), NoAnswer> {
-    let text = bytes_of(answer.alloc(), field)?;
-    answer.name("", &is_domain_name(&text));
+    let is_one = if kind == "token" {
+        is_token(&text)
+    } else {
+        is_domain_name(&text)
+    };
+    answer.name("", &is_one);
     Ok(())
 }
 

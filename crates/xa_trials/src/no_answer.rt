@@ -11,6 +11,8 @@ pub enum NoAnswer {
     Malformed,
     /// A socket of this machine failed.
     Socket,
+    /// The answer is there already.
+    Answered,
 }
 
 impl From<AllocError> for NoAnswer {

@@ -1,84 +1,67 @@
 //! Rows of references: for which document one stands. References and keys of documents as fields.
+ghost use Rattle.std.specs.Prelude.{IfOk};
+ghost use Rattle.xa_records.specs.DomainState.{IsDocumentOf};
+
 use crate::answer::Answer;
-use crate::documents::document_of;
-use crate::field::kept_text;
+use crate::documents::active_of;
+use crate::field::bytes_of;
 use crate::no_answer::NoAnswer;
-use crate::versions::{pattern_named, version_named};
 use std::alloc::Global;
 use xa_link::{Active, resolve};
-use xa_policy::{DocumentKey, DocumentKind, Pattern, Reference, Version};
-use xa_value::{Shared, Text};
-
-/// A document whose content doesn't matter.
-const ANY_DOCUMENT: &str =
-    "{\"Policy\":{\"PolicyId\":\"p\",\"Version\":\"1\",\"RuleCombiningAlgId\":\
-    \"urn:oasis:names:tc:xacml:3.0:rule-combining-algorithm:deny-overrides\"}}";
+use xa_notation::{Parsed, read_root};
+use xa_policy::{DocumentKey, DocumentKind, Reference, Version};
+use xa_value::Text;
 
 /// The place of the document for which the reference stands.
-pub fn resolution(
-    answer: &mut Answer,
-    reference: &str,
-    documents: &[&str],
-) -> Result<(), NoAnswer> {
+pub fn resolution(answer: &mut Answer, reference: &str, texts: &[&str]) -> Result<(), NoAnswer> {
     let reference = reference_of(answer.alloc(), reference)?;
-    let mut active = Vec::new(answer.alloc());
-    for document in documents {
-        active.push(active_of(answer.alloc(), document)?)?;
-    }
-    answer.name_or_none(resolve(&active, &reference));
+    let documents = documents_of(answer.alloc(), texts)?;
+    answer.name_or_none(resolve(&documents, &reference));
     Ok(())
 }
 
-/// The pattern of that text, and none of the empty text.
-fn pattern_or_none(text: &str) -> Result<Option<Pattern>, NoAnswer> {
-    match text {
-        "" => Ok(None),
-        _ => Ok(Some(pattern_named(text)?)),
+/// The root that the body of the field sets, if any.
+pub fn root_of(alloc: Global, field: &str) -> Result<Option<Reference>, NoAnswer> {
+    match read_root(alloc, &bytes_of(alloc, field)?) {
+        Ok(root) => Ok(root),
+        Err(_) => Err(NoAnswer::Malformed),
     }
 }
 
-/// The version of that text, and none of the empty text.
-fn version_or_none(text: &str) -> Result<Option<Version>, NoAnswer> {
-    match text {
-        "" => Ok(None),
-        _ => Ok(Some(version_named(text)?)),
-    }
-}
-
-fn kind_named(name: &str) -> Result<DocumentKind, NoAnswer> {
-    match name {
-        "policy" => Ok(DocumentKind::Policy),
-        "set" => Ok(DocumentKind::PolicySet),
-        _ => Err(NoAnswer::Malformed),
-    }
-}
-
-/// The reference of a field KIND|ID|PATTERN|EARLIEST|LATEST, whose last three may be empty.
+/// The reference to which the body of the field sets the root.
 pub fn reference_of(alloc: Global, field: &str) -> Result<Reference, NoAnswer> {
-    let parts: Vec<&str> = field.split('|').collect(alloc)?;
-    let [kind, id, version, earliest, latest] = parts.as_slice() else {
-        return Err(NoAnswer::Malformed);
-    };
-    Ok(Reference {
-        kind: kind_named(kind)?,
-        id: kept_text(alloc, id)?,
-        version: pattern_or_none(version)?,
-        earliest: version_or_none(earliest)?,
-        latest: version_or_none(latest)?,
-    })
+    match root_of(alloc, field)? {
+        Some(reference) => Ok(reference),
+        None => Err(NoAnswer::Malformed),
+    }
 }
 
-/// The key of a field KIND|ID|VERSION.
-pub fn key_of(alloc: Global, field: &str) -> Result<DocumentKey, NoAnswer> {
-    let parts: Vec<&str> = field.split('|').collect(alloc)?;
-    let [kind, id, version] = parts.as_slice() else {
-        return Err(NoAnswer::Malformed);
-    };
-    Ok(DocumentKey {
-        kind: kind_named(kind)?,
-        id: kept_text(alloc, id)?,
-        version: version_named(version)?,
-    })
+/// The active documents of these texts.
+pub fn documents_of(alloc: Global, texts: &[&str]) -> Result<Vec<Active>, NoAnswer> {
+    let mut documents = Vec::new(alloc);
+    for text in texts {
+        documents.push(active_of(alloc, text)?)?;
+    }
+    Ok(documents)
+}
+
+/// The key of the document that the text is.
+pub fn key_of(alloc: Global, text: &[u8]) -> Result<DocumentKey, NoAnswer>
+    ensures { IfOk result (λ key. IsDocumentOf key text.now) }
+{
+    match Parsed::read(alloc, text) {
+        Ok(parsed) => Ok(DocumentKey {
+            kind: parsed.kind(),
+            id: parsed.id().clone()?,
+            version: *parsed.version(),
+        }),
+        Err(_) => Err(NoAnswer::Malformed),
+    }
+}
+
+/// The key of the document of the field.
+pub fn key_in(alloc: Global, field: &str) -> Result<DocumentKey, NoAnswer> {
+    key_of(alloc, &bytes_of(alloc, field)?)
 }
 
 /// Adds a field of the word and KIND|ID|.
@@ -92,19 +75,10 @@ fn push_kind(answer: &mut Answer, word: &str, kind: DocumentKind, id: &Text) {
     answer.append_bytes("|".as_bytes());
 }
 
-fn push_pattern(answer: &mut Answer, pattern: &Option<Pattern>) -> Result<(), NoAnswer> {
-    if let Some(pattern) = pattern {
-        let text = pattern.to_text(answer.alloc())?;
-        answer.append_bytes(text.as_bytes());
-    }
-    Ok(())
-}
-
 fn push_version(answer: &mut Answer, version: &Option<Version>) -> Result<(), NoAnswer> {
     answer.append_bytes("|".as_bytes());
     if let Some(version) = version {
-        let text = version.to_text(answer.alloc())?;
-        answer.append_bytes(text.as_bytes());
+        answer.append_bytes(version.to_text(answer.alloc())?.as_bytes());
     }
     Ok(())
 }
@@ -116,7 +90,9 @@ pub fn push_reference(
     reference: &Reference,
 ) -> Result<(), NoAnswer> {
     push_kind(answer, word, reference.kind, &reference.id);
-    push_pattern(answer, &reference.version)?;
+    if let Some(pattern) = &reference.version {
+        answer.append_bytes(pattern.to_text(answer.alloc())?.as_bytes());
+    }
     push_version(answer, &reference.earliest)?;
     push_version(answer, &reference.latest)
 }
@@ -124,21 +100,6 @@ pub fn push_reference(
 /// Adds a field of the word and KIND|ID|VERSION.
 pub fn push_key(answer: &mut Answer, word: &str, key: &DocumentKey) -> Result<(), NoAnswer> {
     push_kind(answer, word, key.kind, &key.id);
-    let text = key.version.to_text(answer.alloc())?;
-    answer.append_bytes(text.as_bytes());
+    answer.append_bytes(key.version.to_text(answer.alloc())?.as_bytes());
     Ok(())
-}
-
-/// An active document of a field KIND|ID|VERSION.
-fn active_of(alloc: Global, field: &str) -> Result<Active, NoAnswer> {
-    let parts: Vec<&str> = field.split('|').collect(alloc)?;
-    let [kind, id, version] = parts.as_slice() else {
-        return Err(NoAnswer::Malformed);
-    };
-    Ok(Active {
-        kind: kind_named(kind)?,
-        id: kept_text(alloc, id)?,
-        version: version_named(version)?,
-        document: Shared::new(alloc, document_of(alloc, ANY_DOCUMENT.as_bytes())?)?,
-    })
 }

@@ -4,8 +4,7 @@ use crate::arguments::{type_named, value};
 use crate::field::{bytes_of, number_of, text_of};
 use crate::no_answer::NoAnswer;
 use xa_value::{
-    Category, DataType, DayTimeDuration, Moment, Value, YearMonthDuration, category_uri,
-    number_up_to,
+    Category, DataType, DayTimeDuration, Value, YearMonthDuration, category_uri, number_up_to,
 };
 
 /// The type that the name names: its name, its URI and its number.
@@ -51,48 +50,31 @@ pub fn read(answer: &mut Answer, name: &str, field: &str) -> Result<(), NoAnswer
     Ok(())
 }
 
-/// Whether two values are the same.
-pub fn same(answer: &mut Answer, left: &str, right: &str) -> Result<(), NoAnswer> {
+/// The order of two values, or whether they are the same.
+pub fn comparison(
+    answer: &mut Answer,
+    kind: &str,
+    left: &str,
+    right: &str,
+) -> Result<(), NoAnswer> {
     let left = value(answer.alloc(), left)?;
     let right = value(answer.alloc(), right)?;
-    answer.name("", &left.same(&right));
-    Ok(())
-}
-
-/// The order of two values.
-pub fn order(answer: &mut Answer, left: &str, right: &str) -> Result<(), NoAnswer> {
-    let left = value(answer.alloc(), left)?;
-    let right = value(answer.alloc(), right)?;
-    answer.name_or_none(left.order(&right));
-    Ok(())
-}
-
-/// The moment this many seconds after 1970-01-01T00:00:00Z: its date, time and both.
-pub fn moment(answer: &mut Answer, seconds: &str) -> Result<(), NoAnswer> {
-    match Moment::new(number_of(seconds)?) {
-        Some(moment) => {
-            answer.value(&Value::Date(moment.date()));
-            answer.value(&Value::Time(moment.time()));
-            answer.value(&Value::DateTime(moment.date_time()));
-        }
-        None => answer.word("!None"),
+    if kind == "same" {
+        answer.name("", &left.same(&right));
+    } else {
+        answer.name_or_none(left.order(&right));
     }
     Ok(())
 }
 
-/// The duration of this many months.
-pub fn months(answer: &mut Answer, number: &str) -> Result<(), NoAnswer> {
-    match YearMonthDuration::new(number_of(number)?) {
-        Some(duration) => answer.value(&Value::YearMonthDuration(duration)),
-        None => answer.word("!None"),
-    }
-    Ok(())
-}
-
-/// The duration of this many nanoseconds.
-pub fn nanoseconds(answer: &mut Answer, number: &str) -> Result<(), NoAnswer> {
-    match DayTimeDuration::new(number_of(number)?) {
-        Some(duration) => answer.value(&Value::DayTimeDuration(duration)),
+/// The duration of this many months, or nanoseconds.
+pub fn duration(answer: &mut Answer, kind: &str, number: &str) -> Result<(), NoAnswer> {
+    let duration = match kind {
+        "months" => YearMonthDuration::new(number_of(number)?).map(Value::YearMonthDuration),
+        _ => DayTimeDuration::new(number_of(number)?).map(Value::DayTimeDuration),
+    };
+    match duration {
+        Some(duration) => answer.value(&duration),
         None => answer.word("!None"),
     }
     Ok(())

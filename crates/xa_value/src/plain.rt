@@ -37,7 +37,7 @@ impl<T> Plain<T> {
 
 impl Value {
     /// The value of the member under the type: a text is read by the type, a boolean fits boolean alone, and a whole number integer. NotThisType of
-    /// one that doesn't fit, and OutOfRange of a whole number that needs more than 64 bits.
+    /// one that doesn't fit. OutOfRange of a whole number that needs more than 64 bits, and of a text of which the reading under the type says so.
     pub fn from_plain(
         alloc: Global,
         data_type: DataType,

@@ -52,14 +52,16 @@ impl Records for PlainRecords {
     }
 
     fn gate(&mut self, alloc: Global, name: &Text) -> Result<Option<Gate>, Failure>
-        ensures reads { Reading (custody self.old) (custody self.new) result (gate_of name.now (custody self.old).kept) }
+        ensures reads { Reading (in_memory self.old.domains self.old.faults) (in_memory self.new.domains self.new.faults)
+            result (gate_of name.now self.old.domains) }
         ensures store { ¬ IsErrOf result Store }
     {
         Ok(self.domains.gate(alloc, name)?)
     }
 
     fn view(&mut self, alloc: Global, name: &Text) -> Result<Option<KeptView>, Failure>
-        ensures reads { Reading (custody self.old) (custody self.new) result (view_of name.now (custody self.old).kept) }
+        ensures reads { Reading (in_memory self.old.domains self.old.faults) (in_memory self.new.domains self.new.faults)
+            result (view_of name.now self.old.domains) }
         ensures store { ¬ IsErrOf result Store }
     {
         Ok(self.domains.view(alloc, name)?)
@@ -71,29 +73,33 @@ impl Records for PlainRecords {
         name: &Text,
         key: &DocumentKey,
     ) -> Result<Option<Items<u8>>, Failure>
-        ensures reads { Reading (custody self.old) (custody self.new) result (text_of name.now key.now (custody self.old).kept) }
+        ensures reads { Reading (in_memory self.old.domains self.old.faults) (in_memory self.new.domains self.new.faults)
+            result (text_of name.now key.now self.old.domains) }
         ensures store { ¬ IsErrOf result Store }
     {
         Ok(self.domains.document(alloc, name, key)?)
     }
 
     fn list(&mut self, alloc: Global, name: &Text) -> Result<Option<Items<Listed>>, Failure>
-        ensures reads { Reading (custody self.old) (custody self.new) result (listing_of name.now (custody self.old).kept) }
+        ensures reads { Reading (in_memory self.old.domains self.old.faults) (in_memory self.new.domains self.new.faults)
+            result (listing_of name.now self.old.domains) }
         ensures store { ¬ IsErrOf result Store }
     {
         Ok(self.domains.list(alloc, name)?)
     }
 
     fn domains(&mut self, alloc: Global) -> Result<Items<Text>, Failure>
-        ensures reads { Reading (custody self.old) (custody self.new) result (names_of (custody self.old).kept) }
+        ensures reads { Reading (in_memory self.old.domains self.old.faults) (in_memory self.new.domains self.new.faults)
+            result (names_of self.old.domains) }
         ensures store { ¬ IsErrOf result Store }
     {
         Ok(self.domains.names(alloc)?)
     }
 
     fn create(&mut self, alloc: Global, name: &Text) -> Result<(), ChangeError>
-        ensures does { Changing (custody self.old) (custody self.new) result name.now created }
-        ensures store { IsErrOf result (Failed Store) → CantRaise created name.now (custody self.old).kept }
+        ensures does { Changing (in_memory self.old.domains self.old.faults) (in_memory self.new.domains self.new.faults)
+            result name.now created }
+        ensures store { IsErrOf result (Failed Store) → CantRaise created name.now self.old.domains }
     {
         let done = self.domains.create(alloc, name);
         count_failure(&mut self.faults, &done);
@@ -101,7 +107,8 @@ impl Records for PlainRecords {
     }
 
     fn remove(&mut self, _alloc: Global, name: &Text) -> Result<(), ChangeError>
-        ensures does { Changing (custody self.old) (custody self.new) result name.now removed }
+        ensures does { Changing (in_memory self.old.domains self.old.faults) (in_memory self.new.domains self.new.faults)
+            result name.now removed }
         ensures store { ¬ IsErrOf result (Failed Store) }
     {
         let done = self.domains.remove(name);
@@ -116,7 +123,8 @@ impl Records for PlainRecords {
         digest: Digest,
         role: Role,
     ) -> Result<(), ChangeError>
-        ensures does { Changing (custody self.old) (custody self.new) result name.now (within (token_put digest role)) }
+        ensures does { Changing (in_memory self.old.domains self.old.faults) (in_memory self.new.domains self.new.faults)
+            result name.now (within (token_put digest role)) }
         ensures store { ¬ IsErrOf result (Failed Store) }
     {
         let done = self.domains.put_token(name, digest, role);
@@ -125,7 +133,8 @@ impl Records for PlainRecords {
     }
 
     fn drop_token(&mut self, _alloc: Global, name: &Text, digest: Digest) -> Result<(), ChangeError>
-        ensures does { Changing (custody self.old) (custody self.new) result name.now (within (token_dropped digest)) }
+        ensures does { Changing (in_memory self.old.domains self.old.faults) (in_memory self.new.domains self.new.faults)
+            result name.now (within (token_dropped digest)) }
         ensures store { ¬ IsErrOf result (Failed Store) }
     {
         let done = self.domains.drop_token(name, digest);
@@ -140,9 +149,10 @@ impl Records for PlainRecords {
         key: DocumentKey,
         text: &[u8],
     ) -> Result<Upload, ChangeError>
-        ensures does { Changing (custody self.old) (custody self.new) result name.now (within (uploaded key text.now)) }
-        ensures which { IfOk result (λ u. u ≡ upload_of key (state_of name.now (custody self.old).kept)) }
-        ensures store { IsErrOf result (Failed Store) → CantRaise (within (uploaded key text.now)) name.now (custody self.old).kept }
+        ensures does { Changing (in_memory self.old.domains self.old.faults) (in_memory self.new.domains self.new.faults)
+            result name.now (within (uploaded key text.now)) }
+        ensures which { IfOk result (λ u. u ≡ upload_of key (state_of name.now self.old.domains)) }
+        ensures store { IsErrOf result (Failed Store) → CantRaise (within (uploaded key text.now)) name.now self.old.domains }
     {
         let done = self.domains.upload(name, alloc, key, text);
         count_failure(&mut self.faults, &done);
@@ -156,8 +166,9 @@ impl Records for PlainRecords {
         key: &DocumentKey,
         active: bool,
     ) -> Result<(), ChangeError>
-        ensures does { Changing (custody self.old) (custody self.new) result name.now (within (activity_set key.now active)) }
-        ensures store { IsErrOf result (Failed Store) → CantRaise (within (activity_set key.now active)) name.now (custody self.old).kept }
+        ensures does { Changing (in_memory self.old.domains self.old.faults) (in_memory self.new.domains self.new.faults)
+            result name.now (within (activity_set key.now active)) }
+        ensures store { IsErrOf result (Failed Store) → CantRaise (within (activity_set key.now active)) name.now self.old.domains }
     {
         let done = self.domains.set_active(name, key, active);
         count_failure(&mut self.faults, &done);
@@ -165,8 +176,9 @@ impl Records for PlainRecords {
     }
 
     fn delete(&mut self, _alloc: Global, name: &Text, key: &DocumentKey) -> Result<(), ChangeError>
-        ensures does { Changing (custody self.old) (custody self.new) result name.now (within (deleted key.now)) }
-        ensures store { IsErrOf result (Failed Store) → CantRaise (within (deleted key.now)) name.now (custody self.old).kept }
+        ensures does { Changing (in_memory self.old.domains self.old.faults) (in_memory self.new.domains self.new.faults)
+            result name.now (within (deleted key.now)) }
+        ensures store { IsErrOf result (Failed Store) → CantRaise (within (deleted key.now)) name.now self.old.domains }
     {
         let done = self.domains.delete(name, key);
         count_failure(&mut self.faults, &done);
@@ -179,8 +191,9 @@ impl Records for PlainRecords {
         name: &Text,
         root: Option<Reference>,
     ) -> Result<(), ChangeError>
-        ensures does { Changing (custody self.old) (custody self.new) result name.now (within (root_set root)) }
-        ensures store { IsErrOf result (Failed Store) → CantRaise (within (root_set root)) name.now (custody self.old).kept }
+        ensures does { Changing (in_memory self.old.domains self.old.faults) (in_memory self.new.domains self.new.faults)
+            result name.now (within (root_set root)) }
+        ensures store { IsErrOf result (Failed Store) → CantRaise (within (root_set root)) name.now self.old.domains }
     {
         let done = self.domains.set_root(name, root);
         count_failure(&mut self.faults, &done);
@@ -193,8 +206,9 @@ impl Records for PlainRecords {
         name: &Text,
         rows: Items<SourceRow>,
     ) -> Result<(), ChangeError>
-        ensures does { Changing (custody self.old) (custody self.new) result name.now (within (source_set rows)) }
-        ensures store { IsErrOf result (Failed Store) → CantRaise (within (source_set rows)) name.now (custody self.old).kept }
+        ensures does { Changing (in_memory self.old.domains self.old.faults) (in_memory self.new.domains self.new.faults)
+            result name.now (within (source_set rows)) }
+        ensures store { IsErrOf result (Failed Store) → CantRaise (within (source_set rows)) name.now self.old.domains }
     {
         let done = self.domains.set_source(name, rows);
         count_failure(&mut self.faults, &done);

@@ -15,3 +15,8 @@ returns-clause-does c =
     let absent : is_some (tree.get_by (compare_bytes c.args.name.now) c.self.inside.by_name) ≡ false = sym c.contains_key.ensures ∙ c.if-contains_key.false in
     let copy : c.in_ok-clone.field-0 ≡ c.args.name.now = first_of (search rules, cc) in
     rw (← c.self.view_is) (plain.is_created c.self.inside.by_name c.insert.new.self c.self.inside.next c.in_ok-next.next c.args.name.now c.in_ok-clone.field-0 c.new-domain.result (tt {0}) absent copy c.new-domain.ensures c.in_ok-insert.ensures.updates c.in_ok-next.ensures)
+
+pub returns-in_err-next-clause-store : goal.returns-in_err-next-clause-store
+returns-in_err-next-clause-store c = λ h.
+    let absent : is_some (tree.get_by (compare_bytes c.args.name.now) c.self.inside.by_name) ≡ false = sym c.contains_key.ensures ∙ c.if-contains_key.false in
+    rw (← c.self.view_is) (plain.cant_create c.self.inside.by_name c.self.inside.next c.args.name.now absent (plain.none_after c.self.inside.next c.in_err-next.field-0.0 c.in_err-next.ensures))

@@ -1,5 +1,0 @@
-use Rattle.std.proofs.Common.{rules}
-use Rattle.xa_trials.proofs.keeper_changes.key_in.Goals as goal
-
-pub returns-in_ok-clone-in-Ok : goal.returns-in_ok-clone-in-Ok
-returns-in_ok-clone-in-Ok c = (c.in-Ok.parsed, search rules, search rules)

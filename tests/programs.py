@@ -1,0 +1,204 @@
+#!/usr/bin/env python3
+"""The programs that tests run: those that are proved and built of these very sources, or else compiled of them
+without proof.
+
+usage: tests/programs.py proved NAME COMMAND..     runs a command that proves and builds the program NAME, and
+                                                   notes of which sources it made it
+
+A note beside a program has a checksum of all that it was made of, and one of the program; where either isn't
+what it is now, the program is never taken.
+"""
+import hashlib
+import json
+import os
+import pathlib
+import shutil
+import signal
+import subprocess
+import sys
+import tempfile
+import time
+
+TOP = pathlib.Path(__file__).resolve().parent.parent
+UNPROVED = TOP / "build" / "unproved"
+# How long a compilation may take, in seconds, and how often is looked how far it is.
+PATIENCE, PAUSE = 3600, 0.2
+
+
+class NotBuilt(Exception):
+    """There is no program, and why."""
+
+
+def kit():
+    """The folder of the toolchain."""
+    found = shutil.which("rt")
+    if found is None:
+        raise NotBuilt("the toolchain's command rt isn't on the path (see README.md, What it stands on)")
+    return pathlib.Path(found).resolve().parent.parent
+
+
+def tower(name, lines=None):
+    """The crates of this repository that a crate is made of, itself too, each with its line of crates.txt."""
+    if lines is None:
+        text = (TOP / "crates.txt").read_text(encoding="utf-8")
+        rows = [line.partition("#")[0].partition(":") for line in text.splitlines()]
+        lines = {head.split()[0]: rest.split() for head, _, rest in rows if head.strip()}
+    found = {name: lines[name]}
+    for below in lines[name]:
+        if below in lines:
+            found.update(tower(below, lines))
+    return found
+
+
+def sum_of(path):
+    return hashlib.sha256(path.read_bytes()).hexdigest()
+
+
+def fingerprint(name, parts=("src", "specs", "proofs")):
+    """A checksum of all that a program is made of: the kit, HANDLES, and of each crate its line of crates.txt
+    and those folders of it."""
+    found = hashlib.sha256((kit() / "KIT-ID").read_bytes() + (TOP / "HANDLES").read_bytes())
+    for crate, line in sorted(tower(name).items()):
+        found.update(repr((crate, line)).encode())
+        paths = [path for part in parts for path in (TOP / "crates" / crate / part).rglob("*")]
+        for path in sorted(filter(pathlib.Path.is_file, paths)):
+            found.update(repr((str(path.relative_to(TOP)), sum_of(path))).encode())
+    return found.hexdigest()
+
+
+def note_of(program):
+    return program.with_name(program.name + ".made-of")
+
+
+def note(program, made_of):
+    """Notes beside a program what it was made of."""
+    text = json.dumps({"sources": made_of, "program": sum_of(program)})
+    note_of(program).write_text(text + "\n", encoding="ascii")
+
+
+def is_of(program, made_of):
+    """Whether the program is there, and its note says that it, as it is, was made of that."""
+    try:
+        said = json.loads(note_of(program).read_text(encoding="ascii"))
+        return said == {"sources": made_of, "program": sum_of(program)} and os.access(program, os.X_OK)
+    except (OSError, ValueError):
+        return False
+
+
+def built(name):
+    """Where the prover leaves a program."""
+    return TOP / "crates" / name / "out" / name
+
+
+def proved(name):
+    """The program that is proved and built of these very sources, if there is one."""
+    return built(name) if is_of(built(name), fingerprint(name)) else None
+
+
+def begun(names):
+    """What these programs are to be made of, before the prover makes them; their notes go."""
+    for name in names:
+        note_of(built(name)).unlink(missing_ok=True)
+    return {name: fingerprint(name) for name in names}
+
+
+def ended(before):
+    """Notes beside each of the programs, which the prover has made, of what it is made, unless a source has
+    changed meanwhile."""
+    for name, made_of in before.items():
+        if built(name).is_file() and fingerprint(name) == made_of:
+            note(built(name), made_of)
+
+
+def compiler_in(folder):
+    """The command with which `rt try`, whose folder for temporary files this is, compiles what it has made of
+    the sources, once it does."""
+    for process in pathlib.Path("/proc").glob("[0-9]*"):
+        try:
+            words = (process / "cmdline").read_bytes().decode().split("\0")[:-1]
+            at = (process / "cwd").readlink()
+        except (OSError, UnicodeDecodeError):
+            continue
+        if folder in at.parents and "-x" in words and any(word.endswith(".bc") for word in words):
+            return words, at
+    return None
+
+
+def end_hints(process):
+    """Ends the check that `rt try` runs beside, which only looks for names that a check would refuse, and takes
+    a processor."""
+    for child in pathlib.Path(f"/proc/{process}/task/{process}/children").read_text().split():
+        try:
+            words = pathlib.Path(f"/proc/{child}/cmdline").read_bytes().split(b"\0")
+            if words[1:2] == [b"check"] and b"--start" in words:
+                os.kill(int(child), signal.SIGKILL)
+        except OSError:
+            continue
+
+
+def translated(name, folder):
+    """Has `rt try` translate a program for LLVM, ends it there, and gives the compiler's words, which name the
+    translation, a file of the folder."""
+    room, case = folder / "try", folder / "cases"
+    room.mkdir()
+    case.mkdir()
+    (case / "none").touch()
+    began = time.time()
+    with open(folder / "said", "wb") as said:
+        how = {"env": {**os.environ, "TMPDIR": str(room)}, "stdin": subprocess.DEVNULL, "stdout": said, "stderr": said}
+        words = ["rt", "try", "--steps", "1", "--cases", case, "--", "none"]
+        ran = subprocess.Popen(words, cwd=TOP / "crates" / name, **how)
+        try:
+            while not (found := compiler_in(room)):
+                end_hints(ran.pid)
+                if ran.poll() is not None or time.time() - began > PATIENCE:
+                    text = (folder / "said").read_text(errors="replace")[-3000:]
+                    raise NotBuilt(f"`rt try` doesn't compile {name}:\n{text}")
+                time.sleep(PAUSE)
+            words, at = found
+            source = next(word for word in words if word.endswith(".bc"))
+            shutil.copyfile(at / source, folder / source)
+        finally:
+            ran.terminate()
+            ran.wait()
+    # (without optimisation each call clears its locals, and a run takes thirty times as long)
+    return ["-O1" if word == "-O0" else word for word in words if not word.startswith("-fsanitize")]
+
+
+def compiled(name):
+    """The program compiled of these sources without proof: what it does isn't proved, and it stops where an
+    index is out of range, say. It is kept in build/unproved, and compiled again where a source has changed."""
+    program, made_of = UNPROVED / name, fingerprint(name, ("src",))
+    if is_of(program, made_of):
+        return program
+    UNPROVED.mkdir(parents=True, exist_ok=True)
+    with tempfile.TemporaryDirectory(prefix=f"{name}-", dir=UNPROVED) as made:
+        folder = pathlib.Path(made).resolve()
+        words, top = translated(name, folder), kit()
+        parts = [words[words.index("-o") + 1], top / "c" / "libos_c.a", top / "c" / "liblibc_c.a"]
+        link = [top / "bin" / "rattle-link", "--target", "x86_64-unknown-linux-gnu", "--toolchain", top / "toolchain"]
+        for command in (words, [*link, "-o", name, *parts]):
+            ran = subprocess.run(command, cwd=folder, stdin=subprocess.DEVNULL, capture_output=True, check=False)
+            if ran.returncode != 0:
+                raise NotBuilt(f"{name} isn't compiled:\n{ran.stderr.decode(errors='replace')[-3000:]}")
+        if fingerprint(name, ("src",)) != made_of:
+            raise NotBuilt(f"a source of {name} changed while it was compiled")
+        note_of(program).unlink(missing_ok=True)
+        os.replace(folder / name, program)
+    note(program, made_of)
+    return program
+
+
+def main():
+    if len(sys.argv) < 4 or sys.argv[1] != "proved":
+        print(__doc__, file=sys.stderr)
+        return 2
+    before = begun(sys.argv[2:3])
+    status = subprocess.run(sys.argv[3:], check=False).returncode
+    if status == 0:
+        ended(before)
+    return status
+
+
+if __name__ == "__main__":
+    sys.exit(main())
