@@ -20,7 +20,11 @@ pub(crate) fn push_copy(values: &mut Vec<Value>, value: &Value) -> Result<(), Al
 }
 
 /// What the function says, of arguments that it takes.
-pub(crate) fn answer_for(function: FuncId, alloc: Global, arguments: &[Value]) -> Result<Matching, AllocError>
+pub(crate) fn answer_for(
+    function: FuncId,
+    alloc: Global,
+    arguments: &[Value],
+) -> Result<Matching, AllocError>
     requires { TakesKinds function (map kind_of arguments.now) }
     ensures { IfOk result (λ m. m ≡ matching_of (of_function (applied function arguments.now))) }
 {
