@@ -1,6 +1,5 @@
 -- A transaction that is begun and undone, over tables of any schema, and what is judged in it.
-use Rattle.std.proofs.Common.{◌≡◌, ◌≢◌, ◌⊎◌, inl, inr, ℕ, List, [], codes, true, false, cond, None, Bool, Ok, Err, Result, IsTrue, IfErr, OnOk, refl, sym, ap, subst, subst₂, ◌∙◌, true≢false, arith}
-use Rattle.std.proofs.lemmas.Bool.{cases_Bool}
+use Rattle.std.proofs.Common.{◌≡◌, ◌≢◌, ◌⊎◌, inl, inr, ℕ, List, [], codes, true, false, cond, None, Bool, Ok, Err, Result, IsTrue, IfErr, refl, sym, ap, subst, subst₂, ◌∙◌, true≢false, arith}
 use Rattle.sqlite.specs.Clock.{timed}
 use Rattle.sqlite.specs.Command.{Command}
 use Rattle.sqlite.specs.Command.TheVariants.{Begin, Rollback}
@@ -8,13 +7,13 @@ use Rattle.sqlite.specs.Given.{IsPlain}
 use Rattle.sqlite.specs.Listing.{understood}
 use Rattle.sqlite.specs.Order.{Row}
 use Rattle.sqlite.specs.Schema.{Schema}
-use Rattle.sqlite.specs.State.{State, HasCleanDisk, CommitsBy, Executes, IsRolledBack, MayCommit, Shows, Survives, text_of}
+use Rattle.sqlite.specs.State.{State, HasCleanDisk, CommitsBy, Executes, IsRolledBack, MayCommit, Survives, text_of}
 use Rattle.sqlite.specs.Tree.{Trees}
 use Rattle.sqlite.proofs.Callers.{command_of, runs_as}
 use Rattle.sqlite.proofs.StateLemmas.{survives_then, survives_weaker}
 use Rattle.sqlite_tied.specs.Compute.{everything}
 use Rattle.xa_store.specs.declared.open_error.OpenError.{OpenError}
-use Rattle.xa_store.specs.Judging.{Asks, Begun, Checked, Ended, HoldsBack, IsIdle, Tested, Undone}
+use Rattle.xa_store.specs.Judging.{Begun, Checked, Ended, IsIdle, Tested, Undone}
 use Rattle.xa_store.specs.Opening.{IsFailure, IsRefusal}
 use Rattle.xa_store.specs.Sound.{Rests, SameNow}
 use Rattle.xa_store.specs.Tables.{our_schema}

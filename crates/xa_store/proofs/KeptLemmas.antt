@@ -1,5 +1,5 @@
 -- What is kept of all domains has documents of their keys alone.
-use Rattle.std.proofs.Common.{◌≡◌, ℕ, Bool, List, filter, find, int_eq, Option, Some, None, option_map, refl, sym, subst, subst₂, ◌∙◌}
+use Rattle.std.proofs.Common.{◌≡◌, Bool, List, find, int_eq, Option, Some, None, option_map, refl, sym, subst, subst₂, ◌∙◌}
 use Rattle.std.specs.FinMap.{get}
 use Rattle.std.specs.Ordering.{eq_by_cmp}
 use Rattle.xa_policy.specs.declared.document_key.DocumentKey.{DocumentKey}

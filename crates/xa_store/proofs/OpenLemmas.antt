@@ -8,8 +8,8 @@ use Rattle.sqlite.specs.Store.{Ghosts}
 use Rattle.sqlite.specs.Tree.{Trees}
 use Rattle.sqlite.proofs.StateLemmas.{clean_if_open, survives_then, survives_weaker}
 use Rattle.xa_store.specs.declared.open_error.OpenError.{OpenError}
-use Rattle.xa_store.specs.declared.open_error.OpenError.TheVariants.{NotThisSchema, Damaged, Store, Memory}
-use Rattle.xa_store.specs.Judging.{Checked, GivesAs, IsIdle, Loads, Made, Tested}
+use Rattle.xa_store.specs.declared.open_error.OpenError.TheVariants.{Store}
+use Rattle.xa_store.specs.Judging.{Checked, IsIdle, Loads, Made, Tested}
 use Rattle.xa_store.specs.Keeper.{Keeper, IsKeeper, IsSound}
 use Rattle.xa_store.specs.Opening.{IsBlank, IsFailure, IsMade, IsRefusal, Leaves, LeavesAlone, Makes, Opens, Settles, has_room, no_tables}
 use Rattle.xa_store.specs.Sound.{Rests, SameNow}

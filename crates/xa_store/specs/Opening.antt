@@ -13,7 +13,7 @@ use Rattle.xa_store.specs.declared.opening.kind.Kind.{Kind}
 use Rattle.xa_store.specs.Keeper.{Keeper}
 use Rattle.xa_store.specs.Opened.{opened, tree_of}
 use Rattle.xa_store.specs.Rows.{meta_row}
-use Rattle.xa_store.specs.Sound.{Rests, SameNow}
+use Rattle.xa_store.specs.Sound.{SameNow}
 use Rattle.xa_store.specs.World.{world_of}
 
 abbrev pub no_tables : Schema

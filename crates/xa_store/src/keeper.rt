@@ -54,8 +54,7 @@ impl<S: Alter> SqlRecords<S> {
     /// Law: each text that a sound keeper holds is a document of its key.
     pub fn keeps_documents(&self)
         ensures { IsSound S.Store self.now → KeepsDocuments (kept_by S.Store self.now) }
-    {
-    }
+    {}
 
     /// The connection that it was made over.
     pub fn into_connection(self) -> Connection<S>

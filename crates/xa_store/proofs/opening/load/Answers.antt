@@ -1,4 +1,4 @@
-use Rattle.std.proofs.Common.{◌≡◌, false, IsTrue, rules, sym, ap, ◌∙◌, true≢false}
+use Rattle.std.proofs.Common.{sym, ap, ◌∙◌}
 use Rattle.sqlite.specs.Held.{state}
 use Rattle.xa_store.specs.Opening.{has_room}
 use Rattle.xa_store.proofs.OpenLemmas.{busy_loads, tested_loads}
