@@ -1,12 +1,15 @@
 -- What any query leaves of a connection.
-use Rattle.std.proofs.Common.{◌≡◌, inl, inr, ℕ, List, None, Some, Option, Ok, Err, Result, IsTrue, OnOk, IfOk, IfErr, sym, ap, subst, ◌∙◌}
+use Rattle.std.proofs.Common.{◌≡◌, inl, inr, ℕ, false, List, None, Some, Option, Ok, Err, Result, IsTrue, OnOk, IfOk, IfErr, cond, sym, ap, subst, ◌∙◌, true≢false}
+use Rattle.sqlite.specs.Effect.{Database}
 use Rattle.sqlite.specs.Order.{Row}
 use Rattle.sqlite.specs.declared.error.Error.{Error}
 use Rattle.sqlite.specs.Given.{IsPlain}
 use Rattle.sqlite.specs.Listing.{understood}
-use Rattle.sqlite.specs.State.{State, Shown, ShowsRows, FailsToQuery, FailsToShow, IsNotRun, IsUnchanged, IsRolledBack}
+use Rattle.sqlite.specs.State.{State, Shown, ShowsRows, FailsToQuery, FailsToShow, IsNotRun, IsUnchanged, IsRolledBack, CommitsShowing}
+use Rattle.sqlite.specs.Tree.{Trees}
 use Rattle.sqlite_resolve.specs.declared.compiled.Compiled.{Compiled}
 use Rattle.sqlite_schema.specs.declared.command.Returning.{Returning}
+use Rattle.xa_store.specs.Judging.{GoesOn, HoldsBack}
 use Rattle.xa_store.specs.Sound.{Rests, SameNow}
 use Rattle.xa_store.specs.Tables.{our_schema}
 
@@ -37,18 +40,78 @@ unchanged_same old new rests h = record { now = h.0.now_is; committed = h.0.comm
 pub rolled_same : (old new : State) → Rests old → IsRolledBack old new → IsTrue new.is_open → SameNow old new
 rolled_same old new rests h up = record { now = (h.undone up).0 ∙ sym rests.settled; committed = (h.undone up).1; idle = h.autocommit }
 
-pub plain_at : (sql : List ℕ) (old : State) (c : Compiled) → Rests old → IsPlain (understood our_schema sql) → understood old.now.schema sql ≡ Ok c → c.returning ≡ None
-plain_at sql old c rests plain is = (subst IsPlain (ap (λ s. understood s sql) (sym rests.schema) ∙ is) plain).0
+pub plain_at : (sql : List ℕ) (old : State) (c : Compiled) → old.now.schema ≡ our_schema → IsPlain (understood our_schema sql) → understood old.now.schema sql ≡ Ok c → c.returning ≡ None
+plain_at sql old c ours plain is = (subst IsPlain (ap (λ s. understood s sql) (sym ours) ∙ is) plain).0
 
 pub shown_same : (sql : List ℕ) (params : Row) (old new : State) (rows : List Row) → Rests old → IsPlain (understood our_schema sql) → Shown sql params old new rows → SameNow old new
 unfolding Shown
-shown_same sql params old new rows rests plain h = unchanged_same old new rests (subst (ShowsRows old new sql h.0 _ rows) (plain_at sql old h.0 rests plain h.1.is) h.2).3
+shown_same sql params old new rows rests plain h = unchanged_same old new rests (subst (ShowsRows old new sql h.0 _ rows) (plain_at sql old h.0 rests.schema plain h.1.is) h.2).3
 
 pub failed_same : (sql : List ℕ) (params : Row) (old new : State) (e : Error) → Rests old → IsPlain (understood our_schema sql) → FailsToQuery sql params old new e → IsTrue new.is_open → SameNow old new
 unfolding FailsToQuery IsNotRun
 failed_same sql params old new e rests plain (inl (inl h)) up = unchanged_same old new rests h.1
 failed_same sql params old new e rests plain (inl (inr h)) up = rolled_same old new rests h.3 up
-failed_same sql params old new e rests plain (inr h) up = unchanged_same old new rests (subst (FailsToShow old new sql h.0 _ e) (plain_at sql old h.0 rests plain h.1.is) h.2).3
+failed_same sql params old new e rests plain (inr h) up = unchanged_same old new rests (subst (FailsToShow old new sql h.0 _ e) (plain_at sql old h.0 rests.schema plain h.1.is) h.2).3
+
+-- ---- of tables of any schema
+
+pub goes_unchanged : (old new : State) → IsUnchanged old new → GoesOn old new
+goes_unchanged old new h = record { was_open = h.0.was_open; is_open = h.0.is_open; schema = λ ours. ap (λ (d : Database). d.schema) h.0.now_is ∙ ours; mode = h.0.mode }
+
+goes_shown : (old new : State) (sql : List ℕ) (c : Compiled) (params : Row) (rows : List Row) (o : Option Returning) → (old.now.schema ≡ our_schema → o ≡ None) → ShowsRows old new sql c params rows o → GoesOn old new
+goes_shown old new sql c params rows None plain h = goes_unchanged old new h.3
+goes_shown old new sql c params rows (Some what) plain h =
+    record { was_open = h.1.shown.was_open; is_open = h.1.shown.is_open; schema = λ ours. absurd (let e = plain ours in cc); mode = h.1.shown.mode }
+
+-- a query that is answered goes on
+pub shown_goes : (sql : List ℕ) (params : Row) (old new : State) (rows : List Row) → IsPlain (understood our_schema sql) → Shown sql params old new rows → GoesOn old new
+unfolding Shown
+shown_goes sql params old new rows plain h = goes_shown old new sql h.0 _ rows h.0.returning (λ ours. plain_at sql old h.0 ours plain h.1.is) h.2
+
+-- ---- in a transaction
+
+pub held_while : (old new : State) → IsTrue old.in_transaction → new.committed ≡ old.committed → new.in_transaction ≡ old.in_transaction → HoldsBack old new
+held_while old new inside committed mode = record { committed = committed; undone = λ ended. absurd (true≢false (sym inside ∙ sym mode ∙ ended)) }
+
+pub held_unchanged : (old new : State) → IsTrue old.in_transaction → IsUnchanged old new → HoldsBack old new
+held_unchanged old new inside h = held_while old new inside h.0.committed_is h.0.mode
+
+pub held_rolled : (old new : State) → IsRolledBack old new → IsTrue new.is_open → HoldsBack old new
+held_rolled old new h up = record { committed = (h.undone up).1; undone = λ _. (h.undone up).0 }
+
+held_shown : (old new : State) (sql : List ℕ) (c : Compiled) (params : Row) (rows : List Row) (o : Option Returning) → IsTrue old.in_transaction → ShowsRows old new sql c params rows o → HoldsBack old new
+held_shown old new sql c params rows None inside h = held_unchanged old new inside h.3
+held_shown old new sql c params rows (Some what) inside h =
+    held_while old new inside (h.1.shown.committed_is ∙ ap (λ b. cond b old.committed new.now) inside) h.1.shown.mode
+
+pub shown_held : (sql : List ℕ) (params : Row) (old new : State) (rows : List Row) → IsTrue old.in_transaction → Shown sql params old new rows → HoldsBack old new
+unfolding Shown
+shown_held sql params old new rows inside h = held_shown old new sql h.0 _ rows h.0.returning inside h.2
+
+fails_held : (old new : State) (sql : List ℕ) (c : Compiled) (params : Row) (e : Error) (o : Option Returning) → IsTrue old.in_transaction → FailsToShow old new sql c params e o → IsTrue new.is_open → HoldsBack old new
+fails_held old new sql c params e None inside h up = held_unchanged old new inside h.3
+fails_held old new sql c params e (Some what) inside (inl h) up = held_unchanged old new inside h.1
+fails_held old new sql c params e (Some what) inside (inr h) up = held_rolled old new h.3 up
+
+pub failed_held : (sql : List ℕ) (params : Row) (old new : State) (e : Error) → IsTrue old.in_transaction → FailsToQuery sql params old new e → IsTrue new.is_open → HoldsBack old new
+unfolding FailsToQuery IsNotRun
+failed_held sql params old new e inside (inl (inl h)) up = held_unchanged old new inside h.1
+failed_held sql params old new e inside (inl (inr h)) up = held_rolled old new h.3 up
+failed_held sql params old new e inside (inr h) up = fails_held old new sql h.0 _ e h.0.returning inside h.2 up
+
+-- only outside a transaction may a query commit
+pub commits_idle : (sql : List ℕ) (params : Row) (s : State) (db : Trees) → CommitsShowing sql params s db → s.in_transaction ≡ false
+unfolding CommitsShowing
+commits_idle sql params s db h = h.3.0
+
+-- ---- one after another
+
+module _ (a b c : State) where
+  pub goes_then : GoesOn a b → GoesOn b c → GoesOn a c
+  goes_then first second = record { was_open = first.was_open; is_open = second.is_open; schema = λ ours. second.schema (first.schema ours); mode = second.mode ∙ first.mode }
+
+  pub holds_then : HoldsBack a b → HoldsBack b c → HoldsBack a c
+  holds_then first second = record { committed = second.committed ∙ first.committed; undone = λ ended. second.undone ended ∙ first.committed }
 
 -- ---- of either result
 

@@ -1,5 +1,5 @@
 -- What a query of the tables leaves where a store is opened, and which errors none has.
-use Rattle.std.proofs.Common.{◌≡◌, inl, inr, ℕ, List, Bool, true, false, Option, Ok, Err, Result, refl, sym, ap, subst, ◌∙◌, true≢false, arith}
+use Rattle.std.proofs.Common.{◌≡◌, inl, inr, ℕ, List, Bool, true, false, Option, Ok, Err, Result, OnOk, refl, sym, ap, subst, ◌∙◌, true≢false, arith}
 use Rattle.sqlite.specs.Effect.{Database, RefusesToRead}
 use Rattle.sqlite.specs.Command.{Command}
 use Rattle.sqlite.specs.Command.TheVariants.{Select, Rows}
@@ -16,11 +16,11 @@ use Rattle.sqlite_trees.specs.declared.error.StoreError.{StoreError}
 use Rattle.sqlite_trees.specs.declared.error.StoreError.TheVariants.{OutOfMemory, Io, Corrupt, Full, Broken, Unstorable}
 use Rattle.xa_store.specs.declared.open_error.OpenError.{OpenError}
 use Rattle.xa_store.specs.declared.open_error.OpenError.TheVariants.{NotThisSchema, Damaged}
-use Rattle.xa_store.specs.Judging.{Asks, is_misfit, refused_as}
+use Rattle.xa_store.specs.Judging.{Asks, GoesOn, IsUnguarded, is_misfit, refused_as}
 use Rattle.xa_store.specs.Opening.{IsFailure}
 use Rattle.xa_store.specs.Sound.{Rests, SameNow}
 use Rattle.xa_store.specs.Tables.{our_schema}
-use Rattle.xa_store.proofs.AskLemmas.{shown_open, shown_same, failed_same, plain_at}
+use Rattle.xa_store.proofs.AskLemmas.{commits_idle, failed_held, failed_open, failed_same, goes_then, holds_then, plain_at, shown_goes, shown_held, shown_open, shown_same}
 use Rattle.xa_store.proofs.QuietLemmas.{rests_after}
 
 -- ---- errors
@@ -52,7 +52,7 @@ failed_fits sql params old new e rests plain (inl (inl (inr (c, is, inr (inl h))
 failed_fits sql params old new e rests plain (inl (inl (inr (c, is, inr (inr h)), same))) = fit e _ h.1 refl
 failed_fits sql params old new e rests plain (inl (inr h)) = fit e _ h.1 (store_fits h.0)
 failed_fits sql params old new e rests plain (inr h) =
-    let shows = subst (FailsToShow old new sql h.0 _ e) (plain_at sql old h.0 rests plain h.1.is) h.2 in refuses_fits old.step_limit h.0.command shows.0 _ e shows.2
+    let shows = subst (FailsToShow old new sql h.0 _ e) (plain_at sql old h.0 rests.schema plain h.1.is) h.2 in refuses_fits old.step_limit h.0.command shows.0 _ e shows.2
 
 pub a_failure : (e : Error) → is_misfit e ≡ false → IsFailure (refused_as e)
 a_failure (SqlInputError fault) fits = absurd (true≢false fits)
@@ -83,18 +83,26 @@ never_refused e fits is = fails_otherwise (subst IsFailure (sym is) (a_failure e
 -- ---- one query
 
 module _ (sql : List ℕ) (params : Row) (old new : State) (plain : IsPlain (understood our_schema sql)) (survived : Survives old new (CommitsShowing sql params old)) where
-  pub survives_asked : Survives old new (λ db. ¬ Rests old)
-  survives_asked = survives_weaker old new _ _ (λ _ db commits rests. never_commits sql params old db (subst (λ s. IsPlain (understood s sql)) (sym rests.schema) plain) commits) survived
+  pub survives_asked : Survives old new (λ db. IsUnguarded old)
+  survives_asked = survives_weaker old new _ _ (λ _ db commits. (λ ours. never_commits sql params old db (subst (λ s. IsPlain (understood s sql)) (sym ours) plain) commits, commits_idle sql params old db commits)) survived
 
   pub asked : {X : Type 0} (x : X) (rows : List Row) → (HasCleanDisk new → Shown sql params old new rows) → Asks old new (Ok x)
   asked x rows shown = record {
     survives = survives_asked;
+    was_open = λ clean up. (shown_open sql params old new rows (shown clean)).0;
     same = λ clean rests up. shown_same sql params old new rows rests plain (shown clean);
-    opens = λ clean. (shown_open sql params old new rows (shown clean)).1;
+    held = λ clean inside up. shown_held sql params old new rows inside (shown clean);
+    goes_on = λ clean. shown_goes sql params old new rows plain (shown clean);
   }
 
   pub not_asked : {X : Type 0} (e : Error) (o : OpenError) → (HasCleanDisk new → FailsToQuery sql params old new e) → Asks {X = X} old new (Err o)
-  not_asked e o failed = record { survives = survives_asked; same = λ clean rests up. failed_same sql params old new e rests plain (failed clean) up; opens = λ clean. tt }
+  not_asked e o failed = record {
+    survives = survives_asked;
+    was_open = λ clean up. failed_open sql params old new e (failed clean) up;
+    same = λ clean rests up. failed_same sql params old new e rests plain (failed clean) up;
+    held = λ clean inside up. failed_held sql params old new e inside (failed clean) up;
+    goes_on = λ clean. tt;
+  }
 
 -- ---- one after another
 
@@ -104,24 +112,32 @@ same_then a b c p q = record { now = q.now ∙ p.now; committed = q.committed �
 -- what was asked first, of a connection that is still open
 module _ (a b c : State) {X : Type 0} (x : X) (first : Asks a b (Ok x)) where
   pub same_before : HasCleanDisk b → Rests a → SameNow a b
-  same_before clean rests = first.same clean rests (first.opens clean)
+  same_before clean rests = first.same clean rests (first.goes_on clean).is_open
 
   pub rests_before : HasCleanDisk b → Rests a → Rests b
   rests_before clean rests = rests_after a b rests (same_before clean rests)
 
+  unguarded_before : HasCleanDisk b → IsUnguarded b → IsUnguarded a
+  unguarded_before clean h = let on = first.goes_on clean in (λ ours. h.0 (on.schema ours), sym on.mode ∙ h.1)
+
+  goes_on_then : {Y : Type 0} (r : Result Y OpenError) → HasCleanDisk b → OnOk r (GoesOn b c) → OnOk r (GoesOn a c)
+  goes_on_then (Ok y) clean h = goes_then a b c (first.goes_on clean) h
+  goes_on_then (Err e) clean h = tt
+
   pub asks_then : {Y : Type 0} (r : Result Y OpenError) → Asks b c r → Asks a c r
   asks_then r second = record {
-    survives = survives_then a b c _ _ (λ db. ¬ Rests a) (λ _ db h. h) (λ clean db h rests. h (rests_before (omega (arith, second.survives.clean)) rests)) first.survives second.survives;
+    survives = survives_then a b c _ _ (λ db. IsUnguarded a) (λ _ db h. h) (λ clean db h. unguarded_before (omega (arith, second.survives.clean)) h) first.survives second.survives;
+    was_open = λ clean up. (first.goes_on (omega (arith, second.survives.clean))).was_open;
     same = λ clean rests up.
         let middle : HasCleanDisk b = omega (arith, second.survives.clean) in
         let here = same_before middle rests in
         same_then a b c here (second.same clean (rests_after a b rests here) up);
-    opens = second.opens;
+    held = λ clean inside up.
+        let middle : HasCleanDisk b = omega (arith, second.survives.clean) in
+        let on = first.goes_on middle in
+        holds_then a b c (first.held middle inside on.is_open) (second.held clean (on.mode ∙ inside) up);
+    goes_on = λ clean. goes_on_then r (omega (arith, second.survives.clean)) (second.goes_on clean);
   }
 
 pub as_failed : {X Y : Type 0} (old new : State) (e : OpenError) → Asks {X = X} old new (Err e) → Asks {X = Y} old new (Err e)
-as_failed old new e h = record { survives = h.survives; same = h.same; opens = λ clean. tt }
-
-pub as_answered : {X Y : Type 0} (old new : State) (x : X) (r : Result Y OpenError) → Asks old new (Ok x) → Asks old new r
-as_answered old new x (Ok y) h = record { survives = h.survives; same = h.same; opens = h.opens }
-as_answered old new x (Err e) h = record { survives = h.survives; same = h.same; opens = λ clean. tt }
+as_failed old new e h = record { survives = h.survives; was_open = h.was_open; same = h.same; held = h.held; goes_on = λ clean. tt }

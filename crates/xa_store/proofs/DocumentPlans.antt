@@ -1,8 +1,7 @@
 -- The plans of changes of documents.
-use Rattle.std.proofs.Common.{◌≡◌, ◌≢◌, inr, ℕ, ◌+◌, ◌<◌, ◌^◌, ℤ, List, [], ◌∷◌, ◌++◌, filter, find, Bool, true, false, cond, nat_lt, bytes_eq, Option, Some, None, option_map, is_some, Result, Ok, Err, refl, sym, ap, subst, ◌∙◌, arith, int_eq}
+use Rattle.std.proofs.Common.{◌≡◌, ◌≢◌, inr, ℕ, ◌+◌, ◌<◌, ◌^◌, ℤ, List, [], ◌∷◌, ◌++◌, filter, find, Bool, true, false, cond, nat_lt, bytes_eq, Option, Some, None, option_map, is_some, Result, Ok, Err, refl, sym, ap, subst, ◌∙◌, int_eq}
 use Rattle.std.specs.Ordering.{eq_by_cmp}
 use Rattle.std.specs.FinMap.{FinMap, get, insert, remove, len}
-use Rattle.std.proofs.lemmas.Int.{ints}
 use Rattle.sqlite_keyed.specs.Keyed.{IsKeyedBy, next_key}
 use Rattle.sqlite_keyed.specs.Lists.{update_where, delete_where}
 use Rattle.sqlite_keyed.proofs.KeyedLemmas.{int_eq_apart, same_int}
@@ -13,7 +12,7 @@ use Rattle.xa_records.specs.declared.refusal.Refusal.{Refusal}
 use Rattle.xa_records.specs.declared.refusal.Refusal.TheVariants.{Absent, Quota, SameVersionOtherText, StillActive}
 use Rattle.xa_records.specs.declared.upload.Upload.TheVariants.{New, Same}
 use Rattle.xa_records.specs.Changes.{activity_set, deleted, or_absent, upload_of, uploaded, uploaded_over, with_document, with_documents, within}
-use Rattle.xa_records.specs.DomainState.{DomainState, StoredDocument}
+use Rattle.xa_records.specs.DomainState.{DomainState, IsDocumentOf, StoredDocument}
 use Rattle.xa_records.specs.Kept.{DecidesAlike, IsNextEpoch, state_of}
 use Rattle.xa_records.proofs.FinMapLemmas.{get_put, get_taken, put_again}
 use Rattle.xa_records.proofs.OrderLemmas.{keys_exact, keys_total}
@@ -32,6 +31,7 @@ use Rattle.xa_store.proofs.EntryLemmas as entry
 use Rattle.xa_store.proofs.FilterLemmas.{filter_both, filter_delete, filter_delete_apart, filter_push, filter_push_apart, filter_update, filter_update_apart, find_none, find_one}
 use Rattle.xa_store.proofs.KeyLemmas.{own_number}
 use Rattle.xa_store.proofs.PlanLemmas.{changed, its_state, numbered_after}
+use Rattle.xa_store.proofs.TextsKept.{of_key}
 use Rattle.xa_store.proofs.TurnLemmas.{still}
 
 abbrev key_of : DocumentRow → DocumentKey
@@ -155,8 +155,8 @@ module _ (rows : Rows) (name : List ℕ) (d : DomainRow) (one : IsOnly name d ro
       missing : get state.documents key ≡ None
       missing = got None (find_none has_key xs (sym among ∙ none))
 
-      pub upload_planned : (body : List ℕ) → nat_lt (len state.documents) 256 ≡ true → Plans (AddDocument n key body ∷ SetEpoch n epoch ∷ []) (within (uploaded key body)) name rows
-      upload_planned body room =
+      pub upload_planned : (body : List ℕ) → IsDocumentOf key body → nat_lt (len state.documents) 256 ≡ true → Plans (AddDocument n key body ∷ SetEpoch n epoch ∷ []) (within (uploaded key body)) name rows
+      upload_planned body document room =
           let new : DocumentRow = record { rowid = next_key (λ x. x.rowid) rows.documents; number = n; key = key; text = body; active = false } in
           let documents = rows.documents ++ new ∷ [] in
           let put : StoredDocument = record { text = body; active = false } in
@@ -166,7 +166,7 @@ module _ (rows : Rows) (name : List ℕ) (d : DomainRow) (one : IsOnly name d ro
           let others = λ (m : ℤ) (apart : m ≢ n). filter_push_apart (λ x. int_eq x.number m) rows.documents new (int_eq_apart n m (λ same. apart (sym same))) in
           let differs : state.documents ≢ target = λ same. let both : ◌≡◌ {A = Option StoredDocument} None (Some put) = sym missing ∙ ap (λ m. get m key) same ∙ get_put keys_total state.documents key put in cc in
           record {
-            allows = ((none, reads), (tt, tt));
+            allows = ((none, reads, of_key key body document), (tt, tt));
             made = (
               Some (with_documents target state),
               ap (within (uploaded key body)) (its_state rows name d one)
@@ -254,13 +254,13 @@ module _ (rows : Rows) (name : List ℕ) (found : DomainFound) (are : AreNumbere
         subst (λ n. Plans (DropDocument n key ∷ SetEpoch n next ∷ []) (within (deleted key)) name rows) (sym is.number)
         (drop_planned rows name is.row is.only up are key reads next one_more still_fits own.0 own.1 (same ∙ idle))
 
-    pub plan_upload : (body : List ℕ) (count : ℕ) → count ≡ len (state_at rows found.number).documents → FindsDocument found.number key rows None → nat_lt count 256 ≡ true
+    pub plan_upload : (body : List ℕ) → IsDocumentOf key body → (count : ℕ) → count ≡ len (state_at rows found.number).documents → FindsDocument found.number key rows None → nat_lt count 256 ≡ true
         → IsUploadPlanned key body name rows (Ok (AddDocument found.number key body ∷ SetEpoch found.number next ∷ []))
-    plan_upload body count all finds room =
+    plan_upload body document count all finds room =
         let own = finds_own None finds in
         let own_count : count ≡ len (state_at rows is.row.number).documents = all ∙ ap (λ n. len (state_at rows n).documents) is.number in (
           subst (λ n. Plans (AddDocument n key body ∷ SetEpoch n next ∷ []) (within (uploaded key body)) name rows) (sym is.number)
-              (upload_planned rows name is.row is.only up are key reads next one_more still_fits own body (subst (λ k. nat_lt k 256 ≡ true) own_count room)),
+              (upload_planned rows name is.row is.only up are key reads next one_more still_fits own body document (subst (λ k. nat_lt k 256 ≡ true) own_count room)),
           sym (ap (upload_of key) (its_state rows name is.row is.only) ∙ ap (λ o. cond (is_some o) Same New) (nowhere rows name is.row is.only up are key reads own)),
         )
 

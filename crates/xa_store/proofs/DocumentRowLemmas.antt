@@ -21,6 +21,7 @@ use Rattle.xa_policy.specs.Version.{read_version, version_text}
 use Rattle.xa_notation.specs.declared.document.Parsed.{Parsed}
 use Rattle.xa_notation.specs.declared.notation_error.NotationError.{NotationError}
 use Rattle.xa_notation.specs.Document.{document_of}
+use Rattle.xa_records.specs.DomainState.{IsDocumentOf}
 use Rattle.xa_store.specs.declared.opening.kind.Kind.TheVariants.{Documents}
 use Rattle.xa_store.specs.Opened.{as_read, holds_key, is_bit, is_given, is_sound_table, is_whole_row}
 use Rattle.xa_store.specs.Rows.{DocumentRow, document_in, document_row, given, kind_in, kind_number, version_in}
@@ -59,6 +60,33 @@ key_held kind id version body (Ok parsed) is h =
     let v = text_held (bytes_eq (version_text parsed.version)) version (second_of_both _ _ h) in
     (k.0 ∙ ap Int (kind_held parsed.kind (int_of kind) k.1), i.0, v.0 ∙ ap Text (version_held parsed.version (bytes_of version) (document_version body parsed is) v.1))
 key_held kind id version body (Err e) is h = absurd (true≢false (sym h))
+
+-- ---- the text is a document of the key
+
+kind_named : (kind : DocumentKind) → kind_in (kind_number kind) ≡ kind
+kind_named Policy = refl
+kind_named PolicySet = refl
+
+version_named : (version : List ℕ) → read_version (version_text version) ≡ Ok version → version_in (version_text version) ≡ version
+unfolding version_in
+version_named version reads = ap (λ r. unwrap_or (given r) []) reads
+
+document_of_key : (kind id version : Value) (body : List ℕ) (r : Result Parsed NotationError) → document_of body ≡ r → holds_key kind id version r ≡ true
+    → IsDocumentOf (record { kind = kind_in (int_of kind); id = bytes_of id; version = version_in (bytes_of version) }) body
+document_of_key kind id version body (Ok parsed) is h =
+    let k = (int_held (int_eq (kind_number parsed.kind)) kind (first_of_both _ _ (first_of_both _ _ h))).1 in
+    let i = (text_held (bytes_eq parsed.id) id (second_of_both _ _ (first_of_both _ _ h))).1 in
+    let v = (text_held (bytes_eq (version_text parsed.version)) version (second_of_both _ _ h)).1 in
+    let kinds = sym (kind_named parsed.kind) ∙ ap kind_in (same_int (kind_number parsed.kind) (int_of kind) k) in
+    let ids = same_text parsed.id (bytes_of id) i in
+    let versions = sym (version_named parsed.version (document_version body parsed is)) ∙ ap version_in (same_text (version_text parsed.version) (bytes_of version) v) in
+    (parsed, is, λ j. record { kind = kinds j; id = ids j; version = versions j })
+document_of_key kind id version body (Err e) is h = absurd (true≢false (sym h))
+
+pub document_held : (next : ℤ) (row : Row) → is_whole_row Documents next (as_read Documents row) ≡ true → IsDocumentOf (document_in row).key (document_in row).text
+document_held next row whole =
+    let text = blob_held (λ body. holds_key (column row 2) (column row 3) (column row 4) (document_of body)) (column row 5) (second_of_both _ _ (second_of_both _ _ whole)) in
+    document_of_key (column row 2) (column row 3) (column row 4) (bytes_of (column row 5)) (document_of (bytes_of (column row 5))) refl text.1
 
 -- ---- a row
 

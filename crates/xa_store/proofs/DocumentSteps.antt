@@ -4,7 +4,6 @@ use Rattle.std.specs.List.{AllByRecursion}
 use Rattle.std.specs.Ordering.{eq_by_cmp}
 use Rattle.std.specs.Cmp.{eq_by_cmp_equiv}
 use Rattle.std.proofs.lemmas.Bool.{and_parts, and_from}
-use Rattle.std.proofs.lemmas.Int.{ints}
 use Rattle.sqlite.specs.Order.{Row}
 use Rattle.sqlite.specs.Rowids.TheVariants.{Chosen}
 use Rattle.sqlite.specs.State.{State, Executes}
@@ -25,8 +24,7 @@ use Rattle.sqlite_keyed.proofs.RuleLemmas.{apart_update, apart_delete}
 use Rattle.xa_policy.specs.declared.document_key.DocumentKey.{DocumentKey}
 use Rattle.xa_policy.specs.DocumentKey.{compare_keys}
 use Rattle.xa_policy.specs.Version.{version_text}
-use Rattle.xa_records.proofs.FinMapLemmas.{here_or_elsewhere}
-use Rattle.xa_records.proofs.OrderLemmas.{keys_exact, keys_total}
+use Rattle.xa_records.proofs.OrderLemmas.{keys_total}
 use Rattle.xa_store.specs.declared.step.Step.TheVariants.{AddDocument, SetActive, DropDocument}
 use Rattle.xa_store.specs.Rows.{DocumentRow, kind_number, bit, is_set, document_row, document_in}
 use Rattle.xa_store.specs.Sound.{AreTables, same_document}

@@ -1,7 +1,5 @@
 -- What the statement that adds a domain makes of the rows.
 use Rattle.std.proofs.Common.{◌≡◌, ℕ, ℤ, pos, List, [], ◌∷◌, map, filter, Bool, true, false, not, ◌&&◌, refl, ap, ◌∙◌, int_eq, Ok}
-use Rattle.std.specs.Ordering.{eq_by_cmp}
-use Rattle.std.proofs.lemmas.Cmp.{nat_list_cmp_total}
 use Rattle.sqlite.specs.Rowids.TheVariants.{Chosen}
 use Rattle.sqlite.specs.State.{State, Executes}
 use Rattle.sqlite.specs.Tree.{Trees}
@@ -13,8 +11,6 @@ use Rattle.sqlite_keyed.specs.Rules.{is_apart}
 use Rattle.sqlite_keyed.proofs.ListLemmas.{all_of, all_weaker, any_from_none}
 use Rattle.sqlite_keyed.proofs.KeyedLemmas.{IsKeyedBy-insert_by}
 use Rattle.sqlite_keyed.proofs.RuleLemmas.{apart_insert}
-use Rattle.sqlite_typed.proofs.TestLemmas.{turn_eq}
-use Rattle.xa_records.specs.DomainState.{compare_bytes}
 use Rattle.xa_store.specs.declared.step.Step.TheVariants.{AddDomain}
 use Rattle.xa_store.specs.Rows.{DomainRow, domain_row, domain_in}
 use Rattle.xa_store.specs.Sound.{AreTables, same_name}

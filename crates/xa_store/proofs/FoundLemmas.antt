@@ -1,5 +1,5 @@
 -- What a query of one table finds, as records of its rows.
-use Rattle.std.proofs.Common.{◌≡◌, ℕ, List, [], ◌∷◌, map, filter, Bool, false, cond, Ordering, is_eq, Option, Some, None, option_map, find, slice_get, ◌&&◌, Result, Ok, Err, IfOk, refl, sym, ap, subst, ◌∙◌, IsPermutation}
+use Rattle.std.proofs.Common.{◌≡◌, ℕ, List, [], ◌∷◌, map, filter, Bool, false, Ordering, is_eq, Option, Some, None, option_map, find, slice_get, ◌&&◌, Result, Ok, Err, IfOk, refl, sym, ap, subst, ◌∙◌, IsPermutation}
 use Rattle.std.specs.List.{AllByRecursion}
 use Rattle.std.proofs.lemmas.List.Sorted.{IsPermutation-map}
 use Rattle.sqlite.specs.Order.{Row}

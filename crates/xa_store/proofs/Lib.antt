@@ -1,3 +1,4 @@
+pub mod ApartLemmas
 pub mod AskLemmas
 pub mod ChangeLemmas
 pub mod EntryLemmas
@@ -11,6 +12,8 @@ pub mod NumberTexts
 pub mod SqlLemmas
 pub mod TableLemmas
 pub mod TextLemmas
+pub mod TextsKept
+pub mod KeptLemmas
 pub mod WriteLemmas
 pub mod HoldLemmas
 pub mod StepLemmas

@@ -1,5 +1,5 @@
 -- The tables are judged one after another.
-use Rattle.std.proofs.Common.{◌≡◌, ◌↔◌, ℤ, Bool, true, false, ◌&&◌, cond, List, [], ◌∷◌, map, Some, Result, Ok, Err, IsTrue, refl, sym, ap, subst, ◌∙◌, arith}
+use Rattle.std.proofs.Common.{◌≡◌, ℤ, Bool, true, false, ◌&&◌, cond, List, [], ◌∷◌, map, Some, Result, Ok, Err, IsTrue, OnOk, refl, sym, ap, subst, ◌∙◌, arith}
 use Rattle.std.specs.List.{list_all}
 use Rattle.sqlite.specs.Effect.{Database, IsDatabase}
 use Rattle.sqlite.specs.State.{State, HasCleanDisk}
@@ -15,8 +15,7 @@ use Rattle.xa_store.specs.Judging.{Asks, Checked, GivesAs, GivesNext, Judged, Ju
 use Rattle.xa_store.specs.Opened.{are_rising, as_read, count_on, is_count, is_sound, is_sound_table, judged, known_next, no_place, opened, place_cmp, place_in, read_meta, row_number, tree_of}
 use Rattle.xa_store.specs.Rows.{attribute_in, attribute_row}
 use Rattle.xa_store.specs.Sound.{AreRows, Rests, same_place}
-use Rattle.xa_store.specs.Tables.{our_schema}
-use Rattle.xa_store.proofs.AskedLemmas.{as_answered, as_failed, asks_then, rests_before, same_before}
+use Rattle.xa_store.proofs.AskedLemmas.{as_failed, asks_then, rests_before, same_before}
 use Rattle.xa_store.proofs.ReadLemmas.{stopped_judges, walked_judges}
 use Rattle.xa_store.proofs.RiseLemmas.{both_true}
 use Rattle.xa_store.proofs.ShapedLemmas.{attributes_are}
@@ -98,50 +97,50 @@ all_judged next a b c x r counts first second tables places clean rests live =
 
 -- ---- what opening answers
 
-pub unknown : (db : Trees) (e : OpenError) → GivesNext (known_next (map read_meta (db 0))) (Err e) → GivesAs {X = Bool} (Err e) (opened db)
+pub unknown : (db : Trees) (e : OpenError) → GivesNext (known_next (map read_meta (db 0))) (Err e) → GivesAs {X = Unit {0}} (Err e) (opened db)
 unknown db NotThisSchema h = ap (judged db) h
 unknown db Damaged h = absurd h
 unknown db Store h = tt
 unknown db Memory h = tt
 
-pub judged_as : (db : Trees) (next : ℤ) (r : Result (Unit {0}) OpenError) (e : OpenError) → known_next (map read_meta (db 0)) ≡ Some next → Judges (is_sound db next) (Err e) → GivesAs {X = Bool} (Err e) (opened db)
+pub judged_as : (db : Trees) (next : ℤ) (r : Result (Unit {0}) OpenError) (e : OpenError) → known_next (map read_meta (db 0)) ≡ Some next → Judges (is_sound db next) (Err e) → GivesAs {X = Unit {0}} (Err e) (opened db)
 judged_as db next r Damaged known h = ap (judged db) known ∙ ap (λ b. cond b (Ok tt) (Err Damaged)) h
 judged_as db next r NotThisSchema known h = absurd h
 judged_as db next r Store known h = tt
 judged_as db next r Memory known h = tt
 
-pub sound_as : (db : Trees) (next : ℤ) (ours : Bool) → known_next (map read_meta (db 0)) ≡ Some next → is_sound db next ≡ true → GivesAs (Ok ours) (opened db)
-sound_as db next ours known h = ap (judged db) known ∙ ap (λ b. cond b (Ok tt) (Err Damaged)) h
+pub sound_as : (db : Trees) (next : ℤ) (x : Unit {0}) → known_next (map read_meta (db 0)) ≡ Some next → is_sound db next ≡ true → GivesAs (Ok x) (opened db)
+sound_as db next x known h = ap (judged db) known ∙ ap (λ b. cond b (Ok tt) (Err Damaged)) h
+
+judged_gives : (db : Trees) (next : ℤ) (r : Result (Unit {0}) OpenError) → known_next (map read_meta (db 0)) ≡ Some next → Judges (is_sound db next) r → GivesAs r (opened db)
+judged_gives db next (Ok x) known h = sound_as db next x known h
+judged_gives db next (Err e) known h = judged_as db next (Err e) e known h
+
+if_ok : {X P : Type 0} (r : Result X OpenError) → P → OnOk r P
+if_ok (Ok x) p = p
+if_ok (Err e) p = tt
 
 -- ---- the number of the next domain was found, and then the tables were judged
 
-module _ (a b c : State) (next : ℤ) (known : HasCleanDisk b → Rests a → GivesNext (known_next (map read_meta (a.now.trees 0))) (Ok next)) (first : Asks a b (Ok next))
-    (was : HasCleanDisk b → IsTrue a.is_open) (live : IsTrue a.is_open → IsDatabase a.now) where
-  module _ (r : Result (Unit {0}) OpenError) (second : Asks b c r) (finds : HasCleanDisk c → Rests b → IsDatabase b.now → Judges (is_sound b.now.trees next) r) where
-    between : HasCleanDisk c → HasCleanDisk b
-    between clean = omega (arith, second.survives.clean)
-
-    sound_then : HasCleanDisk c → Rests a → Judges (is_sound a.now.trees next) r
-    sound_then clean rests =
-        let same = same_before a b c next first (between clean) rests in
-        subst (λ (d : Database). Judges (is_sound d.trees next) r) same.now
-        (finds clean (rests_before a b c next first (between clean) rests) (subst IsDatabase (sym same.now) (live (was (between clean)))))
-
-  pub all_checked : (x : Unit {0}) (ours : Bool) → (IsTrue ours ↔ (a.now.schema ≡ our_schema)) → Asks b c (Ok x)
-      → (HasCleanDisk c → Rests b → IsDatabase b.now → Judges (is_sound b.now.trees next) (Ok x)) → Checked a c (Ok ours)
-  all_checked x ours own second finds = record {
-    asks = as_answered a c x (Ok ours) (asks_then a b c next first (Ok x) second);
-    opened = λ clean rests. sound_as a.now.trees next ours (known (between (Ok x) second finds clean) rests) (sound_then (Ok x) second finds clean rests);
-    ours = own;
-    live = λ clean. live (was (between (Ok x) second finds clean));
-    was_open = λ clean. was (between (Ok x) second finds clean);
+module _ (a b c : State) (next : ℤ) (known : HasCleanDisk b → Rests a → GivesNext (known_next (map read_meta (a.now.trees 0))) (Ok next)) (first : Asks a b (Ok next)) (live : IsTrue a.is_open → IsDatabase a.now) where
+  pub all_checked : (r : Result (Unit {0}) OpenError) → Asks b c r → (HasCleanDisk c → Rests b → IsDatabase b.now → Judges (is_sound b.now.trees next) r) → Checked a c r
+  all_checked r second finds = record {
+    asks = asks_then a b c next first r second;
+    opened = λ clean rests. judged_gives a.now.trees next r (known (between clean) rests) (sound_then clean rests);
+    live = λ clean. if_ok r (live_before (between clean));
   }
+    where
+      between : HasCleanDisk c → HasCleanDisk b
+      between clean = omega (arith, second.survives.clean)
 
-  pub not_checked : (e : OpenError) → Asks {X = Unit {0}} b c (Err e) → (HasCleanDisk c → Rests b → IsDatabase b.now → Judges (is_sound b.now.trees next) (Err e)) → Checked a c (Err e)
-  not_checked e second finds = record {
-    asks = as_failed a c e (asks_then a b c next first (Err e) second);
-    opened = λ clean rests. judged_as a.now.trees next (Err e) e (known (between (Err e) second finds clean) rests) (sound_then (Err e) second finds clean rests);
-    ours = tt;
-    live = λ clean. tt;
-    was_open = λ clean. tt;
-  }
+      live_before : HasCleanDisk b → IsDatabase a.now
+      live_before clean = live (first.goes_on clean).was_open
+
+      sound_then : HasCleanDisk c → Rests a → Judges (is_sound a.now.trees next) r
+      sound_then clean rests =
+          let same = same_before a b c next first (between clean) rests in
+          subst (λ (d : Database). Judges (is_sound d.trees next) r) same.now
+          (finds clean (rests_before a b c next first (between clean) rests) (subst IsDatabase (sym same.now) (live_before (between clean))))
+
+pub not_looked : (a b : State) (e : OpenError) → Asks {X = ℤ} a b (Err e) → (HasCleanDisk b → Rests a → GivesNext (known_next (map read_meta (a.now.trees 0))) (Err e)) → Checked a b (Err e)
+not_looked a b e asks known = record { asks = as_failed a b e asks; opened = λ clean rests. unknown a.now.trees e (known clean rests); live = λ clean. tt }

@@ -1,22 +1,22 @@
 -- From the parts of opening to what it answers.
-use Rattle.std.proofs.Common.{◌≡◌, ◌≢◌, inl, inr, Bool, true, false, Result, Ok, Err, IsTrue, IfOk, refl, sym, ap, subst, ◌∙◌, arith}
+use Rattle.std.proofs.Common.{◌≡◌, ◌⊎◌, inl, inr, Bool, true, false, Result, Ok, Err, IsTrue, IfErr, refl, sym, ap, subst, ◌∙◌, true≢false, arith}
 use Rattle.sqlite.specs.Effect.{Database}
 use Rattle.sqlite.specs.Held.{Held, state}
 use Rattle.sqlite_schema.specs.Names.{same_name}
-use Rattle.sqlite.specs.State.{State, HasCleanDisk}
+use Rattle.sqlite.specs.State.{State, HasCleanDisk, Survives}
 use Rattle.sqlite.specs.Store.{Ghosts}
 use Rattle.sqlite.specs.Tree.{Trees}
 use Rattle.sqlite.proofs.StateLemmas.{clean_if_open, survives_then, survives_weaker}
 use Rattle.xa_store.specs.declared.open_error.OpenError.{OpenError}
-use Rattle.xa_store.specs.declared.open_error.OpenError.TheVariants.{NotThisSchema, Damaged, Store, Memory}
-use Rattle.xa_store.specs.Judging.{Checked, CheckedIdle, GivesAs, Loads, Made, MakesAs}
+use Rattle.xa_store.specs.declared.open_error.OpenError.TheVariants.{Store}
+use Rattle.xa_store.specs.Judging.{Checked, IsIdle, Loads, Made, Tested}
 use Rattle.xa_store.specs.Keeper.{Keeper, IsKeeper, IsSound}
-use Rattle.xa_store.specs.Opened.{opened}
-use Rattle.xa_store.specs.Opening.{Gives, IsBlank, IsFailure, IsMade, Leaves, Makes, Opens, Settles, has_room, no_tables}
+use Rattle.xa_store.specs.Opening.{IsBlank, IsFailure, IsMade, IsRefusal, Leaves, LeavesAlone, Makes, Opens, Settles, has_room, no_tables}
 use Rattle.xa_store.specs.Sound.{Rests, SameNow}
 use Rattle.xa_store.specs.Tables.{our_schema}
 use Rattle.xa_store.specs.World.{world_of}
-use Rattle.xa_store.proofs.OursLemmas.{made_nothing, made_opened, opened_ours}
+use Rattle.xa_store.proofs.ApartLemmas.{survives_still}
+use Rattle.xa_store.proofs.OursLemmas.{made_nothing, opened_ours}
 use Rattle.xa_store.proofs.QuietLemmas.{ours_after}
 
 -- ---- a store without tables has room for ours, and one with ours has none
@@ -28,67 +28,150 @@ pub ours_has_none : has_room our_schema ≡ false
 unfolding same_name
 ours_has_none = refl
 
--- ---- the tables were judged
+-- ---- the tables of a keeper were judged
 
-pub checked_idle : (a c : State) (r : Result Bool OpenError) → a.in_transaction ≡ false → (IsTrue a.is_open → a.now ≡ a.committed) → Checked a c r → CheckedIdle a c r
-checked_idle a c (Ok ours) idle settled checked = record {
-  asks = checked.asks;
-  opened = checked.opened;
-  known = λ clean rests. checked.ours.1 rests.schema;
-  ours = λ clean own.
-      let rests : Rests a = record { schema = checked.ours.0 own; settled = settled (checked.was_open clean); idle = idle } in
-      let all = opened_ours a rests (checked.live clean) (checked.opened clean rests) in
-      ours_after a c all (checked.asks.same clean rests (checked.asks.opens clean));
+module _ (a c : State) (quiet : IsIdle a) (schema : a.now.schema ≡ our_schema) where
+  at_rest : IsTrue a.is_open → Rests a
+  at_rest up = record { schema = schema; settled = quiet.settled up; idle = quiet.idle }
+
+  module _ (r : Result (Unit {0}) OpenError) (check : Checked a c r) where
+    survived : Survives a c (λ _. ⊥)
+    survived = survives_weaker a c _ _ (λ _ db h. h.0 schema) check.asks.survives
+
+    same : HasCleanDisk c → IsTrue c.is_open → SameNow a c
+    same clean up = check.asks.same clean (at_rest (check.asks.was_open clean up)) up
+
+  pub ours_sound : (x : Unit {0}) → Checked a c (Ok x) → Tested a c (Ok true)
+  ours_sound x check = record {
+    survives = survived (Ok x) check;
+    refused = λ clean up. tt;
+    same = λ clean rests up. same (Ok x) check clean up;
+    opened = check.opened;
+    known = λ rests. refl;
+    stays = λ clean rests. (check.asks.goes_on clean).is_open;
+    ours = λ clean own.
+        let on = check.asks.goes_on clean in
+        let rests = at_rest on.was_open in
+        ours_after a c (opened_ours a rests (check.live clean) (check.opened clean rests)) (same (Ok x) check clean on.is_open);
+  }
+
+  pub ours_refused : (e : OpenError) → Checked a c (Err e) → Tested a c (Err e)
+  ours_refused e check = record {
+    survives = survived (Err e) check;
+    refused = λ clean up refusal. same (Err e) check clean up;
+    same = λ clean rests up. same (Err e) check clean up;
+    opened = check.opened;
+    known = λ rests. tt;
+    stays = λ clean rests. tt;
+    ours = λ clean. tt;
+  }
+
+-- a transaction is under way, and nothing is asked
+fails_no_refusal : ¬ IsRefusal Store
+fails_no_refusal (inl is) = absurd cc
+fails_no_refusal (inr is) = absurd cc
+
+pub not_tested : (a : State) → Tested a a (Err Store)
+not_tested a = record {
+  survives = survives_still a;
+  refused = λ clean up refusal. absurd (fails_no_refusal refusal);
+  same = λ clean rests up. record { now = refl; committed = refl; idle = rests.idle };
+  opened = λ clean rests. tt;
+  known = λ rests. tt;
+  stays = λ clean rests. tt;
+  ours = λ clean. tt;
 }
-checked_idle a c (Err e) idle settled checked = record { asks = checked.asks; opened = checked.opened; known = λ clean rests. tt; ours = λ clean. tt }
 
 -- ---- the tables were made first, or there were some
 
-fails_alone : (e : OpenError) → Gives (Err e) (Ok tt) → IsFailure e
-fails_alone Store h = inl refl
-fails_alone Memory h = inr refl
-fails_alone NotThisSchema h = absurd cc
-fails_alone Damaged h = absurd cc
+no_failure : (e : OpenError) → IsFailure e → ¬ IsRefusal e
+no_failure e (inl is) (inl other) = absurd cc
+no_failure e (inl is) (inr other) = absurd cc
+no_failure e (inr is) (inl other) = absurd cc
+no_failure e (inr is) (inr other) = absurd cc
 
-module _ (a b : State) (other : a.now.schema ≢ our_schema) where
+module _ (a b : State) (room : IsTrue (has_room a.now.schema)) where
   no_rest : ¬ Rests a
-  no_rest rests = other rests.schema
+  no_rest rests = true≢false (sym room ∙ ap has_room rests.schema ∙ ours_has_none)
 
-  pub not_made : (e : OpenError) → Made {X = Unit {0}} a b (Err e) → Loads a b (Err e)
-  not_made e made = record {
-    survives = survives_weaker a b _ (Leaves a) (λ _ db h. (no_rest, h)) made.survives;
-    opens = λ clean rests up. absurd (no_rest rests);
-    makes = λ clean blank up. (made.fails, inl (made.same clean blank up));
-    ours = λ clean up. tt;
-    stays = λ clean. tt;
+  left_by : Survives a b (λ db. IsBlank a → IsMade db) → Survives a b (Leaves a)
+  left_by survived = survives_weaker a b _ (Leaves a) (λ _ db h. (room, h)) survived
+
+  -- of a failure
+  failed_loads : (c : State) (e : OpenError) → IsFailure e → Survives a c (Leaves a) → (HasCleanDisk c → IsBlank a → IsTrue c.is_open → SameNow a c ⊎ IsMade c.now.trees) → Loads a c (Err e)
+  failed_loads c e is survived there = record {
+    survives = survived;
+    left = λ refusal. absurd (no_failure e is refusal);
+    refused = λ clean up refusal. absurd (no_failure e is refusal);
+    opens = λ clean rests. absurd (no_rest rests);
+    makes = there;
+    fails = λ blank. is;
+    ours = λ clean. tt;
+    stays = λ clean h. tt;
   }
 
-  makes_as : (c : State) (r : Result Bool OpenError) → IsMade b.now.trees → SameNow b c → GivesAs r (opened b.now.trees) → IfOk r IsTrue → MakesAs a c r
-  makes_as c (Ok ours) is same given own = (own, subst (λ (d : Database). IsMade d.trees) (sym same.now) is)
-  makes_as c (Err e) is same given own = (fails_alone e (subst (Gives (Err e)) (made_opened b.now.trees is) given), inr (subst (λ (d : Database). IsMade d.trees) (sym same.now) is))
+  pub not_made : (e : OpenError) → Made {X = Unit {0}} a b (Err e) → Loads a b (Err e)
+  not_made e made = failed_loads b e made.fails (left_by made.survives) (λ clean blank up. inl (made.same clean blank up))
 
-  pub made_then : (c : State) (x : Unit {0}) (r : Result Bool OpenError) → Made a b (Ok x) → CheckedIdle b c r → Loads a c r
-  made_then c x r made check =
-      let between : HasCleanDisk c → HasCleanDisk b = λ clean. omega (arith, check.asks.survives.clean) in
-      let at_rest : HasCleanDisk c → IsBlank a → Rests b = λ clean blank. (made.made (between clean) blank).1 in
-      record {
-        survives = survives_then a b c (λ db. IsBlank a → IsMade db) (λ db. ¬ Rests b) (Leaves a) (λ _ db h. (no_rest, h)) (λ clean db h. (no_rest, λ blank. absurd (h (at_rest clean blank)))) made.survives
-            check.asks.survives;
-        opens = λ clean rests up. absurd (no_rest rests);
-        makes = λ clean blank up.
-            let rests = at_rest clean blank in
-            makes_as c r (made.made (between clean) blank).2 (check.asks.same clean rests up) (check.opened clean rests) (check.known clean rests);
-        ours = λ clean up. check.ours clean;
-        stays = check.asks.opens;
-      }
+  module _ (c : State) (x : Unit {0}) (made : Made a b (Ok x)) where
+    module _ (r : Result Bool OpenError) (test : Tested b c r) where
+      between : HasCleanDisk c → HasCleanDisk b
+      between clean = omega (arith, test.survives.clean)
 
-pub checked_loads : (a c : State) (r : Result Bool OpenError) → ¬ (a.now.schema ≡ no_tables) → CheckedIdle a c r → Loads a c r
-checked_loads a c r some check = record {
-  survives = survives_weaker a c (λ db. ¬ Rests a) (Leaves a) (λ _ db h. (h, λ blank. absurd (some blank.schema))) check.asks.survives;
-  opens = λ clean rests up. (check.asks.same clean rests up, check.opened clean rests, check.known clean rests);
-  makes = λ clean blank up. absurd (some blank.schema);
-  ours = λ clean up. check.ours clean;
-  stays = check.asks.opens;
+      left_at_last : Survives a c (Leaves a)
+      left_at_last = survives_then a b c (λ db. IsBlank a → IsMade db) (λ _. ⊥) (Leaves a) (λ _ db h. (room, h)) (λ _ db h. absurd h) made.survives test.survives
+
+      is_made : HasCleanDisk c → IsBlank a → IsTrue c.is_open → IsMade c.now.trees
+      is_made clean blank up =
+          let it = made.made (between clean) blank in
+          subst (λ (d : Database). IsMade d.trees) (sym (test.same clean it.1 up).now) it.2
+
+    pub made_failed : (e other : OpenError) → IsFailure e → Tested b c (Err other) → Loads a c (Err e)
+    made_failed e other is test = failed_loads c e is (left_at_last (Err other) test) (λ clean blank up. inr (is_made (Err other) test clean blank up))
+
+    pub made_sound : (own : Bool) → Tested b c (Ok own) → Loads a c (Ok own)
+    made_sound own test = record {
+      survives = left_at_last (Ok own) test;
+      left = tt;
+      refused = λ clean up. tt;
+      opens = λ clean rests. absurd (no_rest rests);
+      makes = λ clean blank.
+          let rests = (made.made (between (Ok own) test clean) blank).1 in
+          (test.known rests, is_made (Ok own) test clean blank (test.stays clean rests));
+      fails = λ blank. tt;
+      ours = test.ours;
+      stays = λ clean h. elim h [ inl rests ↦ absurd (no_rest rests) | inr blank ↦ test.stays clean (made.made (between (Ok own) test clean) blank).1 ];
+    }
+
+pub tested_loads : (a c : State) (r : Result Bool OpenError) → has_room a.now.schema ≡ false → Tested a c r → Loads a c r
+tested_loads a c r full test = record {
+  survives = survives_weaker a c (λ _. ⊥) (Leaves a) (λ _ db h. absurd h) test.survives;
+  left = left r;
+  refused = test.refused;
+  opens = λ clean rests. (test.opened clean rests, test.known rests, test.same clean rests);
+  makes = λ clean blank. absurd (not_blank blank);
+  fails = λ blank. absurd (not_blank blank);
+  ours = test.ours;
+  stays = λ clean h. elim h [ inl rests ↦ test.stays clean rests | inr blank ↦ absurd (not_blank blank) ];
+}
+  where
+    not_blank : ¬ IsBlank a
+    not_blank blank = true≢false (sym blank_has_room ∙ ap has_room (sym blank.schema) ∙ full)
+
+    left : (r2 : Result Bool OpenError) → IfErr r2 (λ e. IsRefusal e → Survives a c (λ _. ⊥))
+    left (Ok own) = tt
+    left (Err e) = λ refusal. test.survives
+
+pub busy_loads : (a : State) → Loads a a (Err Store)
+busy_loads a = record {
+  survives = survives_weaker a a (λ _. ⊥) (Leaves a) (λ _ db h. absurd h) (survives_still a);
+  left = λ refusal. absurd (fails_no_refusal refusal);
+  refused = λ clean up refusal. absurd (fails_no_refusal refusal);
+  opens = λ clean rests. (tt, tt, λ up. record { now = refl; committed = refl; idle = rests.idle });
+  makes = λ clean blank up. inl (record { now = refl; committed = refl; idle = blank.idle });
+  fails = λ blank. inl refl;
+  ours = λ clean. tt;
+  stays = λ clean h. tt;
 }
 
 -- ---- a keeper over what was loaded, or the connection back
@@ -102,31 +185,35 @@ module _ {S : Type 0} (g : Ghosts S) (shut : (s : S) → (g.view s).is_clean ≡
   keeper ours = record { conn = last; ours = ours; faults = 0 }
 
   pub is_keeper : (ours : Bool) → Loads old (state g last) (Ok ours) → IsKeeper g (keeper ours)
-  is_keeper ours loads own up = loads.ours (clean_up up) up own
+  is_keeper ours loads own up = loads.ours (clean_up up) own
 
   pub opens_keeper : (ours : Bool) → Loads old (state g last) (Ok ours) → Rests old → Opens g old (Ok (keeper ours))
-  opens_keeper ours loads rests up =
-      let it = loads.opens (clean_up up) rests up in
-      (it.1, it.0, record { ours = it.2; faults = refl }, ap (λ (d : Database). world_of d.trees) (it.0.now ∙ rests.settled))
+  opens_keeper ours loads rests clean =
+      let it = loads.opens clean rests in
+      let same = it.2 (loads.stays clean (inl rests)) in
+      (it.0, same, record { ours = it.1; faults = refl }, ap (λ (d : Database). world_of d.trees) (same.now ∙ rests.settled))
 
   pub makes_keeper : (ours : Bool) → Loads old (state g last) (Ok ours) → IsBlank old → Makes g old (Ok (keeper ours))
-  makes_keeper ours loads blank up =
-      let it = loads.makes (clean_up up) blank up in
+  makes_keeper ours loads blank clean =
+      let it = loads.makes clean blank in
       (it.1, record { ours = it.0; faults = refl }, made_nothing (state g last).now.trees it.1)
 
   pub settles_keeper : (ours : Bool) → Loads old (state g last) (Ok ours) → Settles g (keeper ours)
   settles_keeper ours loads own up db may =
-      let all = loads.ours (clean_up up) up own in
+      let all = loads.ours (clean_up up) own in
       ap world_of (settled last.store db up may ∙ ap (λ (d : Database). d.trees) (sym all.rests.settled))
 
   pub sound_keeper : (ours : Bool) → Loads old (state g last) (Ok ours) → IsTrue ours → IsTrue (state g last).is_open → IsSound g (keeper ours)
   sound_keeper ours loads own up = (
     own,
-    record { is_open = up; ours = loads.ours (clean_up up) up own; settled = λ left leaves. leaves.2 ∙ settles_keeper ours loads own up leaves.0 leaves.1 },
+    record { is_open = up; ours = loads.ours (clean_up up) own; settled = λ left leaves. leaves.2 ∙ settles_keeper ours loads own up leaves.0 leaves.1 },
   )
 
   pub opens_refused : (e : OpenError) → Loads old (state g last) (Err e) → Rests old → Opens g old (Err (e, last))
-  opens_refused e loads rests up = let it = loads.opens (clean_up up) rests up in (it.0, it.1)
+  opens_refused e loads rests clean = let it = loads.opens clean rests in (it.0, it.2)
 
   pub makes_refused : (e : OpenError) → Loads old (state g last) (Err e) → IsBlank old → Makes g old (Err (e, last))
-  makes_refused e loads blank up = loads.makes (clean_up up) blank up
+  makes_refused e loads blank = (loads.fails blank, λ up. loads.makes (clean_up up) blank up)
+
+  pub leaves_alone : (e : OpenError) → Loads old (state g last) (Err e) → IsRefusal e → LeavesAlone old (state g last)
+  leaves_alone e loads refusal = record { survives = loads.left refusal; same = λ up. loads.refused (clean_up up) up refusal }

@@ -11,6 +11,7 @@ use Rattle.sqlite_keyed.proofs.ListLemmas.{all_map, all_weaker}
 use Rattle.sqlite_keyed.proofs.RuleLemmas.{first_of_both, second_of_both}
 use Rattle.sqlite_keyed.specs.Lists.{sort_by}
 use Rattle.sqlite_typed.specs.Columns.{int_of}
+use Rattle.xa_records.specs.DomainState.{IsDocumentOf}
 use Rattle.xa_records.specs.Kept.{nothing_kept}
 use Rattle.xa_store.specs.declared.open_error.OpenError.{OpenError}
 use Rattle.xa_store.specs.declared.open_error.OpenError.TheVariants.{Damaged}
@@ -19,11 +20,11 @@ use Rattle.xa_store.specs.declared.opening.kind.Kind.TheVariants.{Domains, Token
 use Rattle.xa_store.specs.Opened.{are_sound_rows, as_read, count_on, holds_int, is_count, is_given, is_sound, is_sound_table, is_whole_row, judged, known_next, no_place, opened, place_cmp, place_in, read_meta, tree_of}
 use Rattle.xa_store.specs.Opening.{IsMade}
 use Rattle.xa_store.specs.Rows.{attribute_in, document_in, domain_in, meta_row, nat_of, next_in, root_in, token_in}
-use Rattle.xa_store.specs.Sound.{AreNumbered, AreTables, Ours, Rests}
+use Rattle.xa_store.specs.Sound.{AreDocuments, AreNumbered, AreTables, Ours, Rests}
 use Rattle.xa_store.specs.Tables.{our_schema}
 use Rattle.xa_store.specs.World.{domain_entry, rows_of, world_of}
 use Rattle.xa_store.proofs.AreRowsLemmas.{domains_are, tokens_are, whole}
-use Rattle.xa_store.proofs.DocumentRowLemmas.{documents_are}
+use Rattle.xa_store.proofs.DocumentRowLemmas.{document_held, documents_are}
 use Rattle.xa_store.proofs.NumberedLemmas.{AreGiven, numbers_are}
 use Rattle.xa_store.proofs.RootRowLemmas.{meta_is, roots_are}
 use Rattle.xa_store.proofs.ShapeLemmas.{int_held}
@@ -140,11 +141,16 @@ module _ (db : Trees) (next : ℤ) (live : IsSound our_schema db) (known : known
   numbers : AreNumbered (rows_of db)
   numbers = numbers_are (rows_of db) (subst (λ n. AreGiven (record (rows_of db) { next = n })) next_is given) tables.domains.rise
 
+  -- ---- documents
+
+  documents : AreDocuments (rows_of db).documents
+  documents = each Documents in_documents document_in (λ d. IsDocumentOf d.key d.text) (λ row whole. document_held next row whole)
+
 pub opened_ours : (s : State) → Rests s → IsDatabase s.now → opened s.now.trees ≡ Ok tt → Ours s
 opened_ours s rests live h =
     let is = found s.now.trees h in
     let sound : IsSound our_schema s.now.trees = subst (λ schema. IsSound schema s.now.trees) rests.schema live in
-    record { rests = rests; tables = tables s.now.trees is.0 sound is.1 is.2; domains = numbers s.now.trees is.0 sound is.1 is.2 }
+    record { rests = rests; tables = tables s.now.trees is.0 sound is.1 is.2; domains = numbers s.now.trees is.0 sound is.1 is.2; documents = documents s.now.trees is.0 sound is.1 is.2 }
 
 -- ---- tables as they are made
 

@@ -1,9 +1,8 @@
 -- The plan of a root that is set.
-use Rattle.std.proofs.Common.{◌≡◌, ◌≢◌, inr, ◌+◌, ◌<◌, ◌^◌, ℕ, ℤ, List, [], Bool, true, false, cond, Option, Some, None, option_map, option_and_then, Ok, refl, sym, ap, subst, ◌∙◌, arith, int_eq}
+use Rattle.std.proofs.Common.{◌≡◌, ◌≢◌, inr, ◌+◌, ◌<◌, ◌^◌, ℕ, ℤ, List, [], Bool, true, false, cond, Option, Some, None, option_map, option_and_then, Ok, refl, sym, ap, subst, ◌∙◌, int_eq}
 use Rattle.sqlite_keyed.specs.Keyed.{IsKeyedBy, get_by, insert_by}
 use Rattle.sqlite_keyed.specs.Lists.{without_key}
 use Rattle.sqlite_keyed.proofs.KeyedLemmas.{int_eq_apart}
-use Rattle.std.proofs.lemmas.Int.{ints}
 use Rattle.xa_policy.specs.declared.reference.Reference.{Reference}
 use Rattle.xa_policy.specs.Pattern.{pattern_text, read_pattern}
 use Rattle.xa_policy.specs.Version.{read_version, version_text}

@@ -1,5 +1,5 @@
 -- A table that is read row by row, from one row to the next.
-use Rattle.std.proofs.Common.{◌≡◌, ◌⊎◌, inl, inr, ℕ, ℤ, w64, false, List, [], ◌∷◌, ◌++◌, Option, Some, None, Result, Ok, Err, IsTrue, OnOk, refl, sym, ap, subst, arith}
+use Rattle.std.proofs.Common.{◌≡◌, ◌⊎◌, inl, inr, ℕ, ℤ, w64, false, List, [], ◌∷◌, ◌++◌, Option, Some, None, Result, Ok, Err, IsTrue, OnOk, refl, sym, ap, subst, ◌∙◌, arith}
 use Rattle.std.specs.Prelude.{FitsSigned}
 use Rattle.sqlite.specs.Effect.{Database}
 use Rattle.sqlite.specs.Given.{HasGiven, GivesOn, HasBegun, IsPlain}
@@ -14,11 +14,11 @@ use Rattle.sqlite.proofs.StateLemmas.{survives_then}
 use Rattle.xa_store.specs.declared.open_error.OpenError.{OpenError}
 use Rattle.xa_store.specs.declared.open_error.OpenError.TheVariants.{NotThisSchema, Damaged, Store, Memory}
 use Rattle.xa_store.specs.declared.opening.kind.Kind.{Kind}
-use Rattle.xa_store.specs.Judging.{text_of, AreHeld, IsRead, Moves, refused_as, TellsNext, Walked, Walks, fits}
+use Rattle.xa_store.specs.Judging.{text_of, AreHeld, GoesOn, HoldsBack, IsRead, IsUnguarded, Moves, refused_as, TellsNext, Walked, Walks, fits}
 use Rattle.xa_store.specs.Opened.{row_number}
 use Rattle.xa_store.specs.Sound.{Rests, SameNow}
 use Rattle.xa_store.specs.Tables.{our_schema}
-use Rattle.xa_store.proofs.AskLemmas.{unchanged_same, rolled_same}
+use Rattle.xa_store.proofs.AskLemmas.{goes_then, goes_unchanged, held_rolled, held_unchanged, holds_then, rolled_same, shown_goes, shown_held, unchanged_same}
 use Rattle.xa_store.proofs.AskedLemmas.{failed_fits, never_damaged, never_refused, same_then}
 use Rattle.xa_store.proofs.JudgedTexts.{judged_is}
 use Rattle.xa_store.proofs.QuietLemmas.{rests_after}
@@ -64,6 +64,10 @@ held_on : (given : List Row) (row : Row) → AreHeld given → FitsSigned w64 (r
 held_on [] row all fits = (fits, tt)
 held_on (r ∷ given) row all fits = (all.0, held_on given row all.1 fits)
 
+-- the walk goes on from there, and in a transaction it commits nothing
+abbrev pub Keeps : State → State → Type 0
+Keeps first s = HasCleanDisk s → GoesOn first s × (IsTrue first.in_transaction → HoldsBack first s)
+
 -- where a walk stands: the rows that were given, of which the last is known
 abbrev pub Stands : {S : Type 0} → Ghosts S → Kind → ℤ → State → Held S → Option ℤ → Type 0
 Stands g kind next first h last = HasCleanDisk (state g h) → Rests first → (given : List Row) × HasGiven g (text_of kind) [] h given × IsUnchanged first (state g h) × Leads kind next given last × AreHeld given
@@ -78,13 +82,36 @@ module _ {S : Type 0} (g : Ghosts S) (kind : Kind) (next : ℤ) (first : Held S)
       let it = begun_plain g (text_of kind) [] first new plain (begun clean) in
       ([], it.0, it.1, λ tail. refl, tt)
 
-  module _ (mid new : Held S) (last : Option ℤ) (survived : Survives start (state g mid) (λ db. ¬ Rests start)) (stands : Stands g kind next start mid last)
+  pub keeps_begun : (new : Held S) → (HasCleanDisk (state g new) → HasBegun g (text_of kind) [] first new) → Keeps start (state g new)
+  keeps_begun new begun clean = elim (begun clean) [
+    | inl h ↦ (goes_unchanged start (state g new) h.1, λ inside. held_unchanged start (state g new) inside h.1)
+    | inr h ↦ (shown_goes (text_of kind) [] start (state g new) _ (judged_plain kind) h.1, λ inside. shown_held (text_of kind) [] start (state g new) _ inside h.1)
+  ]
+
+  module _ (mid new : Held S) (last : Option ℤ) (survived : Survives start (state g mid) (λ db. IsUnguarded start)) (keeps : Keeps start (state g mid)) (stands : Stands g kind next start mid last)
       (kept : HasCleanDisk (state g new) → IsUnchanged (state g mid) (state g new) ⊎ IsRolledBack (state g mid) (state g new)) (on : Survives (state g mid) (state g new) (λ _. ⊥)) where
     before : HasCleanDisk (state g new) → HasCleanDisk (state g mid)
     before clean = omega (arith, on.clean)
 
-    pub survived_on : Survives start (state g new) (λ db. ¬ Rests start)
-    survived_on = survives_then start (state g mid) (state g new) (λ db. ¬ Rests start) (λ _. ⊥) (λ db. ¬ Rests start) (λ _ db h. h) (λ _ db h. absurd h) survived on
+    pub survived_on : Survives start (state g new) (λ db. IsUnguarded start)
+    survived_on = survives_then start (state g mid) (state g new) (λ db. IsUnguarded start) (λ _. ⊥) (λ db. IsUnguarded start) (λ _ db h. h) (λ _ db h. absurd h) survived on
+
+    was_open : HasCleanDisk (state g new) → IsTrue (state g new).is_open → IsTrue start.is_open
+    was_open clean up = (keeps (before clean)).0.was_open
+
+    held_on_to : HasCleanDisk (state g new) → IsTrue start.in_transaction → IsTrue (state g new).is_open → HoldsBack start (state g new)
+    held_on_to clean inside up =
+        let here = keeps (before clean) in
+        let still = here.0.mode ∙ inside in
+        holds_then start (state g mid) (state g new) (here.1 inside) (elim (kept clean) [ inl h ↦ held_unchanged (state g mid) (state g new) still h | inr h ↦ held_rolled (state g mid) (state g new) h up ])
+
+    pub keeps_on : (HasCleanDisk (state g new) → IsUnchanged (state g mid) (state g new)) → Keeps start (state g new)
+    keeps_on same clean =
+        let here = keeps (before clean) in
+        let it = same clean in (
+          goes_then start (state g mid) (state g new) here.0 (goes_unchanged (state g mid) (state g new) it),
+          λ inside. held_on_to clean inside it.0.is_open,
+        )
 
     same_mid : HasCleanDisk (state g new) → Rests start → SameNow start (state g mid)
     same_mid clean rests = unchanged_same start (state g mid) rests (stands (before clean) rests).2
@@ -123,11 +150,11 @@ module _ {S : Type 0} (g : Ghosts S) (kind : Kind) (next : ℤ) (first : Held S)
     found Memory moved clean rests = tt
 
     pub walk_stopped : (e : OpenError) → Moved (Err e) → Walked kind next start (state g new) (Err e)
-    walk_stopped e moved = record { asks = record { survives = survived_on; same = same_on; opens = λ clean. tt }; finds = found e moved }
+    walk_stopped e moved = record { asks = record { survives = survived_on; was_open = was_open; same = same_on; held = held_on_to; goes_on = λ clean. tt }; finds = found e moved }
 
     pub walk_ended : Moved (Ok None) → (HasCleanDisk (state g new) → IsUnchanged (state g mid) (state g new)) → Walked kind next start (state g new) (Ok tt)
     walk_ended moved same = record {
-      asks = record { survives = survived_on; same = same_on; opens = λ clean. (same clean).0.is_open };
+      asks = record { survives = survived_on; was_open = was_open; same = same_on; held = held_on_to; goes_on = λ clean. (keeps_on same clean).0 };
       finds = λ clean rests.
           let it = stands (before clean) rests in
           let here = same_mid clean rests in

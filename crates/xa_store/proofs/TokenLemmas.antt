@@ -16,13 +16,12 @@ use Rattle.sqlite_trees.specs.Tree.{IsAscending}
 use Rattle.sqlite_typed.proofs.TestLemmas.{last_key}
 use Rattle.sqlite_value.proofs.OrderLemmas.{value_cmp-Blob}
 use Rattle.xa_notation.specs.declared.token.Role.{Role}
-use Rattle.xa_notation.specs.declared.token.Role.TheVariants.{Ask, Admin}
 use Rattle.xa_records.specs.declared.gate.Token.{Token}
 use Rattle.xa_records.specs.DomainState.{compare_bytes}
 use Rattle.xa_records.specs.Readings.{token_of}
 use Rattle.xa_records.proofs.OrderLemmas.{bytes_total, bytes_exact}
 use Rattle.xa_store.specs.Found.{FindsRole}
-use Rattle.xa_store.specs.Rows.{TokenRow, token_row, token_in, role_in, role_number}
+use Rattle.xa_store.specs.Rows.{TokenRow, token_row, token_in, role_number}
 use Rattle.xa_store.specs.Shown.{TellsOne, role_told, token_told}
 use Rattle.xa_store.specs.Sound.{Ours, same_token}
 use Rattle.xa_store.specs.Steps.{is_token}

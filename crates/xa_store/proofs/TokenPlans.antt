@@ -1,9 +1,8 @@
 -- The plans of changes of tokens.
-use Rattle.std.proofs.Common.{◌≡◌, ◌≢◌, inl, ℕ, ℤ, List, [], ◌∷◌, ◌++◌, filter, find, Bool, true, false, ◌||◌, cond, nat_lt, Option, Some, None, option_map, is_some, Ok, Err, refl, sym, ap, subst, ◌∙◌, arith, int_eq}
+use Rattle.std.proofs.Common.{◌≡◌, ◌≢◌, inl, ℕ, ℤ, List, [], ◌∷◌, ◌++◌, filter, find, Bool, true, false, ◌||◌, cond, nat_lt, Option, Some, None, option_map, is_some, Ok, Err, refl, sym, ap, subst, ◌∙◌, int_eq}
 use Rattle.std.specs.List.{AllByRecursion}
 use Rattle.std.specs.Ordering.{eq_by_cmp}
 use Rattle.std.specs.FinMap.{FinMap, contains_key, insert, remove, len}
-use Rattle.std.proofs.lemmas.Int.{ints}
 use Rattle.sqlite_keyed.specs.Keyed.{IsKeyedBy, next_key}
 use Rattle.sqlite_keyed.specs.Lists.{update_where, delete_where}
 use Rattle.sqlite_keyed.proofs.KeyedLemmas.{int_eq_apart, same_int}

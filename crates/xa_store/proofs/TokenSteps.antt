@@ -1,9 +1,7 @@
 -- What the statements on tokens make of the rows.
-use Rattle.std.proofs.Common.{◌≡◌, ℕ, ℤ, List, [], ◌∷◌, ◌++◌, map, filter, true, false, ◌&&◌, Ok, refl, sym, ap, subst, ◌∙◌, arith, int_eq, to_z, of_z, w64}
+use Rattle.std.proofs.Common.{◌≡◌, ℕ, ℤ, List, [], ◌∷◌, ◌++◌, map, filter, true, false, ◌&&◌, Ok, refl, sym, ap, subst, ◌∙◌, int_eq, to_z, of_z, w64}
 use Rattle.std.specs.Ordering.{eq_by_cmp}
 use Rattle.std.proofs.lemmas.Bool.{and_parts, and_from}
-use Rattle.std.proofs.lemmas.Int.{ints}
-use Rattle.std.proofs.lemmas.Cmp.{nat_list_cmp_total}
 use Rattle.sqlite.specs.Order.{Row}
 use Rattle.sqlite.specs.Rowids.TheVariants.{Chosen}
 use Rattle.sqlite.specs.State.{State, Executes}
@@ -22,12 +20,12 @@ use Rattle.sqlite_keyed.specs.Lists.{update_where, delete_where}
 use Rattle.sqlite_keyed.proofs.ListLemmas.{all_of, all_weaker}
 use Rattle.sqlite_keyed.proofs.KeyedLemmas.{same_int, IsKeyedBy-delete_where, IsKeyedBy-update_where}
 use Rattle.sqlite_keyed.proofs.RuleLemmas.{apart_update, apart_delete}
-use Rattle.sqlite_typed.proofs.TestLemmas.{at_ints, at_blobs, then_term, last_term, turn_eq, same_bytes, bytes_eq_refl}
+use Rattle.sqlite_typed.proofs.TestLemmas.{at_ints, at_blobs, then_term, last_term, same_bytes, bytes_eq_refl}
 use Rattle.xa_notation.specs.declared.token.Role.{Role}
 use Rattle.xa_notation.specs.declared.token.Role.TheVariants.{Ask, Admin}
 use Rattle.xa_records.specs.DomainState.{compare_bytes}
 use Rattle.xa_store.specs.declared.step.Step.TheVariants.{AddToken, SetRole, DropToken}
-use Rattle.xa_store.specs.Rows.{TokenRow, role_number, role_in, token_row, token_in}
+use Rattle.xa_store.specs.Rows.{TokenRow, role_number, token_row, token_in}
 use Rattle.xa_store.specs.Sound.{AreTables, same_token}
 use Rattle.xa_store.specs.Steps.{is_token}
 use Rattle.xa_store.specs.Tables.{our_schema, tokens}

@@ -13,12 +13,13 @@ use Rattle.xa_records.specs.Kept.{Domain, Kept, IsChanged, IsMade}
 use Rattle.xa_store.specs.declared.step.Step.{Step}
 use Rattle.xa_store.specs.Planning.{told_by}
 use Rattle.xa_store.specs.Quiet.{Quiet}
-use Rattle.xa_store.specs.Sound.{AreNumbered, Ours, SameNow}
+use Rattle.xa_store.specs.Sound.{AreDocuments, AreNumbered, Ours, SameNow}
 use Rattle.xa_store.specs.Steps.{AllowsAll}
 use Rattle.xa_store.specs.Taking.{Holds, Made, Runs}
 use Rattle.xa_store.specs.Turns.{IsPlanned, Plans, Turns, answer_of}
-use Rattle.xa_store.specs.World.{rows_of, kept_of, world_of}
+use Rattle.xa_store.specs.World.{Rows, rows_of, kept_of, world_of}
 use Rattle.xa_store.proofs.QuietLemmas.{ours_after}
+use Rattle.xa_store.proofs.TextsKept.{documents_kept}
 
 -- a domain that goes over into the state that it has
 pub still : (kept : Kept) (name : List ℕ) (domain : Domain) → get kept.domains name ≡ Some domain → IsChanged kept kept name (Some domain.state)
@@ -75,6 +76,7 @@ module _ (change : Change) (name : List ℕ) (old mid new : State) (quiet : Quie
         rests = made.rests;
         tables = made.holds.tables;
         domains = subst AreNumbered (sym (held new.now.trees made.holds).rows) (planned clean ours).numbered;
+        documents = subst (λ (rows : Rows). AreDocuments rows.documents) (sym (held new.now.trees made.holds).rows) (documents_kept steps (rows_of old.now.trees) (planned clean ours).allows ours.documents);
       }
 
       left : (db : Trees) → mid.may_leave db ⊎ Holds steps (rows_of mid.now.trees) db → old.may_leave db ⊎ IsMade change name (world_of old.now.trees) (world_of db)

@@ -1,6 +1,6 @@
 -- How the tables are read and judged when a store is opened: one query for the rows of each, in the order of their numbers, and one for whether
 -- the table has them in that order.
-use Rattle.std.specs.Prelude.{◌≡◌, ◌⊎◌, ℕ, ℤ, FitsSigned, Bool, true, false, ◌&&◌, List, [], ◌∷◌, ◌++◌, map, int_lt, codes, IsPermutation, IsTrue, ◌↔◌, Option, Some, None, option_map, option_and_then, unwrap_or, Result, Ok, Err, OnOk, OnErr, IfOk, IfErr}
+use Rattle.std.specs.Prelude.{◌≡◌, ◌≢◌, ◌⊎◌, ℕ, ℤ, FitsSigned, Bool, true, false, ◌&&◌, List, [], ◌∷◌, ◌++◌, map, int_lt, codes, IsPermutation, IsTrue, if◌then◌else◌, Option, Some, None, option_map, option_and_then, unwrap_or, Result, Ok, Err, OnOk, OnErr, IfOk, IfErr}
 use Rattle.std.specs.Int.{w64}
 use Rattle.std.specs.List.{AllByRecursion}
 use Rattle.sqlite.specs.Effect.{IsDatabase}
@@ -8,7 +8,7 @@ use Rattle.sqlite.specs.Given.{HasGiven, IsPlain}
 use Rattle.sqlite.specs.Listing.{understood}
 use Rattle.sqlite.specs.Held.{Held, state}
 use Rattle.sqlite.specs.Order.{Row, column}
-use Rattle.sqlite.specs.State.{State, HasCleanDisk, Shown, Survives}
+use Rattle.sqlite.specs.State.{State, HasCleanDisk, Shown, Shows, Survives}
 use Rattle.sqlite.specs.Store.{Ghosts}
 use Rattle.sqlite.specs.Tree.{Trees}
 use Rattle.sqlite.specs.declared.error.Error.{Error}
@@ -19,7 +19,7 @@ use Rattle.xa_store.specs.declared.open_error.OpenError.TheVariants.{NotThisSche
 use Rattle.xa_store.specs.declared.opening.kind.Kind.{Kind}
 use Rattle.xa_store.specs.declared.opening.kind.Kind.TheVariants.{Domains, Tokens, Documents, Roots, Attributes}
 use Rattle.xa_store.specs.Opened.{as_read, tree_of, are_rising, int_in, is_number, is_whole_row, row_number, Place, counts_on, opened}
-use Rattle.xa_store.specs.Opening.{Gives, IsBlank, IsFailure, IsMade, Leaves}
+use Rattle.xa_store.specs.Opening.{Gives, IsBlank, IsFailure, IsMade, IsRefusal, Leaves}
 use Rattle.xa_store.specs.Sound.{Ours, Rests, SameNow}
 use Rattle.xa_store.specs.Tables.{our_schema}
 
@@ -43,11 +43,29 @@ places_shown = codes "SELECT number, place FROM attributes ORDER BY number, plac
 
 -- ---- what a call that only reads leaves
 
--- The connection holds what it held, if the tables are ours, and a crash leaves what it left.
+-- its tables aren't ours alone, and no transaction is under way
+abbrev pub IsUnguarded : State → Type 0
+IsUnguarded s = (s.now.schema ≢ our_schema) × (s.in_transaction ≡ false)
+
+-- the transaction goes on, and tables that were ours are
+pub record GoesOn (old new : State) : Type 0 where
+  pub was_open : IsTrue old.is_open
+  pub is_open : IsTrue new.is_open
+  pub schema : old.now.schema ≡ our_schema → new.now.schema ≡ our_schema
+  pub mode : new.in_transaction ≡ old.in_transaction
+
+-- of a transaction: nothing was committed, and where it has ended all is undone
+pub record HoldsBack (old new : State) : Type 0 where
+  pub committed : new.committed ≡ old.committed
+  pub undone : new.in_transaction ≡ false → new.now ≡ old.committed
+
+-- The connection holds what it held, if the tables are ours, and in a transaction it commits nothing. A crash leaves what it left.
 pub record Asks {X : Type 0} (old new : State) (result : Result X OpenError) : Type 0 where
-  pub survives : Survives old new (λ db. ¬ Rests old)
+  pub survives : Survives old new (λ db. IsUnguarded old)
+  pub was_open : HasCleanDisk new → IsTrue new.is_open → IsTrue old.is_open
   pub same : HasCleanDisk new → Rests old → IsTrue new.is_open → SameNow old new
-  pub opens : HasCleanDisk new → OnOk result (IsTrue new.is_open)
+  pub held : HasCleanDisk new → IsTrue old.in_transaction → IsTrue new.is_open → HoldsBack old new
+  pub goes_on : HasCleanDisk new → OnOk result (GoesOn old new)
 
 -- an error that no query of our tables has
 abbrev pub is_misfit : Error → Bool
@@ -181,19 +199,43 @@ abbrev pub GivesAs : {X : Type 0} → Result X OpenError → Result (Unit {0}) O
 GivesAs (Ok x) given = given ≡ Ok tt
 GivesAs (Err e) given = Gives (Err e) given
 
--- the tables were judged, and it was told whether they are those of a keeper
-pub record Checked (old new : State) (result : Result Bool OpenError) : Type 0 where
+-- the tables were judged
+pub record Checked (old new : State) (result : Result (Unit {0}) OpenError) : Type 0 where
   pub asks : Asks old new result
   pub opened : HasCleanDisk new → Rests old → GivesAs result (opened old.now.trees)
-  pub ours : IfOk result (λ ours. IsTrue ours ↔ (old.now.schema ≡ our_schema))
   pub live : HasCleanDisk new → OnOk result (IsDatabase old.now)
-  pub was_open : HasCleanDisk new → OnOk result (IsTrue old.is_open)
 
--- the same of a connection in which nothing waits for a commit; its tables are ours as the keeper writes them, if they were found to be sound and ours
-pub record CheckedIdle (old new : State) (result : Result Bool OpenError) : Type 0 where
-  pub asks : Asks old new result
+-- nothing waits for a commit
+pub record IsIdle (s : State) : Type 0 where
+  pub idle : s.in_transaction ≡ false
+  pub settled : IsTrue s.is_open → s.now ≡ s.committed
+
+-- a transaction was begun
+pub record Begun (old new : State) (result : Result (Unit {0}) OpenError) : Type 0 where
+  pub survives : Survives old new (λ _. ⊥)
+  pub begins : HasCleanDisk new → OnOk result (Shows old new old.now old.committed true)
+  pub fails : IfErr result IsFailure
+
+-- the transaction that was under way, if there was one, is undone
+pub record Undone (old new : State) : Type 0 where
+  pub was_open : IsTrue new.is_open → IsTrue old.is_open
+  pub committed : IsTrue new.is_open → new.committed ≡ old.committed
+  pub now : IsTrue new.is_open → new.now ≡ (if old.in_transaction then old.committed else old.now)
+  pub idle : new.in_transaction ≡ false
+
+pub record Ended (old new : State) (result : Result (Unit {0}) OpenError) : Type 0 where
+  pub survives : Survives old new (λ _. ⊥)
+  pub undone : HasCleanDisk new → OnOk result (Undone old new)
+  pub fails : IfErr result IsFailure
+
+-- the tables were judged, and nothing has changed: of those that aren't ours alone that is said where the answer is about them
+pub record Tested (old new : State) (result : Result Bool OpenError) : Type 0 where
+  pub survives : Survives old new (λ _. ⊥)
+  pub refused : HasCleanDisk new → IsTrue new.is_open → IfErr result (λ e. IsRefusal e → SameNow old new)
+  pub same : HasCleanDisk new → Rests old → IsTrue new.is_open → SameNow old new
   pub opened : HasCleanDisk new → Rests old → GivesAs result (opened old.now.trees)
-  pub known : HasCleanDisk new → Rests old → IfOk result IsTrue
+  pub known : Rests old → IfOk result IsTrue
+  pub stays : HasCleanDisk new → Rests old → OnOk result (IsTrue new.is_open)
   pub ours : HasCleanDisk new → IfOk result (λ ours. IsTrue ours → Ours new)
 
 -- the tables were made, all or none
@@ -203,13 +245,19 @@ pub record Made {X : Type 0} (old new : State) (result : Result X OpenError) : T
   pub same : HasCleanDisk new → IsBlank old → IsTrue new.is_open → OnErr result (SameNow old new)
   pub fails : IfErr result IsFailure
 
+abbrev pub OpensAs : State → State → Result Bool OpenError → Type 0
+OpensAs old new result = GivesAs result (opened old.now.trees) × IfOk result IsTrue × (IsTrue new.is_open → SameNow old new)
+
 abbrev pub MakesAs : State → State → Result Bool OpenError → Type 0
 MakesAs old new (Ok ours) = IsTrue ours × IsMade new.now.trees
-MakesAs old new (Err e) = IsFailure e × (SameNow old new ⊎ IsMade new.now.trees)
+MakesAs old new (Err e) = IsTrue new.is_open → SameNow old new ⊎ IsMade new.now.trees
 
 pub record Loads (old new : State) (result : Result Bool OpenError) : Type 0 where
   pub survives : Survives old new (Leaves old)
-  pub opens : HasCleanDisk new → Rests old → IsTrue new.is_open → SameNow old new × GivesAs result (opened old.now.trees) × IfOk result IsTrue
-  pub makes : HasCleanDisk new → IsBlank old → IsTrue new.is_open → MakesAs old new result
-  pub ours : HasCleanDisk new → IsTrue new.is_open → IfOk result (λ ours. IsTrue ours → Ours new)
-  pub stays : HasCleanDisk new → OnOk result (IsTrue new.is_open)
+  pub left : IfErr result (λ e. IsRefusal e → Survives old new (λ _. ⊥))
+  pub refused : HasCleanDisk new → IsTrue new.is_open → IfErr result (λ e. IsRefusal e → SameNow old new)
+  pub opens : HasCleanDisk new → Rests old → OpensAs old new result
+  pub makes : HasCleanDisk new → IsBlank old → MakesAs old new result
+  pub fails : IsBlank old → IfErr result IsFailure
+  pub ours : HasCleanDisk new → IfOk result (λ ours. IsTrue ours → Ours new)
+  pub stays : HasCleanDisk new → (Rests old ⊎ IsBlank old) → OnOk result (IsTrue new.is_open)

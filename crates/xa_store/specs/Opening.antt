@@ -2,18 +2,18 @@
 use Rattle.std.specs.Prelude.{◌≡◌, ◌⊎◌, ℕ, pos, Bool, false, ◌&&◌, List, [], ◌∷◌, codes, is_none, Result, Ok, Err, IsTrue}
 use Rattle.sqlite.specs.Held.{Held, state}
 use Rattle.sqlite.specs.Schema.{Schema}
-use Rattle.sqlite.specs.State.{State}
+use Rattle.sqlite.specs.State.{State, HasCleanDisk, Survives}
 use Rattle.sqlite.specs.Store.{Ghosts}
 use Rattle.sqlite.specs.Tree.{Trees}
 use Rattle.sqlite_schema.specs.Names.{table_named, index_named, view_named}
 use Rattle.xa_records.specs.Kept.{nothing_kept}
 use Rattle.xa_store.specs.declared.open_error.OpenError.{OpenError}
-use Rattle.xa_store.specs.declared.open_error.OpenError.TheVariants.{Store, Memory}
+use Rattle.xa_store.specs.declared.open_error.OpenError.TheVariants.{NotThisSchema, Damaged, Store, Memory}
 use Rattle.xa_store.specs.declared.opening.kind.Kind.{Kind}
 use Rattle.xa_store.specs.Keeper.{Keeper}
 use Rattle.xa_store.specs.Opened.{opened, tree_of}
 use Rattle.xa_store.specs.Rows.{meta_row}
-use Rattle.xa_store.specs.Sound.{Rests, SameNow}
+use Rattle.xa_store.specs.Sound.{SameNow}
 use Rattle.xa_store.specs.World.{world_of}
 
 abbrev pub no_tables : Schema
@@ -50,6 +50,10 @@ Gives answer given = given ≡ answer
 abbrev pub IsFailure : OpenError → Type 0
 IsFailure e = (e ≡ Store) ⊎ (e ≡ Memory)
 
+-- it tells of the tables, and not of a call that failed
+abbrev pub IsRefusal : OpenError → Type 0
+IsRefusal e = (e ≡ NotThisSchema) ⊎ (e ≡ Damaged)
+
 module _ {S : Type 0} (g : Ghosts S) where
   -- what is handed back
   abbrev pub held_in : Result (Keeper S) (OpenError × Held S) → Held S
@@ -64,17 +68,22 @@ module _ {S : Type 0} (g : Ghosts S) where
   -- of a store with our tables: sound ones are taken as they are, and others are left as they are
   abbrev pub Opens : State → Result (Keeper S) (OpenError × Held S) → Type 0
   Opens old (Ok k) =
-      IsTrue (state g k.conn).is_open → (opened old.now.trees ≡ Ok tt) × SameNow old (state g k.conn) × Holds k × (world_of (state g k.conn).now.trees ≡ world_of old.committed.trees)
-  Opens old (Err e) = IsTrue (state g e.1).is_open → SameNow old (state g e.1) × Gives (Err e.0) (opened old.now.trees)
+      HasCleanDisk (state g k.conn) → (opened old.now.trees ≡ Ok tt) × SameNow old (state g k.conn) × Holds k × (world_of (state g k.conn).now.trees ≡ world_of old.committed.trees)
+  Opens old (Err e) = HasCleanDisk (state g e.1) → Gives (Err e.0) (opened old.now.trees) × (IsTrue (state g e.1).is_open → SameNow old (state g e.1))
 
   -- of a store without any table: all are made, or none
   abbrev pub Makes : State → Result (Keeper S) (OpenError × Held S) → Type 0
-  Makes old (Ok k) = IsTrue (state g k.conn).is_open → IsMade (state g k.conn).now.trees × Holds k × (world_of (state g k.conn).now.trees ≡ nothing_kept)
-  Makes old (Err e) = IsTrue (state g e.1).is_open → IsFailure e.0 × (SameNow old (state g e.1) ⊎ IsMade (state g e.1).now.trees)
+  Makes old (Ok k) = HasCleanDisk (state g k.conn) → IsMade (state g k.conn).now.trees × Holds k × (world_of (state g k.conn).now.trees ≡ nothing_kept)
+  Makes old (Err e) = IsFailure e.0 × (IsTrue (state g e.1).is_open → SameNow old (state g e.1) ⊎ IsMade (state g e.1).now.trees)
 
--- what a crash may leave beside what it could leave before: nothing where there are our tables, and the tables as they are made where there is none
+-- the tables are as they were, and a crash leaves nothing that it couldn't leave before
+pub record LeavesAlone (old new : State) : Type 0 where
+  pub survives : Survives old new (λ _. ⊥)
+  pub same : IsTrue new.is_open → SameNow old new
+
+-- what a crash may leave beside what it could leave before: something where the tables can be made, and the tables as they are made where there is none
 abbrev pub Leaves : State → Trees → Type 0
-Leaves old db = (¬ Rests old) × (IsBlank old → IsMade db)
+Leaves old db = IsTrue (has_room old.now.schema) × (IsBlank old → IsMade db)
 
 -- a crash after it leaves what the keeper holds
 abbrev pub Settles : {S : Type 0} → Ghosts S → Keeper S → Type 0

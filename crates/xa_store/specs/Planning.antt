@@ -1,5 +1,5 @@
 -- The steps of each change.
-use Rattle.std.specs.Prelude.{◌≡◌, ◌⊎◌, ◌+◌, ◌<◌, ◌^◌, ℕ, ℤ, pos, Result, Ok, Err, IfOk, List, [], ◌∷◌, Option, Some, None}
+use Rattle.std.specs.Prelude.{◌≡◌, ◌⊎◌, ◌+◌, ◌<◌, ◌≤◌, ◌^◌, ℕ, ℤ, pos, Result, Ok, Err, IfOk, List, [], ◌∷◌, Option, Some, None}
 use Rattle.xa_policy.specs.declared.reference.Reference.{Reference}
 use Rattle.xa_decide.specs.declared.source_row.SourceRow.{SourceRow}
 use Rattle.xa_policy.specs.declared.document_key.DocumentKey.{DocumentKey}
@@ -7,6 +7,7 @@ use Rattle.xa_records.specs.Changes.{upload_of, uploaded, within}
 use Rattle.xa_records.specs.Kept.{state_of}
 use Rattle.xa_records.specs.declared.refusal.ChangeError.{ChangeError}
 use Rattle.xa_records.specs.declared.refusal.Failure.{Failure}
+use Rattle.xa_records.specs.declared.refusal.Failure.TheVariants.{Memory, Store}
 use Rattle.xa_records.specs.declared.upload.Upload.{Upload}
 use Rattle.xa_records.specs.declared.upload.Upload.TheVariants.{New, Same}
 use Rattle.xa_store.specs.Rows.{DomainRow, root_of, reference_of}
@@ -48,10 +49,11 @@ abbrev pub RowsRead : List SourceRow → Type 0
 RowsRead [] = Unit {0}
 RowsRead (row ∷ rows) = ReadsBack row.value × RowsRead rows
 
--- one more, which a column holds
+-- one more, if a column holds that
 abbrev pub RaisesTo : ℤ → Result ℤ Failure → Type 0
 RaisesTo number (Ok next) = (old : ℕ) → number ≡ pos old → (next ≡ pos (old + 1)) × (old + 1 < 2 ^ 63)
-RaisesTo number (Err failure) = Unit {0}
+RaisesTo number (Err Store) = (old : ℕ) → number ≡ pos old → 2 ^ 63 ≤ old + 1
+RaisesTo number (Err Memory) = ⊥
 
 abbrev pub number_key : DomainRow → ℤ
 number_key d = d.number

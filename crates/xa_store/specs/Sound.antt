@@ -1,14 +1,17 @@
 -- When the tables mean what the keeper says that they do.
-use Rattle.std.specs.Prelude.{◌≡◌, ◌≤◌, ℕ, ℤ, pos, Bool, false, ◌&&◌, List, [], ◌∷◌, map, IsTrue}
+use Rattle.std.specs.Prelude.{◌≡◌, ◌≤◌, ℕ, ℤ, pos, Bool, false, ◌&&◌, List, [], ◌∷◌, map, Some, IsTrue}
+use Rattle.std.specs.FinMap.{get}
+use Rattle.std.specs.List.{AllByRecursion}
 use Rattle.std.specs.Ordering.{eq_by_cmp, int_eq}
 use Rattle.sqlite.specs.Order.{Row}
 use Rattle.sqlite.specs.State.{State}
 use Rattle.sqlite.specs.Tree.{Trees}
 use Rattle.sqlite_keyed.specs.Keyed.{IsKeyedBy}
 use Rattle.sqlite_keyed.specs.Rules.{AreApart}
+use Rattle.xa_policy.specs.declared.document_key.DocumentKey.{DocumentKey}
 use Rattle.xa_policy.specs.DocumentKey.{compare_keys}
-use Rattle.xa_records.specs.DomainState.{compare_bytes, new_domain}
-use Rattle.xa_records.specs.Kept.{IsNumbered, Kept}
+use Rattle.xa_records.specs.DomainState.{IsDocumentOf, StoredDocument, compare_bytes, new_domain}
+use Rattle.xa_records.specs.Kept.{Domain, IsNumbered, Kept}
 use Rattle.xa_store.specs.Rows.{DomainRow, TokenRow, DocumentRow, AttributeRow, meta_row, next_in, domain_row, domain_in, token_row, token_in, document_row, document_in, root_row, root_in, attribute_row, attribute_in}
 use Rattle.xa_store.specs.Tables.{our_schema}
 use Rattle.xa_store.specs.World.{Rows, rows_of, state_at, kept_of, world_of}
@@ -49,6 +52,17 @@ pub record AreNumbered (rows : Rows) : Type 0 where
   pub numbered : IsNumbered (kept_of rows)
   pub unused : (n : ℕ) → (kept_of rows).next ≤ n → state_at rows (pos n) ≡ new_domain
 
+-- ---- documents
+
+-- each text is a document of the key under which it is kept
+abbrev pub AreDocuments : List DocumentRow → Type 0
+AreDocuments = AllByRecursion (λ d. IsDocumentOf d.key d.text)
+
+-- of all domains
+abbrev pub KeepsDocuments : Kept → Type 0
+KeepsDocuments kept =
+    (name : List ℕ) (domain : Domain) → get kept.domains name ≡ Some domain → (key : DocumentKey) (document : StoredDocument) → get domain.state.documents key ≡ Some document → IsDocumentOf key document.text
+
 -- ---- a connection between two calls of the keeper
 
 -- its tables are ours, and nothing waits for a commit
@@ -67,6 +81,7 @@ pub record Ours (s : State) : Type 0 where
   pub rests : Rests s
   pub tables : AreTables s.now.trees
   pub domains : AreNumbered (rows_of s.now.trees)
+  pub documents : AreDocuments (rows_of s.now.trees).documents
 
 -- what a crash now may leave
 abbrev pub LeavesWorld : State → Kept → Type 0

@@ -7,7 +7,7 @@ use Rattle.xa_value.specs.declared.value.Value.{Value}
 use Rattle.xa_policy.specs.declared.document_key.DocumentKey.{DocumentKey}
 use Rattle.xa_policy.specs.DocumentKey.{compare_keys}
 use Rattle.xa_policy.specs.Version.{version_text}
-use Rattle.xa_records.specs.DomainState.{compare_bytes}
+use Rattle.xa_records.specs.DomainState.{IsDocumentOf, compare_bytes}
 use Rattle.xa_store.specs.declared.step.Step.{Step}
 use Rattle.xa_store.specs.declared.step.Step.TheVariants.{AddDomain, SetNext, SetEpoch, DropDomain, AddToken, SetRole, DropToken, AddDocument, SetActive, DropDocument, AddRoot, DropRoot, AddAttribute, DropSource}
 use Rattle.xa_store.specs.Rows.{DomainRow, TokenRow, DocumentRow, AttributeRow, root_of, type_number, value_in, value_text, version_in}
@@ -66,7 +66,7 @@ after (DropSource number) rows = record rows { attributes = delete_where (λ a. 
 abbrev pub after_all : List Step → Rows → Rows
 after_all steps rows = fold (λ rows step. after step rows) rows steps
 
--- ---- under what it is taken: no row of that key is there, where one comes; the domain is there, where it goes. Of a domain or a root that comes it
+-- ---- under what it is taken: no row of that key is there, where one comes, and a text that comes is a document of its key; the domain is there, where it goes. Of a domain or a root that comes it
 -- isn't asked that its number has no row yet: where it has one, `after` puts the new row in its place, and the statement fails and makes nothing
 
 -- the text of the value reads as the value
@@ -77,10 +77,14 @@ ReadsBack v = value_in (type_number v) (value_text v) ≡ v
 abbrev pub KeyReads : DocumentKey → Type 0
 KeyReads key = version_in (version_text key.version) ≡ key.version
 
+-- the text is a document of that key
+unfoldable pub IsOfKey : DocumentKey → List ℕ → Type 0
+IsOfKey key text = IsDocumentOf key text
+
 abbrev pub Allows : Step → Rows → Type 0
 Allows (AddDomain number name) rows = filter (is_named name) rows.domains ≡ []
 Allows (AddToken number digest role) rows = filter (is_token number digest) rows.tokens ≡ []
-Allows (AddDocument number key text) rows = (filter (is_document number key) rows.documents ≡ []) × KeyReads key
+Allows (AddDocument number key text) rows = (filter (is_document number key) rows.documents ≡ []) × KeyReads key × IsOfKey key text
 Allows (SetActive number key active) rows = KeyReads key
 Allows (DropDocument number key) rows = KeyReads key
 Allows (AddAttribute number place row) rows = (filter (is_place number place) rows.attributes ≡ []) × ReadsBack row.value

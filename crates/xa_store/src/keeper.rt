@@ -1,7 +1,9 @@
 //! The keeper.
 ghost use Rattle.std.specs.Prelude.{◌≡◌, IsTrue};
 ghost use Rattle.sqlite.specs.Held.{state};
-ghost use Rattle.xa_store.specs.Sound.{Ours};
+ghost use Rattle.xa_store.specs.Keeper.{IsSound};
+ghost use Rattle.xa_store.specs.KeeperReading.{kept_by};
+ghost use Rattle.xa_store.specs.Sound.{KeepsDocuments, Ours};
 
 mod reading;
 mod records;
@@ -48,6 +50,11 @@ impl<S: Alter> SqlRecords<S> {
     {
         self.ours
     }
+
+    /// Law: each text that a sound keeper holds is a document of its key.
+    pub fn keeps_documents(&self)
+        ensures { IsSound S.Store self.now → KeepsDocuments (kept_by S.Store self.now) }
+    {}
 
     /// The connection that it was made over.
     pub fn into_connection(self) -> Connection<S>

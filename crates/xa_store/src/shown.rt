@@ -1,15 +1,18 @@
 //! Queries, and the columns of the rows that they show.
-ghost use Rattle.std.specs.Prelude.{◌≡◌, option_and_then, IsTrue, IfOk, OnOk};
+ghost use Rattle.std.specs.Prelude.{◌≡◌, option_and_then, IsTrue, IfOk, IsErrOf, OnOk};
 ghost use Rattle.sqlite.specs.Given.{IsPlain};
 ghost use Rattle.sqlite.specs.Held.{state};
 ghost use Rattle.sqlite.specs.Listing.{understood};
 ghost use Rattle.sqlite.specs.Order.{column};
-ghost use Rattle.sqlite.specs.State.{HasCleanDisk, Shown};
+ghost use Rattle.sqlite.specs.State.{FailsToQuery, HasCleanDisk, Shown};
 ghost use Rattle.sqlite.specs.Values.{bound};
+ghost use Rattle.sqlite.specs.declared.error.Error.TheVariants.{SqliteFailure};
+ghost use Rattle.sqlite.specs.declared.error.ErrorCode.TheVariants.{OutOfMemory};
 ghost use Rattle.sqlite.specs.declared.types.Value.TheVariants.{Int};
 ghost use Rattle.sqlite_typed.specs.Columns.{bytes_of, int_of, unless_null};
 ghost use Rattle.xa_policy.specs.Pattern.{read_pattern};
 ghost use Rattle.xa_policy.specs.Version.{read_version};
+ghost use Rattle.xa_records.specs.declared.refusal.Failure.TheVariants.{Memory};
 ghost use Rattle.xa_store.specs.Quiet.{Quiet};
 ghost use Rattle.xa_store.specs.Rows.{given, is_set, kind_in, kind_number, role_in, version_in};
 ghost use Rattle.xa_store.specs.Tables.{our_schema};
@@ -23,7 +26,7 @@ use xa_policy::{DocumentKind, Pattern, Version};
 use xa_records::Failure;
 use xa_value::{Items, Text};
 
-/// All rows that a plain query of these tables shows. The connection keeps the plan of each text, so none is prepared.
+/// All rows that a plain query of these tables shows; want of memory is told where the store told it. The connection keeps the plan of each text, so none is prepared.
 pub(crate) fn shown<S: Alter>(
     conn: &mut Connection<S>,
     sql: &str,
@@ -32,6 +35,7 @@ pub(crate) fn shown<S: Alter>(
     requires { IsPlain (understood our_schema sql.now) }
     ensures quiet { Quiet (state S.Store conn.old) (state S.Store conn.new) }
     ensures opens { HasCleanDisk (state S.Store conn.new) → OnOk result (IsTrue (state S.Store conn.new).is_open) }
+    ensures wants { HasCleanDisk (state S.Store conn.new) → IsErrOf result Memory → FailsToQuery sql.now (bound given.now) (state S.Store conn.old) (state S.Store conn.new) (SqliteFailure OutOfMemory) }
     ensures shows { HasCleanDisk (state S.Store conn.new) → IfOk result (λ rows. Shown sql.now (bound given.now) (state S.Store conn.old) (state S.Store conn.new) rows.items) }
 {
     match ask(conn, sql, given) {

@@ -1,8 +1,11 @@
 //! The steps of a change, in its transaction.
-ghost use Rattle.std.specs.Prelude.{◌≡◌, ℕ, [], ◌∷◌, Ok, IsTrue, OnOk};
+ghost use Rattle.std.specs.Prelude.{◌≡◌, ℕ, [], ◌∷◌, Ok, Err, IsErrOf, IsTrue, OnOk};
 ghost use Rattle.sqlite.specs.Held.{state};
-ghost use Rattle.sqlite.specs.State.{HasCleanDisk, KeepsCommit, Survives, Executes};
+ghost use Rattle.sqlite.specs.State.{HasCleanDisk, KeepsCommit, Survives, Executes, ExecutesInside};
 ghost use Rattle.sqlite.specs.Values.{bound};
+ghost use Rattle.sqlite.specs.declared.error.Error.TheVariants.{SqliteFailure};
+ghost use Rattle.sqlite.specs.declared.error.ErrorCode.TheVariants.{OutOfMemory};
+ghost use Rattle.xa_records.specs.declared.refusal.Failure.TheVariants.{Memory};
 ghost use Rattle.xa_store.specs.Steps.{Allows, AllowsAll};
 ghost use Rattle.xa_store.specs.Taking.{IsInside, Took};
 ghost use Rattle.xa_store.specs.World.{rows_of};
@@ -25,7 +28,7 @@ use sqlite::{Alter, Transaction};
 use std::alloc::Global;
 use xa_records::Failure;
 
-/// Runs one statement.
+/// Runs one statement. Want of memory is told where the store told it.
 pub(crate) fn execute_in<S: Alter>(
     tx: &mut Transaction<'_, S>,
     sql: &str,
@@ -35,6 +38,7 @@ pub(crate) fn execute_in<S: Alter>(
     ensures survives { Survives (state S.Store tx.old.conn.now) (state S.Store tx.new.conn.now) (λ _. ⊥) }
     ensures kept { HasCleanDisk (state S.Store tx.new.conn.now) → IsTrue (state S.Store tx.old.conn.now).in_transaction → KeepsCommit (state S.Store tx.old.conn.now) (state S.Store tx.new.conn.now) }
     ensures inside { HasCleanDisk (state S.Store tx.new.conn.now) → IsTrue (state S.Store tx.old.conn.now).in_transaction → OnOk result (IsTrue (state S.Store tx.new.conn.now).in_transaction) }
+    ensures wants { HasCleanDisk (state S.Store tx.new.conn.now) → IsTrue (state S.Store tx.old.conn.now).in_transaction → IsErrOf result Memory → ExecutesInside 0 sql.now (bound given.now) (state S.Store tx.old.conn.now) (state S.Store tx.new.conn.now) (Err (SqliteFailure OutOfMemory)) }
     ensures runs { HasCleanDisk (state S.Store tx.new.conn.now) → IsTrue (state S.Store tx.old.conn.now).in_transaction → OnOk result ((count : ℕ) × Executes sql.now (bound given.now) (state S.Store tx.old.conn.now) (state S.Store tx.new.conn.now) (Ok count)) }
 {
     match tx.execute(sql, given) {

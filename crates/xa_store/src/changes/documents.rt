@@ -4,6 +4,7 @@ ghost use Rattle.sqlite.specs.Held.{state};
 ghost use Rattle.sqlite.specs.State.{HasCleanDisk};
 ghost use Rattle.sqlite_keyed.specs.Keyed.{IsKeyedBy};
 ghost use Rattle.xa_records.specs.Changes.{activity_set, deleted, upload_of, uploaded, within};
+ghost use Rattle.xa_records.specs.DomainState.{IsDocumentOf};
 ghost use Rattle.xa_records.specs.Keeper.{IfAnswered};
 ghost use Rattle.xa_records.specs.Kept.{state_of};
 ghost use Rattle.xa_store.specs.declared.step.Step.TheVariants.{SetEpoch};
@@ -82,6 +83,7 @@ fn plan_new<S: Alter>(
     key: DocumentKey,
     text: &[u8],
 ) -> Result<Items<Step>, ChangeError>
+    requires { IsDocumentOf key text.now }
     ensures quiet { Quiet (state S.Store conn.old) (state S.Store conn.new) }
     ensures opens { HasCleanDisk (state S.Store conn.new) → IfAnswered result (IsTrue (state S.Store conn.new).is_open) }
     ensures plans { HasCleanDisk (state S.Store conn.new) → Ours (state S.Store conn.old) → (name : List ℕ) → IsDomain name (rows_of (state S.Store conn.old).now.trees) found → FindsDocument found.number key (rows_of (state S.Store conn.old).now.trees) None → IsUploadPlanned key text.now name (rows_of (state S.Store conn.old).now.trees) result }
@@ -122,6 +124,7 @@ fn plan_found<S: Alter>(
     key: DocumentKey,
     text: &[u8],
 ) -> Result<Items<Step>, ChangeError>
+    requires { IsDocumentOf key text.now }
     ensures quiet { Quiet (state S.Store conn.old) (state S.Store conn.new) }
     ensures opens { HasCleanDisk (state S.Store conn.new) → IfAnswered result (IsTrue (state S.Store conn.new).is_open) }
     ensures plans { HasCleanDisk (state S.Store conn.new) → Ours (state S.Store conn.old) → (name : List ℕ) → IsDomain name (rows_of (state S.Store conn.old).now.trees) found → IsUploadPlanned key text.now name (rows_of (state S.Store conn.old).now.trees) result }
@@ -141,6 +144,7 @@ fn plan_upload<S: Alter>(
     key: DocumentKey,
     text: &[u8],
 ) -> Result<Items<Step>, ChangeError>
+    requires { IsDocumentOf key text.now }
     ensures quiet { Quiet (state S.Store conn.old) (state S.Store conn.new) }
     ensures opens { HasCleanDisk (state S.Store conn.new) → IfAnswered result (IsTrue (state S.Store conn.new).is_open) }
     ensures plans { HasCleanDisk (state S.Store conn.new) → Ours (state S.Store conn.old) → IsUploadPlanned key text.now name.now (rows_of (state S.Store conn.old).now.trees) result }
@@ -180,6 +184,7 @@ pub(crate) fn upload_in<S: Alter>(
     key: DocumentKey,
     text: &[u8],
 ) -> Result<Upload, ChangeError>
+    requires { IsDocumentOf key text.now }
     ensures turns { Turns (within (uploaded key text.now)) name.now (state S.Store conn.old) (state S.Store conn.new) result }
     ensures which { HasCleanDisk (state S.Store conn.new) → Ours (state S.Store conn.old) → IfOk result (λ u. u ≡ upload_of key (state_of name.now (world_of (state S.Store conn.old).now.trees))) }
 {

@@ -1,6 +1,7 @@
 //! The changes of the keeper.
 ghost use Rattle.std.specs.Prelude.{◌≡◌, IfOk};
 ghost use Rattle.xa_records.specs.Changes.{activity_set, created, deleted, removed, root_set, source_set, token_dropped, token_put, upload_of, uploaded, within};
+ghost use Rattle.xa_records.specs.DomainState.{IsDocumentOf};
 ghost use Rattle.xa_records.specs.Kept.{state_of};
 ghost use Rattle.xa_store.specs.Keeper.{IsSound};
 ghost use Rattle.xa_store.specs.KeeperChange.{IsChanging};
@@ -76,6 +77,7 @@ impl<S: Alter> SqlRecords<S> {
         key: DocumentKey,
         text: &[u8],
     ) -> Result<Upload, ChangeError>
+        requires { IsDocumentOf key text.now }
         ensures does { IsChanging S.Store self.old self.new result name.now (within (uploaded key text.now)) }
         ensures which { IsSound S.Store self.new → IfOk result (λ u. u ≡ upload_of key (state_of name.now (kept_by S.Store self.old))) }
     {

@@ -1,5 +1,5 @@
 //! Queries of the tables when a store is opened.
-ghost use Rattle.std.specs.Prelude.{[], IsTrue, IfErr, IfOk, OnOk};
+ghost use Rattle.std.specs.Prelude.{[], IfErr, IfOk};
 ghost use Rattle.sqlite.specs.Given.{IsPlain};
 ghost use Rattle.sqlite.specs.Held.{state};
 ghost use Rattle.sqlite.specs.Listing.{understood};
@@ -17,7 +17,6 @@ use sqlite::{Alter, Connection, Row};
 pub(crate) fn rows_of<S: Alter>(conn: &mut Connection<S>, sql: &str) -> Result<Vec<Row>, OpenError>
     requires { IsPlain (understood our_schema sql.now) }
     ensures asks { Asks (state S.Store conn.old) (state S.Store conn.new) result }
-    ensures was_open { HasCleanDisk (state S.Store conn.new) → OnOk result (IsTrue (state S.Store conn.old).is_open) }
     ensures shows { HasCleanDisk (state S.Store conn.new) → IfOk result (λ rows. Shown sql.now [] (state S.Store conn.old) (state S.Store conn.new) rows.items) }
     ensures fails { HasCleanDisk (state S.Store conn.new) → Rests (state S.Store conn.old) → IfErr result IsFailure }
 {

@@ -1,5 +1,5 @@
 //! Judging the tables.
-ghost use Rattle.std.specs.Prelude.{◌≡◌, ◌&&◌, [], ◌∷◌, OnOk, IsTrue, map};
+ghost use Rattle.std.specs.Prelude.{◌≡◌, ◌&&◌, [], ◌∷◌, map};
 ghost use Rattle.std.specs.List.{list_all};
 ghost use Rattle.sqlite.specs.Effect.{IsDatabase};
 ghost use Rattle.sqlite.specs.Held.{state};
@@ -15,7 +15,6 @@ use super::asking::rows_of;
 use super::columns::is_count;
 use super::judging::{follows, known_next, place_of};
 use super::kind::Kind;
-use super::looking::is_ours;
 use super::walking::walk;
 use crate::open_error::OpenError;
 use sqlite::{Alter, Connection, Row};
@@ -130,7 +129,6 @@ fn judge_all<S: Alter>(alloc: Global, conn: &mut Connection<S>, next: i64) -> Re
 #[tactic(auto, using(crate::proofs::PlaceLemmas::meta_plain))]
 fn look<S: Alter>(conn: &mut Connection<S>) -> Result<i64, OpenError>
     ensures asks { Asks (state S.Store conn.old) (state S.Store conn.new) result }
-    ensures was_open { HasCleanDisk (state S.Store conn.new) → OnOk result (IsTrue (state S.Store conn.old).is_open) }
     ensures finds { HasCleanDisk (state S.Store conn.new) → Rests (state S.Store conn.old) → GivesNext (known_next (map read_meta ((state S.Store conn.old).now.trees 0))) result }
 {
     let rows = rows_of(
@@ -143,12 +141,11 @@ fn look<S: Alter>(conn: &mut Connection<S>) -> Result<i64, OpenError>
     }
 }
 
-/// Judges the tables, and tells whether they are those of a keeper and no others.
-pub(crate) fn check<S: Alter>(alloc: Global, conn: &mut Connection<S>) -> Result<bool, OpenError>
+/// Judges the tables.
+pub(crate) fn check<S: Alter>(alloc: Global, conn: &mut Connection<S>) -> Result<(), OpenError>
     ensures { Checked (state S.Store conn.old) (state S.Store conn.new) result }
 {
-    let ours = is_ours(conn.schema());
+    let _schema = conn.schema();
     let next = look(conn)?;
-    judge_all(alloc, conn, next)?;
-    Ok(ours)
+    judge_all(alloc, conn, next)
 }

@@ -32,6 +32,16 @@ pub(crate) fn failed(failure: Failure) -> OpenError
     }
 }
 
+/// Tables that were just made are sound, so whatever is said of them tells a failure.
+pub(crate) fn failed_after(error: OpenError) -> OpenError
+    ensures { IsFailure result }
+{
+    match error {
+        OpenError::Memory => OpenError::Memory,
+        _ => OpenError::Store,
+    }
+}
+
 impl From<AllocError> for OpenError {
     ghost from_gives = { λ _ e. e ≡ Memory };
 

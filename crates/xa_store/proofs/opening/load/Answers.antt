@@ -1,13 +1,15 @@
-use Rattle.std.proofs.Common.{sym, ap, ◌∙◌, true≢false}
+use Rattle.std.proofs.Common.{sym, ap, ◌∙◌}
 use Rattle.sqlite.specs.Held.{state}
 use Rattle.xa_store.specs.Opening.{has_room}
-use Rattle.xa_store.proofs.OpenLemmas.{blank_has_room, checked_loads, ours_has_none}
+use Rattle.xa_store.proofs.OpenLemmas.{busy_loads, tested_loads}
 use Rattle.xa_store.proofs.opening.load.Goals as goal
 
-pub make_and_check-requires : goal.make_and_check-requires
-make_and_check-requires g c = λ ours. true≢false (sym c.if-has_room.true ∙ c.has_room.ensures ∙ ap has_room (c.schema.ensures.value ∙ ours) ∙ ours_has_none)
+pub returns-then-is_busy-clause-loads : goal.returns-then-is_busy-clause-loads
+returns-then-is_busy-clause-loads g c = busy_loads (state g.S.Store c.args.conn.now)
 
-pub returns-else-has_room : goal.returns-else-has_room
-returns-else-has_room g c =
-    checked_loads (state g.S.Store c.args.conn.now) (state g.S.Store c.check_idle.new.conn) c.check_idle.result
-    (λ none. true≢false (sym (c.has_room.ensures ∙ ap has_room (c.schema.ensures.value ∙ none) ∙ blank_has_room) ∙ c.if-has_room.false)) c.check_idle.ensures
+pub make_and_judge-requires : goal.make_and_judge-requires
+make_and_judge-requires g c = ap has_room (sym c.schema.ensures.value) ∙ sym c.has_room.ensures ∙ c.if-has_room.true
+
+pub returns-else-has_room-clause-loads : goal.returns-else-has_room-clause-loads
+returns-else-has_room-clause-loads g c =
+    tested_loads (state g.S.Store c.args.conn.now) (state g.S.Store c.judge.new.conn) c.judge.result (ap has_room (sym c.schema.ensures.value) ∙ sym c.has_room.ensures ∙ c.if-has_room.false) c.judge.ensures

@@ -23,4 +23,4 @@ returns-clause-plans g c clean ours name is finds =
     let steps = rw (n, to_z-of_z w64 c.in_ok-epoch.epoch high) at (rw c.in_ok-copy.ensures at c.in_ok-raising_steps.ensures) in
     subst (λ steps. IsUploadPlanned c.args.key c.args.text.now name rows (Ok steps)) (sym steps)
     (plan_upload rows name c.args.found ours.domains ours.tables.domains.rise is c.args.key c.key_reads_back.ensures c.in_ok-epoch.epoch (rw (to_z-of_z w64 c.args.found.epoch fits) at c.in_ok-epoch.ensures)
-    c.args.text.now c.in_ok-count.count (rw n at (c.in_ok-count.ensures.reads clean ours)) finds room)
+    c.args.text.now c.requires c.in_ok-count.count (rw n at (c.in_ok-count.ensures.reads clean ours)) finds room)

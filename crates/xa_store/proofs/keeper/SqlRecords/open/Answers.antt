@@ -2,36 +2,40 @@ use Rattle.std.proofs.Common.{IsTrue, Ok, sym, subst}
 use Rattle.sqlite.specs.Held.{state}
 use Rattle.xa_store.specs.Keeper.{IsSound}
 use Rattle.xa_store.specs.Opening.{Makes, Opens, Settles}
-use Rattle.xa_store.proofs.OpenLemmas.{is_keeper, makes_keeper, makes_refused, opens_keeper, opens_refused, settles_keeper, sound_keeper}
+use Rattle.xa_store.proofs.OpenLemmas.{is_keeper, leaves_alone, makes_keeper, makes_refused, opens_keeper, opens_refused, settles_keeper, sound_keeper}
 use Rattle.xa_store.proofs.keeper.SqlRecords.open.Goals as goal
 
 pub over-requires : goal.over-requires
-over-requires g c = is_keeper g.S.Store g.met.S.Store.shut_if_dirty g.met.S.Store.settled (state g.S.Store c.args.conn) c.load.new.conn c.in-Ok.ours c.in-Ok.ensures
+over-requires g c = is_keeper g.S.Store g.met.S.Store.shut_if_dirty g.met.S.Store.settled (state g.S.Store c.args.conn) c.load.new.conn c.in-Ok.ours c.in-Ok.ensures.loads
 
 pub returns-in-Ok-clause-opens : goal.returns-in-Ok-clause-opens
 returns-in-Ok-clause-opens g c rests =
     subst (λ k. Opens g.S.Store (state g.S.Store c.args.conn) (Ok k)) (sym c.over.ensures)
-    (opens_keeper g.S.Store g.met.S.Store.shut_if_dirty g.met.S.Store.settled (state g.S.Store c.args.conn) c.load.new.conn c.in-Ok.ours c.in-Ok.ensures rests)
+    (opens_keeper g.S.Store g.met.S.Store.shut_if_dirty g.met.S.Store.settled (state g.S.Store c.args.conn) c.load.new.conn c.in-Ok.ours c.in-Ok.ensures.loads rests)
 
 pub returns-in-Ok-clause-makes : goal.returns-in-Ok-clause-makes
 returns-in-Ok-clause-makes g c blank =
     subst (λ k. Makes g.S.Store (state g.S.Store c.args.conn) (Ok k)) (sym c.over.ensures)
-    (makes_keeper g.S.Store g.met.S.Store.shut_if_dirty g.met.S.Store.settled (state g.S.Store c.args.conn) c.load.new.conn c.in-Ok.ours c.in-Ok.ensures blank)
+    (makes_keeper g.S.Store g.met.S.Store.shut_if_dirty g.met.S.Store.settled (state g.S.Store c.args.conn) c.load.new.conn c.in-Ok.ours c.in-Ok.ensures.loads blank)
 
 pub returns-in-Ok-clause-settled : goal.returns-in-Ok-clause-settled
 returns-in-Ok-clause-settled g c =
     subst (λ k. Settles g.S.Store k) (sym c.over.ensures)
-    (settles_keeper g.S.Store g.met.S.Store.shut_if_dirty g.met.S.Store.settled (state g.S.Store c.args.conn) c.load.new.conn c.in-Ok.ours c.in-Ok.ensures)
+    (settles_keeper g.S.Store g.met.S.Store.shut_if_dirty g.met.S.Store.settled (state g.S.Store c.args.conn) c.load.new.conn c.in-Ok.ours c.in-Ok.ensures.loads)
 
 pub returns-in-Ok-clause-sound : goal.returns-in-Ok-clause-sound
 returns-in-Ok-clause-sound g c =
     subst (λ k. IsTrue k.ours → IsTrue (state g.S.Store k.conn).is_open → IsSound g.S.Store k) (sym c.over.ensures)
-    (sound_keeper g.S.Store g.met.S.Store.shut_if_dirty g.met.S.Store.settled (state g.S.Store c.args.conn) c.load.new.conn c.in-Ok.ours c.in-Ok.ensures)
+    (sound_keeper g.S.Store g.met.S.Store.shut_if_dirty g.met.S.Store.settled (state g.S.Store c.args.conn) c.load.new.conn c.in-Ok.ours c.in-Ok.ensures.loads)
 
 pub returns-in-Err-clause-opens : goal.returns-in-Err-clause-opens
 returns-in-Err-clause-opens g c =
-    opens_refused g.S.Store g.met.S.Store.shut_if_dirty g.met.S.Store.settled (state g.S.Store c.args.conn) c.load.new.conn c.in-Err.error c.in-Err.ensures
+    opens_refused g.S.Store g.met.S.Store.shut_if_dirty g.met.S.Store.settled (state g.S.Store c.args.conn) c.load.new.conn c.in-Err.error c.in-Err.ensures.loads
 
 pub returns-in-Err-clause-makes : goal.returns-in-Err-clause-makes
 returns-in-Err-clause-makes g c =
-    makes_refused g.S.Store g.met.S.Store.shut_if_dirty g.met.S.Store.settled (state g.S.Store c.args.conn) c.load.new.conn c.in-Err.error c.in-Err.ensures
+    makes_refused g.S.Store g.met.S.Store.shut_if_dirty g.met.S.Store.settled (state g.S.Store c.args.conn) c.load.new.conn c.in-Err.error c.in-Err.ensures.loads
+
+pub returns-in-Err-clause-refused : goal.returns-in-Err-clause-refused
+returns-in-Err-clause-refused g c =
+    leaves_alone g.S.Store g.met.S.Store.shut_if_dirty g.met.S.Store.settled (state g.S.Store c.args.conn) c.load.new.conn c.in-Err.error c.in-Err.ensures.loads

@@ -1,15 +1,11 @@
 use Rattle.std.proofs.Common.{[]}
 use Rattle.sqlite.specs.Held.{state}
-use Rattle.xa_store.proofs.AskLemmas.{shown_open}
 use Rattle.xa_store.proofs.AskedLemmas.{a_failure, asked, failed_fits, not_asked}
 use Rattle.xa_store.proofs.opening.asking.rows_of.Goals as goal
 
 pub returns-in-Ok-clause-asks : goal.returns-in-Ok-clause-asks
 returns-in-Ok-clause-asks g c =
     asked c.args.sql.now [] (state g.S.Store c.args.conn.now) (state g.S.Store c.query_all.new.self) c.requires c.query_all.ensures.survives c.in-Ok.rows c.in-Ok.rows.items c.in-Ok.ensures.ok
-
-pub returns-in-Ok-clause-was_open : goal.returns-in-Ok-clause-was_open
-returns-in-Ok-clause-was_open g c clean = (shown_open c.args.sql.now [] (state g.S.Store c.args.conn.now) (state g.S.Store c.query_all.new.self) c.in-Ok.rows.items (c.in-Ok.ensures.ok clean)).0
 
 pub returns-in-Err-clause-asks : goal.returns-in-Err-clause-asks
 returns-in-Err-clause-asks g c =

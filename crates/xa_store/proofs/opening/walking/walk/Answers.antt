@@ -13,7 +13,7 @@ use Rattle.xa_store.specs.declared.opening.kind.Kind.{Kind}
 use Rattle.xa_store.specs.Judging.{refused_as, text_of, Moves, Walked, Walks}
 use Rattle.xa_store.specs.Opening.{IsFailure}
 use Rattle.xa_store.proofs.AskedLemmas.{a_failure, failed_fits, not_asked, survives_asked}
-use Rattle.xa_store.proofs.StreamLemmas.{judged_plain, stands_begun, survived_on, walk_ended, walk_goes_on, walk_stopped}
+use Rattle.xa_store.proofs.StreamLemmas.{judged_plain, keeps_begun, keeps_on, stands_begun, survived_on, walk_ended, walk_goes_on, walk_stopped}
 use Rattle.xa_store.proofs.opening.walking.walk.Goals as goal
 
 walks_failed : (kind : Kind) (next : ℤ) (db : Trees) (e : OpenError) → IsFailure e → Walks kind next db (Err e)
@@ -44,6 +44,7 @@ rows-init g c =
     let made = c.in_ok-rows.ensures in (
       refl,
       survives_asked (text_of c.args.kind) [] (state g.S.Store c.args.conn.now) _ (judged_plain c.args.kind) (rw c.text.ensures at made.survives),
+      keeps_begun g.S.Store c.args.kind c.args.next c.args.conn.now c.in_ok-rows.rows.conn.now (rw c.text.ensures at made.begun),
       stands_begun g.S.Store c.args.kind _ c.args.conn.now c.in_ok-rows.rows.conn.now (rw c.text.ensures at made.begun),
     )
 
@@ -54,7 +55,7 @@ returns-in_err-number g c =
     let same : last ≡ c.conn-in_err-number-1.given.0 = search rules in
     let is : c.from_residual-in_err-number.result ≡ Err c.in_err-number.field-0.0 = search rules in
     rw is (subst (λ h. Walked c.args.kind c.args.next (state g.S.Store c.args.conn.now) (state g.S.Store h) (Err c.in_err-number.field-0.0)) same
-    (walk_stopped g.S.Store c.args.kind c.args.next c.args.conn.now c.rows.rows.conn.now last c.rows.last c.rows.invariant.1 (rw (to_z-of_z w64 c.args.next c.ranges.next) at c.rows.invariant.2) told.kept told.survives c.in_err-number.field-0.0
+    (walk_stopped g.S.Store c.args.kind c.args.next c.args.conn.now c.rows.rows.conn.now last c.rows.last c.rows.invariant.1 c.rows.invariant.2 (rw (to_z-of_z w64 c.args.next c.ranges.next) at c.rows.invariant.3) told.kept told.survives c.in_err-number.field-0.0
     (subst (λ n. Moved g.S.Store c.args.kind n c.rows.last c.rows.rows.conn.now last (Err c.in_err-number.field-0.0)) (to_z-of_z w64 c.args.next c.ranges.next) told.moves)))
 
 pub returns-in-None : goal.returns-in-None
@@ -63,7 +64,7 @@ returns-in-None g c =
     let last = c.next_number.new.rows.conn.now in
     let same : last ≡ c.conn-in-None-1.given.0 = search rules in
     subst (λ h. Walked c.args.kind c.args.next (state g.S.Store c.args.conn.now) (state g.S.Store h) (Ok tt)) same
-    (walk_ended g.S.Store c.args.kind c.args.next c.args.conn.now c.rows.rows.conn.now last c.rows.last c.rows.invariant.1 (rw (to_z-of_z w64 c.args.next c.ranges.next) at c.rows.invariant.2) told.kept told.survives
+    (walk_ended g.S.Store c.args.kind c.args.next c.args.conn.now c.rows.rows.conn.now last c.rows.last c.rows.invariant.1 c.rows.invariant.2 (rw (to_z-of_z w64 c.args.next c.ranges.next) at c.rows.invariant.3) told.kept told.survives
     (subst₂ (λ n o. Moved g.S.Store c.args.kind n c.rows.last c.rows.rows.conn.now last (Ok o)) (to_z-of_z w64 c.args.next c.ranges.next) c.in-None.is told.moves) told.same)
 
 pub rows-preserved : goal.rows-preserved
@@ -71,11 +72,12 @@ rows-preserved g c =
     let told = c.in_ok-number.ensures in
     let last = c.next_number.new.rows.conn.now in
     let fits : FitsSigned w64 c.in-Some.number = search rules in
-    let stands = rw (to_z-of_z w64 c.args.next c.ranges.next) at c.rows.invariant.2 in
+    let stands = rw (to_z-of_z w64 c.args.next c.ranges.next) at c.rows.invariant.3 in
     let moved = subst₂ (λ n o. Moved g.S.Store c.args.kind n c.rows.last c.rows.rows.conn.now last (Ok o)) (to_z-of_z w64 c.args.next c.ranges.next) c.in-Some.is told.moves in
-    let on = walk_goes_on g.S.Store c.args.kind c.args.next c.args.conn.now c.rows.rows.conn.now last c.rows.last c.rows.invariant.1 stands told.kept told.survives c.in-Some.number fits moved told.same in
+    let on = walk_goes_on g.S.Store c.args.kind c.args.next c.args.conn.now c.rows.rows.conn.now last c.rows.last c.rows.invariant.1 c.rows.invariant.2 stands told.kept told.survives c.in-Some.number fits moved told.same in
     rw (to_z-of_z w64 c.args.next c.ranges.next, to_z-of_z w64 c.in-Some.number fits) (
       told.same_reference ∙ c.rows.invariant.0,
-      survived_on g.S.Store c.args.kind c.args.next c.args.conn.now c.rows.rows.conn.now last c.rows.last c.rows.invariant.1 stands told.kept told.survives,
+      survived_on g.S.Store c.args.kind c.args.next c.args.conn.now c.rows.rows.conn.now last c.rows.last c.rows.invariant.1 c.rows.invariant.2 stands told.kept told.survives,
+      keeps_on g.S.Store c.args.kind c.args.next c.args.conn.now c.rows.rows.conn.now last c.rows.last c.rows.invariant.1 c.rows.invariant.2 stands told.kept told.survives told.same,
       on,
     )

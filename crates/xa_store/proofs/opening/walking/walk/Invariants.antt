@@ -1,11 +1,11 @@
 use Rattle.std.proofs.Common.{◌≡◌}
 use Rattle.sqlite.specs.Held.{state}
 use Rattle.sqlite.specs.State.{Survives}
-use Rattle.xa_store.specs.Sound.{Rests}
-use Rattle.xa_store.proofs.StreamLemmas.{Stands}
+use Rattle.xa_store.specs.Judging.{IsUnguarded}
+use Rattle.xa_store.proofs.StreamLemmas.{Keeps, Stands}
 use Rattle.xa_store.proofs.opening.walking.walk.Given as goal
 
 abbrev pub invariant-rows : goal.invariant-rows
 invariant-rows g l =
     let old = state g.S.Store l.fn.conn in
-    (l.rows.conn.ghost_name ≡ l.initial.rows.conn.ghost_name) × Survives old (state g.S.Store l.rows.conn.now) (λ db. ¬ Rests old) × Stands g.S.Store l.kind l.next old l.rows.conn.now l.last
+    (l.rows.conn.ghost_name ≡ l.initial.rows.conn.ghost_name) × Survives old (state g.S.Store l.rows.conn.now) (λ db. IsUnguarded old) × Keeps old (state g.S.Store l.rows.conn.now) × Stands g.S.Store l.kind l.next old l.rows.conn.now l.last

@@ -1,0 +1,53 @@
+//! Judging tables that aren't a keeper's alone: in a transaction that is undone, so they stay as they were, whatever the queries do.
+ghost use Rattle.std.specs.Prelude.{◌≢◌};
+ghost use Rattle.sqlite.specs.Held.{state};
+ghost use Rattle.xa_store.specs.Judging.{Begun, Ended, IsIdle, Tested};
+ghost use Rattle.xa_store.specs.Tables.{our_schema};
+
+use super::loading::check;
+use super::refusing::failed;
+use crate::failure::failure_of;
+use crate::open_error::OpenError;
+use sqlite::{Alter, Connection};
+use std::alloc::Global;
+
+/// Begins a transaction.
+fn begin<S: Alter>(conn: &mut Connection<S>) -> Result<(), OpenError>
+    ensures { Begun (state S.Store conn.old) (state S.Store conn.new) result }
+{
+    match conn.execute("BEGIN", &[]) {
+        Ok(_) => Ok(()),
+        Err(error) => Err(failed(failure_of(&error))),
+    }
+}
+
+/// Undoes the transaction, if an error has not yet done so.
+fn end<S: Alter>(conn: &mut Connection<S>) -> Result<(), OpenError>
+    ensures { Ended (state S.Store conn.old) (state S.Store conn.new) result }
+{
+    if conn.is_autocommit() {
+        return Ok(());
+    }
+    match conn.execute("ROLLBACK", &[]) {
+        Ok(_) => Ok(()),
+        Err(error) => Err(failed(failure_of(&error))),
+    }
+}
+
+/// Judges the tables. They aren't a keeper's alone.
+pub(crate) fn check_apart<S: Alter>(
+    alloc: Global,
+    conn: &mut Connection<S>,
+) -> Result<bool, OpenError>
+    requires quiet { IsIdle (state S.Store conn.old) }
+    requires other { (state S.Store conn.old).now.schema ≢ our_schema }
+    ensures { Tested (state S.Store conn.old) (state S.Store conn.new) result }
+{
+    begin(conn)?;
+    let checked = check(alloc, conn);
+    end(conn)?;
+    match checked {
+        Ok(()) => Ok(false),
+        Err(error) => Err(error),
+    }
+}
