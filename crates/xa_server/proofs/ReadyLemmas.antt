@@ -1,10 +1,11 @@
 -- Views that are kept ready decide as what is kept does.
 use Rattle.std.proofs.Common.{◌≡◌, ℕ, Bool, true, false, nat_eq, List, refl, sym, ap, ◌∙◌, subst, cond}
-use Rattle.std.specs.Prelude.{Option, Some, None, Ok}
+use Rattle.std.specs.Prelude.{Option, Some, None, Ok, IfSome}
 use Rattle.std.specs.FinMap.{get}
 use Rattle.std.specs.Map.{lookup}
 use Rattle.std.proofs.lemmas.Bool.{eqb-true}
 use Rattle.xa_decide.specs.Decision.{Viewed}
+use Rattle.xa_records.specs.declared.kept_view.KeptView.{KeptView}
 use Rattle.xa_records.specs.DomainState.{DomainState}
 use Rattle.xa_records.specs.Kept.{DecidesAlike, Domain, IsNumbered, Kept, state_of}
 use Rattle.xa_records.specs.Readings.{gate_of_domain}
@@ -17,7 +18,7 @@ use Rattle.xa_server.specs.Handling.{view_told}
 use Rattle.xa_server.specs.Standing.{Stands}
 use Rattle.xa_server.specs.Stock.{AreReady, IsReady}
 use Rattle.xa_server.specs.View.{view_of}
-use Rattle.xa_server.specs.Views.{Room, fitting, in_front, touched, view_ready, with_view, without}
+use Rattle.xa_server.specs.Views.{Room, added, bytes_of_tree, bytes_of_view, fitting, in_front, touched, view_ready, with_view, without}
 use Rattle.xa_server.proofs.StandingLemmas.{all_implied, made_stands, stands_on}
 use Rattle.xa_server.proofs.WorkLemmas.{domain_opened}
 
@@ -92,3 +93,8 @@ pub ready_with : (kept : Kept) (number : ℕ) (view : Ready) (room : Room) → I
 ready_with kept number view room this ready =
     let all = in_front number view room.views in
     all_taken (IsReady kept) (fitting room.most 268_435_456 all) all (this, all_removed (IsReady kept) (nat_eq number) room.views ready)
+
+-- by how much memory a view is counted that was made of what is kept
+pub estimated : (there : Option KeptView) (kept : KeptView) (ready : Ready) → Some kept ≡ there → ready.bytes ≡ added (bytes_of_view kept) (bytes_of_tree ready.view)
+    → IfSome there (λ k. ready.bytes ≡ added (bytes_of_view k) (bytes_of_tree ready.view))
+estimated there kept ready is bytes = subst (λ (o : Option KeptView). IfSome o (λ k. ready.bytes ≡ added (bytes_of_view k) (bytes_of_tree ready.view))) is bytes

@@ -1,12 +1,14 @@
 //! Asking for a decision. What is held is given again; all else is worked out by what decides in the domain, which is kept ready for the next, counted, and held
 //! where it stays the same.
-ghost use Rattle.std.specs.Prelude.{◌≡◌, Some, OnErr};
+ghost use Rattle.std.specs.Prelude.{◌≡◌, Some, IfOk, IfSome, OnErr};
 ghost use Rattle.xa_http.specs.declared.command.DomainCommand.TheVariants as domain;
 ghost use Rattle.xa_records.specs.Kept.{state_of};
+ghost use Rattle.xa_records.specs.Readings.{view_of};
 ghost use Rattle.xa_server.specs.Gates.{opened_of};
 ghost use Rattle.xa_server.specs.Handling.{Answers, Counts, IfTold, IsAsked, IsFresh, IsResponseReply, IsResponse, LeavesNoMore, MakesReady, Shows, key_opened, key_within, reply_told, view_told, worked_in};
 ghost use Rattle.xa_server.specs.Machine.{by_domain_command};
 ghost use Rattle.xa_server.specs.Stock.{AllStand};
+ghost use Rattle.xa_server.specs.Views.{added, bytes_of_tree, bytes_of_view};
 ghost use Rattle.xa_server.specs.Work.{body_held, response_of};
 
 use crate::decisions::{Decisions, key_within};
@@ -27,6 +29,7 @@ use xa_value::{Items, Moment, Text};
 
 /// What decides in the domain, made from what is kept of it, with the limit of work for a message. What this costs grows with the texts of the active documents, each of which is looked up on the
 /// shelf, and with the rows of attributes, which are put in order.
+#[tactic(auto, using(crate::proofs::ReadyLemmas::estimated))]
 fn ready_view<R: Records>(
     alloc: Global,
     shelf: &mut Shelf,
@@ -36,6 +39,7 @@ fn ready_view<R: Records>(
     limit: u64,
 ) -> Result<Ready, Stop>
     ensures tells { (R.custody records.new).sound → MakesReady (R.custody records.old).kept (R.custody records.new).kept epoch result (view_told (state_of name.now (R.custody records.old).kept)) }
+    ensures estimate { (R.custody records.new).sound → IfOk result (λ ready. IfSome (view_of name.now (R.custody records.old).kept) (λ kept. ready.bytes ≡ added (bytes_of_view kept) (bytes_of_tree ready.view))) }
     ensures sound { (R.custody records.new).sound → (R.custody records.old).sound }
     ensures clean { (R.custody records.new).clean → (R.custody records.old).clean }
     ensures stays { (R.custody records.new).clean → (R.custody records.old).sound → IfTold result (R.custody records.new).sound }

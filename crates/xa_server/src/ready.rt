@@ -1,6 +1,6 @@
 //! A view that is ready to decide, and how much memory it takes.
 ghost use Rattle.std.specs.Prelude.{◌≡◌, ◌*◌, length};
-ghost use Rattle.xa_server.specs.Views.{added, bytes_of_texts, bytes_of_view, times};
+ghost use Rattle.xa_server.specs.Views.{added, bytes_of_texts, bytes_of_tree, bytes_of_view, times};
 
 use xa_decide::View;
 use xa_records::KeptView;
@@ -49,6 +49,8 @@ pub(crate) fn bytes_of_view(kept: &KeptView) -> usize
 }
 
 /// An estimate of the memory that the view's linked tree takes, which may have far more places than the documents have bytes.
-pub(crate) fn bytes_of_tree(view: &View) -> usize {
+pub(crate) fn bytes_of_tree(view: &View) -> usize
+    ensures { result ≡ bytes_of_tree view.now }
+{
     view.places().saturating_mul(PLACE_BYTES)
 }
