@@ -110,9 +110,9 @@ def ended(before):
             note(built(name), made_of)
 
 
-def compiler_in(folder):
-    """The command with which `rt try`, whose folder for temporary files this is, compiles what it has made of
-    the sources, once it does."""
+def compilers_in(folder):
+    """The commands with which `rt try`, whose folder for temporary files this is, compiles at this moment what
+    it has made of the sources, each with the folder that it runs in."""
     for process in pathlib.Path("/proc").glob("[0-9]*"):
         try:
             words = (process / "cmdline").read_bytes().decode().split("\0")[:-1]
@@ -120,7 +120,30 @@ def compiler_in(folder):
         except (OSError, UnicodeDecodeError):
             continue
         if folder in at.parents and "-x" in words and any(word.endswith(".bc") for word in words):
-            return words, at
+            yield words, at
+
+
+def has_main(translation):
+    """Whether a translation is whole and of a program: the compiler makes an object of an empty one too, and
+    that has no `main`."""
+    words = ["llvm-nm", "--defined-only", "--just-symbol-name", translation]
+    how = {"stdin": subprocess.DEVNULL, "capture_output": True, "check": False}
+    named = subprocess.run(words, executable=kit() / "toolchain" / "bin" / "clang", **how)
+    return named.returncode == 0 and b"main" in named.stdout.split()
+
+
+def taken(room, folder, seen):
+    """The words of a compiler that runs in the room, once its translation, of which the folder has a copy then,
+    has `main`. What it looked at without success is told in `seen`."""
+    for words, at in compilers_in(room):
+        source = next(word for word in words if word.endswith(".bc"))
+        try:
+            shutil.copyfile(at / source, folder / source)
+        except FileNotFoundError:  # it has ended meanwhile
+            continue
+        if has_main(folder / source):
+            return words
+        seen[str(at.relative_to(room) / source)] = (folder / source).stat().st_size
     return None
 
 
@@ -136,10 +159,19 @@ def end_hints(process):
             continue
 
 
+def untaken(name, folder, seen):
+    """That no translation of a program was taken, and why."""
+    ended = f"`rt try` ended, or took over {PATIENCE} s, and no translation of {name} was taken."
+    parts = ", ".join(f"{source} of {size} bytes" for source, size in seen.items())
+    found = f"Without `main` were {parts}." if seen else "Its compiler wasn't seen to run."
+    said = (folder / "said").read_text(errors="replace")[-3000:]
+    return NotBuilt(f"{ended} {found} It said:\n{said}")
+
+
 def translated(name, folder):
     """Has `rt try` translate a program for LLVM, ends it there, and gives the compiler's words, which name the
     translation, a file of the folder."""
-    room, case = folder / "try", folder / "cases"
+    room, case, seen = folder / "try", folder / "cases", {}
     room.mkdir()
     case.mkdir()
     (case / "none").touch()
@@ -149,15 +181,11 @@ def translated(name, folder):
         words = ["rt", "try", "--steps", "1", "--cases", case, "--", "none"]
         ran = subprocess.Popen(words, cwd=TOP / "crates" / name, **how)
         try:
-            while not (found := compiler_in(room)):
+            while not (words := taken(room, folder, seen)):
                 end_hints(ran.pid)
                 if ran.poll() is not None or time.time() - began > PATIENCE:
-                    text = (folder / "said").read_text(errors="replace")[-3000:]
-                    raise NotBuilt(f"`rt try` doesn't compile {name}:\n{text}")
+                    raise untaken(name, folder, seen)
                 time.sleep(PAUSE)
-            words, at = found
-            source = next(word for word in words if word.endswith(".bc"))
-            shutil.copyfile(at / source, folder / source)
         finally:
             ran.terminate()
             ran.wait()
