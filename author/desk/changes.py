@@ -140,12 +140,14 @@ class Changes:
         return Answering([*self.target.documents.values(), *others], rows)
 
     def steps(self) -> list[plan.Step]:
-        """The steps between what is and what is to be, in no order that counts."""
+        """The steps between what is and what is to be. Sets are withdrawn before policies, as they are activated
+        behind them: so a root that a cut deployment may have left has all that its set refers to, or no set."""
         active = set(self.live.active())
         found = [plan.Step("activate", key) for key in sorted(self.reached - active)]
         found += [plan.Step("rows", plan.NEW)] if self.has_rows() else []
         found += [plan.Step("root", self.target.root)] if self.has_root() else []
-        return found + [plan.Step("withdraw", key) for key in sorted(active - self.reached)]
+        last = sorted(active - self.reached, key=lambda key: (key.kind == "policy", key))
+        return found + [plan.Step("withdraw", key) for key in last]
 
     def ordered(self) -> plan.Order:
         """The steps in the order in which they are done."""
