@@ -262,7 +262,7 @@ class Words(DeployTest):
 
     def test_records_are_few(self) -> None:
         folder = self.written(files(P1, rows=rows(*(row(f"{number}" * 40, "urn:a")
-                                                    for number in range(900)))), "urn:p")
+                                                    for number in range(700)))), "urn:p")
         self.deployed(folder)
         for number in range(8):
             self.deployed(self.written(files(P1, rows=rows(row(str(number), "urn:a"))), "urn:p"))
