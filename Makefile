@@ -7,7 +7,7 @@ SHELL := bash
 NAME ?= $(word 2,$(MAKECMDGOALS))
 crate = $(or $(NAME),$(error make $@ NAME: the name of a crate is missing, one of $(notdir $(wildcard crates/*))))
 
-.PHONY: help run test prove pdpd try check api memory edits fmt rows agreement author-test bench
+.PHONY: help run test prove pdpd try check api memory edits fmt rows pages agreement author-test bench
 
 help:
 	@awk -F ':.*## ' '/^[a-z-]+:.*## / { printf "  make %-12s %s\n", $$1 ($$1 ~ /^(try|check|edits)$$/ ? " NAME" : ""), $$2 }' Makefile
@@ -51,6 +51,9 @@ fmt: ## lays out the files of all crates
 
 rows: ## writes the stored input and output of xa_trials anew, from trials/*.rows
 	trials/write
+
+pages: ## writes what is generated in the pages (*.md), and wraps their prose
+	tests/pages --write
 
 agreement: ## answers random rows and transcripts by xa_trials and pdpd and by a model in Python, and compares
 	agreement/run
