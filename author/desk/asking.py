@@ -31,7 +31,7 @@ class Asking:
     def is_kind(self, node: Node, kind: str, wanted: str) -> bool:
         """Whether the value is of the kind; else the fault."""
         if node.kind != kind:
-            self.fault(node, f"Here stands {wanted}.", wanted)
+            self.fault(node, f"Here belongs {wanted}.", wanted)
         return node.kind == kind
 
     def ignored(self, label: str, node: Node, known: list[str]) -> None:

@@ -76,7 +76,7 @@ class CaseReader:
         """Whether the value is an object with the needed members; members that the table hasn't are faults."""
         if node is None or node.kind != "object":
             if node is not None:
-                self.fault(node, f"Here stands an object with the members {text.listed(table, 'and')}.")
+                self.fault(node, f"Here belongs an object with the members {text.listed(table, 'and')}.")
             return False
         for member in node.members:
             if member.name not in table:
@@ -96,7 +96,7 @@ class CaseReader:
         if node.kind != "string" or known is not None and node.value not in known:
             nearest = names.nearest(str(node.value), known or [])
             self.fault(node,
-                       f"Here stands {text.listed(known) if known else 'a text'}."
+                       f"Here belongs {text.listed(known) if known else 'a text'}."
                        + (f" Did you mean {nearest}?" if nearest else ""), nearest=nearest)
             return None
         return node.value
@@ -114,7 +114,7 @@ class CaseReader:
     def items(self, node: Node | None) -> list[Node]:
         """The items of an array."""
         if node is not None and node.kind != "array":
-            self.fault(node, "Here stands an array.")
+            self.fault(node, "Here belongs an array.")
         return node.value if node is not None and node.kind == "array" else []
 
     def setting(self, node: Node) -> setting.Setting | None:

@@ -2,6 +2,7 @@
 from __future__ import annotations
 
 import pathlib
+from collections.abc import Callable
 
 from .check import Checked, Rows, checked, checked_rows
 from .positions import Source, read
@@ -33,18 +34,29 @@ def is_document(path: pathlib.Path) -> bool:
     return bool({"Policy", "PolicySet", "PolicyId", "PolicySetId"} & set(node.last())) and node.at("Case") is None
 
 
-def documents(paths: list[str]) -> list[Checked]:
-    """The documents of the files, and of the folders' files that are documents."""
+def within(paths: list[str], endings: tuple[str, ...], what: str,
+           is_meant: Callable[[pathlib.Path], bool] = lambda _: True) -> list[pathlib.Path]:
+    """The files, each once, and in place of a folder those of its files that have one of the endings and are meant."""
     files: list[pathlib.Path] = []
     for path in map(pathlib.Path, paths):
         if path.is_dir():
-            found = [file for file in sorted(path.glob("*.json")) if is_document(file)]
+            found = [file for file in sorted(path.iterdir()) if file.suffix in endings and is_meant(file)]
             if not found:
-                raise Usage(f"{path} holds no policy documents (*.json)")
+                raise Usage(f"{path} holds no {what} (*{', *'.join(endings)})")
             files += found
         else:
             files.append(path)
-    return [checked(shown(file), held(file)) for file in dict.fromkeys(files)]
+    return list(dict.fromkeys(files))
+
+
+def document_files(paths: list[str]) -> list[pathlib.Path]:
+    """The files of documents, and the folders' files that are documents."""
+    return within(paths, (".json",), "policy documents", is_document)
+
+
+def documents(paths: list[str]) -> list[Checked]:
+    """The documents of the files, and of the folders' files that are documents."""
+    return [checked(shown(file), held(file)) for file in document_files(paths)]
 
 
 def rows(path: str | None) -> Rows | None:

@@ -3,7 +3,7 @@ Profile 1.1, as the server reads them."""
 from __future__ import annotations
 
 from . import left_out, names, xml_reading, xml_validity
-from .asking import IGNORED, OF_ATTRIBUTE, OF_CATEGORY, OF_REQUEST, checked_request
+from .asking import OF_ATTRIBUTE, OF_CATEGORY, OF_REQUEST, checked_request
 from .check import json_of
 from .drafted import Draft, taken_over, text_of
 from .faults import Remarks
@@ -70,7 +70,7 @@ class ImportingRequests(Importing):
         """The request of a file."""
         members = {}
         for child in held.named("RequestDefaults"):
-            self.element_left_out(child)
+            self.remarks.note("not-kept", child.spot(), left_out.NO_XPATH)
         for name, sentence in (("ReturnPolicyIdList", POLICY_IDS), ("CombinedDecision", COMBINED)):
             if is_true(held, name):
                 members[name] = Draft(True, held.spot(name))
@@ -132,10 +132,10 @@ class FromProfile:
     def members(self, node: Node, known: list[str], label: str) -> dict[str, Node]:
         """The members of these names; each other one is told, since the server would pass over it."""
         for name, member in node.last().items():
-            if name in IGNORED:
-                sentence = left_out.ELEMENTS["Content" if name == "Content" else "RequestDefaults"]
-                self.remarks.fault("LeftOut", name_node(member),
-                                   sentence.replace("the element", "the member"))
+            if name in left_out.DEFAULTS:
+                self.remarks.note("not-kept", name_node(member), left_out.NO_XPATH)
+            elif name == "Content":
+                self.remarks.fault("LeftOut", name_node(member), left_out.ELEMENTS["Content"])
             elif name not in known:
                 meant = names.nearest(name, known)
                 self.remarks.fault("NotProfile", name_node(member),

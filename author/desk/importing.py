@@ -13,12 +13,10 @@ from .faults import Remarks
 from .exporting import DUTIES
 from .from_version_2 import in_version_3
 from .model import identifiers, values
-from .positions import Source
 from .text import counted
 from .xml_reading import Element, Spot, Text, Whole
 from .xml_tables import VERSION_2
 
-ALFA = "ALFA isn't read here. Let its compiler write XACML 3.0 in XML, and import that."
 EXPRESSIONS = ("Apply", "AttributeSelector", "AttributeValue", "Function", "VariableReference",
                "AttributeDesignator")
 DESCRIBED = ("Policy", "PolicySet", "Rule", "Apply")
@@ -328,7 +326,9 @@ class Importing:
              outside: tuple[Text, ...]) -> dict[str, Draft]:
         """The members that begin a policy or a set; what else may begin one in XML is told."""
         for child in held.elements():
-            if child.name in left_out.ELEMENTS:
+            if child.name in left_out.DEFAULTS:
+                self.remarks.note("not-kept", child.spot(), left_out.NO_XPATH)
+            elif child.name in left_out.ELEMENTS:
                 self.element_left_out(child)
         if held.at("MaxDelegationDepth"):
             self.left_out(held.spot("MaxDelegationDepth"), left_out.DEPTH, held.value("MaxDelegationDepth"))
@@ -380,10 +380,6 @@ class Importing:
 def imported(path: str, held: bytes) -> Imported:
     """The document of an XML file."""
     remarks = Remarks()
-    if path.endswith(".alfa"):
-        source = Source(path, held)
-        remarks.fault("LeftOut", Spot(source, "", 0, len(source.text)), ALFA)
-        return Imported(remarks, None)
     whole = xml_reading.read(path, held, remarks)
     if whole.top is None or not xml_validity.top_of(whole.top, ["Policy", "PolicySet"], remarks):
         return Imported(remarks, None)

@@ -8,6 +8,7 @@ import re
 
 from . import names
 from .model import identifiers
+from .text import listed
 
 V1, V2, V3 = (f"urn:oasis:names:tc:xacml:{version}:function:" for version in ("1.0", "2.0", "3.0"))
 OLD_DURATIONS = "http://www.w3.org/TR/2002/WD-xquery-operators-20020816#"
@@ -26,20 +27,18 @@ ELEMENTS = {
     "PolicyIssuer": "Policy issuers are left out, with delegation and administration: every policy is taken "
                     "as trusted, as one without an issuer is. "
                     "Where that is meant, take the element out.",
-    "PolicyDefaults": "XPath is left out, so its version means nothing. Without <AttributeSelector> and "
-                      "XPath functions the policy means the same "
-                      "without it: take the element out.",
     "CombinerParameters": "Combiner parameters are left out: no algorithm of this server reads any, and "
                           "none of the standard's does. "
                           "Take them out where the algorithm is one of the standard's.",
     "Content": "XML content is left out: nothing of it can be reached by a policy. Give what the policies "
                "ask for as attributes.",
-    "RequestDefaults": "XPath is left out, so its version means nothing: take the element out.",
     "PolicyIdentifierList": "The ids of the policies that applied aren't in the server's responses.",
 }
-ELEMENTS |= {"PolicySetDefaults": ELEMENTS["PolicyDefaults"],
-             **{f"{of}CombinerParameters": ELEMENTS["CombinerParameters"]
-                for of in ("Rule", "Policy", "PolicySet")}}
+ELEMENTS |= {f"{of}CombinerParameters": ELEMENTS["CombinerParameters"]
+             for of in ("Rule", "Policy", "PolicySet")}
+# what means nothing here, and is taken out
+DEFAULTS = ("PolicyDefaults", "PolicySetDefaults", "RequestDefaults", "XPathVersion")
+NO_XPATH = "XPath is left out, so the version of XPath means nothing, and isn't kept."
 DEPTH = ("Delegation is left out: no administrative request is ever made, so the depth means nothing. Take "
          "the attribute out.")
 PATTERN = ("A bound is a plain version here: patterns are left out of EarliestVersion and LatestVersion. "
@@ -81,6 +80,8 @@ FUNCTIONS = [
     (r".*rfc822Name.*", TYPES["rfc822Name"]), (r".*x500Name.*", TYPES["x500Name"]),
     (r".*ipAddress.*", TYPES["ipAddress"]), (r".*dnsName.*", TYPES["dnsName"]),
 ]
+# letters of a regular expression that stand for themselves
+PLAIN = r"(?:[^\\.*+?|(){}\[\]^$]|\\[\\.*+?|(){}\[\]^$-])+"
 LEGACY = ("The legacy {name} is left out, which doesn't tell a Deny that may have been from a Permit that "
           "may have been.")
 OF_RULES = (" Its decisions are those of {new}, but that inside a set an Indeterminate counts as one that "
@@ -127,16 +128,26 @@ def function(uri: str) -> str:
 
 
 def regular(pattern: str) -> str:
-    """What a regular expression without anything special in it comes to; the empty text where it isn't
-    one."""
-    found = re.fullmatch(r"(\^?)((?:\.\*)?)([^\\.*+?|(){}\[\]^$&-]*)((?:\.\*)?)(\$?)", pattern)
-    if found is None or not found[3]:
+    """What a regular expression without anything special in it comes to, or one of several such; the empty
+    text where it isn't one."""
+    several = re.fullmatch(rf"\^\(({PLAIN}(?:\|{PLAIN})+)\)\$", pattern)
+    if several is not None:
+        named = [f'"{plain(one)}"' for one in re.findall(PLAIN, several[1])]
+        return (f"This one is string-equal with {listed(named)}: alternatives in a target, and in a condition "
+                f"string-is-in and a string-bag.")
+    found = re.fullmatch(rf"(\^?)((?:\.\*)?)({PLAIN})((?:\.\*)?)(\$?)", pattern)
+    if found is None:
         return ""
     is_begun, is_ended = bool(found[1]) and not found[2], bool(found[5]) and not found[4]
     name = {(True, True): "string-equal", (True, False): "string-starts-with",
             (False, True): "string-ends-with",
             (False, False): "string-contains"}[is_begun, is_ended]
-    return f'This one is {name} with "{found[3]}".'
+    return f'This one is {name} with "{plain(found[3])}".'
+
+
+def plain(pattern: str) -> str:
+    """The text that a pattern of plain letters stands for, some of them behind a backslash."""
+    return re.sub(r"\\(.)", r"\1", pattern)
 
 
 def data_type(uri: str) -> str:

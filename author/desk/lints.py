@@ -8,7 +8,7 @@ from . import names
 from .asking import unknown_category
 from .check import Checked, Rows
 from .contradictions import TargetLints
-from .elements import Designator, Document, Rule
+from .elements import Designator, Document, Expression, Rule
 from .faults import Remarks
 from .model import contexts, identifiers
 from .positions import Node
@@ -28,6 +28,19 @@ NAMES = {
     "unknown-id": "a request reference to an Id that no category has",
     "shorthand": "rows whose category is a shorthand, and when they are found (a note)",
 }
+
+
+def missed(condition: Expression | None) -> list[Designator]:
+    """The designators of a condition for which it is False where they find nothing: those in which a value is
+    looked for. Of the functions of one value none is evaluated then, and others look at how many there are."""
+    if condition is None or condition.form != "apply":
+        return []
+    verb = names.short(condition.name or "")
+    if verb in ("and", "or", "n-of"):
+        return [one for inner in condition.arguments for one in missed(inner)]
+    if verb in ("any-of", "any-of-any") or verb.endswith(("-is-in", "-at-least-one-member-of")):
+        return [inner.designator for inner in condition.arguments if inner and inner.designator is not None]
+    return []
 
 
 @dataclass
@@ -101,7 +114,7 @@ class Lints:
             if rule.effect != "Deny":
                 continue
             found = [match.designator for match in rule.target.matches() if match.designator] if rule.target else []
-            found += [one.designator for one in (rule.condition.all() if rule.condition else []) if one.designator is not None]
+            found += missed(rule.condition)
             for designator in found:
                 if designator.must_be_present is False:
                     remarks.warning("may-be-missing", designator.node.at("MustBePresent") or designator.node,

@@ -80,7 +80,7 @@ class Shapes:
 
     def wrong_kind(self, node: Node, wanted: str, sentence: str = "") -> None:
         """Remarks a value that is of another kind than is wanted."""
-        self.remarks.fault("BadValue", node, sentence or f"Here stands {wanted}.", expected=wanted, found=kind_of(node))
+        self.remarks.fault("BadValue", node, sentence or f"Here belongs {wanted}.", expected=wanted, found=kind_of(node))
 
     def members(self, table: str, node: Node, label: str = "") -> dict[str, Node] | None:
         """The values of an object's members, by the names of the table; None where it is no object."""
@@ -180,7 +180,7 @@ class Shapes:
         """True or false."""
         if node.kind != "boolean":
             quoted = " without quotes" if node.kind == "string" else ""
-            self.wrong_kind(node, "true or false", f"Here stands true or false{quoted}.")
+            self.wrong_kind(node, "true or false", f"Here belongs true or false{quoted}.")
             return None
         return node.value
 

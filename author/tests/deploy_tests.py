@@ -88,16 +88,17 @@ def request(who: str) -> str:
 
 
 ASKED = [request(who) for who in ("alice", "bob", "carol")] + ['{"Request":{}}']
-# the model decides slowly
-TIMES = 12 if PDPD else 2
+# so often each of them is asked behind each request of a deployment, and so many asks there are at least
+# during each kind of change
+TIMES, LEAST = 30, 1000
 
 
 def places(chosen: range, seconds: float = 8) -> Iterator[int]:
-    """The places in some order, all of them where there is time; on a machine that is slow some of them."""
+    """The places in some order: all of them over pdpd, and those for which there is time over the model."""
     until = time.monotonic() + seconds
     for number in random.Random(5).sample(chosen, len(chosen)):
         yield number
-        if time.monotonic() > until:
+        if PDPD is None and time.monotonic() > until:
             return
 
 
@@ -275,7 +276,7 @@ class DeployTest(unittest.TestCase):
         """Runs something, and asks between all its requests: each answer is the one before or the one
         after. How many asks there were."""
         before, found = self.asks(), []
-        with self.between(lambda number: found.extend(self.asks(*ASKED * times) for _ in range(1))):
+        with self.between(lambda number: found.append(self.asks(*ASKED * times))):
             run()
         after = self.asks()
         for answers in found:
@@ -283,3 +284,9 @@ class DeployTest(unittest.TestCase):
                 which = place % len(ASKED)
                 self.assertIn(answer, (before[which], after[which]))
         return sum(map(len, found))
+
+    def whole_change(self, run: object) -> None:
+        """Runs a change, and asks a thousand times and more while it does."""
+        before = self.asks()
+        self.assertGreaterEqual(self.whole(run, TIMES), LEAST)
+        self.assertNotEqual(self.asks(), before)

@@ -18,7 +18,7 @@ HALF = 10
 
 def differs() -> bool:
     """Whether the test of random documents finds something."""
-    return not all(is_same for _, _, _, is_same, _ in test_exchange.share(3, HALF))
+    return not all(one.is_same() for one in test_exchange.share(3, HALF))
 
 
 # what is broken, by what it is replaced, and the test that has to notice
@@ -58,8 +58,20 @@ BREAKS: list[tuple[object, str, object, Callable[[], bool]]] = [
 ]
 
 
+class Liar:
+    """A program that answers each row alike."""
+
+    def answers(self, asked: list[list[str]]) -> list[list[str]]:
+        return [["x"] for _ in asked]
+
+
 class Broken(unittest.TestCase):
     """Breaks import, export and conformance."""
+
+    def test_another_answer_of_the_program_is_noticed(self) -> None:
+        with mock.patch.object(test_exchange, "ASKED", Liar()):
+            for one in test_exchange.share(3, 2):
+                self.assertEqual(len(one.otherwise), 2 * test_exchange.REQUESTS)
 
     def test_each_break_is_noticed(self) -> None:
         self.assertFalse(differs() or GOOD() or BAD() or BACK())

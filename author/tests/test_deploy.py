@@ -10,7 +10,7 @@ import threading
 import unittest
 from unittest import mock
 
-from .deploy_tests import ADMIN, ASKED, ASKS, TIMES, DeployTest, policy, policy_set, row, rows, serving
+from .deploy_tests import ADMIN, ASKED, ASKS, LEAST, DeployTest, policy, policy_set, row, rows, serving
 from .desk_tests import PROGRAM
 
 P1, P2, Q1, Q2 = (policy(f"urn:{name}", version, name + version) for name in "pq" for version in "12")
@@ -27,25 +27,34 @@ def files(*held: str, **more: str) -> dict[str, str]:
 
 
 class Changes(DeployTest):
-    """Each kind of change, with asks between all its requests."""
+    """Each kind of change, and its rollback, with a thousand asks and more between all its requests."""
 
     def change(self, old: dict[str, str], new: dict[str, str], *words: str,
-               roots: tuple[object, object] = (SET_ROOT, SET_ROOT)) -> int:
-        """Deploys one folder and then another; how many asks there were meanwhile, each answered as before
-        or as after."""
+               roots: tuple[object, object] = (SET_ROOT, SET_ROOT)) -> str:
+        """Deploys one folder and then another, with asks meanwhile, each answered as before or as after; the
+        second folder."""
         self.deployed(self.written(old, roots[0]))
-        before = self.asks()
         folder = self.written(new, roots[1])
-        count = self.whole(lambda: self.deployed(folder, "--only-whole", *words), TIMES)
-        self.assertNotEqual(before, self.asks())
+        self.whole_change(lambda: self.deployed(folder, "--only-whole", *words))
         self.assertIn("Nothing is to be done.", self.deployed(folder))
-        return count
+        return folder
+
+    def change_and_back(self, *given: object, **more: object) -> None:
+        """The same, and then a rollback with asks meanwhile."""
+        folder = self.change(*given, **more)
+        active = self.listed()
+        self.whole_change(lambda: self.back(folder))
+        self.assertNotEqual(self.listed(), active)
+
+    def back(self, folder: str) -> None:
+        """A rollback."""
+        status, written, said = self.policy("rollback", "--yes", "--only-whole", folder)
+        self.assertEqual(status, 0, written + said)
 
     def test_from_nothing(self) -> None:
         folder = self.written(files(ANY, P1, Q1, rows=rows(row("alice", "urn:a"))), SET_ROOT)
         self.assertEqual(self.policy("status", "--strict", folder)[0], 1)
-        asked = self.whole(lambda: self.deployed(folder, "--only-whole"), TIMES)
-        self.assertGreater(asked, 40 * TIMES)
+        self.whole_change(lambda: self.deployed(folder, "--only-whole"))
         self.assertEqual(self.listed(), {("urn:p", "1"): True, ("urn:q", "1"): True, ("urn:s", "1"): True})
         with self.between(lambda number: None) as count:
             self.assertIn("Nothing is to be done.", self.deployed(folder))
@@ -55,35 +64,41 @@ class Changes(DeployTest):
         self.assertIn("is what runs there", written)
 
     def test_a_new_version(self) -> None:
-        self.assertGreater(self.change(files(ANY, P1, Q1), files(ANY, P2, Q1)), 40 * TIMES)
+        folder = self.change(files(ANY, P1, Q1), files(ANY, P2, Q1))
         self.assertEqual(self.listed(), {("urn:p", "1"): False, ("urn:p", "2"): True, ("urn:q", "1"): True,
                                          ("urn:s", "1"): True})
+        self.whole_change(lambda: self.back(folder))
 
     def test_two_new_versions(self) -> None:
-        self.assertGreater(self.change(files(PINNED1, P1, Q1), files(PINNED2, P2, Q2)), 80 * TIMES)
+        self.change_and_back(files(PINNED1, P1, Q1), files(PINNED2, P2, Q2))
 
     def test_another_root(self) -> None:
         roots = "policy:urn:p", {"PolicyIdReference": {"Id": "urn:q", "Version": "1"}}
-        self.assertGreater(self.change(files(P1), files(Q1), "--prune", roots=roots), 40 * TIMES)
+        self.change_and_back(files(P1), files(Q1), roots=roots)
+
+    def test_deletions(self) -> None:
+        self.change(files(P1), files(Q1), "--prune", roots=("urn:p", "urn:q"))
         self.assertEqual(self.listed(), {("urn:q", "1"): True})
 
     def test_rows(self) -> None:
         one = policy("urn:p", "1", "p1", attribute="urn:a")
-        self.change(files(one, rows=rows(row("alice", "urn:a"))), files(one, rows=rows(row("bob", "urn:a"))),
-                    roots=("urn:p", "urn:p"))
+        folder = self.change(files(one, rows=rows(row("alice", "urn:a"))),
+                             files(one, rows=rows(row("bob", "urn:a"))), roots=("urn:p", "urn:p"))
+        self.whole_change(lambda: self.back(folder))
 
     def test_rows_and_policies(self) -> None:
         one, two = policy("urn:p", "1", "p1",
                           attribute="urn:a"), policy("urn:p", "2", "p2", attribute="urn:b")
-        self.change(files(one, rows=rows(row("alice", "urn:a"))), files(two, rows=rows(row("bob", "urn:b"))),
-                    roots=("urn:p", "urn:p"))
+        self.change_and_back(files(one, rows=rows(row("alice", "urn:a"))),
+                             files(two, rows=rows(row("bob", "urn:b"))), roots=("urn:p", "urn:p"))
 
     def test_a_lower_version(self) -> None:
-        self.change(files(ANY, P2, Q1), files(ANY, P1, Q1))
+        self.change_and_back(files(ANY, P2, Q1), files(ANY, P1, Q1))
 
     def test_no_root(self) -> None:
-        self.change(files(P1), files(P1), roots=("urn:p", {}))
+        folder = self.change(files(P1), files(P1), roots=("urn:p", {}))
         self.assertEqual(self.listed(), {("urn:p", "1"): False})
+        self.whole_change(lambda: self.back(folder))
 
     def test_where_no_order_is_whole(self) -> None:
         self.deployed(self.written(files(ANY, P1, Q1), SET_ROOT))
@@ -103,7 +118,7 @@ class Changes(DeployTest):
         before, found, is_over = self.asks(), [], threading.Event()
 
         def asking() -> None:
-            while not is_over.is_set() or len(found) < 80 * TIMES:
+            while not is_over.is_set() or len(found) < LEAST:
                 found.extend(self.asks())
         thread = threading.Thread(target=asking)
         thread.start()
@@ -241,6 +256,13 @@ class Words(DeployTest):
         held = json.loads(self.policy("status", "--json", folder)[1])
         self.assertEqual((held["same"], held["deployments"][0]["finished"]), (True, True))
         self.assertEqual(json.loads(self.policy("diff", "--live", "--json", folder)[1])["steps"], [])
+
+    def test_whoever_is_at_the_terminal_is_asked(self) -> None:
+        folder = self.written(files(P1), "urn:p")
+        for said, status, listed in (("", 1, {}), ("no", 1, {}), ("y", 0, {("urn:p", "1"): True})):
+            with mock.patch("sys.stdin.isatty", lambda: True), mock.patch("builtins.input", return_value=said):
+                self.assertEqual(self.policy("deploy", folder)[0], status)
+            self.assertEqual(self.listed(), listed)
 
     def test_a_program_that_says_otherwise(self) -> None:
         """Model and program are compared before anything is sent."""

@@ -61,32 +61,39 @@ class Cuts(DeployTest):
         self.assertEqual(self.asks(), after)
         self.assertIn("Nothing is to be done.", self.deployed(folder))
 
-    def test_a_client_that_is_cut(self) -> None:
-        """In its place after each request, as if it were killed."""
+    def test_a_client_that_is_killed(self) -> None:
+        """Behind each request."""
         for kind in KINDS:
             count, before, after = self.wanted(kind)
             self.assertGreater(count, 15)
             for number in places(range(count), 5):
                 with self.subTest(kind, number=number):
-                    self.cut_at(number, kind)
+                    self.killed_at(number, kind)
                     self.gone_on(str(self.folder / "at"), before, after)
 
-    def cut_at(self, number: int, kind: str) -> None:
-        """Begins a deployment, and cuts it behind its request of that number."""
+    def killed_at(self, number: int, kind: str) -> None:
+        """Begins a deployment in a process of its own, which is killed behind its request of that number."""
         folder = self.begun(number + 1, kind)
 
-        def cut(at: int) -> None:
+        def kill(at: int) -> None:
             if at == number:
-                raise Cut
-        with self.assertRaises(Cut), self.between(cut):
-            self.deployed(folder)
+                os.kill(os.getpid(), signal.SIGKILL)
+        child = os.fork()
+        if child == 0:
+            try:
+                with self.between(kill):
+                    self.policy("deploy", "--yes", folder)
+            finally:
+                os._exit(1)
+        _, ended = os.waitpid(child, 0)
+        self.assertEqual(os.WTERMSIG(ended), signal.SIGKILL)
 
     def test_a_server_that_is_killed(self) -> None:
         """Behind each request, before the next one; then it is started again."""
         count, before, after = self.wanted()
-        for number in places(range(1, count, 2)):
+        for number in places(range(count)):
             with self.subTest(number):
-                folder = self.begun(number)
+                folder = self.begun(number + 1)
 
                 def kill(at: int, last: int = number) -> None:
                     if at == last:
@@ -100,7 +107,7 @@ class Cuts(DeployTest):
     def test_a_server_that_is_killed_within_a_request(self) -> None:
         """While it may be at work on it: the reply is lost."""
         count, before, after = self.wanted()
-        for number in places(range(3, count, 4)):
+        for number in places(range(1, count + 1)):
             with self.subTest(number):
                 folder, exchange, left = self.begun(number), wire.Client.exchange, [number]
 
@@ -121,7 +128,7 @@ class Cuts(DeployTest):
                 self.running.start()
                 self.gone_on(folder, before, after)
 
-    def test_a_client_that_is_killed(self) -> None:
+    def test_a_command_that_is_killed(self) -> None:
         """The command itself, at any moment."""
         _, before, after = self.wanted()
         for number in range(1, 4):
@@ -143,7 +150,7 @@ class Cuts(DeployTest):
         _, before, _ = self.wanted("root")
         for number in places(range(7, 29, 3)):
             with self.subTest(number):
-                self.cut_at(number, "root")
+                self.killed_at(number, "root")
                 folder = str(self.folder / "at")
                 self.assertEqual(self.policy("rollback", "--yes", folder)[0], 4)
                 back = ("rollback", "--yes", "--only-whole", "--take-over", folder)
@@ -209,7 +216,7 @@ class AtOnce(DeployTest):
         """One is told, at each place, and the other's folder is what runs."""
         self.deployed(self.written(OLD, SET_ROOT))
         count = self.count()
-        for number in places(range(0, count, 2)):
+        for number in places(range(count)):
             with self.subTest(number):
                 self.made(f"{self.name.partition('-')[0]}-{number}")
                 self.deployed(self.written(OLD, SET_ROOT))

@@ -3,6 +3,7 @@ from __future__ import annotations
 
 import json
 import unittest
+from dataclasses import dataclass, field
 from xml.etree import ElementTree
 
 from .desk_tests import PROGRAM, check
@@ -16,8 +17,28 @@ from desk.model import documents, rows, versions  # noqa: E402
 from drafts import Drafts  # noqa: E402
 
 COUNT, SHARE = 2000, 100
-# of each tenth document, so many random requests
-EACH, REQUESTS = 10, 20
+# random requests on each document
+REQUESTS = 20
+# `rt try` would compile the program for each share of the documents
+ASKED = None if PROGRAM is None or PROGRAM.is_tried else PROGRAM
+
+
+@dataclass
+class Trip:
+    """A document, its XML, and the document that this is; what both decide, by the model, and what is
+    decided otherwise, by the model or by the program."""
+    held: bytes
+    xml: str | None
+    back: bytes | None
+    decided: list[str] = field(default_factory=list)
+    otherwise: list[str] = field(default_factory=list)
+
+    def is_same(self) -> bool:
+        return exchange.is_same(self.held, self.back)
+
+    def whole(self) -> str:
+        """All of it, for whoever looks why it isn't the same."""
+        return f"{self.held!r}\n{self.xml}\n{self.back!r}"
 
 
 def drawn(source: Drafts) -> bytes:
@@ -39,39 +60,59 @@ def no_xml(held: object) -> bool:
     return any(map(no_xml, inner))
 
 
-def again(held: bytes) -> tuple[str | None, bytes | None]:
-    """The XML of a document, and the document of that."""
+def trip(held: bytes) -> Trip:
+    """A document there and back."""
     found = exported(check.checked("random.json", held))
-    return found.text, None if found.text is None else imported("random.xml", found.text.encode()).text
+    return Trip(held, found.text,
+                None if found.text is None else imported("random.xml", found.text.encode()).text)
 
 
-def questions(held: bytes, seed: int) -> tuple[setting.Setting, list[tuple[bytes, int]]]:
-    """A document alone, as the root, and random requests on it."""
+def alone(held: bytes) -> setting.Setting:
+    """A document alone, as the root."""
     one = check.checked("random.json", held)
-    whole = setting.Setting([one], versions.Reference(one.document.kind, one.document.id, None, None, None),
-                            None)
-    maker = made.Maker(made.pools_of([whole]), seed, None)
-    return whole, [maker.request() for _ in range(REQUESTS)]
+    return setting.Setting([one], versions.Reference(one.document.kind, one.document.id, None, None, None),
+                           None)
 
 
-def share(seed: int, count: int = SHARE) -> list[tuple]:
-    """Random documents of a seed: each with its XML, what is imported of it, and, of some, rows of requests
-    for both with the model's answers."""
-    source, found = Drafts(agree.Rows(seed)), []
-    while len(found) < count:
-        held = drawn(source)
-        if no_xml(json.loads(held)):
-            continue
-        xml, back = again(held)
-        asked = []
-        if back is not None and len(found) % EACH == 0:
-            (old, requests), (new, _) = questions(held, seed), questions(back, seed)
-            for body, moment in requests:
-                asked.append((ask.by_model(old, body, moment), ask.by_model(new, body, moment),
-                              ask.row_of(old, body, moment),
-                              ask.row_of(new, body, moment)))
-        found.append((held, xml, back, back is not None and exchange.is_same(held, back), asked))
+def decide(one: Trip, seed: int) -> list[list[str]]:
+    """Decides random requests on the document by the model, and on both where no program is asked; the rows
+    that ask the program on both."""
+    old, new = alone(one.held), alone(one.back)
+    maker = made.Maker(made.pools_of([old]), seed, None)
+    found = []
+    for body, moment in (maker.request() for _ in range(REQUESTS)):
+        before = ask.by_model(old, body, moment)
+        after = before if ASKED is not None else ask.by_model(new, body, moment)
+        one.decided.append(before)
+        one.otherwise += [] if before == after else [f"{body!r}: {before}, and afterwards {after}"]
+        found += [ask.row_of(both, body, moment) for both in (old, new)]
     return found
+
+
+def compare(trips: list[Trip], asked: list[list[str]]) -> None:
+    """Notes what the program answers otherwise than the model, and documents that it doesn't take."""
+    taken = ASKED.answers([["document", rows.encoded(one.back)] for one in trips])
+    answers = [rows.decoded(fields[0]).decode() for fields in ASKED.answers(asked)]
+    for place, (one, fields) in enumerate(zip(trips, taken)):
+        own = answers[2 * REQUESTS * place:2 * REQUESTS * (place + 1)]
+        one.otherwise += [f"the program: {found}" for number, found in enumerate(own)
+                          if found != one.decided[number // 2]]
+        one.otherwise += [f"the program: {fields[0]}"] * fields[0].startswith("!")
+
+
+def share(seed: int, count: int = SHARE) -> list[Trip]:
+    """Random documents of a seed, there and back; those that come back are asked."""
+    source, trips, asked = Drafts(agree.Rows(seed)), [], []
+    while len(trips) < count:
+        held = drawn(source)
+        if not no_xml(json.loads(held)):
+            trips.append(trip(held))
+    back = [one for one in trips if one.back is not None]
+    for one in back:
+        asked += decide(one, seed)
+    if ASKED is not None:
+        compare(back, asked)
+    return trips
 
 
 class RoundTrips(unittest.TestCase):
@@ -80,21 +121,15 @@ class RoundTrips(unittest.TestCase):
     def test_random_documents(self) -> None:
         found = shares(share, COUNT, SHARE)
         self.assertEqual(len(found), COUNT)
-        for held, xml, back, is_same, _ in found:
-            self.assertTrue(is_same, f"{held!r}\n{xml}\n{back!r}")
-            ElementTree.fromstring(xml.encode())
-        asked = [one for *_, questions in found for one in questions]
-        self.assertEqual(len(asked), COUNT // EACH * REQUESTS)
-        for old, new, *_ in asked:
-            self.assertEqual(old, new)
+        for one in found:
+            self.assertTrue(one.is_same(), one.whole())
+            ElementTree.fromstring(one.xml.encode())
+            self.assertEqual(one.otherwise, [], one.whole())
+        decided = [answer for one in found for answer in one.decided]
+        self.assertEqual(len(decided), COUNT * REQUESTS)
         for decision in ("Permit", "Deny", "NotApplicable"):
-            self.assertGreater(sum(f'"Decision":"{decision}"' in old for old, *_ in asked), len(asked) // 50)
-        if PROGRAM is not None:
-            answers = PROGRAM.answers([["document", rows.encoded(back)] for _, _, back, *_ in found])
-            self.assertFalse([fields for fields in answers if fields[0].startswith("!")])
-            by_program = PROGRAM.answers([row for _, _, old, new in asked for row in (old, new)])
-            for (by_model, *_), old, new in zip(asked, by_program[::2], by_program[1::2]):
-                self.assertEqual([rows.decoded(fields[0]).decode() for fields in (old, new)], [by_model] * 2)
+            self.assertGreater(sum(f'"Decision":"{decision}"' in answer for answer in decided),
+                               len(decided) // 50)
 
 
 if __name__ == "__main__":

@@ -103,6 +103,14 @@ class Files(DeskTest):
                     self.assertEqual(json.loads(held), json.loads(again.text))
                     self.assertEqual([one.code for one in again.remarks.found], [])
 
+    def test_what_is_not_kept(self) -> None:
+        """The version of XPath is said in many files, and means nothing without XPath: it is no fault."""
+        for name, place in (("xpath_version.xml", (3, 3)), ("defaults_of_a_set.xml", (3, 3)),
+                            ("request_defaults.xml", (2, 3)), ("request_json_xpath.jsn", (1, 14))):
+            found = read(FILES / name).remarks.found
+            self.assertEqual([(one.level, one.code, (one.place.line, one.place.column)) for one in found],
+                             [("note", "not-kept", place)])
+
     def test_bad_ones(self) -> None:
         for path in sources(".says"):
             with self.subTest(path.name):
@@ -211,8 +219,7 @@ class Words(DeskTest):
         self.assertIn("p.json:15:16: fault BadValue", said)
 
     def test_what_is_no_xml_at_all(self) -> None:
-        for name, held, words in (("p.alfa", "namespace a { }", "Let its compiler write XACML 3.0 in XML"),
-                                  ("p.json", POLICY, "a document in JSON needs no import"),
+        for name, held, words in (("p.json", POLICY, "a document in JSON needs no import"),
                                   ("p.xml", "namespace a", "This is no XML")):
             status, written, said = run("import", "@" + name, files={name: held})
             self.assertEqual((status, written), (1, ""))
@@ -232,14 +239,22 @@ class Words(DeskTest):
                              (0, ["p.json", "q.json"]))
             self.assertIn("written to", written)
             self.assertEqual(run("import", "@p.xml", "--to", folder + "/to", files=files)[0], 0)
+            written = {path: path.read_bytes() for path in pathlib.Path(folder, "to").iterdir()}
+            held = {f"c/{name}": text for name, text in files.items()} | {"c/r.txt": "", "d/r.txt": ""}
+            self.assertEqual(run("import", "@c", "--to", folder + "/to", files=held)[0], 0)
+            self.assertEqual({path: path.read_bytes() for path in written}, written)
+            self.assertEqual(run("import", "@d", "--to", folder + "/to", files=held)[0], 2)
+            self.assertEqual(run("export", folder + "/to", "--to", folder + "/back")[0], 0)
+            self.assertEqual(sorted(path.name for path in pathlib.Path(folder, "back").iterdir()),
+                             ["p.xml", "q.xml"])
             self.assertEqual(run("import", "@p.xml", "--to", folder + "/to",
                                  files={"p.xml": with_description("other")})[0], 2)
 
     def test_usage(self) -> None:
-        files = {"p.xml": SMALL, "q.xml": SMALL}
+        files = {"p.xml": SMALL, "q.xml": SMALL, "c/p.xml": SMALL}
         for words in (["import"], ["import", "@none.xml"], ["import", "@p.xml", "@q.xml"], ["export"],
                       ["conformance", "@none"],
-                      ["import", "@p.xml", "@p.xml", "--to", "@to"]):
+                      ["import", "@p.xml", "@c/p.xml", "--to", "@to"]):
             with self.subTest(words):
                 self.assertEqual(run(*words, files=files)[0], 2)
 

@@ -114,6 +114,27 @@ class Lints(DeskTest):
         self.remark(checked(held).remarks, "may-be-missing", held.index("false"), "passed over in silence", level="warning")
         self.assertEqual(self.codes(held.replace("false", "true")), [])
 
+    def test_a_deny_condition_that_may_miss_its_attribute(self) -> None:
+        """Only where a value is looked for; a function of one value isn't evaluated without it."""
+        asked = {"AttributeDesignator": {"Category": "AccessSubject", "AttributeId": "urn:a",
+                                         "DataType": "string", "MustBePresent": False}}
+        value = {"AttributeValue": {"DataType": "string", "Value": "x"}}
+
+        def applied(name: str, *arguments: dict) -> dict:
+            return {"Apply": {"FunctionId": name, "Expression": list(arguments)}}
+        v1, v3 = (f"urn:oasis:names:tc:xacml:{version}:function:" for version in ("1.0", "3.0"))
+        equal = {"Function": {"FunctionId": v1 + "string-equal"}}
+        few = applied(v1 + "integer-less-than", applied(v1 + "string-bag-size", asked),
+                      {"AttributeValue": {"DataType": "integer", "Value": 2}})
+        one = applied(v1 + "string-equal", applied(v1 + "string-one-and-only", asked), value)
+        found = applied(v1 + "string-is-in", value, asked)
+        for condition, is_told in ((found, True), (applied(v3 + "any-of", equal, value, asked), True),
+                                   (applied(v1 + "and", one, found), True), (few, False), (one, False),
+                                   (applied(v1 + "not", found), False),
+                                   (applied(v3 + "all-of", equal, value, asked), False)):
+            held = policy([rule("r", "Deny", Condition=condition)])
+            self.assertEqual(self.codes(held), ["may-be-missing"] if is_told else [], condition)
+
     def test_variables_that_nothing_names(self) -> None:
         held = edited(POLICY,
                       ('{"VariableReference": {"VariableId": "open"}}',
