@@ -7,7 +7,7 @@ SHELL := bash
 NAME ?= $(word 2,$(MAKECMDGOALS))
 crate = $(or $(NAME),$(error make $@ NAME: the name of a crate is missing, one of $(notdir $(wildcard crates/*))))
 
-.PHONY: help run test prove pdpd try check api memory edits fmt rows pages agreement author-test bench
+.PHONY: help run test prove pdpd try check api memory edits fmt rows pages agreement author-test bench dist install deploy-test
 
 help:
 	@awk -F ':.*## ' '/^[a-z-]+:.*## / { printf "  make %-12s %s\n", $$1 ($$1 ~ /^(try|check|edits)$$/ ? " NAME" : ""), $$2 }' Makefile
@@ -65,3 +65,12 @@ author-test: ## tests the policy author's desk (author/policy); proves and build
 
 bench: pdpd ## proves and builds pdpd, and runs all benchmarks but bench/heads and bench/casbin
 	bench/all
+
+dist: ## packs the proved program, the kit for several of them behind HAProxy, and their pages: build/pdpd-VERSION.tar.gz
+	@deploy/dist
+
+install: ## the same, and installs it under PREFIX (/usr/local)
+	@deploy/dist --install $(or $(PREFIX),/usr/local)
+
+deploy-test: ## tries that kit with HAProxy, runit and the proved program (docs/OPERATING.md); takes the rights of root
+	@tests/deploy

@@ -1,0 +1,155 @@
+"""pdpd-shards: several pdpd, each over a file of its own, behind HAProxy.
+
+  pdpd-shards config [--write]         shows the configuration of HAProxy; writes it, once HAProxy takes it
+  pdpd-shards services                 has the supervisor run all of it, now and after each start
+  pdpd-shards reload                   has HAProxy read its files: its configuration, the certificate
+  pdpd-shards restart [SHARD]          restarts the shards one after another, or one
+  pdpd-shards status                   how they are; ends with 1 where something is wrong
+  pdpd-shards where DOMAIN             which shard a domain is in
+  pdpd-shards backup [SHARD]           copies shards' files as they are at one instant, and opens each copy
+  pdpd-shards backups                  lists the backups
+  pdpd-shards put-back SHARD BACKUP    puts a backup in place of a shard's files
+  pdpd-shards move DOMAIN FROM TO      moves a domain from one shard to another
+  pdpd-shards grow SHARDS              makes more shards
+  pdpd-shards watchdog                 kills shards that are stuck, for ever
+  pdpd-shards keep-backups SECONDS     makes backups again and again, for ever
+
+Settings are in /etc/pdpd/shards.conf, or where PDPD_SETTINGS says. OPERATING.md is the page on all of it.
+Exit status: 0 done, 1 something is wrong, 2 usage.
+"""
+import subprocess
+import sys
+import zlib
+
+from . import backups, moving, proxy, status, supervisor, talk, watchdog
+from .settings import DOMAIN, Wrong, alone, read
+
+
+def told(what):
+    print(f"pdpd-shards: {what}", flush=True)
+
+
+def shards_in(settings, words):
+    """The shard of a word, or all."""
+    return [settings.shard_in(word) for word in words] or range(settings.shards)
+
+
+def config(settings, words):
+    if words == ["--write"]:
+        had = talk.shards_in_configuration(settings)
+        if had not in (None, settings.shards):
+            raise Wrong(f"SHARDS is {settings.shards}, and there are {had}: write {had} again; pdpd-shards grow "
+                        "makes more")
+        talk.write_configuration(settings)
+        told(f"{settings.haproxy_etc}/haproxy.cfg is written, and HAProxy takes it")
+    else:
+        print(proxy.configuration(settings), end="")
+
+
+def services(settings, words):
+    by = supervisor.of(settings)
+    by.set_up(range(settings.shards))
+    by.start_proxy()
+    for shard in range(settings.shards):
+        talk.wait_until_up(settings, shard)
+    told(f"{settings.shards} shards answer, under {settings.supervisor}")
+
+
+def reload(settings, words):
+    talk.check(f"{settings.haproxy_etc}/haproxy.cfg")
+    talk.reload(settings, supervisor.of(settings))
+    told("HAProxy has read its files")
+
+
+def restart(settings, words):
+    for shard in shards_in(settings, words):
+        with alone(settings), moving.away(settings, shard):
+            pass
+        told(f"shard {shard} is restarted")
+
+
+def show_status(settings, words):
+    lines, wrong = status.shown(settings)
+    print("\n".join(lines))
+    for what in wrong:
+        print(f"WRONG: {what}")
+    return 1 if wrong else 0
+
+
+def where(settings, words):
+    (domain,) = words
+    if not DOMAIN.fullmatch(domain):
+        raise Wrong(f"{domain!r} is no domain's name")
+    by_map = talk.map_in_file(settings).get(domain)
+    print(by_map if by_map is not None else zlib.crc32(domain.encode()) % settings.shards)
+
+
+def backup(settings, words):
+    for shard in shards_in(settings, words):
+        with alone(settings):
+            path, domains, took = backups.backup(settings, shard)
+        told(f"backup of shard {shard}: {backups.shown(path, domains, took)}")
+
+
+def list_backups(settings, words):
+    for shard in range(settings.shards):
+        for path in backups.backups_of(settings, shard):
+            print(shard, path.name)
+
+
+def put_back(settings, words):
+    shard, name = words
+    with alone(settings):
+        domains, aside = backups.put_back(settings, settings.shard_in(shard), name)
+    told(f"shard {shard} is that of {name}: {len(domains)} domains; the files before are in {aside}")
+
+
+def move(settings, words):
+    domain, one, other = words
+    with alone(settings):
+        took = moving.move(settings, domain, settings.shard_in(one), settings.shard_in(other))
+    told(f"{domain} is in shard {other}; both shards were away for {took:.2f} s")
+
+
+def grow(settings, words):
+    (shards,) = words
+    if not shards.isdigit():
+        raise Wrong("a number of shards is wanted")
+    with alone(settings):
+        count = moving.grow(settings, int(shards))
+    told(f"there are {shards} shards; {count} domains stay where they were")
+
+
+def keep_backups(settings, words):
+    (seconds,) = words
+    backups.keep_making(read, int(seconds))
+
+
+# each word with the numbers of words that may stand behind it
+WORDS = {
+    "config": (config, (0, 1)),
+    "services": (services, (0,)),
+    "reload": (reload, (0,)),
+    "restart": (restart, (0, 1)),
+    "status": (show_status, (0,)),
+    "where": (where, (1,)),
+    "backup": (backup, (0, 1)),
+    "backups": (list_backups, (0,)),
+    "put-back": (put_back, (2,)),
+    "move": (move, (3,)),
+    "grow": (grow, (1,)),
+    "watchdog": (lambda settings, words: watchdog.watch_all(), (0,)),
+    "keep-backups": (keep_backups, (1,)),
+}
+
+
+def main(words):
+    call, counts = WORDS.get(words[0] if words else "", (None, ()))
+    if len(words) - 1 not in counts or (words[0] == "config" and words[1:] not in ([], ["--write"])):
+        print(__doc__, file=sys.stderr)
+        return 2
+    try:
+        return call(read(), words[1:]) or 0
+    except (Wrong, OSError, subprocess.SubprocessError) as fault:
+        print(f"pdpd-shards: {fault}", file=sys.stderr)
+        return 1

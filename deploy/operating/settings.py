@@ -1,0 +1,119 @@
+"""What the operator has set: lines NAME=VALUE of a file that the shell reads as well."""
+import contextlib
+import fcntl
+import os
+import pathlib
+import re
+import shlex
+import tempfile
+
+LIBRARY = pathlib.Path(__file__).resolve().parent.parent
+FILE = pathlib.Path(os.environ.get("PDPD_SETTINGS", "/etc/pdpd/shards.conf"))
+# the least and the most of each number
+NUMBERS = {
+    "SHARDS": (1, 64), "FIRST_PORT": (1, 65_000), "KEEP_BACKUPS": (1, 100_000), "CONNECTIONS": (1, 1_000_000),
+    "WORK": (0, 2 ** 63), "IDLE": (0, 86_400), "THREADS": (1, 64), "KEEP": (0, 1), "RETRY": (0, 1),
+    "MAXCONN": (1, 128), "RATE": (0, 1_000_000),
+}
+DOMAIN = re.compile(r"[a-z0-9][a-z0-9-]{0,31}")
+
+
+class Wrong(Exception):
+    """What the operator has to mend, in words."""
+
+
+def lines_of(text):
+    """The names and values that lines set."""
+    for number, line in enumerate(text.splitlines(), 1):
+        words = shlex.split(line, comments=True)
+        if not words:
+            continue
+        name, is_set, value = words[0].partition("=")
+        if len(words) != 1 or not is_set:
+            raise Wrong(f"{FILE}, line {number}: it is no NAME=VALUE (a value with blanks wants quotes)")
+        yield name, value
+
+
+def number_in(name, value):
+    """The number that a setting is."""
+    least, most = NUMBERS[name]
+    if not re.fullmatch(r"[0-9]{1,19}", value) or not least <= int(value) <= most:
+        raise Wrong(f"{FILE}: {name} is {value!r}, and no number from {least} to {most}")
+    return int(value)
+
+
+# those of the file that is installed, where a setting is left out
+DEFAULTS = {"PROGRAM": str(LIBRARY / "pdpd"), **dict(lines_of((LIBRARY / "shards.conf").read_text()))}
+
+
+class Settings:
+    """Each setting by its name in small letters."""
+
+    def __init__(self, text=""):
+        values = {**DEFAULTS, **dict(lines_of(text))}
+        for name in values.keys() - DEFAULTS.keys():
+            raise Wrong(f"{FILE}: there is no setting {name}")
+        for name, value in values.items():
+            setattr(self, name.lower(), number_in(name, value) if name in NUMBERS else value)
+        if not self.supervisor:
+            self.supervisor = "systemd" if os.path.isdir("/run/systemd/system") else "runit"
+        if self.supervisor not in ("systemd", "runit"):
+            raise Wrong(f"{FILE}: SUPERVISOR is {self.supervisor!r}, and neither systemd nor runit")
+        if self.keep:
+            # another thread, or a message that is sent again, opens a second connection, which waits for ever
+            self.threads, self.maxconn, self.retry = 1, 1, 0
+
+    def folder(self, shard):
+        """Where a shard's files are."""
+        return pathlib.Path(self.data) / str(shard)
+
+    def port(self, shard):
+        return self.first_port + shard
+
+    @property
+    def map(self):
+        """The file that says which shard has a domain, where that isn't by its name."""
+        return pathlib.Path(self.haproxy_etc) / "domains.map"
+
+    def operator(self):
+        """The operator's token."""
+        with open(self.token, encoding="ascii") as lines:
+            return lines.readline().strip()
+
+    def shard_in(self, word):
+        """The shard that a word of the command line names."""
+        if not word.isdigit() or int(word) >= self.shards:
+            raise Wrong(f"there is no shard {word}: they are 0 to {self.shards - 1}")
+        return int(word)
+
+
+def read():
+    """The settings of the file; those of the installed one where it isn't there."""
+    return Settings(FILE.read_text() if FILE.exists() else "")
+
+
+@contextlib.contextmanager
+def alone(settings):
+    """One tool at a time stops, copies or changes shards: another one waits here."""
+    with open(pathlib.Path(settings.data) / ".lock", "w", encoding="ascii") as lock:
+        fcntl.flock(lock, fcntl.LOCK_EX)
+        yield
+
+
+def written(path, text, mode=0o644):
+    """Puts a file in place of the one that is there, whole or not at all."""
+    path = pathlib.Path(path)
+    with tempfile.NamedTemporaryFile("w", dir=path.parent, prefix=f".{path.name}.", delete=False) as file:
+        file.write(text)
+        file.flush()
+        os.fchmod(file.fileno(), mode)
+        os.fsync(file.fileno())
+    os.replace(file.name, path)
+
+
+def set_in_file(name, value):
+    """Writes one setting into the file."""
+    text = FILE.read_text() if FILE.exists() else ""
+    line = f"{name}={value}"
+    changed, count = re.subn(rf"(?m)^{name}=.*$", line, text)
+    written(FILE, changed if count else f"{text}{line}\n")

@@ -1,0 +1,57 @@
+"""How the shards are: what an operator looks at first, and what a monitor asks."""
+import shutil
+import time
+
+from . import backups, talk
+
+# when a backup is too old, in seconds; how full a disk may be
+OLD, FULL = 2 * 3600 + 600, 0.9
+
+
+def size(path):
+    return path.stat().st_size / 2 ** 20 if path.exists() else 0.0
+
+
+def age(settings, shard):
+    """How many seconds old the newest backup is; None where there is none."""
+    found = backups.backups_of(settings, shard)
+    return time.time() - found[-1].stat().st_mtime if found else None
+
+
+def of_shard(settings, shard):
+    """A line on a shard, and what is wrong with it."""
+    wrong = []
+    try:
+        count = str(len(talk.domains_of(settings, shard)))
+    except backups.Wrong as fault:
+        count = "-"
+        wrong.append(str(fault))
+    old = age(settings, shard)
+    if old is None or old > OLD:
+        wrong.append(f"shard {shard} has no backup of the last two hours")
+    folder = settings.folder(shard)
+    last = "none" if old is None else f"{old / 60:.0f} min ago"
+    sizes = [f"{size(folder / name):.1f}" for name in backups.FILES]
+    return [str(shard), "down" if count == "-" else "up", count, *sizes, last], wrong
+
+
+def shown(settings):
+    """The lines of a table, and what is wrong."""
+    rows, wrong = [["shard", "state", "domains", "file MiB", "log MiB", "backup"]], []
+    for shard in range(settings.shards):
+        row, more = of_shard(settings, shard)
+        rows.append(row)
+        wrong += more
+    for name, path in (("DATA", settings.data), ("BACKUPS", settings.backups)):
+        try:
+            total, _, free = shutil.disk_usage(path)
+        except OSError:
+            continue  # told by each shard
+        if free < (1 - FULL) * total:
+            wrong.append(f"the disk of {name} has only {free / 2 ** 20:.0f} MiB left")
+    widths = [max(map(len, column)) for column in zip(*rows)]
+    lines = ["  ".join(cell.ljust(width) for cell, width in zip(row, widths)).rstrip() for row in rows]
+    moving = [name for name, value in talk.map_in_file(settings).items() if value == "moving"]
+    wrong += ["no domain can be made: a growth was cut; give pdpd-shards grow again" if name == "NEW" else
+              f"{name} is moving: if nobody moves it now, give pdpd-shards move again" for name in moving]
+    return lines, wrong

@@ -1,0 +1,212 @@
+"""What is asked of HAProxy while it runs, by its admin socket, and of a shard, through the frontend `inner`."""
+import contextlib
+import http.client
+import json
+import os
+import re
+import socket
+import subprocess
+import time
+
+from .proxy import configuration
+from .settings import LIBRARY, Wrong, written
+
+# how long a message may wait for its turn, and then for its reply (`timeout queue`, `timeout server`)
+QUEUE, SERVER = 10, 12
+LONGEST = QUEUE + SERVER
+# after how long a process of HAProxy has gone once another has begun (`hard-stop-after`)
+HARD_STOP = 15
+
+
+def told(settings, command):
+    """What HAProxy says to a command."""
+    with socket.socket(socket.AF_UNIX) as admin:
+        admin.settimeout(10)
+        admin.connect(f"{settings.haproxy_run}/admin.sock")
+        admin.sendall(command.encode() + b"\n")
+        said = b""
+        while data := admin.recv(65_536):
+            said += data
+    return said.decode()
+
+
+class Inner(http.client.HTTPConnection):
+    """A connection to the inner frontend."""
+
+    def __init__(self, settings, timeout):
+        super().__init__("pdpd", timeout=timeout)
+        self.path = f"{settings.haproxy_run}/inner.sock"
+
+    def connect(self):
+        self.sock = socket.socket(socket.AF_UNIX)
+        self.sock.settimeout(self.timeout)
+        self.sock.connect(self.path)
+
+
+def asked(settings, shard, method, path, token, *, in_turn=False, timeout=30.0, body=None):
+    """The status and the body of a shard's reply; in turn behind all that waits, else before it."""
+    fields = {"X-Shard": str(shard), "Authorization": f"Bearer {token}", "Content-Type": "application/json"}
+    if in_turn:
+        fields["X-Turn"] = "1"
+    connection = Inner(settings, timeout)
+    try:
+        connection.request(method, path, body, fields)
+        reply = connection.getresponse()
+        return reply.status, reply.read()
+    finally:
+        connection.close()
+
+
+def is_up(settings, shard, timeout=5.0):
+    """Whether the shard answers."""
+    try:
+        # without a token: 401
+        return asked(settings, shard, "GET", "/operator/domains", "-", timeout=timeout)[0] == 401
+    except OSError:
+        return False
+
+
+def wait_until_up(settings, shard, seconds=30.0):
+    """Waits until the shard answers."""
+    end = time.time() + seconds
+    while not is_up(settings, shard):
+        if time.time() > end:
+            raise Wrong(f"shard {shard} doesn't answer; its log says why")
+        time.sleep(0.05)
+
+
+def wait_for_turn(settings, shard):
+    """Waits until all messages that are in the shard's queue now have been answered, or have left it."""
+    end = time.time() + 2 * LONGEST
+    while time.time() < end:
+        began = time.time()
+        try:
+            status, _ = asked(settings, shard, "GET", "/operator/domains", "-", in_turn=True)
+        except OSError:
+            status = 0
+        if status == 401:
+            return
+        if status == 503:
+            # It is down, and nothing is under way; or the question has waited as long as any message may, and
+            # what is being answered has its own time.
+            time.sleep(SERVER if time.time() - began > QUEUE - 1 else 0)
+            return
+        time.sleep(0.1)
+    raise Wrong(f"shard {shard} doesn't answer: nothing was changed")
+
+
+def domains_of(settings, shard):
+    """The names of the domains that a shard has."""
+    try:
+        status, body = asked(settings, shard, "GET", "/operator/domains", settings.operator())
+    except OSError as fault:
+        raise Wrong(f"HAProxy can't be asked for shard {shard}: {fault}") from None
+    if status != 200:
+        raise Wrong(f"shard {shard} answers {status} to the operator's list of domains")
+    return json.loads(body)["Domain"]
+
+
+# ---- the map
+
+def map_in_file(settings):
+    """What the map's file says: the shard of each domain in it."""
+    if not settings.map.exists():
+        return {}
+    return dict(line.split() for line in settings.map.read_text().splitlines() if line.strip())
+
+
+def set_in_map(settings, changes):
+    """Says where domains are, in the file first, for the next start of HAProxy; None takes a name out."""
+    found = {**map_in_file(settings), **changes}
+    lines = "".join(f"{name} {value}\n" for name, value in sorted(found.items()) if value is not None)
+    written(settings.map, lines)
+    set_while_it_runs(settings, changes)
+
+
+def set_while_it_runs(settings, changes):
+    """Says where domains are to the HAProxy that runs alone."""
+    shown = told(settings, f"show map {settings.map}")
+    there = {line.split()[1] for line in shown.splitlines() if line.strip()}
+    for name, value in changes.items():
+        if value is None and name not in there:
+            continue
+        # in one step: between a `del` and an `add` the domain would be where its name leads
+        word = "del" if value is None else "set" if name in there else "add"
+        said = told(settings, f"{word} map {settings.map} {name} {'' if value is None else value}").strip()
+        if said:
+            raise Wrong(f"HAProxy: {said}")
+
+
+@contextlib.contextmanager
+def held(settings, *shards):
+    """Nothing is under way at these shards meanwhile: HAProxy holds their messages back (domains.lua).
+
+    So nothing is lost where their programs are ended. Should this end, it lets them go by itself after a while.
+    """
+    keys = [f"SHARD{shard}" for shard in shards]
+    set_while_it_runs(settings, {**{key: "held" for key in keys}, "HELD": int(time.time()) + 3 * LONGEST})
+    try:
+        time.sleep(0.02)
+        for shard in shards:
+            wait_for_turn(settings, shard)
+        yield
+    finally:
+        set_while_it_runs(settings, {**{key: None for key in keys}, "HELD": None})
+
+
+# ---- its files and its processes
+
+def check(path):
+    """That HAProxy takes the configuration."""
+    words = ["haproxy", "-c", "-q", "-f", str(path)]
+    ran = subprocess.run(words, capture_output=True, text=True, check=False)
+    if ran.returncode != 0:
+        raise Wrong(f"HAProxy doesn't take {path}:\n{ran.stderr.strip()}")
+
+
+def write_configuration(settings):
+    """Writes what HAProxy reads, once it has taken it."""
+    if not settings.map.exists():
+        written(settings.map, "")
+    written(settings.map.with_name("domains.lua"), (LIBRARY / "domains.lua").read_text())
+    new, place = (settings.map.with_name(name) for name in ("haproxy.cfg.new", "haproxy.cfg"))
+    written(new, configuration(settings))
+    check(new)
+    if place.exists() and shards_in_configuration(settings) is None:
+        place.rename(place.with_name("haproxy.cfg.before-pdpd"))
+    new.rename(place)
+
+
+def shards_in_configuration(settings):
+    """How many shards HAProxy's file has; None where there is none of ours."""
+    path = settings.map.with_name("haproxy.cfg")
+    found = re.search(r"setenv PDPD_SHARDS (\d+)", path.read_text()) if path.exists() else None
+    return int(found[1]) if found else None
+
+
+def info(settings, name):
+    """A number that HAProxy tells of itself."""
+    for line in told(settings, "show info").splitlines():
+        if line.startswith(f"{name}: "):
+            return int(line.split()[1])
+    raise Wrong(f"HAProxy doesn't tell its {name}")
+
+
+def settle(settings):
+    """Waits until a process before this one has gone: it has a map and a queue of its own."""
+    time.sleep(max(0, HARD_STOP + 1 - info(settings, "Uptime_sec")))
+
+
+def reload(settings, supervisor):
+    """Has HAProxy read its files, and waits until the process before has gone."""
+    old = info(settings, "Pid")
+    supervisor.reload_proxy()
+    end = time.time() + 2 * LONGEST
+    while time.time() < end:
+        time.sleep(0.1)
+        try:
+            if info(settings, "Pid") != old and not os.path.exists(f"/proc/{old}"):
+                return
+        except OSError:
+            continue
+    raise Wrong(f"HAProxy isn't reloaded after {2 * LONGEST} s; its log says why")

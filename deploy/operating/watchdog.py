@@ -1,0 +1,71 @@
+"""Kills a pdpd that is stuck, so that its supervisor starts it again.
+
+Each second each shard is asked for a decision through HAProxy, before all others in its queue: so the
+question waits for the message that is being answered, and for no other. Stuck is a shard that takes
+connections and gives no reply for five seconds, which is more than a message may take under the limit of
+work. Its process is killed; what it has answered is kept. A shard that takes no connections is down, or
+still opening its file: its supervisor's affair.
+"""
+import pathlib
+import sys
+import threading
+import time
+
+from . import settings as setting
+from . import supervisor, talk
+
+LIMIT, PAUSE = 5.0, 1.0
+
+
+def listens(port):
+    """Whether a program takes connections at 127.0.0.1 and that port, by the system's table."""
+    wanted = f"0100007F:{port:04X} 00000000:0000 0A"
+    return wanted in pathlib.Path("/proc/net/tcp").read_text(encoding="ascii")
+
+
+def found(settings, shard):
+    """`up`, `stuck`, or `down`."""
+    try:
+        # a domain that isn't there, and no token: 401 shows that it answers
+        path = "/domains/watchdog/pdp"
+        status, _ = talk.asked(settings, shard, "POST", path, "-", timeout=LIMIT, body=b"{}")
+    except TimeoutError:
+        status = 504
+    except OSError:
+        return "down"  # HAProxy isn't there
+    if status == 504:
+        return "stuck" if listens(settings.port(shard)) else "down"
+    return "down" if status in (502, 503) else "up"
+
+
+def tell(what):
+    # in one piece, since each shard has a thread of its own
+    sys.stderr.write(f"pdpd-watchdog: {what}\n")
+    sys.stderr.flush()
+
+
+def watch(shard):
+    """Watches a shard for ever."""
+    before = "up"
+    while True:
+        settings = setting.read()
+        now = found(settings, shard)
+        if now != before:
+            tell(f"shard {shard} is {now}")
+        if now == "stuck":
+            try:
+                supervisor.of(settings).kill(shard)
+            except setting.Wrong as fault:
+                tell(fault)
+        before = now
+        time.sleep(PAUSE)
+
+
+def watch_all():
+    """Watches all shards, also those that come later."""
+    watched = 0
+    while True:
+        while watched < setting.read().shards:
+            threading.Thread(target=watch, args=(watched,), daemon=True).start()
+            watched += 1
+        time.sleep(PAUSE)

@@ -1,0 +1,238 @@
+"""Clients of the deployment: one message at a time, and loads of many."""
+import itertools
+import pathlib
+import re
+import socket
+import subprocess
+import sys
+import threading
+import time
+
+sys.path.insert(0, str(pathlib.Path(__file__).resolve().parent.parent))
+from serving import Client, message  # noqa: E402
+
+from .machine import PLAIN  # noqa: E402
+
+# the fields of a reply that are compared: those that pdpd sends (docs/API.md), in small letters
+FIELDS = ("content-type", "content-length", "www-authenticate", "allow")
+
+
+def read(reply):
+    """The status, the compared fields and the body of a reply; None where there is none."""
+    head, end, body = reply.partition(b"\r\n\r\n")
+    if not end:
+        return None
+    first, *lines = head.decode("latin-1").split("\r\n")
+    fields = {name.lower(): value.strip() for name, _, value in (line.partition(":") for line in lines)}
+    return int(first.split()[1]), {name: fields[name] for name in FIELDS if name in fields}, body
+
+
+def status(reply):
+    found = read(reply)
+    return found[0] if found else None
+
+
+def once(data, port=PLAIN):
+    """The reply to a message on a connection of its own; empty where the connection ends without one."""
+    try:
+        with Client(port) as client:
+            return client.ask(data)
+    except OSError:
+        return b""
+
+
+class Operator:
+    """Messages by the operator's token, and those that make a domain."""
+
+    def __init__(self, token):
+        self.token = token
+
+    def message(self, method, path, body=None):
+        return message(method, f"/operator/domains{path}", self.token, body)
+
+    def creates(self, name):
+        return self.message("PUT", f"/{name}")
+
+    def names(self):
+        """The names of all domains, by the list."""
+        reply = read(once(self.message("GET", "")))
+        if reply is None or reply[0] != 200:
+            raise RuntimeError(f"the list of domains is answered with {reply}")
+        return re.findall(r'"([a-z0-9-]+)"', reply[2].decode().partition("[")[2])
+
+    def clear(self):
+        """Removes all domains."""
+        for name in self.names():
+            once(self.message("DELETE", f"/{name}"))
+
+    def makes(self, name, effect="Permit", text=None):
+        """Makes a domain whose root has that effect, or is that text, and gives its ask."""
+        token = f"{name}-token-1"
+        for data in self.making(name, token, text or policy_text(effect)):
+            found = status(once(data))
+            if found not in (200, 201):
+                raise RuntimeError(f"{data[:60]} is answered with {found}")
+        return message("POST", f"/domains/{name}/pdp", token, '{"Request":{}}')
+
+    def making(self, name, token, text):
+        at = f"/domains/{name}/pap"
+        yield self.creates(name)
+        yield self.message("POST", f"/{name}/tokens", f'{{"Role":"admin","Token":"{token}"}}')
+        yield message("POST", f"{at}/policies", token, text)
+        yield message("PUT", f"{at}/policy/urn:p/1.0/active", token)
+        yield message("PUT", f"{at}/root", token, '{"PolicyIdReference":{"Id":"urn:p"}}')
+
+
+def policy_text(effect="Permit", policy_id="urn:p", description=""):
+    rules = "urn:oasis:names:tc:xacml:3.0:rule-combining-algorithm:deny-overrides"
+    return (f'{{"Policy":{{"PolicyId":"{policy_id}","Version":"1.0","Description":"{description}",'
+            f'"RuleCombiningAlgId":"{rules}","Rule":[{{"RuleId":"r","Effect":"{effect}"}}]}}}}')
+
+
+def many(machine, count):
+    """Domains on all shards, half of which permit and half of which deny: their asks with the decisions."""
+    effects = [("Permit", "Deny")[number % 2] for number in range(count)]
+    return [(machine.operator.makes(f"d{number}", effect), effect) for number, effect in enumerate(effects)]
+
+
+def decision(reply):
+    """The decision of a reply, or its status where there is none."""
+    found = re.search(rb'"Decision":"(\w+)"', reply)
+    return found[1].decode() if found else status(reply)
+
+
+class Load:
+    """Threads that call something again and again until the end of the `with` statement."""
+
+    def __init__(self, call, count):
+        self.is_over = threading.Event()
+        self.fault = None
+        self.threads = [threading.Thread(target=self.run, args=(call, number)) for number in range(count)]
+
+    def run(self, call, number):
+        try:
+            while not self.is_over.is_set():
+                call(number)
+        except Exception as fault:  # told at the end
+            self.fault = fault
+
+    def __enter__(self):
+        for thread in self.threads:
+            thread.start()
+        return self
+
+    def __exit__(self, *what):
+        self.is_over.set()
+        for thread in self.threads:
+            thread.join()
+        if self.fault:
+            raise self.fault
+
+
+class Deciders:
+    """Threads that ask for decisions, each on a connection of its own; they keep what is wrong."""
+
+    def __init__(self, asks, count=8, also=()):
+        """`asks` are messages with their decisions; `also` are statuses that may come as well."""
+        self.asks, self.also = asks, also
+        self.answered, self.wrong, self.longest, self.lock = 0, [], 0.0, threading.Lock()
+        self.load = Load(self.ask, count)
+        self.turn = 0
+
+    def ask(self, _number):
+        with self.lock:
+            self.turn += 1
+            data, wanted = self.asks[self.turn % len(self.asks)]
+        began = time.time()
+        found = decision(once(data))
+        took = time.time() - began
+        with self.lock:
+            self.answered += 1
+            self.longest = max(self.longest, took)
+            if found != wanted and found not in self.also:
+                self.wrong.append((wanted, found, round(took, 2)))
+
+    def __enter__(self):
+        self.load.__enter__()
+        return self
+
+    def __exit__(self, *what):
+        self.load.__exit__(*what)
+
+
+class Makers:
+    """Threads that make domains, each name once: what was acknowledged, what had no answer, what else was said."""
+
+    def __init__(self, operator, prefix="", count=2, also=(), names=None, pause=0.0):
+        self.operator, self.also, self.pause = operator, also, pause
+        self.names = names or map(f"{prefix}{{}}".format, itertools.count(1))
+        self.acknowledged, self.unanswered, self.refused, self.wrong = [], [], [], []
+        self.lock = threading.Lock()
+        self.load = Load(self.make, count)
+
+    def make(self, _number):
+        time.sleep(self.pause)
+        with self.lock:
+            name = next(self.names)
+        found = status(once(self.operator.creates(name)))
+        with self.lock:
+            if found == 201:
+                self.acknowledged.append(name)
+            elif found in self.also:
+                self.refused.append(name)
+            elif found in (None, 502, 504):
+                self.unanswered.append(name)
+            else:
+                # 409 too: a change that was sent twice
+                self.wrong.append((name, found))
+
+    def __enter__(self):
+        self.load.__enter__()
+        return self
+
+    def __exit__(self, *what):
+        self.load.__exit__(*what)
+
+
+def wrk(script, connections, seconds, port=PLAIN):
+    """What wrk says of so many connections that ask for so long."""
+    words = ["wrk", "-t1", f"-c{connections}", f"-d{seconds}s", "--latency", "--timeout", "20s"]
+    words += ["-s", script, f"http://127.0.0.1:{port}/"]
+    said = subprocess.run(words, capture_output=True, text=True, check=True).stdout
+    bad = re.search(r"Non-2xx or 3xx responses: (\d+)", said)
+    errors = re.search(r"Socket errors: .*", said)
+    count = int(re.search(r"(\d+) requests in", said)[1])
+    quantile = lambda name: milliseconds(re.search(rf"\n +{name}% +(\S+)", said)[1])
+    rate = float(re.search(r"Requests/sec: +(\S+)", said)[1])
+    return {"count": count, "bad": int(bad[1]) if bad else 0, "errors": errors[0] if errors else "",
+            "rate": rate, "p50": quantile(50), "p99": quantile(99)}
+
+
+def shown(found):
+    """What wrk found, in a line."""
+    return f"{found['rate']:.0f} asks/s, p50 {found['p50']:.1f} ms, p99 {found['p99']:.1f} ms"
+
+
+def milliseconds(text):
+    """A time as wrk writes it."""
+    number, unit = re.fullmatch(r"([\d.]+)(us|ms|s|m)", text).groups()
+    return float(number) * {"us": 0.001, "ms": 1, "s": 1000, "m": 60000}[unit]
+
+
+def script_of(path, asks):
+    """Writes a script of wrk that sends these messages in turn."""
+    rows = []
+    for data in asks:
+        head, _, body = data.decode().partition("\r\n\r\n")
+        method, target, _ = head.split("\r\n")[0].split(" ")
+        token = re.search(r"Bearer (\S+)", head)[1]
+        fields = f'["Authorization"]="Bearer {token}",["Content-Type"]="application/json"'
+        rows.append(f'wrk.format("{method}","{target}",{{{fields}}},[==[{body}]==])')
+    path.write_text("local asks = {}\ninit = function() asks = {" + ",\n".join(rows) + "} end\nlocal at = 0\n"
+                    "request = function() at = at % #asks + 1; return asks[at] end\n")
+    return str(path)
+
+
+def silent(port):
+    """A connection that says nothing."""
+    return socket.create_connection(("127.0.0.1", port))

@@ -1,0 +1,93 @@
+"""What goes wrong: restarts, kills, programs that are stuck."""
+import os
+import signal
+import time
+
+from . import clients
+from .clients import Client, Deciders, Makers, many
+from .machine import pid, shards, wait_until
+
+KILLS = 20
+
+
+def restarts(machine, checks):
+    """Restarts by the operator, without retries: nothing is lost, neither a decision nor a change."""
+    machine.operator.clear()
+    asks = many(machine, 8)
+    with Deciders(asks, 6) as deciders, Makers(machine.operator, "r") as makers:
+        for _ in range(3):
+            shards("restart")
+    checks.expect("no decision is lost, or another's", deciders.wrong, [])
+    checks.expect("no change is lost, or made twice", makers.wrong + makers.unanswered, [])
+    checks.say(f"12 restarts: {deciders.answered} decisions, the longest after {deciders.longest:.2f} s, and "
+               f"{len(makers.acknowledged)} changes")
+
+
+def disturb():
+    """Kills programs, and has HAProxy read its files three times, while it is asked."""
+    for turn in range(KILLS):
+        shard = turn % 4
+        old = pid(shard)
+        if old:
+            os.kill(old, signal.SIGKILL)
+        wait_until(lambda: pid(shard) not in (0, old), f"shard {shard} isn't started again")
+        if turn % 7 == 3:
+            shards("reload")
+        time.sleep(0.6)
+
+
+def kills(machine, checks):
+    """Kills, ends of n and reloads: no decision is lost where retries are on, no change is lost or made twice."""
+    machine.operator.clear()
+    asks = many(machine, 8)
+    machine.set(RETRY=1, CONNECTIONS=400)
+    shards("restart")
+    before = set(machine.operator.names())
+    with Deciders(asks, 6) as deciders, Makers(machine.operator, "k") as makers:
+        disturb()
+    machine.set(RETRY=0, CONNECTIONS=1_000_000)
+    shards("restart")
+    made, unanswered, found = set(makers.acknowledged), set(makers.unanswered), set(machine.operator.names())
+    checks.say(f"{KILLS} kills: {deciders.answered} decisions, the longest after {deciders.longest:.2f} s; {len(made)} "
+               f"changes, {len(unanswered)} without an answer, of which {len(found & unanswered)} were made")
+    checks.expect("no decision is lost, or another's", deciders.wrong, [])
+    checks.expect(f"none waits for long ({deciders.longest:.2f} s)", deciders.longest < 5, True)
+    checks.expect("no change is made twice, or refused", makers.wrong, [])
+    checks.expect("each change that was acknowledged is there", made - found, set())
+    checks.expect("and none that nobody asked for", found - before - made - unanswered, set())
+    checks.expect("there were decisions and changes", (deciders.answered > 500, len(made) > 50), (True, True))
+
+
+def stuck(machine, checks):
+    """A program that stands still and a connection that says nothing: both end, and nobody is answered wrong."""
+    machine.operator.clear()
+    asks = many(machine, 8)
+    machine.set(RETRY=1)
+    kinds = {"a program that stands still": stands_still, "a silent connection": says_nothing}
+    for what, disturbs in kinds.items():
+        with Deciders(asks, 8) as deciders:
+            time.sleep(0.5)
+            took = disturbs()
+            time.sleep(0.5)
+        checks.say(f"{what}: over after {took:.1f} s; the longest of {deciders.answered} decisions took "
+                   f"{deciders.longest:.1f} s")
+        checks.expect(f"{what}: no decision is lost", deciders.wrong, [])
+        checks.expect(f"{what} ends after {took:.1f} s", took < 9, True)
+    machine.set(RETRY=0)
+
+
+def stands_still():
+    began, old = time.time(), pid(1)
+    os.kill(old, signal.SIGSTOP)
+    wait_until(lambda: pid(1) not in (0, old), "a program that stands still isn't killed")
+    return time.time() - began
+
+
+def says_nothing():
+    began = time.time()
+    with clients.silent(7102):
+        time.sleep(0.2)
+        with Client(7102) as behind:
+            behind.send(b"GET / HTTP/1.1\r\nConnection: close\r\n\r\n")
+            behind.all()
+            return time.time() - began

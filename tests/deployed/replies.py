@@ -1,0 +1,253 @@
+"""What is answered through four shards: the API's examples, odd requests, odd paths, the list of domains."""
+import importlib.machinery
+import importlib.util
+import json
+import sys
+import time
+
+from . import clients
+from .clients import Client, Load, message, once, read, status
+from .machine import PLAIN, TOP, admin, sh, shards, wait_until
+
+# The examples of docs/API.md that are answered otherwise than by pdpd alone, with what they have here
+# (docs/OPERATING.md, "What the proxy answers").
+OTHERWISE = {
+    # HAProxy's own, whatever its configuration says
+    "bad-head": (400, b"<html><body><h1>400 Bad request</h1>\nYour browser sent an invalid request.\n"
+                      b"</body></html>\n"),
+    # a chunked body that never comes, for which the proxy waits
+    "transfer-coding": (408, b'{"Error":"Timeout"}'),
+}
+
+
+def api():
+    """tests/api, which reads the page of the API."""
+    path = str(TOP / "tests" / "api")
+    loader = importlib.machinery.SourceFileLoader("api", path)
+    module = importlib.util.module_from_spec(importlib.util.spec_from_loader("api", loader))
+    arguments, sys.argv = sys.argv, [path]
+    loader.exec_module(module)
+    sys.argv = arguments
+    return module
+
+
+def examples(machine, checks):
+    """Each example of docs/API.md: every message before it, and its own, are answered as the page says."""
+    module = api()
+    pages, _ = module.read_page((TOP / module.PAGE).read_text(encoding="utf-8"))
+    machine.change_token(module.OPERATOR_TOKEN)
+    for example in pages.examples.values():
+        if module.error_body("Unavailable").encode() in example.reply:
+            continue  # for want of memory
+        machine.operator.clear()
+        before = [module.stepped(pages, step) for step in pages.states[example.state]]
+        with Client(PLAIN) as client:
+            for data, wanted in before:
+                checks.expect(f"before {example.name}: {data[:60]}", read(client.ask(data)), read(wanted))
+            found, wanted = read(client.ask(module.bytes_of(example.head, example.body))), read(example.reply)
+        if example.name in OTHERWISE:
+            wanted = OTHERWISE[example.name]
+            found = found and (found[0], found[2])
+        elif found and b"dateTime" in wanted[2]:
+            found, wanted = without_moment(found), without_moment(wanted)
+        checks.expect(f"the example {example.name}", found, wanted)
+    machine.operator.clear()
+
+
+def without_moment(found):
+    """A reply without the moment, which is the clock's."""
+    value = json.loads(found[2])
+    text = json.dumps(value)
+    kept = {name: value for name, value in found[1].items() if name != "content-length"}
+    return found[0], kept, clients.re.sub(r"\d{4}-\d\d-\d\dT\d\d:\d\d:\d\dZ", "MOMENT", text)
+
+
+# ---- odd requests
+
+def odd_requests(operator, ask):
+    """Requests with the statuses that may come, by RFC 9110 and 9112 and by the page; None: just an end."""
+    head, _, body = ask.partition(b"\r\n\r\n")
+    line, _, fields = head.partition(b"\r\n")
+    fields = b"\r\n" + fields
+    bare = b"\r\n".join(it for it in fields.split(b"\r\n") if not it.startswith(b"Content-Length"))
+    listing = operator.message("GET", "")
+    shown = listing.split(b"\r\n")[1]
+    get = lambda version, more=b"": b"GET /operator/domains " + version + b"\r\n" + shown + more + b"\r\n\r\n"
+    post = lambda more, data=body: line + bare + more + b"\r\n\r\n" + data
+    chunked = lambda data: b"%x\r\n%b\r\n0\r\n\r\n" % (len(data), data)
+    coding = b"\r\nTransfer-Encoding: chunked"
+    put_in = lambda old, new: get(b"HTTP/1.1", b"\r\nHost: h").replace(old, new, 1)
+    upgrade = lambda to, more=b"": get(b"HTTP/1.1", b"\r\nConnection: Upgrade\r\nUpgrade: " + to + more)
+    many = lambda count: b"".join(b"\r\nX-%d: x" % number for number in range(count))
+    return {
+        "HTTP/1.0": (get(b"HTTP/1.0"), {505}),
+        "HTTP/1.0 that wants to go on": (get(b"HTTP/1.0", b"\r\nConnection: keep-alive"), {505}),
+        "HTTP/0.9": (b"GET /operator/domains\r\n\r\n", {400, 505}),
+        "HTTP/1.2": (get(b"HTTP/1.2"), {505}),
+        "HTTP/3.0": (get(b"HTTP/3.0"), {505}),
+        "no version": (get(b"HTTP"), {400}),
+        "HEAD": (b"HEAD /operator/domains HTTP/1.1\r\n" + shown + b"\r\nConnection: close\r\n\r\n", {405}),
+        "a method in small letters": (get(b"HTTP/1.1").replace(b"GET", b"get"), {405}),
+        "a method that is none": (get(b"HTTP/1.1").replace(b"GET", b"G(T"), {400}),
+        "OPTIONS of all": (b"OPTIONS * HTTP/1.1\r\nHost: h\r\n\r\n", {400, 404, 405}),
+        "CONNECT": (b"CONNECT localhost:443 HTTP/1.1\r\nHost: h\r\n\r\n", {400, 404, 405}),
+        "TRACE": (b"TRACE /operator/domains HTTP/1.1\r\nHost: h\r\n\r\n", {405}),
+        "a length too large": (post(b"\r\nContent-Length: 262145", b""), {413}),
+        "a length of letters": (post(b"\r\nContent-Length: 1a"), {400}),
+        "a length below nothing": (post(b"\r\nContent-Length: -1"), {400}),
+        "two lengths": (post(b"\r\nContent-Length: 14\r\nContent-Length: 15"), {400}),
+        "a body that doesn't come": (post(b"\r\nContent-Length: 100"), {408}),
+        "a NUL in a field": (get(b"HTTP/1.1", b"\r\nX: a\0b"), {400}),
+        "a control in a field": (get(b"HTTP/1.1", b"\r\nX: a\x01b"), {400}),
+        "DEL in a field": (get(b"HTTP/1.1", b"\r\nX: a\x7fb"), {400}),
+        "a blank before the colon": (get(b"HTTP/1.1", b"\r\nX : a"), {400}),
+        "a field without a name": (get(b"HTTP/1.1", b"\r\n: a"), {400}),
+        "a field without a colon": (get(b"HTTP/1.1", b"\r\nAccept application/json"), {400}),
+        "a folded field": (get(b"HTTP/1.1", b"\r\nX: a\r\n b"), {200, 400}),
+        "lines that end with LF alone": (get(b"HTTP/1.1").replace(b"\r\n", b"\n"), {200, 400}),
+        "empty lines before": (b"\r\n\r\n" + get(b"HTTP/1.1"), {200, 400}),
+        "two hosts": (get(b"HTTP/1.1", b"\r\nHost: a\r\nHost: b"), {200, 400}),
+        "two tokens": (get(b"HTTP/1.1", b"\r\n" + shown), {401}),
+        "63 fields": (get(b"HTTP/1.1", many(62)), {200}),
+        "64 fields": (get(b"HTTP/1.1", many(63)), {431}),
+        "120 fields": (get(b"HTTP/1.1", many(119)), {431}),
+        "a field of 16,384 bytes": (get(b"HTTP/1.1", b"\r\nCookie: " + b"x" * 16_384), {431}),
+        "a target of 16,300 bytes": (put_in(b"domains", b"domains?" + b"x" * 16_300), {431}),
+        "a blank in the target": (put_in(b"domains", b"dom ains"), {400}),
+        "a letter that is no ASCII in the target": (put_in(b"domains", b"dom\xffains"), {400, 404}),
+        "a fragment": (put_in(b"domains", b"domains#x"), {200, 400, 404}),
+        "an absolute target": (put_in(b"/operator", b"http://h/operator"), {200}),
+        "a chunked body": (post(coding, chunked(body)), {200}),
+        "a chunk of no size": (post(coding, b"zz\r\n" + body), {400}),
+        "a chunked body too large": (post(coding, chunked(b"x" * 262_145)), {413}),
+        "chunked and a length": (post(coding + b"\r\nContent-Length: 3", chunked(body)), {200, 400}),
+        "two codings": (post(b"\r\nTransfer-Encoding: gzip, chunked", chunked(body)), {400, 422, 501}),
+        "a coding that is none": (post(b"\r\nTransfer-Encoding: identity", b""), {400, 501}),
+        "Expect": (post(b"\r\nExpect: 100-continue\r\nContent-Length: %d" % len(body)), {200}),
+        "half of a websocket's handshake": (upgrade(b"websocket"), {200, 400}),
+        "h2c": (upgrade(b"h2c", b"\r\nHTTP2-Settings: AAMAAABkAAQAAP__"), {200}),
+        "a reading with a body": (get(b"HTTP/1.1", b"\r\nContent-Length: 2") + b"{}", {200}),
+        "262,144 bytes that are no JSON": (post(b"\r\nContent-Length: 262144", b"x" * 262_144), {400}),
+        "TLS where there is none": (b"\x16\x03\x01\x02\x00\x01\x00\x01\xfc" + b"\0" * 60, {400, None}),
+        "random bytes": (bytes(range(256)) * 8 + b"\r\n\r\n", {400, None}),
+        "nothing": (b"", {400, None}),
+        "half a head": (get(b"HTTP/1.1")[:30], {None, 400, 408}),
+    }
+
+
+def odd_reply(data):
+    """The status of the reply to these bytes; 100 (Continue) is passed over."""
+    with Client(PLAIN) as client:
+        client.send(data)
+        if not data or b"\r\n\r\n" not in data.replace(b"\n\n", b"\r\n\r\n"):
+            client.ends_writing()
+        if b"Expect" in data:
+            while client.held.count(b"HTTP/1.1 ") < 2 and not client.held.startswith(b"HTTP/1.1 200"):
+                if not client.more():
+                    return None
+            client.held = client.held[client.held.rindex(b"HTTP/1.1 "):]
+        if data.startswith(b"HEAD"):
+            return status(client.all())
+        return status(client.reply())
+
+
+def odd(machine, checks):
+    """Odd requests: each is answered or its connection ends, and a good one of another client behind it is right."""
+    operator = machine.operator
+    operator.clear()
+    ask = operator.makes("acme")
+    for name, (data, wanted) in odd_requests(operator, ask).items():
+        found = odd_reply(data)
+        checks.expect(f"odd: {name}: {found}", found in wanted, True)
+        began = time.time()
+        checks.expect(f"behind {name}", clients.decision(once(ask)), "Permit")
+        checks.expect(f"behind {name}, how soon", time.time() - began < 1, True)
+    with Client(PLAIN) as client:
+        client.send(ask * 50)
+        checks.expect("50 at once", [clients.decision(client.reply()) for _ in range(50)], ["Permit"] * 50)
+    checks.expect("no domain more", operator.names(), ["acme"])
+
+
+# ---- paths
+
+PATHS = (
+    ("POST", "/domains/acme/pdp", 200), ("POST", "/domains/acme/pdp?x=1", 200),
+    ("POST", "http://h/domains/acme/pdp", 200), ("POST", "http://h/domains/%61cme/pdp", 400),
+    ("POST", "/domains/%61cme/pdp", 400), ("POST", "/domains/acm%65/pdp", 400),
+    ("POST", "/domains/acme%2F/pdp", 400), ("POST", "/domains/acme%00/pdp", 400),
+    ("POST", "/domains/%/pdp", 400), ("POST", "/domains/%2e%2e/pdp", 400),
+    ("POST", "/domains/acme/%70dp", 404), ("POST", "/domains/acme//pdp", 404),
+    ("POST", "//domains/acme/pdp", 404), ("POST", "/./domains/acme/pdp", 404),
+    ("POST", "/domains/./acme/pdp", 404), ("POST", "/x/../domains/acme/pdp", 404),
+    ("POST", "/domains/acme/pdp/", 404), ("POST", "/domains/acme/pdp;x", 404),
+    ("POST", "/domains/acme?x/pdp", 404), ("POST", "/domains//pdp", 404), ("POST", "/DOMAINS/acme/pdp", 404),
+    ("POST", "/%64omains/acme/pdp", 404), ("POST", "/domains/ACME/pdp", 401),
+    ("POST", "/domains/acme./pdp", 401),
+    ("POST", "/domains/beta/pdp", 401), ("GET", "/domains/acme/pap/policy/urn:p/1.0", 200),
+    ("GET", "/domains/acme/pap/policy/urn%3Ap/1.0", 200), ("GET", "/domains/acme/pap/policy/a%2Fb/1.0", 404),
+    ("GET", "/domains/a%63me/pap/policy/urn:p/1.0", 400),
+)
+OF_OPERATOR = (
+    ("PUT", "/%61cme", 400), ("PUT", "/a%63me", 400), ("PUT", "/acm%65", 400), ("PUT", "/Acme", 400),
+    ("PUT", "/", 404), ("PUT", "//acme", 404), ("PUT", "/acme/", 404), ("DELETE", "/%61cme", 400), ("PUT", "/acme", 409),
+)
+
+
+def paths(machine, checks):
+    """Paths that are written otherwise: none leads to another shard than its domain's."""
+    operator = machine.operator
+    operator.clear()
+    operator.makes("acme")
+    operator.makes("beta")
+    for method, path, wanted in PATHS:
+        body = '{"Request":{}}' if method == "POST" else None
+        checks.expect(f"{method} {path}", status(once(message(method, path, "acme-token-1", body))), wanted)
+    for method, path, wanted in OF_OPERATOR:
+        found = status(once(operator.message(method, path)))
+        checks.expect(f"{method} /operator/domains{path}", found, wanted)
+    checks.expect("the domains behind it", operator.names(), ["acme", "beta"])
+
+
+# ---- the list
+
+def impatient(ask):
+    """A client that goes after a second, also while its message waits."""
+    client = Client(PLAIN)
+    client.socket.settimeout(1)
+    client.send(ask)
+    try:
+        client.reply()
+    except TimeoutError:
+        pass
+    client.close()
+
+
+def listing(machine, checks):
+    """The list of all domains is that of one server, or an error; a map that names no shard leads nowhere."""
+    operator = machine.operator
+    operator.clear()
+    names = sorted(f"d{number}{'-' * (number % 3)}" for number in range(26))
+    for name in names:
+        checks.expect(f"{name} is made", status(once(operator.creates(name))), 201)
+    body = json.dumps({"Domain": names}, separators=(",", ":")).encode()
+    fields = {"content-type": "application/json", "content-length": str(len(body))}
+    checks.expect("the list", read(once(operator.message("GET", ""))), (200, fields, body))
+    found = read(once(message("GET", "/operator/domains", "no-such-token")))
+    checks.expect("without the token", (found[0], found[1].get("www-authenticate")), (401, "Bearer"))
+    sh("sv down /etc/service/pdpd-2")
+    time.sleep(0.3)
+    began = time.time()
+    checks.expect("with a shard away", status(once(operator.message("GET", ""))), 503)
+    checks.expect("how soon", time.time() - began < 14, True)
+    name = next(name for name in names if shards("where", name).strip() == "2")
+    with Load(lambda _number: impatient(operator.creates(name)), 6):
+        time.sleep(4)
+        sh("sv up /etc/service/pdpd-2")
+        is_there = lambda: status(once(operator.creates(name))) == 409
+        wait_until(is_there, "beside impatient clients the queue stands still", 14)
+    is_there = lambda: status(once(operator.message("GET", ""))) == 200
+    wait_until(is_there, "the list isn't there again", 14)
+    admin("add map /etc/haproxy/domains.map lost 63")
+    checks.expect("a shard that isn't there", status(once(operator.creates("lost"))), 503)
+    checks.expect("and nothing is made", operator.names(), names)
+    operator.clear()
