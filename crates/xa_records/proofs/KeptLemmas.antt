@@ -1,14 +1,14 @@
 -- Numbers stay apart through every change.
 use Rattle.std.proofs.Common.{◌≡◌, ◌<◌, ◌≤◌, ◌+◌, ◌^◌, ℕ, List, refl, sym, ap, ◌∙◌, subst, inl, inr, arith}
 use Rattle.std.specs.Prelude.{Option, Some, None, Result, Ok, Err, ◌⊎◌}
-use Rattle.std.specs.FinMap.{empty, get, get-empty}
+use Rattle.std.specs.FinMap.{empty, get, get-empty, insert}
 use Rattle.xa_records.specs.declared.refusal.ChangeError.{ChangeError}
 use Rattle.xa_records.specs.declared.refusal.ChangeError.TheVariants.{Failed, Refused}
 use Rattle.xa_records.specs.Changes.{Change}
-use Rattle.xa_records.specs.DomainState.{DomainState, compare_bytes}
+use Rattle.xa_records.specs.DomainState.{DomainState, compare_bytes, new_domain}
 use Rattle.xa_records.specs.Keeper.{Changes}
-use Rattle.xa_records.specs.Kept.{Becomes, Domain, IsChanged, IsNextEpoch, IsNextNumber, IsNumbered, Kept}
-use Rattle.xa_records.proofs.FinMapLemmas.{different, here_or_elsewhere}
+use Rattle.xa_records.specs.Kept.{Becomes, Domain, IsChanged, IsNextEpoch, IsNextNumber, IsNumbered, Kept, one_kept}
+use Rattle.xa_records.proofs.FinMapLemmas.{different, get_put, get_put_elsewhere, here_or_elsewhere}
 use Rattle.xa_records.proofs.OrderLemmas.{bytes_exact, bytes_total}
 
 -- a domain of the name after the change: new, or gone over from the one before
@@ -97,3 +97,19 @@ numbered_new next low = record {
   next = low;
   epochs = λ name d there. absurd (nothing d (sym (get-empty compare_bytes name) ∙ there));
 }
+
+-- one domain
+at_one : (name : List ℕ) (one d : Domain) (q : List ℕ) → get (insert {R = compare_bytes} empty name one) q ≡ Some d → (q ≡ name) × (d ≡ one)
+at_one name one d q there = elim (here_or_elsewhere bytes_exact q name) [
+  | inl here ↦ (here, one_value d one (sym there ∙ ap (get (insert {R = compare_bytes} empty name one)) here ∙ get_put bytes_total empty name one))
+  | inr away ↦ absurd (nothing d (sym (get-empty compare_bytes q) ∙ sym (get_put_elsewhere bytes_total bytes_exact empty name one q (different bytes_total q name away)) ∙ there))
+]
+
+pub numbered_one : (name : List ℕ) (number epoch : ℕ) → number + 1 < 2 ^ 63 → epoch < 2 ^ 63 → IsNumbered (one_kept name number epoch)
+numbered_one name number epoch next low =
+    let one : Domain = record { number = number; epoch = epoch; state = new_domain } in record {
+      apart = λ q other a b there here same. (at_one name one a q there).0 ∙ sym (at_one name one b other here).0;
+      below = λ q d there. subst (λ (x : Domain). x.number < number + 1) (sym (at_one name one d q there).1) (omega arith);
+      next = next;
+      epochs = λ q d there. subst (λ (x : Domain). x.epoch < 2 ^ 63) (sym (at_one name one d q there).1) low;
+    }

@@ -1,8 +1,8 @@
 -- What is kept of all domains, and how one of them changes in it.
 use Rattle.std.specs.Prelude.{◌≡◌, ◌≢◌, ◌<◌, ◌≤◌, ◌+◌, ◌^◌, ◌⊎◌, ℕ, List, Option, Some, None, option_map, Ok}
-use Rattle.std.specs.FinMap.{FinMap, empty, get, keys}
+use Rattle.std.specs.FinMap.{FinMap, empty, get, insert, keys}
 use Rattle.xa_records.specs.Changes.{Change}
-use Rattle.xa_records.specs.DomainState.{DomainState, compare_bytes}
+use Rattle.xa_records.specs.DomainState.{DomainState, compare_bytes, new_domain}
 
 -- a domain: its number, which no other ever has; its epoch, which rises whenever its documents, its root or its source rows change; and its state
 pub record Domain : Type 0 where
@@ -18,6 +18,10 @@ pub record Kept : Type 0 where
 -- no domains; the first that is made gets the number 1
 abbrev pub nothing_kept : Kept
 nothing_kept = record { domains = empty; next = 1 }
+
+-- one domain, in which nothing has been put yet; the next gets the number after its own
+abbrev pub one_kept : List ℕ → ℕ → ℕ → Kept
+one_kept name number epoch = record { domains = insert empty name (record { number = number; epoch = epoch; state = new_domain }); next = number + 1 }
 
 -- the state of the domain of that name, if there is one
 abbrev pub state_of : List ℕ → Kept → Option DomainState

@@ -1,5 +1,5 @@
 -- The plan of a domain that is made.
-use Rattle.std.proofs.Common.{◌≡◌, ◌≢◌, ℕ, ◌+◌, ◌<◌, ◌^◌, ℤ, pos, List, [], ◌∷◌, filter, find, Bool, true, false, cond, Option, Some, None, option_map, Ok, Err, Ordering, Less, Equal, Greater, is_eq, int_cmp, int_eq, true≢false, refl, sym, ap, subst, ◌∙◌, arith}
+use Rattle.std.proofs.Common.{◌≡◌, ◌≢◌, ℕ, ◌+◌, ◌<◌, ◌^◌, ℤ, pos, List, [], ◌∷◌, filter, find, Bool, true, false, cond, Option, Some, None, option_map, Ok, Err, Ordering, Less, Equal, Greater, is_eq, int_cmp, int_eq, int_lt, true≢false, refl, sym, ap, ap₂, subst, ◌∙◌, arith}
 use Rattle.std.specs.List.{AllByRecursion}
 use Rattle.std.specs.Ordering.{match_ordering}
 use Rattle.std.specs.FinMap.{get}
@@ -17,6 +17,8 @@ use Rattle.xa_records.specs.declared.refusal.Refusal.TheVariants.{Exists}
 use Rattle.xa_store.specs.declared.domain_found.DomainFound.{DomainFound}
 use Rattle.xa_store.specs.Found.{FindsDomain, IsNext}
 use Rattle.xa_store.specs.Planning.{RaisesTo, create_steps}
+use Rattle.xa_records.specs.DomainName.{is_domain_name}
+use Rattle.xa_store.specs.Opened.{is_count}
 use Rattle.xa_store.specs.Rows.{DomainRow, nat_of}
 use Rattle.xa_store.specs.Sound.{AreNumbered, same_name}
 use Rattle.xa_store.specs.Steps.{is_named}
@@ -26,6 +28,8 @@ use Rattle.xa_store.proofs.ChangeLemmas.{kept_at, not_same, number_of}
 use Rattle.xa_store.proofs.FilterLemmas.{find_none}
 use Rattle.xa_store.proofs.HitLemmas.{turn_bytes}
 use Rattle.xa_store.proofs.PlanLemmas.{its_state, no_state}
+use Rattle.xa_store.proofs.RiseLemmas.{both_true}
+use Rattle.xa_store.proofs.WholeLemmas.{count_is, created_whole, one_above}
 
 -- ---- what is found after an insertion
 
@@ -111,23 +115,34 @@ module _ (rows : Rows) (are : AreNumbered rows) (apart : AreApart same_name rows
       next = subst (λ o. IsNextNumber (nat_of rows.next) o (Some new_domain) (nat_of later)) (sym was) rises;
     }
 
-    create_planned : Plans (create_steps name rows.next later) created name rows
-    create_planned = record {
+    -- the next number after it
+    raised : (later ≡ pos (nat_of rows.next + 1)) × (nat_of rows.next + 1 < 2 ^ 63)
+    raised = raises (nat_of rows.next) has
+
+    later_counts : is_count later ≡ true
+    later_counts = subst (λ n. is_count n ≡ true) (sym raised.0) (count_is (nat_of rows.next + 1) raised.1)
+
+    above : int_lt rows.next later ≡ true
+    above = ap₂ int_lt has raised.0 ∙ one_above (nat_of rows.next)
+
+    create_planned : is_domain_name name ≡ true → Plans (create_steps name rows.next later) created name rows
+    create_planned named = record {
       allows = (none, (tt, tt));
       made = (Some new_domain, ap created (no_state rows name none), changed);
       numbered = record {
         numbered = numbered_changed (kept_of rows) (kept_of after) name (Some new_domain) changed are.numbered;
         unused = λ n past. are.unused n (let up = rises.0 in omega arith);
       };
+      whole = λ whole. created_whole rows whole later made later_counts above (both_true (is_count rows.next) (int_lt rows.next later) whole.next above, named, refl);
     }
 
 -- with the number that was found
-pub plan_created : (rows : Rows) (name : List ℕ) (number later : ℤ) → AreNumbered rows → AreApart same_name rows.domains → filter (is_named name) rows.domains ≡ [] → IsNext rows number → RaisesTo number (Ok later)
+pub plan_created : (rows : Rows) (name : List ℕ) (number later : ℤ) → is_domain_name name ≡ true → AreNumbered rows → AreApart same_name rows.domains → filter (is_named name) rows.domains ≡ [] → IsNext rows number → RaisesTo number (Ok later)
     → Plans (create_steps name number later) created name rows
-plan_created rows name number later are apart none next raises =
+plan_created rows name number later named are apart none next raises =
     let has : rows.next ≡ pos (nat_of rows.next) = subst (λ n. n ≡ pos (nat_of n)) next.same next.has_number in
     subst (λ n. Plans (create_steps name n later) created name rows) (sym next.same)
-    (create_planned rows are apart name none has later (subst (λ n. RaisesTo n (Ok later)) next.same raises))
+    (create_planned rows are apart name none has later (subst (λ n. RaisesTo n (Ok later)) next.same raises) named)
 
 -- there is a domain of that name
 pub found_exists : (rows : Rows) (name : List ℕ) (found : Option DomainFound) (one : DomainFound) → found ≡ Some one → FindsDomain name rows found → created (state_of name (kept_of rows)) ≡ Err Exists

@@ -1,5 +1,5 @@
 -- The plans of changes of documents.
-use Rattle.std.proofs.Common.{◌≡◌, ◌≢◌, inr, ℕ, ◌+◌, ◌<◌, ◌^◌, ℤ, List, [], ◌∷◌, ◌++◌, filter, find, Bool, true, false, cond, nat_lt, bytes_eq, Option, Some, None, option_map, is_some, Result, Ok, Err, refl, sym, ap, subst, ◌∙◌, int_eq}
+use Rattle.std.proofs.Common.{◌≡◌, ◌≢◌, inr, ℕ, ◌+◌, ◌<◌, ◌^◌, ℤ, List, [], ◌∷◌, ◌++◌, filter, find, Bool, true, false, not, cond, nat_lt, bytes_eq, Option, Some, None, option_map, is_some, Result, Ok, Err, refl, sym, ap, subst, ◌∙◌, int_eq}
 use Rattle.std.specs.Ordering.{eq_by_cmp}
 use Rattle.std.specs.FinMap.{FinMap, get, insert, remove, len}
 use Rattle.sqlite_keyed.specs.Keyed.{IsKeyedBy, next_key}
@@ -31,8 +31,9 @@ use Rattle.xa_store.proofs.EntryLemmas as entry
 use Rattle.xa_store.proofs.FilterLemmas.{filter_both, filter_delete, filter_delete_apart, filter_push, filter_push_apart, filter_update, filter_update_apart, find_none, find_one}
 use Rattle.xa_store.proofs.KeyLemmas.{own_number}
 use Rattle.xa_store.proofs.PlanLemmas.{changed, its_state, numbered_after}
-use Rattle.xa_store.proofs.TextsKept.{of_key}
+use Rattle.xa_store.proofs.TextsKept.{all_filter, all_push, all_update, of_key}
 use Rattle.xa_store.proofs.TurnLemmas.{still}
+use Rattle.xa_store.proofs.WholeLemmas.{IsWholeDocument, count_after, documents_whole, epoch_whole, its_domain}
 
 abbrev key_of : DocumentRow → DocumentKey
 key_of d = d.key
@@ -75,6 +76,7 @@ module _ (rows : Rows) (name : List ℕ) (d : DomainRow) (one : IsOnly name d ro
       subst (λ s. Rattle.xa_records.specs.Kept.IsChanged (kept_of rows) (kept_of rows) name (Some s)) same (still (kept_of rows) name (domain_of rows d) (kept_one rows name d one)),
     );
     numbered = are;
+    whole = λ whole. whole;
   }
 
   module _ (epoch : ℤ) (rises : nat_of epoch ≡ nat_of d.epoch + 1) (fits : nat_of epoch < 2 ^ 63) where
@@ -128,6 +130,8 @@ module _ (rows : Rows) (name : List ℕ) (d : DomainRow) (one : IsOnly name d ro
               turned documents target here others differs,
             );
             numbered = numbers documents target here others differs;
+            whole = λ whole. documents_whole rows whole documents (with_epoch n epoch rows.domains) (all_update (IsWholeDocument rows.next) (is_document n key) f (λ x h. h) rows.documents whole.documents)
+                (epoch_whole rows whole n epoch (count_after epoch (nat_of d.epoch) rises fits));
           }
 
       pub drop_planned : x.active ≡ false → Plans (DropDocument n key ∷ SetEpoch n epoch ∷ []) (within (deleted key)) name rows
@@ -147,6 +151,8 @@ module _ (rows : Rows) (name : List ℕ) (d : DomainRow) (one : IsOnly name d ro
               turned documents target here others differs,
             );
             numbered = numbers documents target here others differs;
+            whole = λ whole. documents_whole rows whole documents (with_epoch n epoch rows.domains) (all_filter (IsWholeDocument rows.next) (λ x. not (is_document n key x)) rows.documents whole.documents)
+                (epoch_whole rows whole n epoch (count_after epoch (nat_of d.epoch) rises fits));
           }
 
     -- ---- a document that isn't there
@@ -175,6 +181,8 @@ module _ (rows : Rows) (name : List ℕ) (d : DomainRow) (one : IsOnly name d ro
               turned documents target here others differs,
             );
             numbered = numbers documents target here others differs;
+            whole = λ whole. documents_whole rows whole documents (with_epoch n epoch rows.domains) (all_push (IsWholeDocument rows.next) rows.documents new whole.documents (its_domain rows whole name d one).0)
+                (epoch_whole rows whole n epoch (count_after epoch (nat_of d.epoch) rises fits));
           }
 
   -- ---- where nothing is done

@@ -61,6 +61,11 @@ pub mod ShapeLemmas
 pub mod ShapedLemmas
 pub mod LoadLemmas
 pub mod CountLemmas
+pub mod CountedLemmas
+pub mod AsciiLemmas
+pub mod ColumnLemmas
+pub mod WholeLemmas
+pub mod ReopenLemmas
 pub mod AreRowsLemmas
 pub mod RootRowLemmas
 pub mod DocumentRowLemmas

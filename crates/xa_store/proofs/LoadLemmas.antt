@@ -6,13 +6,12 @@ use Rattle.sqlite.specs.State.{State, HasCleanDisk}
 use Rattle.sqlite.specs.Tree.{Trees}
 use Rattle.sqlite_catalog.specs.Listing.{IsSound}
 use Rattle.sqlite_keyed.proofs.RuleLemmas.{first_of_both, second_of_both}
-use Rattle.sqlite_keyed.specs.Lists.{sort_by}
 use Rattle.xa_store.specs.declared.opening.kind.Kind.{Kind}
 use Rattle.xa_store.specs.declared.opening.kind.Kind.TheVariants.{Domains, Tokens, Documents, Roots, Attributes}
 use Rattle.xa_store.specs.declared.open_error.OpenError.{OpenError}
 use Rattle.xa_store.specs.declared.open_error.OpenError.TheVariants.{NotThisSchema, Damaged, Store, Memory}
 use Rattle.xa_store.specs.Judging.{Asks, Checked, GivesAs, GivesNext, Judged, Judges, Orders, Walked, Walks}
-use Rattle.xa_store.specs.Opened.{are_rising, as_read, count_on, is_count, is_sound, is_sound_table, judged, known_next, no_place, opened, place_cmp, place_in, read_meta, row_number, tree_of}
+use Rattle.xa_store.specs.Opened.{are_counted, are_rising, as_read, is_count, is_sound, is_sound_table, judged, known_next, opened, place_in, read_meta, row_number, tree_of}
 use Rattle.xa_store.specs.Rows.{attribute_in, attribute_row}
 use Rattle.xa_store.specs.Sound.{AreRows, Rests, same_place}
 use Rattle.xa_store.proofs.AskedLemmas.{as_failed, asks_then, rests_before, same_before}
@@ -85,7 +84,7 @@ attributes_sound db next h =
 
 pub all_judged : (next : ℤ) (a b c : State) (x : Unit {0}) (r : Result (Unit {0}) OpenError) → is_count next ≡ true → Asks a b (Ok x) → Asks b c r
     → (HasCleanDisk b → Rests a → list_all (is_sound_table a.now.trees next) kinds ≡ true)
-    → (HasCleanDisk c → Rests b → AreRows attribute_row attribute_in (λ a. a.rowid) same_place (b.now.trees 8) → Judges (count_on no_place (sort_by place_cmp (map place_in (b.now.trees 8)))) r)
+    → (HasCleanDisk c → Rests b → AreRows attribute_row attribute_in (λ a. a.rowid) same_place (b.now.trees 8) → Judges (are_counted (map place_in (b.now.trees 8))) r)
     → HasCleanDisk c → Rests a → IsDatabase a.now → Judges (is_sound a.now.trees next) r
 all_judged next a b c x r counts first second tables places clean rests live =
     let between : HasCleanDisk b = omega (arith, second.survives.clean) in
@@ -93,7 +92,7 @@ all_judged next a b c x r counts first second tables places clean rests live =
     let same = same_before a b c x first between rests in
     let are = attributes_are a.now.trees next (subst (λ s. IsSound s a.now.trees) rests.schema live) (attributes_sound a.now.trees next all) in
     let told = places clean (rests_before a b c x first between rests) (subst (λ (d : Database). AreRows attribute_row attribute_in (λ a. a.rowid) same_place (d.trees 8)) (sym same.now) are) in
-    both_judged _ _ r (both_true _ _ counts all) (subst (λ (d : Database). Judges (count_on no_place (sort_by place_cmp (map place_in (d.trees 8)))) r) same.now told)
+    both_judged _ _ r (both_true _ _ counts all) (subst (λ (d : Database). Judges (are_counted (map place_in (d.trees 8))) r) same.now told)
 
 -- ---- what opening answers
 

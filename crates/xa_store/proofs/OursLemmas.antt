@@ -7,28 +7,31 @@ use Rattle.sqlite.specs.Order.{Row, column}
 use Rattle.sqlite.specs.State.{State}
 use Rattle.sqlite.specs.Tree.{Trees}
 use Rattle.sqlite_catalog.specs.Listing.{IsSound}
-use Rattle.sqlite_keyed.proofs.ListLemmas.{all_map, all_weaker}
+use Rattle.sqlite_keyed.proofs.ListLemmas.{all_map, all_weaker, map-map}
 use Rattle.sqlite_keyed.proofs.RuleLemmas.{first_of_both, second_of_both}
-use Rattle.sqlite_keyed.specs.Lists.{sort_by}
 use Rattle.sqlite_typed.specs.Columns.{int_of}
+use Rattle.xa_records.specs.DomainName.{is_domain_name}
 use Rattle.xa_records.specs.DomainState.{IsDocumentOf}
 use Rattle.xa_records.specs.Kept.{nothing_kept}
 use Rattle.xa_store.specs.declared.open_error.OpenError.{OpenError}
 use Rattle.xa_store.specs.declared.open_error.OpenError.TheVariants.{Damaged}
 use Rattle.xa_store.specs.declared.opening.kind.Kind.{Kind}
 use Rattle.xa_store.specs.declared.opening.kind.Kind.TheVariants.{Domains, Tokens, Documents, Roots, Attributes}
-use Rattle.xa_store.specs.Opened.{are_sound_rows, as_read, count_on, holds_int, is_count, is_given, is_sound, is_sound_table, is_whole_row, judged, known_next, no_place, opened, place_cmp, place_in, read_meta, tree_of}
+use Rattle.xa_store.specs.Opened.{are_counted, are_sound_rows, as_read, count_from, holds_int, is_count, is_digest, is_given, is_sound, is_sound_table, is_whole_row, judged, known_next, opened, place_in, places_of, read_meta, tree_of}
 use Rattle.xa_store.specs.Opening.{IsMade}
 use Rattle.xa_store.specs.Rows.{attribute_in, document_in, domain_in, meta_row, nat_of, next_in, root_in, token_in}
-use Rattle.xa_store.specs.Sound.{AreDocuments, AreNumbered, AreTables, Ours, Rests}
+use Rattle.xa_store.specs.Sound.{AreDocuments, AreNumbered, AreTables, AreWhole, Ours, Rests, place_of}
 use Rattle.xa_store.specs.Tables.{our_schema}
 use Rattle.xa_store.specs.World.{domain_entry, rows_of, world_of}
 use Rattle.xa_store.proofs.AreRowsLemmas.{domains_are, tokens_are, whole}
+use Rattle.xa_store.proofs.ColumnLemmas.{root_texts, source_texts}
+use Rattle.xa_store.proofs.CountedLemmas.{counted_each}
 use Rattle.xa_store.proofs.DocumentRowLemmas.{document_held, documents_are}
 use Rattle.xa_store.proofs.NumberedLemmas.{AreGiven, numbers_are}
 use Rattle.xa_store.proofs.RootRowLemmas.{meta_is, roots_are}
-use Rattle.xa_store.proofs.ShapeLemmas.{int_held}
+use Rattle.xa_store.proofs.ShapeLemmas.{blob_held, int_held, text_held}
 use Rattle.xa_store.proofs.ShapedLemmas.{attributes_are}
+use Rattle.xa_store.proofs.WholeLemmas.{IsWholeAttribute, IsWholeDocument, IsWholeDomain, IsWholeRoot, IsWholeToken}
 
 -- ---- what opening has found
 
@@ -141,6 +144,36 @@ module _ (db : Trees) (next : ℤ) (live : IsSound our_schema db) (known : known
   numbers : AreNumbered (rows_of db)
   numbers = numbers_are (rows_of db) (subst (λ n. AreGiven (record (rows_of db) { next = n })) next_is given) tables.domains.rise
 
+  -- ---- columns
+
+  domain_whole : (row : Row) → IsWhole Domains row → IsWholeDomain next (domain_in row)
+  domain_whole row h =
+      let given = domain_given row h in
+      (given.0, (text_held is_domain_name (column row 2) (second_of_both _ _ (first_of_both _ _ (second_of_both _ _ h)))).1, given.1)
+
+  token_whole : (row : Row) → IsWhole Tokens row → IsWholeToken next (token_in row)
+  token_whole row h = (token_given row h, (blob_held is_digest (column row 2) (second_of_both _ _ (first_of_both _ _ (second_of_both _ _ h)))).1)
+
+  root_whole : (row : Row) → IsWhole Roots row → IsWholeRoot next (root_in row)
+  root_whole row h = (root_given row h, root_texts next row h)
+
+  attribute_whole : (row : Row) → IsWhole Attributes row → IsWholeAttribute next (attribute_in row)
+  attribute_whole row h = (attribute_given row h, source_texts next row h)
+
+  places : (n : ℤ) → count_from (pos 0) (places_of (map place_of (map attribute_in (db 8))) n) ≡ true
+  places n = ap (λ l. count_from (pos 0) (places_of l n)) (map-map place_of attribute_in (db 8)) ∙ counted_each (map place_in (db 8)) (second_of_both _ _ sound) n
+
+  columns : AreWhole (rows_of db)
+  columns = subst (λ n. AreWhole (record (rows_of db) { next = n })) next_is (record {
+    next = first_of_both (is_count next) _ (first_of_both _ _ sound);
+    domains = each Domains in_domains domain_in (IsWholeDomain next) domain_whole;
+    tokens = each Tokens in_tokens token_in (IsWholeToken next) token_whole;
+    documents = each Documents in_documents document_in (IsWholeDocument next) document_given;
+    roots = each Roots in_roots root_in (IsWholeRoot next) root_whole;
+    attributes = each Attributes in_attributes attribute_in (IsWholeAttribute next) attribute_whole;
+    places = places;
+  })
+
   -- ---- documents
 
   documents : AreDocuments (rows_of db).documents
@@ -150,7 +183,7 @@ pub opened_ours : (s : State) → Rests s → IsDatabase s.now → opened s.now.
 opened_ours s rests live h =
     let is = found s.now.trees h in
     let sound : IsSound our_schema s.now.trees = subst (λ schema. IsSound schema s.now.trees) rests.schema live in
-    record { rests = rests; tables = tables s.now.trees is.0 sound is.1 is.2; domains = numbers s.now.trees is.0 sound is.1 is.2; documents = documents s.now.trees is.0 sound is.1 is.2 }
+    record { rests = rests; tables = tables s.now.trees is.0 sound is.1 is.2; domains = numbers s.now.trees is.0 sound is.1 is.2; documents = documents s.now.trees is.0 sound is.1 is.2; whole = columns s.now.trees is.0 sound is.1 is.2 }
 
 -- ---- tables as they are made
 
@@ -162,8 +195,8 @@ module _ (db : Trees) (made : IsMade db) where
   empty_sound Roots = ap (λ rows. are_sound_rows Roots (pos 1) (map (as_read Roots) rows)) (made.empty Roots)
   empty_sound Attributes = ap (λ rows. are_sound_rows Attributes (pos 1) (map (as_read Attributes) rows)) (made.empty Attributes)
 
-  places_count : count_on no_place (sort_by place_cmp (map place_in (db 8))) ≡ true
-  places_count = ap (λ rows. count_on no_place (sort_by place_cmp (map place_in rows))) (made.empty Attributes)
+  places_count : are_counted (map place_in (db 8)) ≡ true
+  places_count = ap (λ rows. are_counted (map place_in rows)) (made.empty Attributes)
 
   all_sound : is_sound db (pos 1) ≡ true
   all_sound = λ i.

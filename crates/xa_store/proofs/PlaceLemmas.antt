@@ -11,17 +11,18 @@ use Rattle.sqlite.specs.Tree.{Trees}
 use Rattle.sqlite.specs.declared.types.Value.TheVariants.{Int}
 use Rattle.sqlite.proofs.Callers.{reads_as, one_permutation}
 use Rattle.sqlite_keyed.specs.Lists.{sort_by}
-use Rattle.sqlite_keyed.proofs.ListLemmas.{all_of, filter_all, map-map, ascending_weaker}
+use Rattle.sqlite_keyed.proofs.ListLemmas.{all_of, ascending-map, ascending_weaker, filter_all, map-map}
 use Rattle.sqlite_keyed.proofs.SortLemmas.{sort_by-map}
 use Rattle.sqlite_trees.specs.Tree.{IsAscending}
 use Rattle.sqlite_typed.proofs.TestLemmas.{then_key, last_key}
 use Rattle.sqlite_value.proofs.OrderLemmas.{value_cmp-Int}
-use Rattle.xa_store.specs.Judging.{places_shown, counts}
-use Rattle.xa_store.specs.Opened.{Place, count_on, counts_on, known_next, no_place, place_cmp, place_in, read_meta}
+use Rattle.xa_store.specs.Judging.{count_on, counts, counts_on, no_place, place_cmp, places_shown}
+use Rattle.xa_store.specs.Opened.{Place, are_counted, known_next, place_in, read_meta}
 use Rattle.xa_store.specs.Rows.{AttributeRow, attribute_in, attribute_row}
 use Rattle.xa_store.specs.Sound.{AreRows, Rests, same_place}
 use Rattle.xa_store.specs.Tables.{our_schema}
 use Rattle.xa_store.specs.Texts.{meta_shown}
+use Rattle.xa_store.proofs.CountedLemmas.{walk_counts}
 use Rattle.xa_store.proofs.FoundLemmas.{found_sorted}
 use Rattle.xa_store.proofs.HitLemmas.{eq_then}
 use Rattle.xa_store.proofs.JudgedTexts.{places_is}
@@ -78,10 +79,10 @@ module _ (old new : State) (rests : Rests old) (are : AreRows attribute_row attr
       (λ a b. then_key (value_cmp-Int a.number b.number) (last_key (value_cmp-Int a.place b.place))) (subst (IsAscending (λ a b. is_eq (by_place a b) ≡ false)) (sym every) untied) rows answer
       ∙ ap (λ l. map shown_of (sort_by by_place l)) every
 
-  pub places_count : counts no_place rows ≡ count_on no_place (sort_by place_cmp (map place_in (db 8)))
+  pub places_count : counts no_place rows ≡ are_counted (map place_in (db 8))
   places_count =
-      ap (counts no_place) sorted ∙ counted no_place (sort_by by_place all)
-      ∙ ap (count_on no_place) (sym (sort_by-map place_cmp place_of all) ∙ ap (sort_by place_cmp) (map-map place_of attribute_in (db 8)))
+      ap (counts no_place) sorted ∙ counted no_place (sort_by by_place all) ∙ ap (count_on no_place) (sym (sort_by-map place_cmp place_of all))
+      ∙ walk_counts (map place_of all) (ascending-map (λ a b. is_eq (place_cmp a b) ≡ false) place_of all untied) ∙ ap are_counted (map-map place_of attribute_in (db 8))
 
 -- ---- the first table
 

@@ -3,7 +3,7 @@ use Rattle.std.proofs.Common.{◌≡◌, IsTrue, sym, ap, ◌∙◌, subst}
 use Rattle.sqlite.specs.Effect.{Database}
 use Rattle.sqlite.specs.State.{State, HasCleanDisk}
 use Rattle.xa_store.specs.Quiet.{Quiet}
-use Rattle.xa_store.specs.Sound.{AreDocuments, AreTables, AreNumbered, Ours, Rests, SameNow}
+use Rattle.xa_store.specs.Sound.{AreDocuments, AreTables, AreNumbered, AreWhole, Ours, Rests, SameNow}
 use Rattle.xa_store.specs.World.{rows_of}
 
 pub rests_after : (old new : State) → Rests old → SameNow old new → Rests new
@@ -16,6 +16,7 @@ ours_after old new ours same = record {
   tables = subst (λ (d : Database). AreTables d.trees) (sym same.now) ours.tables;
   domains = subst (λ (d : Database). AreNumbered (rows_of d.trees)) (sym same.now) ours.domains;
   documents = subst (λ (d : Database). AreDocuments (rows_of d.trees).documents) (sym same.now) ours.documents;
+  whole = subst (λ (d : Database). AreWhole (rows_of d.trees)) (sym same.now) ours.whole;
 }
 
 -- what the first has left, of which the second speaks

@@ -1,12 +1,12 @@
 -- The plan of a domain that is removed.
-use Rattle.std.proofs.Common.{◌≡◌, ◌≢◌, ℕ, ◌<◌, ℤ, pos, List, [], ◌∷◌, filter, find, not, Bool, true, false, cond, Option, Some, None, option_map, int_eq, slice_get, refl, sym, ap, subst, ◌∙◌, arith}
+use Rattle.std.proofs.Common.{◌≡◌, ◌≢◌, ℕ, ◌<◌, ℤ, pos, List, [], ◌∷◌, map, filter, find, not, Bool, true, false, cond, Option, Some, None, option_map, int_cmp, int_eq, slice_get, refl, sym, ap, subst, ◌∙◌, arith}
 use Rattle.std.specs.List.{AllByRecursion}
 use Rattle.std.specs.Ordering.{eq_by_cmp}
 use Rattle.std.specs.FinMap.{get}
 use Rattle.std.proofs.lemmas.Int.{ints}
 use Rattle.std.proofs.lemmas.Bool.{both_ways}
 use Rattle.sqlite_keyed.specs.Keyed.{IsKeyedBy, get_by}
-use Rattle.sqlite_keyed.specs.Lists.{delete_where}
+use Rattle.sqlite_keyed.specs.Lists.{delete_where, sort_by}
 use Rattle.sqlite_keyed.proofs.KeyedLemmas.{int_eq_apart, same_int}
 use Rattle.sqlite_keyed.proofs.ListLemmas.{all_weaker, slice_get-filter}
 use Rattle.sqlite_typed.proofs.TestLemmas.{same_bytes}
@@ -17,16 +17,19 @@ use Rattle.xa_records.proofs.KeptLemmas.{numbered_changed}
 use Rattle.xa_store.specs.declared.domain_found.DomainFound.{DomainFound}
 use Rattle.xa_store.specs.declared.step.Step.TheVariants.{DropDomain}
 use Rattle.xa_store.specs.Found.{IsDomain}
-use Rattle.xa_store.specs.Rows.{DomainRow, RootRow, nat_of, reference_of}
-use Rattle.xa_store.specs.Sound.{AreNumbered}
+use Rattle.xa_store.specs.Opened.{count_from, places_of}
+use Rattle.xa_store.specs.Rows.{AttributeRow, DomainRow, RootRow, nat_of, reference_of}
+use Rattle.xa_store.specs.Sound.{AreNumbered, AreWhole, place_of}
 use Rattle.xa_store.specs.Steps.{is_named, without_domain}
 use Rattle.xa_store.specs.Turns.{Plans}
-use Rattle.xa_store.specs.World.{Rows, roles_of, library_of, root_at, source_of, state_at, domain_of, kept_of}
+use Rattle.xa_store.specs.World.{Rows, attributes_at, roles_of, library_of, root_at, source_of, state_at, domain_of, kept_of}
 use Rattle.xa_store.proofs.ChangeLemmas.{IsOnly, found_all, kept_at, kept_one, not_same, number_of, one_passes}
 use Rattle.xa_store.proofs.EntryLemmas.{found_passes}
 use Rattle.xa_store.proofs.FilterLemmas.{filter_delete_all, filter_delete_others, find_none, filter_alike}
 use Rattle.xa_store.proofs.KeyLemmas.{get_by-without_key}
 use Rattle.xa_store.proofs.PlanLemmas.{its_state}
+use Rattle.xa_store.proofs.TextsKept.{all_filter}
+use Rattle.xa_store.proofs.WholeLemmas.{IsWholeAttribute, IsWholeDocument, IsWholeDomain, IsWholeRoot, IsWholeToken, places_at}
 
 find_same : {X : Type 0} (p : X → Bool) (xs ys : List X) → filter p xs ≡ filter p ys → find p xs ≡ find p ys
 find_same p xs ys same = sym (slice_get-filter p xs) ∙ ap (λ l. slice_get l 0) same ∙ slice_get-filter p ys
@@ -103,6 +106,34 @@ module _ (rows : Rows) (name : List ℕ) (d : DomainRow) (up : IsKeyedBy number_
   own_below : nat_of d.number < nat_of rows.next
   own_below = are.numbered.below name (domain_of rows d) was
 
+  -- ---- the columns
+
+  abbrev sorted : List AttributeRow → List ℤ
+  sorted xs = sort_by int_cmp (map (λ (a : AttributeRow). a.place) xs)
+
+  places_left : AreWhole rows → (m : ℤ) → count_from (pos 0) (places_of (map place_of after.attributes) m) ≡ true
+  places_left whole m = ap (count_from (pos 0)) (places_at after.attributes m) ∙ go (int_eq m d.number) refl
+    where
+      go : (b : Bool) → int_eq m d.number ≡ b → count_from (pos 0) (sorted (attributes_at after.attributes m)) ≡ true
+      go true is =
+          ap (λ k. count_from (pos 0) (sorted (attributes_at after.attributes k))) (same_int m d.number is)
+          ∙ ap (λ l. count_from (pos 0) (sorted l)) (filter_delete_all (λ (a : AttributeRow). int_eq a.number d.number) rows.attributes)
+      go false is =
+          let own : int_eq d.number d.number ≡ true = grind (arith, ints) in
+          let apart : m ≢ d.number = λ same. both_ways _ is (ap (λ k. int_eq k d.number) same ∙ own) in
+          ap (λ l. count_from (pos 0) (sorted l)) (still_there (λ (a : AttributeRow). a.number) d.number m apart rows.attributes) ∙ ap (count_from (pos 0)) (sym (places_at rows.attributes m)) ∙ whole.places m
+
+  whole_left : AreWhole rows → AreWhole after
+  whole_left whole = record {
+    next = whole.next;
+    domains = all_filter (IsWholeDomain rows.next) (λ x. not (of_number x)) rows.domains whole.domains;
+    tokens = all_filter (IsWholeToken rows.next) (λ t. not (int_eq t.number d.number)) rows.tokens whole.tokens;
+    documents = all_filter (IsWholeDocument rows.next) (λ x. not (int_eq x.number d.number)) rows.documents whole.documents;
+    roots = all_filter (IsWholeRoot rows.next) (λ r. not (int_eq r.number d.number)) rows.roots whole.roots;
+    attributes = all_filter (IsWholeAttribute rows.next) (λ a. not (int_eq a.number d.number)) rows.attributes whole.attributes;
+    places = places_left whole;
+  }
+
   pub remove_planned : Plans (DropDomain d.number ∷ []) removed name rows
   remove_planned = record {
     allows = ((d, hit), tt);
@@ -112,6 +143,7 @@ module _ (rows : Rows) (name : List ℕ) (d : DomainRow) (up : IsKeyedBy number_
       unused = λ n past.
           same_state (pos n) (λ same. let it : n ≡ nat_of d.number = ap nat_of same in let low = own_below in absurd (omega arith)) ∙ are.unused n past;
     };
+    whole = whole_left;
   }
 
 -- of a domain that was found

@@ -1,8 +1,9 @@
 -- The plan of a root that is set.
-use Rattle.std.proofs.Common.{◌≡◌, ◌≢◌, inr, ◌+◌, ◌<◌, ◌^◌, ℕ, ℤ, List, [], Bool, true, false, cond, Option, Some, None, option_map, option_and_then, Ok, refl, sym, ap, subst, ◌∙◌, int_eq}
+use Rattle.std.proofs.Common.{◌≡◌, ◌≢◌, inr, ◌+◌, ◌<◌, ◌^◌, ℕ, ℤ, List, [], Bool, true, false, not, cond, Option, Some, None, option_map, option_and_then, Ok, refl, sym, ap, subst, ◌∙◌, int_eq}
+use Rattle.std.specs.Str.{is_utf8}
 use Rattle.sqlite_keyed.specs.Keyed.{IsKeyedBy, get_by, insert_by}
 use Rattle.sqlite_keyed.specs.Lists.{without_key}
-use Rattle.sqlite_keyed.proofs.KeyedLemmas.{int_eq_apart}
+use Rattle.sqlite_keyed.proofs.KeyedLemmas.{all-insert_by, int_eq_apart}
 use Rattle.xa_policy.specs.declared.reference.Reference.{Reference}
 use Rattle.xa_policy.specs.Pattern.{pattern_text, read_pattern}
 use Rattle.xa_policy.specs.Version.{read_version, version_text}
@@ -11,16 +12,19 @@ use Rattle.xa_records.specs.DomainState.{DomainState}
 use Rattle.xa_records.specs.Kept.{DecidesAlike, IsMade, IsNextEpoch, state_of}
 use Rattle.xa_store.specs.declared.domain_found.DomainFound.{DomainFound}
 use Rattle.xa_store.specs.Found.{IsDomain}
-use Rattle.xa_store.specs.Planning.{RaisesTo, RootReads, root_steps}
+use Rattle.xa_store.specs.Planning.{HasRootTexts, RaisesTo, RootReads, root_steps}
+use Rattle.xa_store.specs.Opened.{is_count, is_given, is_pattern, is_version}
 use Rattle.xa_store.specs.Rows.{DomainRow, RootRow, given, nat_of, root_of, reference_of}
-use Rattle.xa_store.specs.Sound.{AreNumbered}
-use Rattle.xa_store.specs.Steps.{after_all, AllowsAll}
+use Rattle.xa_store.specs.Sound.{AreNumbered, AreRootTexts, AreWhole, is_if_any}
+use Rattle.xa_store.specs.Steps.{after_all, AllowsAll, with_epoch}
 use Rattle.xa_store.specs.Turns.{Plans}
 use Rattle.xa_store.specs.World.{Rows, root_at, state_at, domain_of, kept_of}
 use Rattle.xa_store.proofs.ChangeLemmas.{IsOnly, Rewrote, kept_one, number_of}
 use Rattle.xa_store.proofs.KeyLemmas.{get_by-insert_by, get_by-without_key, own_number}
 use Rattle.xa_store.proofs.PlanLemmas.{changed, its_state, numbered_after}
+use Rattle.xa_store.proofs.TextsKept.{all_filter}
 use Rattle.xa_store.proofs.TurnLemmas.{still}
+use Rattle.xa_store.proofs.WholeLemmas.{IsWholeRoot, count_after, epoch_whole, its_domain, roots_whole}
 
 abbrev root_key : RootRow → ℤ
 root_key r = r.number
@@ -62,6 +66,15 @@ allowed : (rows : Rows) (n e : ℤ) (root : Option Reference) → AllowsAll (roo
 allowed rows n e None = (tt, (tt, tt))
 allowed rows n e (Some root) = (tt, (tt, (tt, tt)))
 
+-- the columns after the steps
+whole_after : (rows : Rows) → AreWhole rows → (n e : ℤ) (root : Option Reference) → is_given rows.next n ≡ true → HasRootTexts n root → is_count e ≡ true → AreWhole (after_all (root_steps n e root) rows)
+whole_after rows whole n e None given texts counts =
+    roots_whole rows whole (without_key root_key rows.roots n) (with_epoch n e rows.domains) (all_filter (IsWholeRoot rows.next) (λ r. not (int_eq r.number n)) rows.roots whole.roots) (epoch_whole rows whole n e counts)
+whole_after rows whole n e (Some root) given texts counts =
+    roots_whole rows whole (insert_by root_key (without_key root_key rows.roots n) (root_of n root)) (with_epoch n e rows.domains)
+    (all-insert_by root_key (IsWholeRoot rows.next) (without_key root_key rows.roots n) (root_of n root) (subst (λ m. is_given rows.next m ≡ true) (sym (its_number n root)) given, texts)
+    (all_filter (IsWholeRoot rows.next) (λ r. not (int_eq r.number n)) rows.roots whole.roots)) (epoch_whole rows whole n e counts)
+
 module _ (rows : Rows) (name : List ℕ) (d : DomainRow) (one : IsOnly name d rows) (up : IsKeyedBy number_of rows.domains) (are : AreNumbered rows) (epoch : ℤ) (root : Option Reference) where
   abbrev target : DomainState
   target = with_root root (state_at rows d.number)
@@ -87,13 +100,14 @@ module _ (rows : Rows) (name : List ℕ) (d : DomainRow) (one : IsOnly name d ro
       }
 
   -- another root: the steps set it and raise the epoch
-  pub root_planned : RootReads d.number root → root_at rows.roots d.number ≢ root → nat_of epoch ≡ nat_of d.epoch + 1 → nat_of epoch < 2 ^ 63 → Plans (root_steps d.number epoch root) (within (root_set root)) name rows
-  root_planned reads differs rises fits =
+  pub root_planned : RootReads d.number root → HasRootTexts d.number root → root_at rows.roots d.number ≢ root → nat_of epoch ≡ nat_of d.epoch + 1 → nat_of epoch < 2 ^ 63 → Plans (root_steps d.number epoch root) (within (root_set root)) name rows
+  root_planned reads texts differs rises fits =
       let next_epoch : IsNextEpoch (state_at rows d.number) target (nat_of d.epoch) (nat_of epoch) = inr (λ alike. differs alike.root, (rises, fits)) in
       record {
         allows = allowed rows d.number epoch root;
         made = (Some target, ap (within (root_set root)) (its_state rows name d one), changed rows name d one (after_all (root_steps d.number epoch root) rows) epoch target up (rewrote reads) next_epoch);
         numbered = numbered_after rows name d one (after_all (root_steps d.number epoch root) rows) epoch target up (rewrote reads) next_epoch are;
+        whole = λ whole. whole_after rows whole d.number epoch root (its_domain rows whole name d one).0 texts (count_after epoch (nat_of d.epoch) rises fits);
       }
 
   -- the root that is there: nothing is done
@@ -104,6 +118,7 @@ module _ (rows : Rows) (name : List ℕ) (d : DomainRow) (one : IsOnly name d ro
         allows = tt;
         made = (Some target, ap (within (root_set root)) (its_state rows name d one), subst (λ s. Rattle.xa_records.specs.Kept.IsChanged (kept_of rows) (kept_of rows) name (Some s)) state (still (kept_of rows) name (domain_of rows d) (kept_one rows name d one)));
         numbered = are;
+        whole = λ whole. whole;
       }
 
 -- of a domain that was found
@@ -115,12 +130,12 @@ module _ (rows : Rows) (name : List ℕ) (found : DomainFound) (there root : Opt
   pub plan_same : there ≡ root → Plans [] (within (root_set root)) name rows
   plan_same same = root_kept rows name is.row is.only up are is.row.epoch root (sym its_root ∙ same)
 
-  pub plan_new : (there ≡ root → ⊥) → ((number : ℤ) → RootReads number root) → (next : ℤ) → RaisesTo found.epoch (Ok next) → Plans (root_steps found.number next root) (within (root_set root)) name rows
-  plan_new differs reads next raises =
+  pub plan_new : (there ≡ root → ⊥) → ((number : ℤ) → RootReads number root) → ((number : ℤ) → HasRootTexts number root) → (next : ℤ) → RaisesTo found.epoch (Ok next) → Plans (root_steps found.number next root) (within (root_set root)) name rows
+  plan_new differs reads texts next raises =
       let r = raises (nat_of is.row.epoch) (is.epoch ∙ is.has_epoch) in
       let rises : nat_of next ≡ nat_of is.row.epoch + 1 = ap nat_of r.0 in
       subst (λ n. Plans (root_steps n next root) (within (root_set root)) name rows) (sym is.number)
-      (root_planned rows name is.row is.only up are next root (reads is.row.number) (λ same. differs (its_root ∙ same)) rises (subst (λ k. k < 2 ^ 63) (sym rises) r.1))
+      (root_planned rows name is.row is.only up are next root (reads is.row.number) (texts is.row.number) (λ same. differs (its_root ∙ same)) rises (subst (λ k. k < 2 ^ 63) (sym rises) r.1))
 
 -- a reference reads back from its row, if its parts do
 pub reference_back : (number : ℤ) (r : Reference) → option_and_then (λ text. given (read_pattern text)) (option_map pattern_text r.version) ≡ r.version
@@ -128,3 +143,9 @@ pub reference_back : (number : ℤ) (r : Reference) → option_and_then (λ text
     → reference_of (root_of number r) ≡ r
 unfolding reference_of root_of
 reference_back number r version earliest latest = λ i. record { kind = r.kind; id = r.id; version = version i; earliest = earliest i; latest = latest i }
+
+-- its texts are such as read, if its parts' are
+pub reference_texts : (number : ℤ) (r : Reference) → is_utf8 r.id ≡ true → is_if_any is_pattern (option_map pattern_text r.version) ≡ true → is_if_any is_version (option_map version_text r.earliest) ≡ true
+    → is_if_any is_version (option_map version_text r.latest) ≡ true → AreRootTexts (root_of number r)
+unfolding root_of
+reference_texts number r id version earliest latest = (id, version, earliest, latest)

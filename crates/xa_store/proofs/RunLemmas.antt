@@ -1,9 +1,9 @@
 -- A change in its transaction: from the steps to the commit.
-use Rattle.std.proofs.Common.{◌≡◌, ◌⊎◌, inl, inr, List, [], true, false, Ok, Err, IsTrue, refl, sym, ap, subst, ◌∙◌, arith}
+use Rattle.std.proofs.Common.{◌≡◌, ◌⊎◌, inl, inr, List, true, false, Result, Ok, Err, IsTrue, OnErr, OnOk, refl, sym, ap, subst, ◌∙◌, arith}
 use Rattle.std.proofs.lemmas.Bool.{both_ways}
 use Rattle.sqlite.specs.Effect.{Database}
 use Rattle.sqlite.specs.Held.{Held, state}
-use Rattle.sqlite.specs.State.{State, HasCleanDisk, KeepsCommit, KeepsCounts, Shows, Survives}
+use Rattle.sqlite.specs.State.{State, HasCleanDisk, KeepsCommit, Survives}
 use Rattle.sqlite.specs.Steps.{FailsToCommit}
 use Rattle.sqlite.specs.Store.{Ghosts}
 use Rattle.sqlite.specs.Tree.{Trees}
@@ -12,7 +12,7 @@ use Rattle.xa_records.specs.declared.refusal.Failure.{Failure}
 use Rattle.xa_store.specs.declared.step.Step.{Step}
 use Rattle.xa_store.specs.Sound.{AreTables, Ours, Rests, SameNow}
 use Rattle.xa_store.specs.Steps.{AllowsAll}
-use Rattle.xa_store.specs.Taking.{IsInside, Took, Holds, Runs}
+use Rattle.xa_store.specs.Taking.{Committed, IsInside, Took, Holds, Runs}
 use Rattle.xa_store.specs.World.{rows_of}
 
 module _ {S : Type 0} (g : Ghosts S) (old mid last : Held S) (steps : List Step) where
@@ -42,8 +42,8 @@ module _ {S : Type 0} (g : Ghosts S) (old mid last : Held S) (steps : List Step)
           inr (record { tables = subst AreTables (sym is) all.within.tables; rows = ap rows_of is ∙ all.rows })
     ]
 
-    pub ran : {X : Type 0} (x : X)
-        → (HasCleanDisk (state g last) → IsTrue (state g mid).in_transaction × Shows (state g mid) (state g last) (state g mid).now (state g mid).now false × KeepsCounts (state g mid) (state g last) × ((state g last).marks ≡ []))
+    ran : {X : Type 0} (x : X)
+        → (HasCleanDisk (state g last) → Committed (state g mid) (state g last))
         → Runs steps (state g old) (state g last) (Ok x)
     ran x shown = record {
       was_open = λ clean up. (kept (clean_before clean) refl).was_open (shown clean).1.was_open;
@@ -61,23 +61,30 @@ module _ {S : Type 0} (g : Ghosts S) (old mid last : Held S) (steps : List Step)
       crash = λ clean up ours allows. left clean ours allows;
     }
 
-    pub not_committed : {X : Type 0} (f : Failure) (e : Error) → (HasCleanDisk (state g mid) → IsTrue (state g mid).in_transaction) → (state g last).in_transaction ≡ false
-        → (HasCleanDisk (state g last) → FailsToCommit (state g mid) (state g last) e) → Runs {X = X} steps (state g old) (state g last) (Err f)
-    not_committed f e goes_on ended failed = record {
-      was_open = λ clean up. (kept (clean_before clean) refl).was_open (open_before clean up (failed clean));
+    not_committed : {X : Type 0} (f : Failure) → (HasCleanDisk (state g mid) → IsTrue (state g mid).in_transaction) → (state g last).in_transaction ≡ false
+        → (HasCleanDisk (state g last) → (e : Error) × FailsToCommit (state g mid) (state g last) e) → Runs {X = X} steps (state g old) (state g last) (Err f)
+    not_committed f goes_on ended failed = record {
+      was_open = λ clean up. (kept (clean_before clean) refl).was_open (open_before (failed clean).0 clean up (failed clean).1);
       clean = clean_first;
       made = λ clean up ours allows. tt;
-      same = λ clean rests up. undone clean rests up (failed clean);
+      same = λ clean rests up. undone (failed clean).0 clean rests up (failed clean).1;
       crash = λ clean up ours allows. left clean ours allows;
     }
       where
-        open_before : HasCleanDisk (state g last) → IsTrue (state g last).is_open → FailsToCommit (state g mid) (state g last) e → IsTrue (state g mid).is_open
-        open_before clean up (inl h) = h.3.was_open up
-        open_before clean up (inr h) = h.2.0.was_open
+        open_before : (e : Error) → HasCleanDisk (state g last) → IsTrue (state g last).is_open → FailsToCommit (state g mid) (state g last) e → IsTrue (state g mid).is_open
+        open_before e clean up (inl h) = h.3.was_open up
+        open_before e clean up (inr h) = h.2.0.was_open
 
-        undone : HasCleanDisk (state g last) → Rests (state g old) → IsTrue (state g last).is_open → FailsToCommit (state g mid) (state g last) e → SameNow (state g old) (state g last)
-        undone clean rests up (inl h) =
+        undone : (e : Error) → HasCleanDisk (state g last) → Rests (state g old) → IsTrue (state g last).is_open → FailsToCommit (state g mid) (state g last) e → SameNow (state g old) (state g last)
+        undone e clean rests up (inl h) =
             let back = h.3.undone up in
             let committed = (kept (clean_before clean) refl).committed (h.3.was_open up) in
             record { now = back.0 ∙ committed ∙ sym rests.settled; committed = back.1 ∙ committed; idle = ended }
-        undone clean rests up (inr h) = absurd (both_ways _ h.1 (goes_on (clean_before clean)))
+        undone e clean rests up (inr h) = absurd (both_ways _ h.1 (goes_on (clean_before clean)))
+
+    -- whatever the commit answers
+    pub run_ended : (r : Result (Unit {0}) Failure) → (HasCleanDisk (state g mid) → IsTrue (state g mid).in_transaction) → (state g last).in_transaction ≡ false
+        → (HasCleanDisk (state g last) → OnOk r (Committed (state g mid) (state g last))) → (HasCleanDisk (state g last) → OnErr r ((e : Error) × FailsToCommit (state g mid) (state g last) e))
+        → Runs steps (state g old) (state g last) r
+    run_ended (Ok x) goes_on ended commits fails = ran x commits
+    run_ended (Err f) goes_on ended commits fails = not_committed f goes_on ended fails

@@ -1,12 +1,17 @@
 -- The plan of a source that is set.
-use Rattle.std.proofs.Common.{◌≡◌, ◌≢◌, inl, inr, ◌+◌, ◌<◌, ◌≤◌, ◌^◌, ◌<ℤ◌, ℕ, ℤ, pos, List, [], ◌∷◌, ◌++◌, map, filter, length, Bool, true, false, cond, nat_le, Option, Some, None, unwrap_or, Result, Ok, Err, is_gt, refl, sym, ap, subst, ◌∙◌, arith, int_eq, int_cmp, append_assoc}
+use Rattle.std.proofs.Common.{◌≡◌, ◌≢◌, inl, inr, ◌+◌, ◌<◌, ◌≤◌, ◌^◌, ◌<ℤ◌, ℕ, ℤ, pos, ◌+ℤ◌, ◌&&◌, not, List, [], ◌∷◌, ◌++◌, map, filter, length, Bool, true, false, cond, nat_le, bytes_eq, Option, Some, None, unwrap_or, Result, Ok, Err, is_gt, refl, sym, ap, subst, ◌∙◌, arith, int_eq, int_cmp, append_assoc, true≢false}
 use Rattle.std.specs.List.{AllByRecursion}
 use Rattle.std.specs.Ordering.{on}
+use Rattle.std.specs.Str.{is_utf8}
 use Rattle.std.proofs.lemmas.Int.{ints}
+use Rattle.std.proofs.lemmas.Map.Text.{is_eq-slice_cmp}
 use Rattle.sqlite_keyed.specs.Keyed.{IsKeyedBy, next_key}
 use Rattle.sqlite_keyed.specs.Lists.{delete_where, sort_by, insert_sorted}
 use Rattle.sqlite_keyed.proofs.KeyedLemmas.{Less-from_lt, int_eq_apart, same_int}
 use Rattle.sqlite_keyed.proofs.ListLemmas.{all-append, all_weaker, ascending-append, filter_none}
+use Rattle.sqlite_keyed.proofs.RuleLemmas.{first_of_both, second_of_both}
+use Rattle.sqlite_keyed.proofs.SortLemmas.{sort_by-map}
+use Rattle.sqlite_typed.proofs.TestLemmas.{bytes_eq_refl}
 use Rattle.xa_value.specs.declared.data_type.DataType.{DataType}
 use Rattle.xa_value.specs.declared.data_type.DataType.TheVariants.{String, Boolean, Integer, Date, Time, DateTime, DayTimeDuration, YearMonthDuration, AnyUri, HexBinary, Base64Binary}
 use Rattle.xa_value.specs.declared.read_error.ReadError.{ReadError}
@@ -24,16 +29,21 @@ use Rattle.xa_records.specs.Kept.{IsChanged, IsNextEpoch, state_of}
 use Rattle.xa_store.specs.declared.domain_found.DomainFound.{DomainFound}
 use Rattle.xa_store.specs.declared.step.Step.TheVariants.{AddAttribute}
 use Rattle.xa_store.specs.Found.{IsDomain}
-use Rattle.xa_store.specs.Planning.{RaisesTo, RowsRead, row_steps, source_steps}
-use Rattle.xa_store.specs.Rows.{AttributeRow, DomainRow, given, nat_of, type_in, value_in, value_text}
-use Rattle.xa_store.specs.Sound.{AreNumbered}
+use Rattle.xa_store.specs.Planning.{HaveTexts, RaisesTo, RowsRead, row_steps, source_steps}
+use Rattle.xa_store.specs.Opened.{count_from, holds_value, is_count, is_given, is_printed, is_value, places_of, type_numbered}
+use Rattle.xa_store.specs.Rows.{AttributeRow, DomainRow, given, nat_of, type_in, type_number, value_in, value_text}
+use Rattle.xa_store.specs.Sound.{AreNumbered, AreWhole, place_of as placed}
 use Rattle.xa_store.specs.Steps.{AllowsAll, ReadsBack, after, after_all, is_place, with_epoch}
 use Rattle.xa_store.specs.Turns.{Plans}
 use Rattle.xa_store.specs.World.{Rows, attributes_at, domain_of, kept_of, source_of, state_at}
 use Rattle.xa_store.proofs.ChangeLemmas.{IsOnly, Rewrote, kept_one, number_of}
 use Rattle.xa_store.proofs.FilterLemmas.{filter_both, filter_delete_all, filter_delete_others, filter_push, filter_push_apart}
+use Rattle.xa_store.proofs.KeyLemmas.{own_number}
 use Rattle.xa_store.proofs.PlanLemmas.{changed, its_state, numbered_after}
+use Rattle.xa_store.proofs.RiseLemmas.{both_true}
+use Rattle.xa_store.proofs.TextsKept.{all_filter, all_push}
 use Rattle.xa_store.proofs.TurnLemmas.{still}
+use Rattle.xa_store.proofs.WholeLemmas.{IsWholeAttribute, count_after, epoch_whole, its_domain, places_at}
 
 -- ---- a value that reads back
 
@@ -56,6 +66,27 @@ value_reads v x text prints reads same =
     ap (λ t. unwrap_or (given (read t (printed v))) (value.String (printed v))) (type_back (type_of v))
     ∙ ap (λ (r : Result Value ReadError). unwrap_or (given r) (value.String (printed v))) (ap (read (type_of v)) (sym prints) ∙ reads) ∙ same
 
+type_named : (t : DataType) → type_numbered (pos (place_of t)) ≡ Some t
+type_named String = refl
+type_named Boolean = refl
+type_named Integer = refl
+type_named Date = refl
+type_named Time = refl
+type_named DateTime = refl
+type_named DayTimeDuration = refl
+type_named YearMonthDuration = refl
+type_named AnyUri = refl
+type_named HexBinary = refl
+type_named Base64Binary = refl
+
+-- it stands there in its printed form
+pub value_held : (v x : Value) (text : List ℕ) → text ≡ printed v → is_utf8 text ≡ true → read (type_of v) text ≡ Ok x → x ≡ v → holds_value (type_number v) (value_text v) ≡ true
+unfolding value_text
+value_held v x text prints utf8 reads same =
+    let printed_so : is_printed text (Ok x) ≡ true = ap (λ w. bytes_eq (printed w) text) same ∙ ap (bytes_eq (printed v)) prints ∙ sym (is_eq-slice_cmp (printed v) (printed v)) ∙ bytes_eq_refl (printed v) in
+    let held : is_value text (type_numbered (type_number v)) ≡ true = ap (is_value text) (type_named (type_of v)) ∙ ap (is_printed text) reads ∙ printed_so in
+    ap (holds_value (type_number v)) (sym prints) ∙ both_true (is_utf8 text) (is_value text (type_numbered (type_number v))) utf8 held
+
 -- ---- rows in the order of their places
 
 abbrev place_in : AttributeRow → ℤ
@@ -75,6 +106,25 @@ sorted_stays (x ∷ xs) up = ap (insert_sorted (on place_in int_cmp) x) (sorted_
 map_push : (xs : List AttributeRow) (new : AttributeRow) (rest : List SourceRow) → map row_in (xs ++ new ∷ []) ++ rest ≡ map row_in xs ++ (new.row ∷ rest)
 map_push [] new rest = refl
 map_push (x ∷ xs) new rest = ap (λ l. x.row ∷ l) (map_push xs new rest)
+
+map_one_more : (xs : List AttributeRow) (new : AttributeRow) → map place_in (xs ++ new ∷ []) ≡ map place_in xs ++ (new.place ∷ [])
+map_one_more [] new = refl
+map_one_more (x ∷ xs) new = ap (λ l. x.place ∷ l) (map_one_more xs new)
+
+-- the number after as many
+abbrev ends : ℤ → List ℤ → ℤ
+ends n [] = n
+ends n (m ∷ ms) = ends (n +ℤ pos 1) ms
+
+push_ends : (n : ℤ) (ms : List ℤ) (m : ℤ) → ends n (ms ++ m ∷ []) ≡ ends n ms +ℤ pos 1
+push_ends n [] m = refl
+push_ends n (k ∷ ms) m = push_ends (n +ℤ pos 1) ms m
+
+push_counts : (n : ℤ) (ms : List ℤ) (m : ℤ) → m ≡ ends n ms → count_from n ms ≡ true → count_from n (ms ++ m ∷ []) ≡ true
+push_counts n [] m is h = both_true (int_eq m n) true (ap (λ k. int_eq k n) is ∙ own_number n) refl
+push_counts n (k ∷ ms) m is h =
+    both_true (int_eq k n) (count_from (n +ℤ pos 1) (ms ++ m ∷ [])) (first_of_both (int_eq k n) (count_from (n +ℤ pos 1) ms) h)
+    (push_counts (n +ℤ pos 1) ms m is (second_of_both (int_eq k n) (count_from (n +ℤ pos 1) ms) h))
 
 -- ---- the rows come one after another
 
@@ -140,6 +190,30 @@ module _ (n : ℤ) where
   others_after m apart [] rows p = refl
   others_after m apart (s ∷ ss) rows p =
       others_after m apart ss (one_more p s rows) (p + 1) ∙ filter_push_apart (λ a. int_eq a.number m) rows.attributes (added p s rows) (int_eq_apart n m (λ same. apart (sym same)))
+
+  -- the columns of the rows that come
+  attributes_whole : (next : ℤ) → is_given next n ≡ true → (ss : List SourceRow) (rows : Rows) (p : ℕ) → HaveTexts ss → AllByRecursion (IsWholeAttribute next) rows.attributes
+      → AllByRecursion (IsWholeAttribute next) (after_all (row_steps n p ss) rows).attributes
+  attributes_whole next given [] rows p texts all = all
+  attributes_whole next given (s ∷ ss) rows p texts all =
+      attributes_whole next given ss (one_more p s rows) (p + 1) texts.1 (all_push (IsWholeAttribute next) rows.attributes (added p s rows) all (given, texts.0))
+
+  -- their places count on
+  ends_more : (p : ℕ) (s : SourceRow) (rows : Rows) → ends (pos 0) (map place_in (mine rows)) ≡ pos p → ends (pos 0) (map place_in (mine (one_more p s rows))) ≡ pos (p + 1)
+  ends_more p s rows is =
+      ap (λ l. ends (pos 0) (map place_in l)) (mine_more p s rows) ∙ ap (ends (pos 0)) (map_one_more (mine rows) (added p s rows)) ∙ push_ends (pos 0) (map place_in (mine rows)) (pos p)
+      ∙ ap (λ k. k +ℤ pos 1) is
+
+  counts_more : (p : ℕ) (s : SourceRow) (rows : Rows) → ends (pos 0) (map place_in (mine rows)) ≡ pos p → count_from (pos 0) (map place_in (mine rows)) ≡ true
+      → count_from (pos 0) (map place_in (mine (one_more p s rows))) ≡ true
+  counts_more p s rows is counts =
+      ap (λ l. count_from (pos 0) (map place_in l)) (mine_more p s rows) ∙ ap (count_from (pos 0)) (map_one_more (mine rows) (added p s rows))
+      ∙ push_counts (pos 0) (map place_in (mine rows)) (pos p) (sym is) counts
+
+  counted_after : (ss : List SourceRow) (rows : Rows) (p : ℕ) → ends (pos 0) (map place_in (mine rows)) ≡ pos p → count_from (pos 0) (map place_in (mine rows)) ≡ true
+      → count_from (pos 0) (map place_in (mine (after_all (row_steps n p ss) rows))) ≡ true
+  counted_after [] rows p is counts = counts
+  counted_after (s ∷ ss) rows p is counts = counted_after ss (one_more p s rows) (p + 1) (ends_more p s rows is) (counts_more p s rows is counts)
 
   -- nothing but the rows of sources
   abbrev only_attributes : List AttributeRow → Rows → Rows
@@ -212,14 +286,45 @@ module _ (rows : Rows) (name : List ℕ) (d : DomainRow) (one : IsOnly name d ro
     others = λ m apart. ap (λ (r : Rows). state_at r m) shape ∙ (λ i. with_source (source_of (source_there m apart i)) (state_at rows m));
   }
 
+  -- the places of all domains count from 0
+  places_now : AreWhole rows → (m : ℤ) → count_from (pos 0) (places_of (map placed final.attributes) m) ≡ true
+  places_now whole m = go (int_eq m d.number) refl
+    where
+      own_places : places_of (map placed final.attributes) d.number ≡ map place_in (mine d.number final)
+      own_places =
+          places_at final.attributes d.number ∙ sort_by-map int_cmp place_in (mine d.number final)
+          ∙ ap (map place_in) (sorted_stays (mine d.number final) (keyed_after d.number ss begun 0 low_yet keyed_yet))
+
+      own_count : count_from (pos 0) (map place_in (mine d.number final)) ≡ true
+      own_count = counted_after d.number ss begun 0 (ap (λ l. ends (pos 0) (map place_in l)) none_yet) (ap (λ l. count_from (pos 0) (map place_in l)) none_yet)
+
+      go : (b : Bool) → int_eq m d.number ≡ b → count_from (pos 0) (places_of (map placed final.attributes) m) ≡ true
+      go true is = ap (λ k. count_from (pos 0) (places_of (map placed final.attributes) k)) (same_int m d.number is) ∙ ap (count_from (pos 0)) own_places ∙ own_count
+      go false is =
+          let apart : m ≢ d.number = λ same. true≢false (sym (ap (λ k. int_eq k d.number) same ∙ own d.number) ∙ is) in
+          ap (count_from (pos 0)) (places_at final.attributes m ∙ ap (λ l. sort_by int_cmp (map place_in l)) (source_there m apart) ∙ sym (places_at rows.attributes m)) ∙ whole.places m
+
+  whole_now : AreWhole rows → is_count epoch ≡ true → HaveTexts ss → AreWhole final
+  whole_now whole counts texts = subst AreWhole (sym shape) (record {
+    next = whole.next;
+    domains = epoch_whole rows whole d.number epoch counts;
+    tokens = whole.tokens;
+    documents = whole.documents;
+    roots = whole.roots;
+    attributes = attributes_whole d.number rows.next (its_domain rows whole name d one).0 ss begun 0 texts
+        (all_filter (IsWholeAttribute rows.next) (λ a. not (int_eq a.number d.number)) rows.attributes whole.attributes);
+    places = places_now whole;
+  })
+
   -- other rows: the steps set them and raise the epoch
-  source_planned : RowsRead ss → (state_at rows d.number).source ≢ ss → nat_of epoch ≡ nat_of d.epoch + 1 → nat_of epoch < 2 ^ 63 → Plans (source_steps d.number epoch ss) (within (source_set ss)) name rows
-  source_planned reads differs rises low =
+  source_planned : RowsRead ss → HaveTexts ss → (state_at rows d.number).source ≢ ss → nat_of epoch ≡ nat_of d.epoch + 1 → nat_of epoch < 2 ^ 63 → Plans (source_steps d.number epoch ss) (within (source_set ss)) name rows
+  source_planned reads texts differs rises low =
       let next_epoch : IsNextEpoch (state_at rows d.number) target (nat_of d.epoch) (nat_of epoch) = inr (λ alike. differs alike.source, (rises, low)) in
       record {
         allows = (tt, (tt, allows_rows d.number ss begun 0 low_yet reads));
         made = (Some target, ap (within (source_set ss)) (its_state rows name d one) ∙ set_fits ss (state_at rows d.number) fits, changed rows name d one final epoch target up rewrote next_epoch);
         numbered = numbered_after rows name d one final epoch target up rewrote next_epoch are;
+        whole = λ whole. whole_now whole (count_after epoch (nat_of d.epoch) rises low) texts;
       }
 
   -- the rows that are there: nothing is done
@@ -234,6 +339,7 @@ module _ (rows : Rows) (name : List ℕ) (d : DomainRow) (one : IsOnly name d ro
           subst (λ s. IsChanged (kept_of rows) (kept_of rows) name (Some s)) state (still (kept_of rows) name (domain_of rows d) (kept_one rows name d one)),
         );
         numbered = are;
+        whole = λ whole. whole;
       }
 
 -- of a domain that was found
@@ -245,12 +351,12 @@ module _ (rows : Rows) (name : List ℕ) (found : DomainFound) (there ss : List 
   pub plan_same : there ≡ ss → Plans [] (within (source_set ss)) name rows
   plan_same same = source_kept rows name is.row is.only up are is.row.epoch ss fits (sym its_source ∙ same)
 
-  pub plan_new : (there ≡ ss → ⊥) → RowsRead ss → (next : ℤ) → RaisesTo found.epoch (Ok next) → Plans (source_steps found.number next ss) (within (source_set ss)) name rows
-  plan_new differs reads next raises =
+  pub plan_new : (there ≡ ss → ⊥) → RowsRead ss → HaveTexts ss → (next : ℤ) → RaisesTo found.epoch (Ok next) → Plans (source_steps found.number next ss) (within (source_set ss)) name rows
+  plan_new differs reads texts next raises =
       let r = raises (nat_of is.row.epoch) (is.epoch ∙ is.has_epoch) in
       let rises : nat_of next ≡ nat_of is.row.epoch + 1 = ap nat_of r.0 in
       subst (λ n. Plans (source_steps n next ss) (within (source_set ss)) name rows) (sym is.number)
-      (source_planned rows name is.row is.only up are next ss fits reads (λ same. differs (its_source ∙ same)) rises (subst (λ k. k < 2 ^ 63) (sym rises) r.1))
+      (source_planned rows name is.row is.only up are next ss fits reads texts (λ same. differs (its_source ∙ same)) rises (subst (λ k. k < 2 ^ 63) (sym rises) r.1))
 
 -- too many rows
 pub too_many : (rows : Rows) (name : List ℕ) (found : DomainFound) (ss : List SourceRow) → IsDomain name rows found → nat_le (length ss) 1_024 ≡ false → within (source_set ss) (state_of name (kept_of rows)) ≡ Err Quota

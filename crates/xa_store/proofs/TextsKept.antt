@@ -20,7 +20,7 @@ module _ {X : Type 0} (P : X → Type 0) where
       go true more = (all.0, more)
       go false more = more
 
-  all_update : (p : X → Bool) (f : X → X) → ((x : X) → P x → P (f x)) → (xs : List X) → AllByRecursion P xs → AllByRecursion P (update_where p f xs)
+  pub all_update : (p : X → Bool) (f : X → X) → ((x : X) → P x → P (f x)) → (xs : List X) → AllByRecursion P xs → AllByRecursion P (update_where p f xs)
   all_update p f kept [] all = tt
   all_update p f kept (x ∷ xs) all = (one (p x), all_update p f kept xs all.1)
     where
@@ -28,7 +28,7 @@ module _ {X : Type 0} (P : X → Type 0) where
       one true = kept x all.0
       one false = all.0
 
-  all_push : (xs : List X) (x : X) → AllByRecursion P xs → P x → AllByRecursion P (xs ++ x ∷ [])
+  pub all_push : (xs : List X) (x : X) → AllByRecursion P xs → P x → AllByRecursion P (xs ++ x ∷ [])
   all_push [] x all p = (p, tt)
   all_push (y ∷ xs) x all p = (all.0, all_push xs x all.1 p)
 

@@ -1,5 +1,5 @@
 -- The plans of changes of tokens.
-use Rattle.std.proofs.Common.{◌≡◌, ◌≢◌, inl, ℕ, ℤ, List, [], ◌∷◌, ◌++◌, filter, find, Bool, true, false, ◌||◌, cond, nat_lt, Option, Some, None, option_map, is_some, Ok, Err, refl, sym, ap, subst, ◌∙◌, int_eq}
+use Rattle.std.proofs.Common.{◌≡◌, ◌≢◌, inl, ℕ, ℤ, List, [], ◌∷◌, ◌++◌, filter, find, Bool, true, false, ◌||◌, not, cond, nat_lt, Option, Some, None, option_map, is_some, Ok, Err, refl, sym, ap, subst, ◌∙◌, int_eq}
 use Rattle.std.specs.List.{AllByRecursion}
 use Rattle.std.specs.Ordering.{eq_by_cmp}
 use Rattle.std.specs.FinMap.{FinMap, contains_key, insert, remove, len}
@@ -15,6 +15,7 @@ use Rattle.xa_records.proofs.OrderLemmas.{bytes_exact, bytes_total}
 use Rattle.xa_store.specs.declared.domain_found.DomainFound.{DomainFound}
 use Rattle.xa_store.specs.Found.{FindsRole, IsDomain}
 use Rattle.xa_store.specs.declared.step.Step.TheVariants.{AddToken, SetRole, DropToken}
+use Rattle.xa_store.specs.Opened.{is_digest}
 use Rattle.xa_store.specs.Rows.{DomainRow, TokenRow, nat_of}
 use Rattle.xa_store.specs.Sound.{AreNumbered}
 use Rattle.xa_store.specs.Steps.{is_named, is_token, with_epoch}
@@ -25,6 +26,8 @@ use Rattle.xa_store.proofs.EntryLemmas.{got, pushed, updated, deleted}
 use Rattle.xa_store.proofs.FilterLemmas.{filter_both, filter_delete, filter_delete_apart, filter_push, filter_push_apart, filter_update, filter_update_apart, find_none, find_one, filter_alike}
 use Rattle.xa_store.proofs.KeyLemmas.{untouched, own_number}
 use Rattle.xa_store.proofs.PlanLemmas.{changed, its_state, numbered_after}
+use Rattle.xa_store.proofs.TextsKept.{all_filter, all_push, all_update}
+use Rattle.xa_store.proofs.WholeLemmas.{IsWholeToken, its_domain, tokens_whole}
 
 -- ---- the epoch that a domain has already
 
@@ -120,6 +123,7 @@ module _ (rows : Rows) (name : List ℕ) (d : DomainRow) (one : IsOnly name d ro
             changed rows name d one (with_rows tokens) d.epoch (with_tokens target state) up wrote (same_deciding target),
           );
           numbered = numbered_after rows name d one (with_rows tokens) d.epoch (with_tokens target state) up wrote (same_deciding target) are;
+          whole = λ whole. tokens_whole rows whole tokens (all_update (IsWholeToken rows.next) (is_token n digest) f (λ t h. h) rows.tokens whole.tokens);
         }
 
     pub drop_planned : Plans (DropToken n digest ∷ []) (within (token_dropped digest)) name rows
@@ -137,6 +141,7 @@ module _ (rows : Rows) (name : List ℕ) (d : DomainRow) (one : IsOnly name d ro
             changed rows name d one (with_rows tokens) d.epoch (with_tokens target state) up wrote (same_deciding target),
           );
           numbered = numbered_after rows name d one (with_rows tokens) d.epoch (with_tokens target state) up wrote (same_deciding target) are;
+          whole = λ whole. tokens_whole rows whole tokens (all_filter (IsWholeToken rows.next) (λ t. not (is_token n digest t)) rows.tokens whole.tokens);
         }
 
   -- ---- a token that isn't there
@@ -148,8 +153,8 @@ module _ (rows : Rows) (name : List ℕ) (d : DomainRow) (one : IsOnly name d ro
     missing : contains_key state.tokens digest ≡ false
     missing = holds false (ap (λ o. is_some (option_map role_in o)) unfound)
 
-    pub token_planned : (role : Role) → nat_lt (len state.tokens) 32 ≡ true → Plans (AddToken n digest role ∷ []) (within (token_put digest role)) name rows
-    token_planned role room =
+    pub token_planned : (role : Role) → is_digest digest ≡ true → nat_lt (len state.tokens) 32 ≡ true → Plans (AddToken n digest role ∷ []) (within (token_put digest role)) name rows
+    token_planned role long room =
         let new : TokenRow = record { rowid = next_key (λ t. t.rowid) rows.tokens; number = n; digest = digest; role = role } in
         let tokens = rows.tokens ++ new ∷ [] in
         let target = insert state.tokens digest role in
@@ -165,6 +170,7 @@ module _ (rows : Rows) (name : List ℕ) (d : DomainRow) (one : IsOnly name d ro
             changed rows name d one (with_rows tokens) d.epoch (with_tokens target state) up wrote (same_deciding target),
           );
           numbered = numbered_after rows name d one (with_rows tokens) d.epoch (with_tokens target state) up wrote (same_deciding target) are;
+          whole = λ whole. tokens_whole rows whole tokens (all_push (IsWholeToken rows.next) rows.tokens new whole.tokens ((its_domain rows whole name d one).0, long));
         }
 
     pub token_refused : (role : Role) → nat_lt (len state.tokens) 32 ≡ false → within (token_put digest role) (state_of name (kept_of rows)) ≡ Err Quota
@@ -199,10 +205,10 @@ module _ (rows : Rows) (name : List ℕ) (found : DomainFound) (up : IsKeyedBy n
     own_count : count ≡ len (state_at rows is.row.number).tokens
     own_count = all ∙ ap (λ n. len (state_at rows n).tokens) is.number
 
-    pub plan_token : (role : Role) → FindsRole found.number digest rows None → nat_lt count 32 ≡ true → Plans (AddToken found.number digest role ∷ []) (within (token_put digest role)) name rows
-    plan_token role finds room =
+    pub plan_token : (role : Role) → is_digest digest ≡ true → FindsRole found.number digest rows None → nat_lt count 32 ≡ true → Plans (AddToken found.number digest role ∷ []) (within (token_put digest role)) name rows
+    plan_token role long finds room =
         subst (λ n. Plans (AddToken n digest role ∷ []) (within (token_put digest role)) name rows) (sym is.number)
-        (token_planned rows name is.row is.only up are digest (finds_own None finds) role (subst (λ k. nat_lt k 32 ≡ true) own_count room))
+        (token_planned rows name is.row is.only up are digest (finds_own None finds) role long (subst (λ k. nat_lt k 32 ≡ true) own_count room))
 
     pub plan_full : (role : Role) → FindsRole found.number digest rows None → nat_lt count 32 ≡ false → within (token_put digest role) (state_of name (kept_of rows)) ≡ Err Quota
     plan_full role finds full = token_refused rows name is.row is.only up are digest (finds_own None finds) role (subst (λ k. nat_lt k 32 ≡ false) own_count full)

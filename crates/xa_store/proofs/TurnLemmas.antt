@@ -13,7 +13,7 @@ use Rattle.xa_records.specs.Kept.{Domain, Kept, IsChanged, IsMade}
 use Rattle.xa_store.specs.declared.step.Step.{Step}
 use Rattle.xa_store.specs.Planning.{told_by}
 use Rattle.xa_store.specs.Quiet.{Quiet}
-use Rattle.xa_store.specs.Sound.{AreDocuments, AreNumbered, Ours, SameNow}
+use Rattle.xa_store.specs.Sound.{AreDocuments, AreNumbered, AreWhole, Ours, SameNow}
 use Rattle.xa_store.specs.Steps.{AllowsAll}
 use Rattle.xa_store.specs.Taking.{Holds, Made, Runs}
 use Rattle.xa_store.specs.Turns.{IsPlanned, Plans, Turns, answer_of}
@@ -77,6 +77,7 @@ module _ (change : Change) (name : List ℕ) (old mid new : State) (quiet : Quie
         tables = made.holds.tables;
         domains = subst AreNumbered (sym (held new.now.trees made.holds).rows) (planned clean ours).numbered;
         documents = subst (λ (rows : Rows). AreDocuments rows.documents) (sym (held new.now.trees made.holds).rows) (documents_kept steps (rows_of old.now.trees) (planned clean ours).allows ours.documents);
+        whole = subst AreWhole (sym (held new.now.trees made.holds).rows) ((planned clean ours).whole ours.whole);
       }
 
       left : (db : Trees) → mid.may_leave db ⊎ Holds steps (rows_of mid.now.trees) db → old.may_leave db ⊎ IsMade change name (world_of old.now.trees) (world_of db)

@@ -1,8 +1,10 @@
 -- How the tables are read and judged when a store is opened: one query for the rows of each, in the order of their numbers, and one for whether
 -- the table has them in that order.
-use Rattle.std.specs.Prelude.{◌≡◌, ◌≢◌, ◌⊎◌, ℕ, ℤ, FitsSigned, Bool, true, false, ◌&&◌, List, [], ◌∷◌, ◌++◌, map, int_lt, codes, IsPermutation, IsTrue, if◌then◌else◌, Option, Some, None, option_map, option_and_then, unwrap_or, Result, Ok, Err, OnOk, OnErr, IfOk, IfErr}
+use Rattle.std.specs.Prelude.{◌≡◌, ◌≢◌, ◌⊎◌, ℕ, ◌+ℤ◌, ℤ, pos, negsuc, FitsSigned, Bool, true, false, ◌&&◌, List, [], ◌∷◌, ◌++◌, map, int_lt, codes, IsPermutation, IsTrue, if◌then◌else◌, Option, Some, None, option_map, option_and_then, unwrap_or, Result, Ok, Err, OnOk, OnErr, IfOk, IfErr}
 use Rattle.std.specs.Int.{w64}
 use Rattle.std.specs.List.{AllByRecursion}
+use Rattle.std.specs.Ordering.{int_cmp, int_eq, ordering_then}
+use Rattle.std.specs.declared.cmp.Ordering.{Ordering}
 use Rattle.sqlite.specs.Effect.{IsDatabase}
 use Rattle.sqlite.specs.Given.{HasGiven, IsPlain}
 use Rattle.sqlite.specs.Listing.{understood}
@@ -18,7 +20,7 @@ use Rattle.xa_store.specs.declared.open_error.OpenError.{OpenError}
 use Rattle.xa_store.specs.declared.open_error.OpenError.TheVariants.{NotThisSchema, Damaged, Store, Memory}
 use Rattle.xa_store.specs.declared.opening.kind.Kind.{Kind}
 use Rattle.xa_store.specs.declared.opening.kind.Kind.TheVariants.{Domains, Tokens, Documents, Roots, Attributes}
-use Rattle.xa_store.specs.Opened.{as_read, tree_of, are_rising, int_in, is_number, is_whole_row, row_number, Place, counts_on, opened}
+use Rattle.xa_store.specs.Opened.{as_read, tree_of, are_rising, int_in, is_number, is_whole_row, row_number, Place, opened}
 use Rattle.xa_store.specs.Opening.{Gives, IsBlank, IsFailure, IsMade, IsRefusal, Leaves}
 use Rattle.xa_store.specs.Sound.{Ours, Rests, SameNow}
 use Rattle.xa_store.specs.Tables.{our_schema}
@@ -170,6 +172,22 @@ abbrev pub Orders : Kind → Trees → Result (Unit {0}) OpenError → Type 0
 Orders kind db result = (next : ℤ) → Walks kind next db (Ok tt) → Judges (are_rising (map row_number (map (as_read kind) (db (tree_of kind))))) result
 
 -- ---- the places of the rows of sources
+
+-- the place comes after the one before: the first of a domain is 0
+abbrev pub counts_on : Place → Place → Bool
+counts_on last place = if int_eq place.0 last.0 then int_eq place.1 (last.1 +ℤ pos 1) else int_eq place.1 (pos 0)
+
+abbrev pub count_on : Place → List Place → Bool
+count_on last [] = true
+count_on last (place ∷ places) = counts_on last place && count_on place places
+
+-- a place before the first of any domain
+abbrev pub no_place : Place
+no_place = (negsuc 0, negsuc 0)
+
+-- by the domain, and then by the place
+abbrev pub place_cmp : Place → Place → Ordering
+place_cmp a b = ordering_then (int_cmp a.0 b.0) (int_cmp a.1 b.1)
 
 -- a row shows a domain and a place
 abbrev pub place_told : Row → Option Place

@@ -1,10 +1,9 @@
 -- When the tables of a store are those of a keeper, and what opening it answers. A body is a document of the key that its columns hold,
 -- versions and values stand in their printed form, and places count from 0 in each domain. Rows of a number that was given and has no domain are
 -- sound: the tables' keys rule them out, where who writes a file has them enforced, and nothing is ever read of them, since no number is given twice.
-use Rattle.std.specs.Prelude.{◌==◌, ℕ, ◌+ℤ◌, ℤ, pos, negsuc, Bool, true, false, ◌&&◌, if◌then◌else◌, List, [], ◌∷◌, map, length, bytes_eq, is_ok, int_le, int_lt, Option, Some, None, Result, Ok, Err}
+use Rattle.std.specs.Prelude.{◌==◌, ℕ, ◌+ℤ◌, ℤ, pos, Bool, true, false, ◌&&◌, if◌then◌else◌, List, [], ◌∷◌, map, filter, length, bytes_eq, is_ok, int_le, int_lt, Option, Some, None, Result, Ok, Err}
 use Rattle.std.specs.List.{list_all}
-use Rattle.std.specs.Ordering.{int_eq, int_cmp, ordering_then}
-use Rattle.std.specs.declared.cmp.Ordering.{Ordering}
+use Rattle.std.specs.Ordering.{int_eq, int_cmp}
 use Rattle.std.specs.Str.{is_utf8}
 use Rattle.sqlite.specs.Ops.{fits_i64}
 use Rattle.sqlite.specs.Order.{Row, column}
@@ -156,21 +155,18 @@ Place = ℤ × ℤ
 abbrev pub place_in : Row → Place
 place_in row = (int_of (column row 1), int_of (column row 2))
 
--- the place comes after the one before: the first of a domain is 0
-abbrev pub counts_on : Place → Place → Bool
-counts_on last place = if int_eq place.0 last.0 then int_eq place.1 (last.1 +ℤ pos 1) else int_eq place.1 (pos 0)
+-- the places in the source of one domain, sorted
+abbrev pub places_of : List Place → ℤ → List ℤ
+places_of places number = sort_by int_cmp (map (λ place. place.1) (filter (λ place. int_eq place.0 number) places))
 
-abbrev pub count_on : Place → List Place → Bool
-count_on last [] = true
-count_on last (place ∷ places) = counts_on last place && count_on place places
+-- they are that number, the one after it, and so on
+abbrev pub count_from : ℤ → List ℤ → Bool
+count_from n [] = true
+count_from n (place ∷ places) = int_eq place n && count_from (n +ℤ pos 1) places
 
--- no domain has a negative number
-abbrev pub no_place : Place
-no_place = (negsuc 0, pos 0)
-
--- by the domain, and then by the place
-abbrev pub place_cmp : Place → Place → Ordering
-place_cmp a b = ordering_then (int_cmp a.0 b.0) (int_cmp a.1 b.1)
+-- the places of the rows of each domain are 0 to n - 1, each once
+abbrev pub are_counted : List Place → Bool
+are_counted places = list_all (λ place. count_from (pos 0) (places_of places place.0)) places
 
 -- ---- what opening answers
 
@@ -194,7 +190,7 @@ is_sound_table db next kind = are_sound_rows kind next (map (as_read kind) (db (
 
 abbrev pub is_sound : Trees → ℤ → Bool
 is_sound db next =
-    is_count next && list_all (is_sound_table db next) (Domains ∷ Tokens ∷ Documents ∷ Roots ∷ Attributes ∷ []) && count_on no_place (sort_by place_cmp (map place_in (db 8)))
+    is_count next && list_all (is_sound_table db next) (Domains ∷ Tokens ∷ Documents ∷ Roots ∷ Attributes ∷ []) && are_counted (map place_in (db 8))
 
 abbrev pub judged : Trees → Option ℤ → Result (Unit {0}) OpenError
 judged db None = Err NotThisSchema

@@ -1,5 +1,6 @@
 -- The steps of each change.
 use Rattle.std.specs.Prelude.{◌≡◌, ◌⊎◌, ◌+◌, ◌<◌, ◌≤◌, ◌^◌, ℕ, ℤ, pos, Result, Ok, Err, IfOk, List, [], ◌∷◌, Option, Some, None}
+use Rattle.std.specs.List.{AllByRecursion}
 use Rattle.xa_policy.specs.declared.reference.Reference.{Reference}
 use Rattle.xa_decide.specs.declared.source_row.SourceRow.{SourceRow}
 use Rattle.xa_policy.specs.declared.document_key.DocumentKey.{DocumentKey}
@@ -15,6 +16,7 @@ use Rattle.xa_store.specs.Turns.{IsPlanned}
 use Rattle.xa_store.specs.World.{Rows, kept_of}
 use Rattle.xa_store.specs.declared.step.Step.{Step}
 use Rattle.xa_store.specs.declared.step.Step.TheVariants.{AddDomain, SetNext, SetEpoch, AddRoot, DropRoot, AddAttribute, DropSource}
+use Rattle.xa_store.specs.Sound.{AreRootTexts, AreSourceTexts}
 use Rattle.xa_store.specs.Steps.{ReadsBack}
 
 -- a domain of that name gets the number, and the next domain gets the one after it
@@ -30,6 +32,11 @@ root_steps number epoch (Some root) = DropRoot number ∷ AddRoot number root �
 abbrev pub RootReads : ℤ → Option Reference → Type 0
 RootReads number None = Unit {0}
 RootReads number (Some root) = reference_of (root_of number root) ≡ root
+
+-- the texts of its row are such as read
+abbrev pub HasRootTexts : ℤ → Option Reference → Type 0
+HasRootTexts number None = Unit {0}
+HasRootTexts number (Some root) = AreRootTexts (root_of number root)
 
 -- the rows come, at places that count on from this
 abbrev pub row_steps : ℤ → ℕ → List SourceRow → List Step
@@ -48,6 +55,10 @@ SetsSource number rows steps = (steps ≡ []) ⊎ ((epoch : ℤ) × (steps ≡ s
 abbrev pub RowsRead : List SourceRow → Type 0
 RowsRead [] = Unit {0}
 RowsRead (row ∷ rows) = ReadsBack row.value × RowsRead rows
+
+-- the texts of the rows are such as read
+abbrev pub HaveTexts : List SourceRow → Type 0
+HaveTexts = AllByRecursion AreSourceTexts
 
 -- one more, if a column holds that
 abbrev pub RaisesTo : ℤ → Result ℤ Failure → Type 0

@@ -1,8 +1,9 @@
 -- When the tables mean what the keeper says that they do.
-use Rattle.std.specs.Prelude.{◌≡◌, ◌≤◌, ℕ, ℤ, pos, Bool, false, ◌&&◌, List, [], ◌∷◌, map, Some, IsTrue}
+use Rattle.std.specs.Prelude.{◌≡◌, ◌≤◌, ℕ, ℤ, pos, Bool, false, ◌&&◌, true, List, [], ◌∷◌, map, Option, Some, None, IsTrue}
 use Rattle.std.specs.FinMap.{get}
 use Rattle.std.specs.List.{AllByRecursion}
 use Rattle.std.specs.Ordering.{eq_by_cmp, int_eq}
+use Rattle.std.specs.Str.{is_utf8}
 use Rattle.sqlite.specs.Order.{Row}
 use Rattle.sqlite.specs.State.{State}
 use Rattle.sqlite.specs.Tree.{Trees}
@@ -10,9 +11,12 @@ use Rattle.sqlite_keyed.specs.Keyed.{IsKeyedBy}
 use Rattle.sqlite_keyed.specs.Rules.{AreApart}
 use Rattle.xa_policy.specs.declared.document_key.DocumentKey.{DocumentKey}
 use Rattle.xa_policy.specs.DocumentKey.{compare_keys}
+use Rattle.xa_decide.specs.declared.source_row.SourceRow.{SourceRow}
+use Rattle.xa_records.specs.DomainName.{is_domain_name}
 use Rattle.xa_records.specs.DomainState.{IsDocumentOf, StoredDocument, compare_bytes, new_domain}
 use Rattle.xa_records.specs.Kept.{Domain, IsNumbered, Kept}
-use Rattle.xa_store.specs.Rows.{DomainRow, TokenRow, DocumentRow, AttributeRow, meta_row, next_in, domain_row, domain_in, token_row, token_in, document_row, document_in, root_row, root_in, attribute_row, attribute_in}
+use Rattle.xa_store.specs.Opened.{Place, count_from, holds_value, is_count, is_digest, is_given, is_pattern, is_version, places_of}
+use Rattle.xa_store.specs.Rows.{DomainRow, TokenRow, DocumentRow, RootRow, AttributeRow, meta_row, next_in, domain_row, domain_in, token_row, token_in, document_row, document_in, root_row, root_in, attribute_row, attribute_in, text_at, type_number, value_text}
 use Rattle.xa_store.specs.Tables.{our_schema}
 use Rattle.xa_store.specs.World.{Rows, rows_of, state_at, kept_of, world_of}
 
@@ -63,6 +67,35 @@ abbrev pub KeepsDocuments : Kept → Type 0
 KeepsDocuments kept =
     (name : List ℕ) (domain : Domain) → get kept.domains name ≡ Some domain → (key : DocumentKey) (document : StoredDocument) → get domain.state.documents key ≡ Some document → IsDocumentOf key document.text
 
+-- ---- what the columns hold
+
+-- the test of a text that there need not be
+abbrev pub is_if_any : (List ℕ → Bool) → Option (List ℕ) → Bool
+is_if_any test None = true
+is_if_any test (Some text) = test text
+
+-- the id of a root is a text, and what it says of versions are a pattern and versions
+abbrev pub AreRootTexts : RootRow → Type 0
+AreRootTexts r = (is_utf8 r.id ≡ true) × (is_if_any is_pattern (text_at r.texts 0) ≡ true) × (is_if_any is_version (text_at r.texts 1) ≡ true) × (is_if_any is_version (text_at r.texts 2) ≡ true)
+
+-- the names in a row of a source are texts, and its value reads back from one
+abbrev pub AreSourceTexts : SourceRow → Type 0
+AreSourceTexts row =
+    (is_utf8 row.category ≡ true) × (is_utf8 row.entity ≡ true) × (is_utf8 row.attribute_id ≡ true) × (holds_value (type_number row.value) (value_text row.value) ≡ true)
+
+abbrev pub place_of : AttributeRow → Place
+place_of a = (a.number, a.place)
+
+-- the columns of all rows hold what they should, beside what is said above: so opening finds them sound
+pub record AreWhole (rows : Rows) : Type 0 where
+  pub next : is_count rows.next ≡ true
+  pub domains : AllByRecursion (λ d. (is_given rows.next d.number ≡ true) × (is_domain_name d.name ≡ true) × (is_count d.epoch ≡ true)) rows.domains
+  pub tokens : AllByRecursion (λ t. (is_given rows.next t.number ≡ true) × (is_digest t.digest ≡ true)) rows.tokens
+  pub documents : AllByRecursion (λ d. is_given rows.next d.number ≡ true) rows.documents
+  pub roots : AllByRecursion (λ r. (is_given rows.next r.number ≡ true) × AreRootTexts r) rows.roots
+  pub attributes : AllByRecursion (λ a. (is_given rows.next a.number ≡ true) × AreSourceTexts a.row) rows.attributes
+  pub places : (number : ℤ) → count_from (pos 0) (places_of (map place_of rows.attributes) number) ≡ true
+
 -- ---- a connection between two calls of the keeper
 
 -- its tables are ours, and nothing waits for a commit
@@ -82,6 +115,7 @@ pub record Ours (s : State) : Type 0 where
   pub tables : AreTables s.now.trees
   pub domains : AreNumbered (rows_of s.now.trees)
   pub documents : AreDocuments (rows_of s.now.trees).documents
+  pub whole : AreWhole (rows_of s.now.trees)
 
 -- what a crash now may leave
 abbrev pub LeavesWorld : State → Kept → Type 0

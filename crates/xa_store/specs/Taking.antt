@@ -1,6 +1,6 @@
 -- What the steps of a change do in their transaction.
-use Rattle.std.specs.Prelude.{◌≡◌, ◌⊎◌, ℕ, List, Option, Result, IsTrue, OnOk, OnErr}
-use Rattle.sqlite.specs.State.{State, HasCleanDisk}
+use Rattle.std.specs.Prelude.{◌≡◌, ◌⊎◌, ℕ, false, List, [], Option, Result, IsTrue, OnOk, OnErr}
+use Rattle.sqlite.specs.State.{State, HasCleanDisk, KeepsCounts, Shows}
 use Rattle.sqlite.specs.Tree.{Trees}
 use Rattle.sqlite.specs.declared.types.Value.{Value}
 use Rattle.sqlite.specs.declared.types.Value.TheVariants.{Text}
@@ -37,6 +37,10 @@ pub record Made (steps : List Step) (old new : State) : Type 0 where
   pub is_open : IsTrue new.is_open
   pub rests : Rests new
   pub holds : Holds steps (rows_of old.now.trees) new.now.trees
+
+-- the transaction was committed with what it held
+abbrev pub Committed : State → State → Type 0
+Committed old new = IsTrue old.in_transaction × Shows old new old.now old.now false × KeepsCounts old new × (new.marks ≡ [])
 
 -- All the steps or none of them, also over a crash.
 pub record Runs {X : Type 0} (steps : List Step) (old new : State) (result : Result X Failure) : Type 0 where

@@ -9,7 +9,7 @@ use Rattle.xa_records.specs.Changes.{Change}
 use Rattle.xa_records.specs.Keeper.{Changes, IfAnswered}
 use Rattle.xa_records.specs.Kept.{IsMade, state_of}
 use Rattle.xa_store.specs.declared.step.Step.{Step}
-use Rattle.xa_store.specs.Sound.{AreNumbered, Ours}
+use Rattle.xa_store.specs.Sound.{AreNumbered, AreWhole, Ours}
 use Rattle.xa_store.specs.Steps.{after_all, AllowsAll}
 use Rattle.xa_store.specs.World.{Rows, kept_of, world_of}
 
@@ -18,6 +18,7 @@ pub record Plans (steps : List Step) (change : Change) (name : List ℕ) (rows :
   pub allows : AllowsAll steps rows
   pub made : IsMade change name (kept_of rows) (kept_of (after_all steps rows))
   pub numbered : AreNumbered (after_all steps rows)
+  pub whole : AreWhole rows → AreWhole (after_all steps rows)
 
 -- the plan of a change, or why it is refused
 abbrev pub IsPlanned : Change → List ℕ → Rows → Result (List Step) ChangeError → Type 0

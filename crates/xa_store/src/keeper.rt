@@ -1,8 +1,9 @@
 //! The keeper.
-ghost use Rattle.std.specs.Prelude.{◌≡◌, IsTrue};
+ghost use Rattle.std.specs.Prelude.{◌≡◌, Ok, IsTrue};
 ghost use Rattle.sqlite.specs.Held.{state};
 ghost use Rattle.xa_store.specs.Keeper.{IsSound};
 ghost use Rattle.xa_store.specs.KeeperReading.{kept_by};
+ghost use Rattle.xa_store.specs.Opened.{opened};
 ghost use Rattle.xa_store.specs.Sound.{KeepsDocuments, Ours};
 
 mod reading;
@@ -54,6 +55,11 @@ impl<S: Alter> SqlRecords<S> {
     /// Law: each text that a sound keeper holds is a document of its key.
     pub fn keeps_documents(&self)
         ensures { IsSound S.Store self.now → KeepsDocuments (kept_by S.Store self.now) }
+    {}
+
+    /// Law: the tables of a sound keeper open again.
+    pub fn opens_again(&self)
+        ensures { IsSound S.Store self.now → opened (state S.Store self.now.conn).now.trees ≡ Ok tt }
     {}
 
     /// The connection that it was made over.

@@ -21,6 +21,7 @@ mod shown;
 mod source;
 mod step;
 mod take;
+mod text;
 mod tokens;
 mod told;
 

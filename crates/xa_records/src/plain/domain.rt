@@ -55,13 +55,13 @@ impl Model for PlainDomain {
 }
 
 impl PlainDomain {
-    /// A domain of that number, in which nothing has been put yet. Nothing is allocated.
-    pub(crate) fn new(alloc: Global, number: u64) -> PlainDomain
-        ensures { result ≡ record { number = number; epoch = 0; state = new_domain } }
+    /// A domain of that number and epoch, in which nothing has been put yet. Nothing is allocated.
+    pub(crate) fn new(alloc: Global, number: u64, epoch: u64) -> PlainDomain
+        ensures { result ≡ record { number = number; epoch = epoch; state = new_domain } }
     {
         PlainDomain {
             number,
-            epoch: 0,
+            epoch,
             tokens: Tokens::new(alloc),
             documents: Documents::new(alloc),
             root: None,

@@ -1,10 +1,10 @@
 //! The domains and the next number, in memory, and each change of them.
-ghost use Rattle.std.specs.Prelude.{◌≡◌, IfOk, IsErrOf};
+ghost use Rattle.std.specs.Prelude.{◌≡◌, ◌+◌, ◌<◌, ◌≤◌, ◌^◌, ◌⊎◌, IfOk, OnOk, IsErrOf};
 ghost use Rattle.xa_records.specs.declared.refusal.ChangeError.TheVariants.{Failed};
 ghost use Rattle.xa_records.specs.declared.refusal.Failure.TheVariants.{Store};
 ghost use Rattle.xa_records.specs.Changes.{activity_set, created, deleted, removed, root_set, source_set, token_dropped, token_put, upload_of, uploaded, within};
 ghost use Rattle.xa_records.specs.Keeper.{Changes};
-ghost use Rattle.xa_records.specs.Kept.{CantRaise, names_of, nothing_kept, state_of};
+ghost use Rattle.xa_records.specs.Kept.{CantRaise, IsGreatest, names_of, nothing_kept, one_kept, state_of};
 ghost use Rattle.xa_records.specs.Readings.{gate_of, listing_of, text_of, view_of};
 
 use crate::digest::Digest;
@@ -12,8 +12,8 @@ use crate::gate::Gate;
 use crate::kept_view::KeptView;
 use crate::listed::Listed;
 use crate::plain::domain::PlainDomain;
-use crate::plain::raising::next_after;
-use crate::refusal::{ChangeError, Refusal};
+use crate::plain::raising::{may_be_reached, next_after};
+use crate::refusal::{ChangeError, Failure, Refusal};
 use crate::upload::Upload;
 use std::alloc::{AllocError, Global};
 use std::collections::BTreeMap;
@@ -53,6 +53,26 @@ impl Domains {
             by_name: BTreeMap::new(alloc),
             next: 1,
         }
+    }
+
+    /// One domain, in which nothing has been put yet; the next that is made gets the number after its own.
+    pub(crate) fn of_one(
+        alloc: Global,
+        name: Text,
+        number: u64,
+        epoch: u64,
+    ) -> Result<Domains, Failure>
+        ensures keeps { IfOk result (λ domains. domains ≡ one_kept name number epoch) }
+        ensures held { OnOk result ((number + 1 < 2 ^ 63) × (epoch < 2 ^ 63)) }
+        ensures store { IsErrOf result Store → IsGreatest number ⊎ (2 ^ 63 ≤ epoch) }
+    {
+        if !may_be_reached(epoch) {
+            return Err(Failure::Store);
+        }
+        let next = next_after(number)?;
+        let mut by_name = BTreeMap::new(alloc);
+        by_name.insert(name, PlainDomain::new(alloc, number, epoch))?;
+        Ok(Domains { by_name, next })
     }
 
     /// The domain's number, its epoch and its tokens, if it is there.
@@ -124,7 +144,7 @@ impl Domains {
             return Err(ChangeError::Refused(Refusal::Exists));
         }
         let next = next_after(self.next)?;
-        let domain = PlainDomain::new(alloc, self.next);
+        let domain = PlainDomain::new(alloc, self.next, 0);
         self.by_name.insert(name.clone()?, domain)?;
         self.next = next;
         Ok(())

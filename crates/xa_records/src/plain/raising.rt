@@ -1,4 +1,5 @@
 //! Numbers that rise by one.
+ghost use Rattle.std.specs.Prelude.{◌<◌, ◌^◌, ◌↔◌, IsTrue};
 ghost use Rattle.xa_records.specs.Plain.{RaisesTo};
 
 use crate::refusal::Failure;
@@ -14,4 +15,11 @@ pub(crate) fn next_after(number: u64) -> Result<u64, Failure>
         return Err(Failure::Store);
     }
     Ok(number + 1)
+}
+
+/// Whether the number is at most the greatest.
+pub(crate) fn may_be_reached(number: u64) -> bool
+    ensures { IsTrue result ↔ (number < 2 ^ 63) }
+{
+    number <= GREATEST
 }

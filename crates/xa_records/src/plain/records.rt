@@ -1,10 +1,10 @@
 //! The keeper in memory.
-ghost use Rattle.std.specs.Prelude.{◌≡◌, IfOk, IsErrOf};
+ghost use Rattle.std.specs.Prelude.{◌≡◌, ◌≤◌, ◌^◌, ◌⊎◌, IfOk, IsErrOf};
 ghost use Rattle.xa_records.specs.declared.refusal.ChangeError.TheVariants.{Failed};
 ghost use Rattle.xa_records.specs.declared.refusal.Failure.TheVariants.{Store};
 ghost use Rattle.xa_records.specs.Changes.{activity_set, created, deleted, removed, root_set, source_set, token_dropped, token_put, upload_of, uploaded, within};
 ghost use Rattle.xa_records.specs.Keeper.{Changing, Reading, in_memory};
-ghost use Rattle.xa_records.specs.Kept.{CantRaise, IsNumbered, names_of, nothing_kept, state_of};
+ghost use Rattle.xa_records.specs.Kept.{CantRaise, IsGreatest, IsNumbered, names_of, nothing_kept, one_kept, state_of};
 ghost use Rattle.xa_records.specs.Readings.{gate_of, listing_of, text_of, view_of};
 ghost use Rattle.std.proofs.Props.{props};
 
@@ -41,6 +41,23 @@ impl PlainRecords {
             domains: Domains::new(alloc),
             faults: 0,
         }
+    }
+
+    /// A keeper of one domain of that number and epoch, in which nothing has been put yet; the next gets the number after it. It is there for tests of the
+    /// greatest numbers, which no test reaches by calls. Answers `Store` where the next number or the epoch would be above 2^63 - 1.
+    pub fn with_domain(
+        alloc: Global,
+        name: Text,
+        number: u64,
+        epoch: u64,
+    ) -> Result<PlainRecords, Failure>
+        ensures kept { IfOk result (λ r. (⟦<PlainRecords as Records>⟧.custody r).kept ≡ one_kept name number epoch) }
+        ensures sound { IfOk result (λ r. (⟦<PlainRecords as Records>⟧.custody r).sound) }
+        ensures faults { IfOk result (λ r. (⟦<PlainRecords as Records>⟧.custody r).faults ≡ 0) }
+        ensures store { IsErrOf result Store → IsGreatest number ⊎ (2 ^ 63 ≤ epoch) }
+    {
+        let domains = Domains::of_one(alloc, name, number, epoch)?;
+        Ok(PlainRecords { domains, faults: 0 })
     }
 }
 

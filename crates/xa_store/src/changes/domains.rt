@@ -5,6 +5,7 @@ ghost use Rattle.sqlite.specs.State.{HasCleanDisk};
 ghost use Rattle.sqlite_keyed.specs.Keyed.{IsKeyedBy};
 ghost use Rattle.sqlite_keyed.specs.Rules.{AreApart};
 ghost use Rattle.xa_records.specs.Changes.{created, removed};
+ghost use Rattle.xa_records.specs.DomainName.{is_domain_name};
 ghost use Rattle.xa_records.specs.Keeper.{IfAnswered};
 ghost use Rattle.xa_store.specs.declared.step.Step.TheVariants.{DropDomain};
 ghost use Rattle.xa_store.specs.Found.{IsDomain, IsNext};
@@ -44,6 +45,7 @@ fn create_steps(
 
 /// The plan for a domain that isn't there, with the next number.
 fn plan_made(alloc: Global, name: &Text, number: i64) -> Result<Items<Step>, ChangeError>
+    requires { IsTrue (is_domain_name name.now) }
     ensures plans { (rows : Rows) → AreNumbered rows → AreApart same_name rows.domains → filter (is_named name.now) rows.domains ≡ [] → IsNext rows number → IsPlanned created name.now rows result }
 {
     let next = next_after(number)?;
@@ -56,6 +58,7 @@ fn plan_create<S: Alter>(
     alloc: Global,
     name: &Text,
 ) -> Result<Items<Step>, ChangeError>
+    requires { IsTrue (is_domain_name name.now) }
     ensures quiet { Quiet (state S.Store conn.old) (state S.Store conn.new) }
     ensures opens { HasCleanDisk (state S.Store conn.new) → IfAnswered result (IsTrue (state S.Store conn.new).is_open) }
     ensures plans { HasCleanDisk (state S.Store conn.new) → Ours (state S.Store conn.old) → IsPlanned created name.now (rows_of (state S.Store conn.old).now.trees) result }
@@ -74,6 +77,7 @@ pub(crate) fn create_in<S: Alter>(
     alloc: Global,
     name: &Text,
 ) -> Result<(), ChangeError>
+    requires { IsTrue (is_domain_name name.now) }
     ensures turns { Turns created name.now (state S.Store conn.old) (state S.Store conn.new) result }
 {
     match plan_create(conn, alloc, name) {

@@ -1,6 +1,7 @@
 //! The changes of the keeper.
-ghost use Rattle.std.specs.Prelude.{◌≡◌, IfOk};
+ghost use Rattle.std.specs.Prelude.{◌≡◌, IfOk, IsTrue};
 ghost use Rattle.xa_records.specs.Changes.{activity_set, created, deleted, removed, root_set, source_set, token_dropped, token_put, upload_of, uploaded, within};
+ghost use Rattle.xa_records.specs.DomainName.{is_domain_name};
 ghost use Rattle.xa_records.specs.DomainState.{IsDocumentOf};
 ghost use Rattle.xa_records.specs.Kept.{state_of};
 ghost use Rattle.xa_store.specs.Keeper.{IsSound};
@@ -24,6 +25,7 @@ use xa_value::{Items, Text};
 impl<S: Alter> SqlRecords<S> {
     /// Makes a domain in which nothing has been put yet. Refused with `Exists`.
     pub(crate) fn make_domain(&mut self, alloc: Global, name: &Text) -> Result<(), ChangeError>
+        requires { IsTrue (is_domain_name name.now) }
         ensures { IsChanging S.Store self.old self.new result name.now created }
     {
         let done = create_in(&mut self.conn, alloc, name);

@@ -1,5 +1,5 @@
 //! The root of a domain is set.
-ghost use Rattle.std.specs.Prelude.{◌≡◌, ◌++◌, ℕ, ℤ, List, [], ◌∷◌, IsTrue, IfOk, option_map, option_and_then};
+ghost use Rattle.std.specs.Prelude.{◌≡◌, ◌++◌, ℕ, ℤ, true, List, [], ◌∷◌, IsTrue, IfOk, option_map, option_and_then};
 ghost use Rattle.sqlite.specs.Held.{state};
 ghost use Rattle.sqlite.specs.State.{HasCleanDisk};
 ghost use Rattle.xa_policy.specs.Pattern.{pattern_text, read_pattern};
@@ -8,10 +8,11 @@ ghost use Rattle.xa_records.specs.Changes.{root_set, within};
 ghost use Rattle.xa_records.specs.Keeper.{IfAnswered};
 ghost use Rattle.xa_store.specs.declared.step.Step.TheVariants.{SetEpoch};
 ghost use Rattle.xa_store.specs.Found.{IsDomain};
-ghost use Rattle.xa_store.specs.Planning.{RootReads, number_key, root_steps};
+ghost use Rattle.xa_store.specs.Planning.{HasRootTexts, RootReads, number_key, root_steps};
+ghost use Rattle.xa_store.specs.Opened.{is_pattern, is_version};
 ghost use Rattle.xa_store.specs.Quiet.{Quiet};
 ghost use Rattle.xa_store.specs.Rows.{given, reference_of, root_of};
-ghost use Rattle.xa_store.specs.Sound.{AreNumbered, Ours};
+ghost use Rattle.xa_store.specs.Sound.{AreNumbered, AreRootTexts, Ours, is_if_any};
 ghost use Rattle.xa_store.specs.Turns.{IsPlanned, Turns, answer_of};
 ghost use Rattle.xa_store.specs.World.{Rows, root_at, rows_of};
 ghost use Rattle.sqlite_keyed.specs.Keyed.{IsKeyedBy};
@@ -21,6 +22,7 @@ use crate::domain_found::{DomainFound, domain_named};
 use crate::root::root_of;
 use crate::run::run;
 use crate::step::Step;
+use crate::text::bytes_are_utf8;
 use sqlite::{Alter, Connection};
 use std::alloc::{AllocError, Global};
 use xa_policy::{Pattern, Reference, Version};
@@ -29,20 +31,28 @@ use xa_value::{Items, Text};
 
 /// Law: a pattern reads back from its text.
 fn pattern_reads_back(pattern: &Option<Pattern>)
-    ensures { option_and_then (λ text. given (read_pattern text)) (option_map pattern_text pattern.now) ≡ pattern.now }
+    ensures back { option_and_then (λ text. given (read_pattern text)) (option_map pattern_text pattern.now) ≡ pattern.now }
+    ensures reads { is_if_any is_pattern (option_map pattern_text pattern.now) ≡ true }
 {
     match pattern {
-        Some(pattern) => pattern.reads_back(),
+        Some(pattern) => {
+            let _parts = pattern.parts();
+            pattern.reads_back()
+        }
         None => (),
     }
 }
 
 /// Law: a version reads back from its text.
 fn version_reads_back(version: &Option<Version>)
-    ensures { option_and_then (λ text. given (read_version text)) (option_map version_text version.now) ≡ version.now }
+    ensures back { option_and_then (λ text. given (read_version text)) (option_map version_text version.now) ≡ version.now }
+    ensures reads { is_if_any is_version (option_map version_text version.now) ≡ true }
 {
     match version {
-        Some(version) => version.reads_back(),
+        Some(version) => {
+            let _numbers = version.numbers();
+            version.reads_back()
+        }
         None => (),
     }
 }
@@ -50,7 +60,9 @@ fn version_reads_back(version: &Option<Version>)
 /// Law: a reference reads back from the texts of its row.
 fn reference_reads_back(root: &Reference)
     ensures reads { (number : ℤ) → reference_of (root_of number root.now) ≡ root.now }
+    ensures texts { (number : ℤ) → AreRootTexts (root_of number root.now) }
 {
+    bytes_are_utf8(&root.id);
     pattern_reads_back(&root.version);
     version_reads_back(&root.earliest);
     version_reads_back(&root.latest);
@@ -59,6 +71,7 @@ fn reference_reads_back(root: &Reference)
 /// Law: so does a root.
 fn root_reads_back(root: &Option<Reference>)
     ensures reads { (number : ℤ) → RootReads number root.now }
+    ensures texts { (number : ℤ) → HasRootTexts number root.now }
 {
     match root {
         Some(root) => reference_reads_back(root),

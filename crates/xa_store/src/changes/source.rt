@@ -1,14 +1,16 @@
 //! The source of attributes of a domain is set.
-ghost use Rattle.std.specs.Prelude.{◌≡◌, ◌≤◌, ◌++◌, ℕ, List, length, IsTrue, IfOk, OnOk};
+ghost use Rattle.std.specs.Prelude.{◌≡◌, ◌≤◌, ◌++◌, ℕ, true, List, length, IsTrue, IfOk, OnOk};
 ghost use Rattle.sqlite.specs.Held.{state};
 ghost use Rattle.sqlite.specs.State.{HasCleanDisk};
 ghost use Rattle.sqlite_keyed.specs.Keyed.{IsKeyedBy};
 ghost use Rattle.xa_records.specs.Changes.{source_set, within};
 ghost use Rattle.xa_records.specs.Keeper.{IfAnswered};
 ghost use Rattle.xa_store.specs.Found.{IsDomain};
-ghost use Rattle.xa_store.specs.Planning.{RowsRead, SetsSource, number_key, row_steps, source_steps};
+ghost use Rattle.xa_store.specs.Planning.{HaveTexts, RowsRead, SetsSource, number_key, row_steps, source_steps};
+ghost use Rattle.xa_store.specs.Opened.{holds_value};
 ghost use Rattle.xa_store.specs.Quiet.{Quiet};
-ghost use Rattle.xa_store.specs.Sound.{AreNumbered, Ours};
+ghost use Rattle.xa_store.specs.Rows.{type_number, value_text};
+ghost use Rattle.xa_store.specs.Sound.{AreNumbered, AreSourceTexts, Ours};
 ghost use Rattle.xa_store.specs.Steps.{ReadsBack};
 ghost use Rattle.xa_store.specs.Turns.{IsPlanned, Turns};
 ghost use Rattle.xa_store.specs.World.{Rows, rows_of, state_at};
@@ -19,6 +21,7 @@ use crate::domain_found::{DomainFound, domain_named};
 use crate::run::run;
 use crate::source::source_of;
 use crate::step::Step;
+use crate::text::bytes_are_utf8;
 use sqlite::{Alter, Connection};
 use std::alloc::{AllocError, Global};
 use xa_decide::SourceRow;
@@ -28,6 +31,7 @@ use xa_value::{Items, OrMemory, Text, Value};
 /// Answers where the value reads back from its text. One that doesn't, a URI with white space around it for one, can't be kept.
 fn check_value(alloc: Global, value: &Value) -> Result<(), Failure>
     ensures reads { OnOk result (ReadsBack value.now) }
+    ensures text { OnOk result (holds_value (type_number value.now) (value_text value.now) ≡ true) }
 {
     let text = value.to_text(alloc)?;
     match Value::read(alloc, value.data_type(), text.as_str()) {
@@ -42,14 +46,26 @@ fn check_value(alloc: Global, value: &Value) -> Result<(), Failure>
     }
 }
 
+/// Answers where the value of the row reads back.
+fn check_row(alloc: Global, row: &SourceRow) -> Result<(), Failure>
+    ensures reads { OnOk result (ReadsBack row.now.value) }
+    ensures texts { OnOk result (AreSourceTexts row.now) }
+{
+    bytes_are_utf8(&row.category);
+    bytes_are_utf8(&row.entity);
+    bytes_are_utf8(&row.attribute_id);
+    check_value(alloc, &row.value)
+}
+
 /// Answers where the values of all the rows read back. In time in proportion to their texts.
 fn check_rows(alloc: Global, rows: &[SourceRow]) -> Result<(), Failure>
-    ensures { OnOk result (RowsRead rows.now) }
+    ensures reads { OnOk result (RowsRead rows.now) }
+    ensures texts { OnOk result (HaveTexts rows.now) }
 {
     match rows {
         [] => Ok(()),
         [row, rest @ ..] => {
-            check_value(alloc, &row.value)?;
+            check_row(alloc, row)?;
             check_rows(alloc, rest)
         }
     }

@@ -1,10 +1,11 @@
 //! Tokens are put in and taken out.
-ghost use Rattle.std.specs.Prelude.{◌≡◌, ℕ, nat_lt, List, [], ◌∷◌, None, IsTrue, IfOk};
+ghost use Rattle.std.specs.Prelude.{◌≡◌, ℕ, nat_lt, true, List, [], ◌∷◌, None, IsTrue, IfOk};
 ghost use Rattle.sqlite.specs.Held.{state};
 ghost use Rattle.sqlite.specs.State.{HasCleanDisk};
 ghost use Rattle.xa_records.specs.Changes.{token_dropped, token_put, within};
 ghost use Rattle.xa_records.specs.Keeper.{IfAnswered};
 ghost use Rattle.xa_store.specs.Found.{FindsRole, IsDomain};
+ghost use Rattle.xa_store.specs.Opened.{is_digest};
 ghost use Rattle.xa_store.specs.Quiet.{Quiet};
 ghost use Rattle.xa_store.specs.Sound.{Ours};
 ghost use Rattle.xa_store.specs.Turns.{IsPlanned, Turns};
@@ -38,6 +39,13 @@ fn has_room(count: usize) -> bool
     count < MAX_TOKENS
 }
 
+/// Law: a digest has 32 bytes.
+fn has_all_bytes(digest: &Digest)
+    ensures { is_digest digest.now ≡ true }
+{
+    let _bytes = digest.as_bytes();
+}
+
 /// The plan for a token that isn't there.
 fn plan_new<S: Alter>(
     conn: &mut Connection<S>,
@@ -50,6 +58,7 @@ fn plan_new<S: Alter>(
     ensures opens { HasCleanDisk (state S.Store conn.new) → IfAnswered result (IsTrue (state S.Store conn.new).is_open) }
     ensures plans { HasCleanDisk (state S.Store conn.new) → Ours (state S.Store conn.old) → (name : List ℕ) → IsDomain name (rows_of (state S.Store conn.old).now.trees) found → FindsRole found.number digest (rows_of (state S.Store conn.old).now.trees) None → IsPlanned (within (token_put digest role)) name (rows_of (state S.Store conn.old).now.trees) result }
 {
+    has_all_bytes(&digest);
     let count = token_count(conn, found.number)?;
     if !has_room(count) {
         return Err(ChangeError::Refused(Refusal::Quota));

@@ -3,8 +3,8 @@ ghost use Rattle.std.specs.Prelude.{◌≡◌, IfOk};
 ghost use Rattle.sqlite.specs.Order.{column};
 ghost use Rattle.xa_notation.specs.Document.{document_of};
 ghost use Rattle.xa_value.specs.Reading.{read};
-ghost use Rattle.xa_store.specs.Opened.{counts_on, holds_blob, holds_int, holds_key, holds_text, holds_value, int_in, is_printed, is_sound_row, is_value, known_next, next_of, type_numbered};
-ghost use Rattle.xa_store.specs.Judging.{place_told};
+ghost use Rattle.xa_store.specs.Opened.{holds_blob, holds_int, holds_key, holds_text, holds_value, int_in, is_printed, is_sound_row, is_value, known_next, next_of, type_numbered};
+ghost use Rattle.xa_store.specs.Judging.{counts_on, place_told};
 ghost use Rattle.xa_store.specs.declared.opening.kind.Kind.TheVariants.{Attributes, Documents, Domains, Roots, Tokens};
 
 use super::columns::{

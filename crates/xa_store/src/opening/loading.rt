@@ -4,9 +4,8 @@ ghost use Rattle.std.specs.List.{list_all};
 ghost use Rattle.sqlite.specs.Effect.{IsDatabase};
 ghost use Rattle.sqlite.specs.Held.{state};
 ghost use Rattle.sqlite.specs.State.{HasCleanDisk};
-ghost use Rattle.sqlite_keyed.specs.Lists.{sort_by};
-ghost use Rattle.xa_store.specs.Judging.{Asks, Checked, GivesNext, Judged, Judges, Orders, counts};
-ghost use Rattle.xa_store.specs.Opened.{count_on, is_sound, is_sound_table, known_next, no_place, place_cmp, place_in, read_meta};
+ghost use Rattle.xa_store.specs.Judging.{Asks, Checked, GivesNext, Judged, Judges, Orders, counts, no_place};
+ghost use Rattle.xa_store.specs.Opened.{are_counted, is_sound, is_sound_table, known_next, place_in, read_meta};
 ghost use Rattle.xa_store.specs.declared.opening.kind.Kind.TheVariants.{Attributes, Documents, Domains, Roots, Tokens};
 ghost use Rattle.xa_store.specs.Rows.{attribute_in, attribute_row};
 ghost use Rattle.xa_store.specs.Sound.{AreRows, Rests, same_place};
@@ -86,7 +85,7 @@ fn judge_tables<S: Alter>(
 fn are_places(rows: &[Row]) -> bool
     ensures { result ≡ counts no_place rows.now }
 {
-    let mut last = (-1, 0);
+    let mut last = (-1, -1);
     for row in rows {
         match place_of(row) {
             Some(place) if follows(last, place) => last = place,
@@ -100,7 +99,7 @@ fn are_places(rows: &[Row]) -> bool
 #[tactic(auto, using(crate::proofs::PlaceLemmas::places_plain))]
 fn judge_places<S: Alter>(conn: &mut Connection<S>) -> Result<(), OpenError>
     ensures asks { Asks (state S.Store conn.old) (state S.Store conn.new) result }
-    ensures finds { HasCleanDisk (state S.Store conn.new) → Rests (state S.Store conn.old) → AreRows attribute_row attribute_in (λ a. a.rowid) same_place ((state S.Store conn.old).now.trees 8) → Judges (count_on no_place (sort_by place_cmp (map place_in ((state S.Store conn.old).now.trees 8)))) result }
+    ensures finds { HasCleanDisk (state S.Store conn.new) → Rests (state S.Store conn.old) → AreRows attribute_row attribute_in (λ a. a.rowid) same_place ((state S.Store conn.old).now.trees 8) → Judges (are_counted (map place_in ((state S.Store conn.old).now.trees 8))) result }
 {
     let rows = rows_of(
         conn,

@@ -13,5 +13,5 @@ returns c =
     record {
       plans = λ rows are apart none next.
           subst (λ steps. Plans steps created c.args.name.now rows) (sym steps)
-          (plan_created rows c.args.name.now c.args.number c.in_ok-next.next are apart none next (rw (to_z-of_z w64 c.args.number low) at c.in_ok-next.ensures));
+          (plan_created rows c.args.name.now c.args.number c.in_ok-next.next c.requires are apart none next (rw (to_z-of_z w64 c.args.number low) at c.in_ok-next.ensures));
     }

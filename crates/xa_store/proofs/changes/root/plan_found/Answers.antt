@@ -22,5 +22,5 @@ returns c =
     record {
       plans = λ name rows are up found at.
           subst (λ steps. Plans steps (within (root_set c.args.root)) name rows) (sym steps)
-          (plan_new rows name c.args.found c.args.there.now c.args.root are up found at (λ same. both_ways _ c.if-is_same_root.false (c.is_same_root.ensures.1 same)) c.root_reads_back.ensures.reads c.in_ok-epoch.epoch (rw (to_z-of_z w64 c.args.found.epoch fits) at c.in_ok-epoch.ensures));
+          (plan_new rows name c.args.found c.args.there.now c.args.root are up found at (λ same. both_ways _ c.if-is_same_root.false (c.is_same_root.ensures.1 same)) c.root_reads_back.ensures.reads c.root_reads_back.ensures.texts c.in_ok-epoch.epoch (rw (to_z-of_z w64 c.args.found.epoch fits) at c.in_ok-epoch.ensures));
     }

@@ -30,7 +30,7 @@ returns c =
       plans = λ name rows are up found at.
           subst (λ steps. Plans steps (within (source_set c.args.rows)) name rows) (sym steps)
           (plan_new rows name c.args.found c.args.there.now c.args.rows are up found at (sym c.may_be_kept.ensures ∙ c.if-not-may_be_kept.false)
-          (λ same. both_ways _ c.if-is_same_source.false (c.is_same_source.ensures.1 same)) (rw c.as_slice.ensures at c.in_ok-check_rows.ensures) c.in_ok-epoch.epoch
+          (λ same. both_ways _ c.if-is_same_source.false (c.is_same_source.ensures.1 same)) (rw c.as_slice.ensures at c.in_ok-check_rows.ensures.reads) (rw c.as_slice.ensures at c.in_ok-check_rows.ensures.texts) c.in_ok-epoch.epoch
           (rw (to_z-of_z w64 c.args.found.epoch fits) at c.in_ok-epoch.ensures));
       steps = inr (c.in_ok-epoch.epoch, steps);
     }

@@ -20,4 +20,4 @@ returns-clause-plans g c clean ours name is finds =
     let rows = rows_of (state g.S.Store c.args.conn.now).now.trees in
     let room : nat_lt c.in_ok-count.count 32 ≡ true = sym c.has_room.ensures ∙ c.if-not-has_room.false in
     subst (λ steps. Plans steps (within (token_put c.args.digest c.args.role)) name rows) (sym (rw n at c.in_ok-one_step.ensures))
-    (plan_token rows name c.args.found ours.tables.domains.rise ours.domains is c.args.digest c.in_ok-count.count (rw n at (c.in_ok-count.ensures.reads clean ours)) c.args.role finds room)
+    (plan_token rows name c.args.found ours.tables.domains.rise ours.domains is c.args.digest c.in_ok-count.count (rw n at (c.in_ok-count.ensures.reads clean ours)) c.args.role c.has_all_bytes.ensures finds room)

@@ -1,6 +1,5 @@
 use Rattle.std.proofs.Common.{◌≡◌, drop}
-use Rattle.xa_store.specs.Judging.{counts}
-use Rattle.xa_store.specs.Opened.{no_place}
+use Rattle.xa_store.specs.Judging.{counts, no_place}
 use Rattle.xa_store.proofs.opening.loading.are_places.Given as goal
 
 abbrev pub invariant-loop-row : goal.invariant-loop-row

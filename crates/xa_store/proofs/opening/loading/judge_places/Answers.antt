@@ -1,7 +1,6 @@
 use Rattle.std.proofs.Common.{rules, ◌≡◌, ◌∙◌, sym, true, false}
 use Rattle.sqlite.specs.Held.{state}
-use Rattle.xa_store.specs.Judging.{counts}
-use Rattle.xa_store.specs.Opened.{no_place}
+use Rattle.xa_store.specs.Judging.{counts, no_place}
 use Rattle.xa_store.proofs.PlaceLemmas.{places_count, places_plain}
 use Rattle.xa_store.proofs.opening.loading.judge_places.Goals as goal
 

@@ -1,0 +1,219 @@
+-- The places that the walk counts are those of each domain, from 0 on, each once.
+use Rattle.std.proofs.Common.{◌≡◌, ◌⊎◌, inl, inr, ◌+◌, ◌<◌, ◌≤◌, ℕ, zero, suc, ℤ, pos, negsuc, ◌+ℤ◌, Bool, true, false, cond, List, [], ◌∷◌, map, filter, length, get_or, int_eq, int_le, int_cmp, Ordering, Less, is_eq, is_lt, IsPermutation, IsSorted, refl, sym, ap, subst, ◌∙◌, arith, add-one}
+use Rattle.std.specs.Cmp.{IsTotalOrder}
+use Rattle.std.specs.List.{AllByRecursion}
+use Rattle.std.specs.Ordering.{ordering_reverse, ordering_then}
+use Rattle.std.proofs.lemmas.Cmp.{int_cmp_total, on_total, then_total, tied_itself}
+use Rattle.std.proofs.lemmas.Int.{ints}
+use Rattle.std.proofs.lemmas.List.Sorted.{IsPermutation-map, IsPermutation-sym, IsPermutation-trans}
+use Rattle.sqlite_keyed.specs.Lists.{sort_by}
+use Rattle.sqlite_keyed.proofs.KeyedLemmas.{same_int}
+use Rattle.sqlite_keyed.proofs.ListLemmas.{IsPermutation-filter, all_from_test, all_of, all_weaker, ascending-map, ascending_weaker, filter_none, test_from_all}
+use Rattle.sqlite_keyed.proofs.RuleLemmas.{first_of_both, second_of_both}
+use Rattle.sqlite_keyed.proofs.SortLemmas.{IsPermutation-sort_by, sorted_unique}
+use Rattle.sqlite_trees.specs.Tree.{IsAscending}
+use Rattle.xa_store.specs.Judging.{count_on, counts_on, no_place, place_cmp}
+use Rattle.xa_store.specs.Opened.{Place, are_counted, count_from, places_of}
+use Rattle.xa_store.proofs.KeyLemmas.{own_number}
+use Rattle.xa_store.proofs.OrderedLemmas.{apart_among, rises_sorted}
+use Rattle.xa_store.proofs.RiseLemmas.{both_true}
+
+-- ---- a row more
+
+-- the places of one domain, in the order of the list
+abbrev at : ℤ → List Place → List ℤ
+at n ps = map (λ (p : Place). p.1) (filter (λ p. int_eq p.0 n) ps)
+
+-- where a domain goes on after the last place
+abbrev start : Place → ℤ → ℤ
+start last n = cond (int_eq n last.0) (last.1 +ℤ pos 1) (pos 0)
+
+-- each domain goes on so
+abbrev GoesOn : Place → List Place → Type 0
+GoesOn last ps = (n : ℤ) → count_from (start last n) (at n ps) ≡ true
+
+at_cons : (n : ℤ) (p : Place) (ps : List Place) → at n (p ∷ ps) ≡ cond (int_eq p.0 n) (p.1 ∷ at n ps) (at n ps)
+at_cons n p ps =
+    elim (int_eq p.0 n) as (λ b. map (λ (x : Place). x.1) (cond b (p ∷ filter (λ x. int_eq x.0 n) ps) (filter (λ x. int_eq x.0 n) ps)) ≡ cond b (p.1 ∷ at n ps) (at n ps)) [ true ↦ refl | false ↦ refl ]
+
+on_is : (q p : Place) → counts_on q p ≡ int_eq p.1 (start q p.0)
+on_is q p = elim (int_eq p.0 q.0) as (λ b. cond b (int_eq p.1 (q.1 +ℤ pos 1)) (int_eq p.1 (pos 0)) ≡ int_eq p.1 (cond b (q.1 +ℤ pos 1) (pos 0))) [ true ↦ refl | false ↦ refl ]
+
+turn_same : (m n : ℤ) → int_eq m n ≡ true → int_eq n m ≡ true
+turn_same m n h = grind (arith, ints)
+
+turn_other : (m n : ℤ) → int_eq m n ≡ false → int_eq n m ≡ false
+turn_other m n h = grind (arith, ints)
+
+module _ (q p : Place) (ps : List Place) (past : int_eq p.0 q.0 ≡ false → count_from (q.1 +ℤ pos 1) (at q.0 ps) ≡ count_from (pos 0) (at q.0 ps)) where
+  -- another domain goes on after the last place as after that row
+  elsewhere : (n : ℤ) → int_eq p.0 n ≡ false → count_from (start q n) (at n ps) ≡ count_from (start p n) (at n ps)
+  elsewhere n apart = go (int_eq n q.0) refl ∙ sym (ap (λ b. count_from (cond b (p.1 +ℤ pos 1) (pos 0)) (at n ps)) (turn_other p.0 n apart))
+    where
+      go : (b : Bool) → int_eq n q.0 ≡ b → count_from (cond b (q.1 +ℤ pos 1) (pos 0)) (at n ps) ≡ count_from (pos 0) (at n ps)
+      go false is = refl
+      go true is =
+          let same : n ≡ q.0 = same_int n q.0 is in
+          subst (λ m. count_from (q.1 +ℤ pos 1) (at m ps) ≡ count_from (pos 0) (at m ps)) (sym same) (past (ap (int_eq p.0) (sym same) ∙ apart))
+
+  -- its own domain goes on after it by one more
+  here : (n : ℤ) → int_eq p.0 n ≡ true → counts_on q p ≡ true → start p n ≡ start q n +ℤ pos 1
+  here n own on =
+      let same : p.0 ≡ n = same_int p.0 n own in
+      let place : p.1 ≡ start q n = same_int p.1 (start q p.0) (sym (on_is q p) ∙ on) ∙ ap (start q) same in
+      ap (λ b. cond b (p.1 +ℤ pos 1) (pos 0)) (turn_same p.0 n own) ∙ ap (λ j. j +ℤ pos 1) place
+
+  good_before : counts_on q p ≡ true → GoesOn p ps → GoesOn q (p ∷ ps)
+  good_before on good n = ap (count_from (start q n)) (at_cons n p ps) ∙ go (int_eq p.0 n) refl
+    where
+      go : (b : Bool) → int_eq p.0 n ≡ b → count_from (start q n) (cond b (p.1 ∷ at n ps) (at n ps)) ≡ true
+      go true own =
+          let same : p.0 ≡ n = same_int p.0 n own in
+          both_true (int_eq p.1 (start q n)) (count_from (start q n +ℤ pos 1) (at n ps)) (ap (λ m. int_eq p.1 (start q m)) (sym same) ∙ sym (on_is q p) ∙ on)
+          (ap (λ k. count_from k (at n ps)) (sym (here n own on)) ∙ good n)
+      go false apart = elsewhere n apart ∙ good n
+
+  module _ (good : GoesOn q (p ∷ ps)) where
+    seen : (n : ℤ) (b : Bool) → int_eq p.0 n ≡ b → count_from (start q n) (cond b (p.1 ∷ at n ps) (at n ps)) ≡ true
+    seen n b is = sym (ap (λ c. count_from (start q n) (cond c (p.1 ∷ at n ps) (at n ps))) is) ∙ sym (ap (count_from (start q n)) (at_cons n p ps)) ∙ good n
+
+    on_after : counts_on q p ≡ true
+    on_after = on_is q p ∙ first_of_both (int_eq p.1 (start q p.0)) (count_from (start q p.0 +ℤ pos 1) (at p.0 ps)) (seen p.0 true (own_number p.0))
+
+    good_after : GoesOn p ps
+    good_after n = go (int_eq p.0 n) refl
+      where
+        go : (b : Bool) → int_eq p.0 n ≡ b → count_from (start p n) (at n ps) ≡ true
+        go true own = ap (λ k. count_from k (at n ps)) (here n own on_after) ∙ second_of_both (int_eq p.1 (start q n)) (count_from (start q n +ℤ pos 1) (at n ps)) (seen n true own)
+        go false apart = sym (elsewhere n apart) ∙ seen n false apart
+
+-- ---- along a list in which the domains' numbers don't fall
+
+abbrev Rises : List Place → Type 0
+Rises = IsAscending (λ a b. int_le a.0 b.0 ≡ true)
+
+beyond : (a m n : ℤ) → int_le a m ≡ true → int_eq m a ≡ false → int_le m n ≡ true → int_eq n a ≡ false
+beyond a m n p q r = grind (arith, ints)
+
+-- of a domain that was left no more comes
+none_more : (q p : Place) (ps : List Place) → Rises (q ∷ p ∷ ps) → int_eq p.0 q.0 ≡ false → count_from (q.1 +ℤ pos 1) (at q.0 ps) ≡ count_from (pos 0) (at q.0 ps)
+none_more q p ps up apart =
+    let none : at q.0 ps ≡ [] =
+    ap (map (λ (x : Place). x.1)) (filter_none (λ x. int_eq x.0 q.0) ps (all_weaker (λ x. int_le p.0 x.0 ≡ true) (λ x. int_eq x.0 q.0 ≡ false) (λ x h. beyond q.0 p.0 x.0 up.0.0 apart h) ps up.1.0)) in
+    ap (count_from (q.1 +ℤ pos 1)) none ∙ sym (ap (count_from (pos 0)) none)
+
+walk_good : (q : Place) (ps : List Place) → Rises (q ∷ ps) → count_on q ps ≡ true → GoesOn q ps
+walk_good q [] up h = λ n. refl
+walk_good q (p ∷ ps) up h = good_before q p ps (none_more q p ps up) (first_of_both (counts_on q p) (count_on p ps) h) (walk_good p ps up.1 (second_of_both (counts_on q p) (count_on p ps) h))
+
+good_walk : (q : Place) (ps : List Place) → Rises (q ∷ ps) → GoesOn q ps → count_on q ps ≡ true
+good_walk q [] up good = refl
+good_walk q (p ∷ ps) up good =
+    let past = none_more q p ps up in both_true (counts_on q p) (count_on p ps) (on_after q p ps past good) (good_walk p ps up.1 (good_after q p ps past good))
+
+-- from before the first place
+walk_all : (ps : List Place) → Rises ps → count_on no_place ps ≡ true → GoesOn no_place ps
+walk_all [] up h = λ n. refl
+walk_all (p ∷ ps) up h = good_before no_place p ps (λ _. refl) (first_of_both (counts_on no_place p) (count_on p ps) h) (walk_good p ps up (second_of_both (counts_on no_place p) (count_on p ps) h))
+
+all_walk : (ps : List Place) → Rises ps → GoesOn no_place ps → count_on no_place ps ≡ true
+all_walk [] up good = refl
+all_walk (p ∷ ps) up good =
+    both_true (counts_on no_place p) (count_on p ps) (on_after no_place p ps (λ _. refl) good) (good_walk p ps up (good_after no_place p ps (λ _. refl) good))
+
+from_zero : (n : ℤ) → start no_place n ≡ pos 0
+from_zero n = elim (int_eq n (negsuc 0)) as (λ b. cond b (negsuc 0 +ℤ pos 1) (pos 0) ≡ pos 0) [ true ↦ refl | false ↦ refl ]
+
+-- ---- each domain
+
+-- of a domain there is no row, or this holds of it
+each_or_none : (Q : ℤ → Type 0) (n : ℤ) (ps : List Place) → AllByRecursion (λ p. Q p.0) ps → (filter (λ p. int_eq p.0 n) ps ≡ []) ⊎ Q n
+each_or_none Q n [] all = inl refl
+each_or_none Q n (p ∷ ps) all = go (int_eq p.0 n) refl (each_or_none Q n ps all.1)
+  where
+    go : (b : Bool) → int_eq p.0 n ≡ b → (filter (λ x. int_eq x.0 n) ps ≡ []) ⊎ Q n → (cond b (p ∷ filter (λ x. int_eq x.0 n) ps) (filter (λ x. int_eq x.0 n) ps) ≡ []) ⊎ Q n
+    go true own rest = inr (subst Q (same_int p.0 n own) all.0)
+    go false apart rest = rest
+
+abbrev pub CountsAt : List Place → ℤ → Type 0
+CountsAt ps n = count_from (pos 0) (places_of ps n) ≡ true
+
+pub counted_each : (ps : List Place) → are_counted ps ≡ true → (n : ℤ) → CountsAt ps n
+counted_each ps h n = elim (each_or_none (CountsAt ps) n ps (all_from_test (λ p. count_from (pos 0) (places_of ps p.0)) ps h)) [
+  | inl none ↦ ap (λ l. count_from (pos 0) (sort_by int_cmp (map (λ (p : Place). p.1) l))) none
+  | inr is ↦ is
+]
+
+pub each_counted : (ps : List Place) → ((n : ℤ) → CountsAt ps n) → are_counted ps ≡ true
+each_counted ps all = test_from_all (λ p. count_from (pos 0) (places_of ps p.0)) ps (all_of (λ p. CountsAt ps p.0) (λ p. all p.0) ps)
+
+-- ---- the list that is walked is sorted by domain and place
+
+place_total : IsTotalOrder place_cmp
+place_total = then_total (on_total (λ (p : Place). p.0) int_cmp_total) (on_total (λ (p : Place). p.1) int_cmp_total)
+
+not_above : (m n : ℤ) (o : Ordering) → ordering_then (int_cmp m n) o ≡ Less → int_le m n ≡ true
+not_above m n o h = grind (arith, ints)
+
+-- two places of one domain
+by_place : (a b : Place) (n : ℤ) → int_eq a.0 n ≡ true → int_eq b.0 n ≡ true → place_cmp a b ≡ int_cmp a.1 b.1
+by_place a b n p q =
+    let same : a.0 ≡ b.0 = same_int a.0 n p ∙ sym (same_int b.0 n q) in
+    ap (λ o. ordering_then o (int_cmp a.1 b.1)) (ap (int_cmp a.0) (sym same) ∙ tied_itself int_cmp_total a.0)
+
+-- a list that ascends is sorted
+sorted_from : (xs : List ℤ) → IsAscending (λ a b. int_cmp a b ≡ Less) xs → IsSorted int_cmp xs
+sorted_from [] up = λ k d p q. absurd (omega arith)
+sorted_from (x ∷ []) up = λ k d p q. absurd (omega arith)
+sorted_from (x ∷ y ∷ xs) up = go (sorted_from (y ∷ xs) up.1)
+  where
+    go : IsSorted int_cmp (y ∷ xs) → (k : ℕ) (d : ℤ) → 0 ≤ k → k + 1 < length (x ∷ y ∷ xs) → is_lt (int_cmp (get_or (x ∷ y ∷ xs) (k + 1) d) (get_or (x ∷ y ∷ xs) k d)) ≡ false
+    go later zero d p q = ap is_lt (int_cmp_total.antisymm y x ∙ ap ordering_reverse up.0.0)
+    go later (suc k) d p q = rw add-one (rw add-one at (later k d (omega arith) (omega arith)))
+
+module _ (ps : List Place) (untied : IsAscending (λ a b. is_eq (place_cmp a b) ≡ false) ps) where
+  abbrev walked : List Place
+  walked = sort_by place_cmp ps
+
+  strict : IsAscending (λ a b. place_cmp a b ≡ Less) walked
+  strict = rises_sorted place_cmp place_total ps untied
+
+  up : Rises walked
+  up = ascending_weaker (λ a b. place_cmp a b ≡ Less) (λ a b. int_le a.0 b.0 ≡ true) (λ a b less. not_above a.0 b.0 (int_cmp a.1 b.1) less) walked strict
+
+  module _ (n : ℤ) where
+    in_order : IsAscending (λ a b. int_cmp a b ≡ Less) (at n walked)
+    in_order =
+        ascending-map (λ a b. int_cmp a b ≡ Less) (λ (p : Place). p.1) (filter (λ p. int_eq p.0 n) walked)
+        (apart_among (λ (p : Place). int_eq p.0 n) (λ a b. place_cmp a b ≡ Less) (λ a b. int_cmp a.1 b.1 ≡ Less) (λ a b p q less. sym (by_place a b n p q) ∙ less) walked strict)
+
+    ascends : IsAscending (λ a b. int_cmp a b ≡ Less) (places_of ps n)
+    ascends =
+        rises_sorted int_cmp int_cmp_total (at n ps)
+        (ascending-map (λ a b. is_eq (int_cmp a b) ≡ false) (λ (p : Place). p.1) (filter (λ p. int_eq p.0 n) ps)
+        (apart_among (λ (p : Place). int_eq p.0 n) (λ a b. is_eq (place_cmp a b) ≡ false) (λ a b. is_eq (int_cmp a.1 b.1) ≡ false) (λ a b p q h. sym (ap is_eq (by_place a b n p q)) ∙ h) ps untied))
+
+    among : IsPermutation (at n walked) (at n ps)
+    among =
+        IsPermutation-map (λ (p : Place). p.1) (filter (λ p. int_eq p.0 n) walked) (filter (λ p. int_eq p.0 n) ps)
+        (IsPermutation-filter (λ p. int_eq p.0 n) walked ps (IsPermutation-sort_by place_cmp place_total ps))
+
+    -- its places, sorted, stand so in the list
+    sorted_places : at n walked ≡ places_of ps n
+    sorted_places =
+        sorted_unique int_cmp int_cmp_total (sort_by int_cmp (at n ps)) (at n walked) ascends
+        (IsPermutation-trans (places_of ps n) (at n ps) (at n walked) (IsPermutation-sort_by int_cmp int_cmp_total (at n ps)) (IsPermutation-sym (at n walked) (at n ps) among)) (sorted_from (at n walked) in_order)
+
+    goes_on_is : count_from (start no_place n) (at n walked) ≡ count_from (pos 0) (places_of ps n)
+    goes_on_is = ap (λ k. count_from k (at n walked)) (from_zero n) ∙ ap (count_from (pos 0)) sorted_places
+
+  same_truth : (s t : Bool) → (s ≡ true → t ≡ true) → (t ≡ true → s ≡ true) → s ≡ t
+  same_truth true t f g = sym (f refl)
+  same_truth false true f g = g refl
+  same_truth false false f g = refl
+
+  -- the walk counts each domain's places from 0 on
+  pub walk_counts : count_on no_place (sort_by place_cmp ps) ≡ are_counted ps
+  walk_counts =
+      same_truth (count_on no_place walked) (are_counted ps) (λ h. each_counted ps (λ n. sym (goes_on_is n) ∙ walk_all walked up h n))
+      (λ h. all_walk walked up (λ n. goes_on_is n ∙ counted_each ps h n))

@@ -1,0 +1,6 @@
+use Rattle.sqlite.specs.Held.{state}
+use Rattle.xa_store.proofs.ReopenLemmas.{ours_open}
+use Rattle.xa_store.proofs.keeper.SqlRecords.opens_again.Goals as goal
+
+pub returns : goal.returns
+returns g c sound = ours_open (state g.S.Store c.args.self.now.conn) sound.1.ours
