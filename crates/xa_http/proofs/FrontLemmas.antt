@@ -1,5 +1,5 @@
 -- What stands at the front of a stream, from what the parser says of the window.
-use Rattle.std.proofs.Common.{◌≡◌, ℕ, ◌+◌, ◌*◌, ◌<◌, ◌≤◌, List, [], ◌∷◌, ◌++◌, length, take, drop, map, sym, ap, ◌∙◌, subst, arith, inr, Bool, Option, Some, None, Ok, Err, length-append, append_assoc}
+use Rattle.std.proofs.Common.{◌≡◌, ℕ, ◌+◌, ◌*◌, ◌<◌, ◌≤◌, List, [], ◌∷◌, ◌++◌, length, take, drop, map, refl, sym, ap, ◌∙◌, subst, arith, inr, Bool, Option, Some, None, Ok, Err, length-append, append_assoc}
 use Rattle.std.specs.Prelude.{flat_map}
 use Rattle.std.proofs.lemmas.List.{take-append-drop, drop-drop, length-take, length-take-le, drop-append-le}
 use Rattle.std.proofs.lemmas.Simd.{map-map}
@@ -16,7 +16,7 @@ use Rattle.xa_http.specs.declared.fault.SessionFault.{SessionFault}
 use Rattle.xa_http.specs.declared.front.Head.{Head}
 use Rattle.xa_http.specs.Length.{body_length}
 use Rattle.xa_http.specs.Closing.{closes}
-use Rattle.xa_http.specs.Messages.{window, fields_of, BeginsWithHead, BeginsWithMessage, IsUnfinished, IsFaulty}
+use Rattle.xa_http.specs.Messages.{window, fields_of, BeginsWithHead, BeginsWithMessage, BeginsWithSome, IsUnfinished, IsFaulty}
 use Rattle.xa_http.specs.declared.open_head.OpenHead.{OpenHead}
 use Rattle.xa_http.specs.parsing.OpenHead.{IsOpenHead}
 use Rattle.xa_http.proofs.OpenHeadLemmas.{follows_on}
@@ -140,6 +140,12 @@ whole held body head has enough is =
       has.3 ∙ ap (λ (k : ℕ). Ok k) (sym count),
       ap (λ (m : Message). record m { body = body }) has.4,
     )
+
+-- so the bytes begin with a message
+pub begins_whole : (held : List ℕ) (head : Head) → HasHead held head → head.body_len ≤ length (drop head.len held) → BeginsWithSome held
+begins_whole held head has enough =
+    let body = take head.body_len (drop head.len held) in
+    (record head.message { body = body }, drop (head.len + head.body_len) held, whole held body head has enough refl)
 
 -- bytes that follow leave a head that is kept as it was
 kept_on : (held more : List ℕ) (head : Option Head) → KeepsHead held head → KeepsHead (held ++ more) head

@@ -6,6 +6,8 @@ use Rattle.xa_http.specs.declared.message.Field.{Field}
 use Rattle.xa_http.specs.declared.message.Message.{Message}
 use Rattle.xa_http.specs.declared.fault.SessionFault.{SessionFault}
 use Rattle.xa_http.specs.declared.fault.SessionFault.TheVariants.{BadHead, HeadTooLarge}
+use Rattle.xa_http.specs.declared.session.Look.{Look}
+use Rattle.xa_http.specs.declared.session.Look.TheVariants as look
 use Rattle.xa_http.specs.declared.session.Next.{Next}
 use Rattle.xa_http.specs.declared.session.Next.TheVariants as next
 use Rattle.xa_http.specs.Length.{body_length}
@@ -43,6 +45,10 @@ unfoldable pub BeginsWithMessage : List ℕ → Message → List ℕ → Type 0
 BeginsWithMessage held message rest =
     (h : RequestHead) × BeginsWithHead held h (message.body ++ rest)
     × (body_length (fields_of h) ≡ Ok (length message.body)) × (message ≡ message_of h message.body)
+
+-- the bytes begin with a message
+abbrev pub BeginsWithSome : List ℕ → Type 0
+BeginsWithSome held = (message : Message) × (rest : List ℕ) × BeginsWithMessage held message rest
 
 -- the message is the first of the stream: none is of a stream that has ended, and a message that closes it ends it
 abbrev pub IsFirst : Stream → Message → Stream → Type 0
@@ -82,6 +88,18 @@ IsHeadFaulty held fault =
 -- no message that is taken stands at the front of what is held, however it goes on, and the fault says why
 unfoldable pub IsFaulty : List ℕ → SessionFault → Type 0
 IsFaulty held fault = IsOpeningFaulty held fault ⊎ IsHeadFaulty held fault
+
+-- what stands at the front of the bytes of a stream that goes on
+abbrev pub Stands : List ℕ → Look → Type 0
+Stands held look.Message = BeginsWithSome held
+Stands held look.More = IsUnfinished held
+Stands held (look.Fault fault) = IsFaulty held fault
+Stands held look.Ended = ⊥
+
+-- what a session would answer if it were asked
+abbrev pub IsLook : Stream → Look → Type 0
+IsLook stream look.Ended = stream.ended ≡ true
+IsLook stream look = (stream.ended ≡ false) × Stands stream.held look
 
 -- what a session answers to the bytes that it holds, and what it holds then
 abbrev pub IsNext : Stream → Next → Stream → Type 0

@@ -1,8 +1,8 @@
 //! What stands at the front of a stream: a whole head, the beginning of one, or none that is taken.
-ghost use Rattle.std.specs.Prelude.{◌≡◌, ◌+◌, ◌≤◌, length, drop, IfOk, IsSome, MatchOption};
+ghost use Rattle.std.specs.Prelude.{◌≡◌, ◌+◌, ◌≤◌, length, drop, IfOk, IsSome, MatchBool, MatchOption};
 ghost use Rattle.httparse.specs.Grammar.{HasNoRequest, MayBecomeRequest};
 ghost use Rattle.httparse.specs.Spans.{RequestExceeds};
-ghost use Rattle.xa_http.specs.Messages.{window, BeginsWithMessage, IsUnfinished};
+ghost use Rattle.xa_http.specs.Messages.{window, BeginsWithMessage, BeginsWithSome, IsUnfinished};
 ghost use Rattle.xa_http.specs.parsing.Front.{HasHead, IsFront, IsHeadOf};
 
 use crate::fault::SessionFault;
@@ -124,6 +124,16 @@ fn whole_head(held: &[u8], message: Message, len: usize) -> Front
         }),
         Err(fault) => Front::Fault(fault),
     }
+}
+
+/// Whether the body that follows the head is whole.
+#[tactic(auto, using(crate::proofs::FrontLemmas::head_within, crate::proofs::FrontLemmas::body_open, crate::proofs::FrontLemmas::begins_whole))]
+pub(crate) fn is_whole(held: &[u8], head: &Head) -> bool
+    requires { HasHead held.now head.now }
+    ensures { MatchBool result (BeginsWithSome held.now) (IsUnfinished held.now) }
+{
+    let (_, after) = held.split_at(head.len);
+    head.body_len <= after.len()
 }
 
 /// The body that follows the head, once it is whole.

@@ -28,5 +28,5 @@ pub use message::{Field, Message};
 pub use replies::{Extra, Media, reply};
 pub use route::{DocumentParts, Route, RouteFault};
 pub use routes::Routes;
-pub use session::{Next, Session};
+pub use session::{Look, Next, Session};
 pub use table::Place;

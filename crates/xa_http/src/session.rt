@@ -1,11 +1,12 @@
 //! The session of one stream: its whole messages, in whatever pieces the bytes come.
-ghost use Rattle.std.specs.Prelude.{◌≡◌, ◌≤◌, ◌++◌, [], true, false, length, drop, IsTrue, MatchResult, Ok, OnOk, OnErr};
+ghost use Rattle.std.specs.Prelude.{◌≡◌, ◌≤◌, ◌++◌, [], true, false, length, drop, IfOk, IsTrue, MatchResult, Ok, OnOk, OnErr};
 ghost use Rattle.xa_http.specs.parsing.Front.{HasHead};
-ghost use Rattle.xa_http.specs.Messages.{IsNext, IsUnfinished};
+ghost use Rattle.xa_http.specs.Messages.{IsLook, IsNext, IsUnfinished, Stands};
+ghost use Rattle.xa_http.specs.declared.session.Look.TheVariants as look;
 ghost use Rattle.xa_http.specs.declared.session.Next.TheVariants.{Ended};
 
 use crate::fault::SessionFault;
-use crate::front::{Front, Head, read_front, whole_body};
+use crate::front::{Front, Head, is_whole, read_front, whole_body};
 use crate::message::Message;
 use crate::open_head::OpenHead;
 use std::alloc::{AllocError, Global};
@@ -21,6 +22,19 @@ pub enum Next {
     /// The stream doesn't go on with a message. The session has ended.
     Fault(SessionFault),
     /// The session has ended before.
+    Ended,
+}
+
+/// What a session would answer if it were asked for the next message.
+#[derive(Clone, Copy, Debug, PartialEq, Eq)]
+pub enum Look {
+    /// A whole message.
+    Message,
+    /// That no whole message has come yet.
+    More,
+    /// That the stream doesn't go on with a message, and why.
+    Fault(SessionFault),
+    /// That the session has ended.
     Ended,
 }
 
@@ -70,6 +84,50 @@ impl Session {
         ensures { result ≡ self.now.ended }
     {
         self.ended
+    }
+
+    /// How many bytes are held: those that have come, and belong to no message that was answered.
+    pub fn held_len(&self) -> usize
+        ensures { result ≡ length self.now.held }
+    {
+        self.buffer.len() - self.start
+    }
+
+    /// Ends the session: it answers no message any more, and keeps the bytes that it holds.
+    pub fn end(&mut self)
+        ensures { self.new ≡ record self.old { ended = true } }
+    {
+        self.ended = true;
+    }
+
+    /// What stands at the front of the stream. Nothing is changed, and no message is cut off. A session that has ended takes
+    /// no memory for it.
+    pub fn look(&mut self) -> Result<Look, AllocError>
+        ensures look { IfOk result (IsLook self.old) }
+        ensures same { self.new ≡ self.old }
+        ensures ended { self.old.ended ≡ true → result ≡ Ok look.Ended }
+    {
+        if self.ended {
+            return Ok(Look::Ended);
+        }
+        if let Some(head) = &self.head {
+            return Ok(look_behind(&self.buffer[self.start..], head));
+        }
+        if self.is_surely_open() {
+            return Ok(Look::More);
+        }
+        match read_front(self.alloc, &self.buffer[self.start..])? {
+            Front::Head(head) => {
+                let look = look_behind(&self.buffer[self.start..], &head);
+                self.head = Some(head);
+                Ok(look)
+            }
+            Front::More => {
+                self.follow();
+                Ok(Look::More)
+            }
+            Front::Fault(fault) => Ok(Look::Fault(fault)),
+        }
     }
 
     /// Takes the next piece of the stream. A session that has ended takes it too, and answers nothing to it. Without
@@ -146,6 +204,18 @@ impl Session {
         let mut message = head.message;
         message.body = body;
         Ok(Next::Message(message))
+    }
+}
+
+/// What stands at the front of bytes that begin with that head: a message, where the body that follows it is whole.
+fn look_behind(held: &[u8], head: &Head) -> Look
+    requires { HasHead held.now head.now }
+    ensures { Stands held.now result }
+{
+    if is_whole(held, head) {
+        Look::Message
+    } else {
+        Look::More
     }
 }
 

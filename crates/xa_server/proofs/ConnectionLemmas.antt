@@ -1,8 +1,7 @@
 -- The whole messages of a stream, taken one after another, and the bytes that are read and written, one piece after another.
-use Rattle.std.proofs.Common.{◌≡◌, true, false, ℕ, zero, suc, ◌+◌, arith, Bool, List, [], ◌∷◌, ◌++◌, length, take, drop, refl, sym, ap, subst, ◌∙◌, Option, Some, None}
-use Rattle.std.specs.Prelude.{ℤ}
+use Rattle.std.proofs.Common.{◌≡◌, ℕ, List, [], ◌∷◌, ◌++◌, refl, sym, ap, subst, ◌∙◌, Option, Some, None}
 use Rattle.std.specs.Io.KnownBytes.{Appends, Consumes, Keeps}
-use Rattle.std.proofs.lemmas.List.{append-nil, append_assoc, take_all}
+use Rattle.std.proofs.lemmas.List.{append-nil, append_assoc}
 use Rattle.xa_http.specs.declared.message.Message.{Message}
 use Rattle.xa_http.specs.declared.fault.SessionFault.{SessionFault}
 use Rattle.xa_http.specs.Messages.{Cuts}
@@ -10,9 +9,9 @@ use Rattle.xa_http.specs.Stream.{Stream}
 use Rattle.xa_server.specs.Alone.{Event}
 use Rattle.xa_server.specs.declared.replies.Reply.{Reply}
 use Rattle.xa_server.specs.Connection.{HasMessages}
-use Rattle.xa_server.specs.Driven.{Tells}
-use Rattle.xa_server.specs.Driving.{IsWritten}
 use Rattle.xa_server.specs.Served.{IsRun}
+use Rattle.xa_server.specs.Tally.{Tally}
+use Rattle.xa_server.specs.Work.{IsWorkOfRun}
 use Rattle.xa_server.specs.World.{World}
 
 -- ---- bytes that are written, bytes that are read, moments that are told
@@ -37,15 +36,15 @@ consumes_trans (Some x) None c bs cs p q = absurd p
 consumes_trans (Some x) (Some y) None bs cs p q = absurd q
 consumes_trans (Some x) (Some y) (Some z) bs cs p q = p ∙ ap (λ (l : List ℕ). bs ++ l) q ∙ sym (append_assoc bs cs z)
 
-pub tells_none : (a : Option (List ℤ)) → Tells a a []
-tells_none None = tt
-tells_none (Some x) = sym (append-nil x)
+pub appends_kept : (a b : Option (List ℕ)) → Keeps a b → Appends a b []
+appends_kept None b kept = tt
+appends_kept (Some x) None kept = absurd kept
+appends_kept (Some x) (Some y) kept = kept ∙ sym (append-nil x)
 
-pub tells_trans : (a b c : Option (List ℤ)) (ms ns : List ℤ) → Tells a b ms → Tells b c ns → Tells a c (ms ++ ns)
-tells_trans None b c ms ns p q = tt
-tells_trans (Some x) None c ms ns p q = absurd p
-tells_trans (Some x) (Some y) None ms ns p q = absurd q
-tells_trans (Some x) (Some y) (Some z) ms ns p q = q ∙ ap (λ (l : List ℤ). l ++ ns) p ∙ append_assoc x ms ns
+pub consumes_kept : (a b : Option (List ℕ)) → Keeps a b → Consumes a b []
+consumes_kept None b kept = tt
+consumes_kept (Some x) None kept = absurd kept
+consumes_kept (Some x) (Some y) kept = sym kept
 
 -- ---- messages that are taken after others
 
@@ -64,56 +63,11 @@ run_trans a b c (e ∷ es) fs (r ∷ rs) qs first later = (first.0, first.1, run
 run_trans a b c [] fs (r ∷ rs) qs none later = absurd none
 run_trans a b c (e ∷ es) fs [] qs none later = absurd none
 
--- ---- a part that was sent
-
-appends_kept : (a b : Option (List ℕ)) → Keeps a b → Appends a b []
-appends_kept None b kept = tt
-appends_kept (Some x) None kept = absurd kept
-appends_kept (Some x) (Some y) kept = kept ∙ sym (append-nil x)
-
-pub none_sent : (a b : Option (List ℕ)) (bytes : List ℕ) → Keeps a b → Appends a b (take 0 bytes)
-none_sent a b bytes kept = appends_kept a b kept
-
-pub kept_sent : (a b : Option (List ℕ)) → Keeps a b → Appends a b []
-kept_sent a b kept = appends_kept a b kept
-
-take_and_drop : (n : ℕ) (xs : List ℕ) → take n xs ++ drop n xs ≡ xs
-take_and_drop zero xs = refl
-take_and_drop (suc n) [] = refl
-take_and_drop (suc n) (x ∷ xs) = ap (λ (l : List ℕ). x ∷ l) (take_and_drop n xs)
-
-take_none : (n : ℕ) → take {A = ℕ} n [] ≡ []
-take_none zero = refl
-take_none (suc n) = refl
-
-take_on : (s n : ℕ) (xs : List ℕ) → take (s + n) xs ≡ take s xs ++ take n (drop s xs)
-take_on zero n xs = let e : 0 + n ≡ n = omega arith in ap (λ (k : ℕ). take k xs) e
-take_on (suc s) n [] = take_none (suc s + n) ∙ sym (take_none n)
-take_on (suc s) n (x ∷ xs) =
-    let e : suc s + n ≡ suc (s + n) = omega arith in ap (λ (k : ℕ). take k (x ∷ xs)) e ∙ ap (λ (l : List ℕ). x ∷ l) (take_on s n xs)
-
-pub nothing_sent : (a : Option (List ℕ)) (bytes : List ℕ) → Appends a a (take 0 bytes)
-nothing_sent a bytes = appends_none a
-
-pub part_sent : (a b c : Option (List ℕ)) (bytes : List ℕ) (s n : ℕ) → Appends a b (take s bytes) → Appends b c (take n (drop s bytes))
-    → Appends a c (take (s + n) bytes)
-part_sent a b c bytes s n before here =
-    subst (λ (bs : List ℕ). Appends a c bs) (sym (take_on s n bytes)) (appends_trans a b c (take s bytes) (take n (drop s bytes)) before here)
-
-pub failed_sending : (a b c : Option (List ℕ)) (bytes : List ℕ) (s : ℕ) → Appends a b (take s bytes) → Appends b c [] → IsWritten false a c bytes
-failed_sending a b c bytes s before here = (
-  take s bytes,
-  drop s bytes,
-  sym (take_and_drop s bytes),
-  subst (λ (bs : List ℕ). Appends a c bs) (append-nil (take s bytes)) (appends_trans a b c (take s bytes) [] before here),
-)
-
-pub stopped_sending : (a b : Option (List ℕ)) (bytes : List ℕ) (s : ℕ) → Appends a b (take s bytes) → IsWritten false a b bytes
-stopped_sending a b bytes s before = (take s bytes, drop s bytes, sym (take_and_drop s bytes), before)
-
-pub all_sent : (ok : Bool) (a b c : Option (List ℕ)) (bytes : List ℕ) (s : ℕ) → Appends a b (take s bytes) → s ≡ length bytes → Keeps b c → IsWritten ok a c bytes
-all_sent false a b c bytes s before same kept = failed_sending a b c bytes s before (appends_kept b c kept)
-all_sent true a b c bytes s before same kept =
-    let whole : take s bytes ≡ bytes = take_all s bytes (omega (arith, same)) in
-    subst (λ (bs : List ℕ). Appends a c bs) (append-nil (take s bytes) ∙ whole)
-    (appends_trans a b c (take s bytes) [] before (appends_kept b c kept))
+pub work_trans : (a b c : World) (k l m : Tally) (es fs : List Event) (rs qs : List Reply)
+    → IsWorkOfRun a k es rs b l → IsWorkOfRun b l fs qs c m → IsWorkOfRun a k (es ++ fs) (rs ++ qs) c m
+work_trans a b c k l m [] fs [] qs same later =
+    subst (λ (w : World). IsWorkOfRun w k fs qs c m) same.0 (subst (λ (t : Tally). IsWorkOfRun b t fs qs c m) same.1 later)
+work_trans a b c k l m (e ∷ es) fs (r ∷ rs) qs first later =
+    (first.0, first.1, first.2, first.3, work_trans first.0 b c first.1 l m es fs rs qs first.4 later)
+work_trans a b c k l m [] fs (r ∷ rs) qs none later = absurd none
+work_trans a b c k l m (e ∷ es) fs [] qs none later = absurd none

@@ -1,83 +1,153 @@
--- What a connection is answered until it ends, and what is written.
-use Rattle.std.specs.Prelude.{◌≡◌, ℕ, ℤ, List, [], ◌∷◌, ◌++◌, ◌⊎◌, ⊤, true, false, Option, Some, None}
+-- What a connection is answered until it ends, and how its reader, its writer, the clock and the front were called for it.
+use Rattle.std.specs.Prelude.{◌≡◌, ◌≢◌, ◌≤◌, ◌⊎◌, ℕ, ℤ, Bool, true, false, List, [], ◌∷◌, ◌++◌, length, map, Option, Some, None}
 use Rattle.std.specs.Io.KnownBytes.{Appends, Consumes, IsAtEnd}
-use Rattle.std.specs.List.{concat}
-use Rattle.xa_http.specs.declared.message.Message.{Message}
+use Rattle.std.specs.List.{All}
+use Rattle.std.specs.declared.io.ErrorKind.{ErrorKind}
+use Rattle.std.specs.declared.io.ErrorKind.TheVariants.{Interrupted}
 use Rattle.xa_http.specs.declared.fault.SessionFault.{SessionFault}
-use Rattle.xa_http.specs.Messages.{Cuts, IsFirst}
-use Rattle.xa_http.specs.Stream.{Stream}
+use Rattle.xa_http.specs.declared.message.Message.{Message}
+use Rattle.xa_http.specs.declared.session.Next.TheVariants as next
+use Rattle.xa_http.specs.Messages.{Cuts, IsFirst, IsNext}
+use Rattle.xa_http.specs.Stream.{Stream, fed}
 use Rattle.xa_server.specs.declared.driven.Driven.{Driven}
 use Rattle.xa_server.specs.declared.driven.Driven.TheVariants.{Ended, ReadFault, WriteFault, NoClock, TooManyReads, Memory}
+use Rattle.xa_server.specs.declared.lines.Conn.{Conn}
 use Rattle.xa_server.specs.declared.replies.Reply.{Reply}
 use Rattle.xa_server.specs.Alone.{Event}
 use Rattle.xa_server.specs.Connection.{StopsBy, all_replies, messages_of, moments_of}
-use Rattle.xa_server.specs.Isolation.{IsIsolatedBesideRefusals}
+use Rattle.xa_server.specs.Front.{FrontState}
+use Rattle.xa_server.specs.Isolation.{IsIsolated, IsIsolatedBesideRefusals}
+use Rattle.xa_server.specs.Lines.{with_line}
 use Rattle.xa_server.specs.Served.{IsRun}
-use Rattle.xa_server.specs.World.{World}
+use Rattle.xa_server.specs.Transfers.{Grows, IsBrokenOff, IsReadOn, IsWrittenWhole, ReadEnd, WriteEnd, bytes_read, bytes_taken, gave, unread}
+use Rattle.xa_server.specs.Work.{IsWorkOfRun}
 
--- the moments that a clock has told, where they are known, grow by these
-abbrev pub Tells : Option (List ℤ) → Option (List ℤ) → List ℤ → Type 0
-Tells None new moments = ⊤
-Tells (Some told) None moments = ⊥
-Tells (Some told) (Some telling) moments = telling ≡ told ++ moments
+-- ---- the calls
 
--- what a clock told
-abbrev pub moment_told : Option ℤ → List ℤ
-moment_told None = []
-moment_told (Some moment) = moment ∷ []
+-- how calls ended, one after another: whether those of the front found memory; the reads; the writes and flushes; what the clock told
+pub record Calls : Type 0 where
+  pub memory : List Bool
+  pub reads : List ReadEnd
+  pub writes : List WriteEnd
+  pub told : List (Option ℤ)
 
--- a stream of which these bytes have come
-abbrev pub stream_of : List ℕ → Stream
-stream_of bytes = record { held = bytes; ended = false }
+-- what is known of such calls so far, and of the bytes that the reader has left and the writer holds
+pub record Known : Type 0 where
+  pub memory : Option (List Bool)
+  pub left : Option (List ℕ)
+  pub reads : Option (List ReadEnd)
+  pub contents : Option (List ℕ)
+  pub writes : Option (List WriteEnd)
+  pub told : Option (List (Option ℤ))
 
--- all but the last of the replies were written whole, and of the last a part from its front
-pub record IsCutShort (replies : List (List ℕ)) (written : List ℕ) : Type 0 where
+-- of these, in this order
+abbrev pub known : Option (List Bool) → Option (List ℕ) → Option (List ReadEnd) → Option (List ℕ) → Option (List WriteEnd) → Option (List (Option ℤ)) → Known
+known found left reads contents writes told =
+    record { memory = found; left = left; reads = reads; contents = contents; writes = writes; told = told }
+
+-- these calls came to what was known, and no others
+pub record AreMade (calls : Calls) (before now : Known) : Type 0 where
+  pub memory : Grows before.memory now.memory calls.memory
+  pub left : Consumes before.left now.left (bytes_read calls.reads)
+  pub reads : Grows before.reads now.reads calls.reads
+  pub contents : Appends before.contents now.contents (bytes_taken calls.writes)
+  pub writes : Grows before.writes now.writes calls.writes
+  pub told : Grows before.told now.told calls.told
+
+-- ---- what each end of a connection says of them
+
+-- the reads: each that gave bytes had room for 65,536. The last gave none where the stream has ended, and failed at a failed read, which no
+-- interrupted one is; there were 1,000,000 where those are too many
+abbrev pub HaveRead : Driven → List ReadEnd → Stream → Option (List ℕ) → Type 0
+HaveRead Ended reads after left =
+    (All IsReadOn reads × (after.ended ≡ true))
+    ⊎ ((before : List ReadEnd) × All IsReadOn before × (reads ≡ before ++ gave 65_536 [] ∷ []) × IsAtEnd left)
+HaveRead ReadFault reads after left =
+    (before : List ReadEnd) × (kind : ErrorKind) × All IsReadOn before × (kind ≢ Interrupted) × (reads ≡ before ++ unread kind ∷ [])
+HaveRead TooManyReads reads after left = All IsReadOn reads × (length reads ≡ 1_000_000)
+HaveRead _ reads after left = All IsReadOn reads
+
+-- the clock told the moments of the messages, and was asked for no others; after them it told none where there was no clock, and maybe one more where
+-- memory was wanted
+abbrev pub HasTold : Driven → List ℤ → List (Option ℤ) → Type 0
+HasTold NoClock moments told = told ≡ map Some moments ++ None ∷ []
+HasTold Memory moments told = (told ≡ map Some moments) ⊎ ((moment : ℤ) × (told ≡ map Some moments ++ Some moment ∷ []))
+HasTold _ moments told = told ≡ map Some moments
+
+-- the replies were written, each whole and once, in order, and each was flushed before the next
+abbrev pub AreSent : List (List ℕ) → List WriteEnd → Type 0
+AreSent [] writes = writes ≡ []
+AreSent (reply ∷ replies) writes =
+    (first rest : List WriteEnd) × IsWrittenWhole reply first × AreSent replies rest × (writes ≡ first ++ rest)
+
+-- so were all but the last of them, of which a part was written before a write failed
+pub record IsCutShort (replies : List (List ℕ)) (writes : List WriteEnd) : Type 0 where
   pub whole : List (List ℕ)
-  pub part : List ℕ
-  pub rest : List ℕ
-  pub all : replies ≡ whole ++ (part ++ rest) ∷ []
-  pub sent : written ≡ concat whole ++ part
+  pub last : List ℕ
+  pub before : List WriteEnd
+  pub part : List WriteEnd
+  pub all : replies ≡ whole ++ last ∷ []
+  pub sent : AreSent whole before
+  pub cut : IsBrokenOff last part
+  pub in_order : writes ≡ before ++ part
 
--- the replies were written, each whole and once, in order, but for the last where a write failed
-abbrev pub AreWritten : Driven → List (List ℕ) → List ℕ → Type 0
-AreWritten WriteFault replies written = IsCutShort replies written
-AreWritten _ replies written = written ≡ concat replies
+-- the replies were written, but for the last where a write failed
+abbrev pub AreWritten : Driven → List (List ℕ) → List WriteEnd → Type 0
+AreWritten WriteFault replies writes = IsCutShort replies writes
+AreWritten _ replies writes = AreSent replies writes
 
--- why no message after the last is answered: the stream holds none that is whole, or there was no moment for the next, which is whole; where a write
--- failed or memory was wanted, nothing is said. `fault` is that to which there is a reply, the last of all
-abbrev pub StopsAfter : Driven → Option SessionFault → Stream → Stream → Type 0
-StopsAfter Ended fault last after = StopsBy fault last after
-StopsAfter ReadFault None last after = StopsBy None last after
-StopsAfter TooManyReads None last after = StopsBy None last after
-StopsAfter NoClock None last after = (message : Message) × IsFirst last message after
-StopsAfter WriteFault (Some fault) last after = StopsBy (Some fault) last after
-StopsAfter WriteFault None last after = ⊤
-StopsAfter Memory None last after = ⊤
-StopsAfter _ (Some fault) last after = ⊥
+-- a call of the front found memory
+abbrev pub HadMemory : Bool → Type 0
+HadMemory had = had ≡ true
 
--- one run of the server answered the messages at the front of the stream, each at its moment, and that is what was written of the replies; each
--- domain's replies are those of its own machine, used by it alone
-pub record IsDriven (driven : Driven) (old new : World) (stream after : Stream) (moments : List ℤ) (written : List ℕ) : Type 0 where
+-- each did, but for the last where memory was wanted
+abbrev pub HaveMemory : Driven → List Bool → Type 0
+HaveMemory Memory calls = (before : List Bool) × All HadMemory before × (calls ≡ before ++ false ∷ [])
+HaveMemory _ calls = All HadMemory calls
+
+-- why no message after the last is answered: the stream holds none that is whole, or there was no moment for the next, which is whole, or a write
+-- failed, or memory was wanted, maybe for the piece that was read last. `fault` is that to which there is a reply, the last of all
+abbrev pub StopsAfter : Driven → Option SessionFault → List ReadEnd → Stream → Stream → Type 0
+StopsAfter Ended fault reads last after = StopsBy fault last after
+StopsAfter ReadFault None reads last after = IsNext last next.More after
+StopsAfter TooManyReads None reads last after = IsNext last next.More after
+StopsAfter NoClock None reads last after = (message : Message) × (rest : Stream) × IsFirst last message rest × (after ≡ last)
+StopsAfter WriteFault (Some fault) reads last after = IsNext last (next.Fault fault) after
+StopsAfter WriteFault None reads last after = after ≡ last
+StopsAfter Memory None reads last after =
+    (after ≡ last)
+    ⊎ ((before : List ReadEnd) × (piece : List ℕ) × (reads ≡ before ++ gave 65_536 piece ∷ []) × (last ≡ fed after piece))
+StopsAfter _ (Some fault) reads last after = ⊥
+
+-- ---- a connection
+
+-- one run of the server answered the messages at the front of what the connection held and was read, each at its moment, and these are the replies
+-- that were written; each domain's replies are those of its own machine, used by it alone. No other connection has changed
+pub record IsDriven (driven : Driven) (conn : Conn) (old new : FrontState) (stream : Stream) (before now : Known) : Type 0 where
+  pub calls : Calls
   pub events : List Event
   pub run : List Reply
   pub fault : Option SessionFault
   pub last : Stream
-  pub messages : Cuts stream (messages_of events) last
-  pub is_run : IsRun old events run new
-  pub isolated : IsIsolatedBesideRefusals old new events run
-  pub stops : StopsAfter driven fault last after
-  pub at_moments : moments ≡ moments_of events
-  pub all_written : AreWritten driven (all_replies run fault) written
+  pub after : Stream
+  pub made : AreMade calls before now
+  pub messages : Cuts (fed stream (bytes_read calls.reads)) (messages_of events) last
+  pub stops : StopsAfter driven fault calls.reads last after
+  pub lines : new.lines ≡ with_line conn (Some after) old.lines
+  pub is_run : IsRun old.server.world events run new.server.world
+  pub work : IsWorkOfRun old.server.world old.server.tally events run new.server.world new.server.tally
+  pub headline : IsIsolated old.server.world new.server.world events run
+  pub beside_refusals : IsIsolatedBesideRefusals old.server.world new.server.world events run
+  pub read : HaveRead driven calls.reads after now.left
+  pub told : HasTold driven (moments_of events) calls.told
+  pub written : AreWritten driven (all_replies run fault) calls.writes
+  pub memory : HaveMemory driven calls.memory
 
--- a connection ends with its session or with its stream
-abbrev pub HasEnded : Driven → Stream → Option (List ℕ) → Type 0
-HasEnded Ended after left = (after.ended ≡ true) ⊎ IsAtEnd left
-HasEnded _ after left = ⊤
+-- so it was, with no more reads than `most`
+abbrev pub IsDrivenWithin : ℕ → Driven → Conn → FrontState → FrontState → Stream → Known → Known → Type 0
+IsDrivenWithin most driven conn old new stream before now = (is : IsDriven driven conn old new stream before now) × (length is.calls.reads ≤ most)
 
--- a reader gave bytes, a clock told moments, a writer took bytes, and with these the connection was answered; `left`, `told` and `before` are what
--- is known of the three before, and `rest`, `telling` and `now` afterwards
-abbrev pub IsConnection : Driven → World → World → Option (List ℕ) → Option (List ℕ) → Option (List ℤ) → Option (List ℤ) → Option (List ℕ) → Option (List ℕ) → Type 0
-IsConnection driven old new left rest told telling before now =
-    (bytes : List ℕ) × (moments : List ℤ) × (written : List ℕ) × (after : Stream)
-    × Consumes left rest bytes × Tells told telling moments × Appends before now written
-    × HasEnded driven after rest × IsDriven driven old new (stream_of bytes) after moments written
+-- a connection was driven to its end; one that isn't open has ended, and nothing was done
+abbrev pub IsConnection : Driven → Option Stream → Conn → FrontState → FrontState → Known → Known → Type 0
+IsConnection driven (Some stream) conn old new before now = IsDrivenWithin 1_000_000 driven conn old new stream before now
+IsConnection driven None conn old new before now = (driven ≡ Ended) × (new ≡ old) × (now ≡ before)

@@ -1,101 +1,138 @@
 -- The messages of a connection so far: words that only contracts of private functions cite.
-use Rattle.std.specs.Prelude.{◌≡◌, ℕ, ℤ, List, [], ◌∷◌, ◌++◌, map, Bool, true, false, Option, Some, None}
-use Rattle.std.specs.Io.KnownBytes.{Appends, Consumes}
-use Rattle.std.specs.List.{concat}
-use Rattle.xa_http.specs.declared.message.Message.{Message}
+use Rattle.std.specs.Prelude.{◌≡◌, ◌<◌, ◌+◌, ◌⊎◌, ℕ, ℤ, List, [], ◌∷◌, length, map, Bool, true, false, Option, Some, None, Result, Ok, Err}
+use Rattle.std.specs.List.{All}
+use Rattle.xa_http.specs.declared.session.Next.{Next}
 use Rattle.xa_http.specs.declared.session.Next.TheVariants as next
-use Rattle.xa_http.specs.declared.fault.SessionFault.{SessionFault}
 use Rattle.xa_http.specs.Messages.{Cuts, IsNext}
 use Rattle.xa_http.specs.Stream.{Stream, fed}
 use Rattle.xa_server.specs.declared.answering.Turn.{Turn}
 use Rattle.xa_server.specs.declared.answering.Turn.TheVariants.{Answered, Waits, Ends}
 use Rattle.xa_server.specs.declared.driven.Driven.{Driven}
-use Rattle.xa_server.specs.declared.driven.Driven.TheVariants.{Ended, WriteFault, NoClock, Memory}
+use Rattle.xa_server.specs.declared.driven.Driven.TheVariants as driven
+use Rattle.xa_server.specs.declared.event.Answer.{Answer}
+use Rattle.xa_server.specs.declared.event.Event.{Event}
+use Rattle.xa_server.specs.declared.event.Outcome.{Outcome}
+use Rattle.xa_server.specs.declared.event.Outcome.TheVariants as outcome
+use Rattle.xa_server.specs.declared.front_error.FrontError.{FrontError}
+use Rattle.xa_server.specs.declared.front_error.FrontError.TheVariants.{Memory}
+use Rattle.xa_server.specs.declared.lines.Conn.{Conn}
 use Rattle.xa_server.specs.declared.replies.Reply.{Reply}
-use Rattle.xa_server.specs.Alone.{Event}
+use Rattle.xa_server.specs.Alone as messages
 use Rattle.xa_server.specs.Connection.{messages_of, moments_of}
-use Rattle.xa_server.specs.Driven.{HasEnded, IsDriven, Tells}
-use Rattle.xa_server.specs.ErrorCode.{code_of_session_fault, error_reply}
+use Rattle.xa_server.specs.Driven.{AreMade, AreSent, Calls, HadMemory, IsDrivenWithin, Known}
+use Rattle.xa_server.specs.Front.{FrontState, IsAnswered}
+use Rattle.xa_server.specs.Fronting.{DoesEvent}
+use Rattle.xa_server.specs.Lines.{IsOpen, line_at, with_line}
+use Rattle.xa_server.specs.Multiplexer.{outcome_found_memory}
 use Rattle.xa_server.specs.Replies.{bytes_of}
-use Rattle.xa_server.specs.Served.{IsRun, IsServed}
-use Rattle.xa_server.specs.World.{World}
+use Rattle.xa_server.specs.Sending.{IsWritten}
+use Rattle.xa_server.specs.Served.{IsRun}
+use Rattle.xa_server.specs.Transfers.{Grows, IsReadOn, WriteEnd, bytes_read}
+use Rattle.xa_server.specs.Work.{IsWorkOfRun}
 
--- the bytes went to the writer, or a part from their front
-abbrev pub IsWritten : Bool → Option (List ℕ) → Option (List ℕ) → List ℕ → Type 0
-IsWritten true before now bytes = Appends before now bytes
-IsWritten false before now bytes = (part rest : List ℕ) × (bytes ≡ part ++ rest) × Appends before now part
+-- ---- one call of the front
 
--- a message was answered at a moment that was told, and its reply is sent, or a part of it is
-abbrev pub IsReplied : Bool → World → World → Message → Option (List ℤ) → Option (List ℤ) → Option (List ℕ) → Option (List ℕ) → Type 0
-IsReplied whole old new message told telling before now =
-    (moment : ℤ) × (reply : Reply) × IsServed old new moment message reply × Tells told telling (moment ∷ []) × IsWritten whole before now (bytes_of reply)
+-- an event was played alone; or nothing was done, for want of memory
+abbrev pub PlaysOne : {E : Type 0} → Event → FrontState → FrontState → Option (List Bool) → Option (List Bool) → Result Outcome E → Type 0
+PlaysOne event old new found finding (Ok outcome) = DoesEvent event old outcome new × Grows found finding (outcome_found_memory outcome ∷ [])
+PlaysOne event old new found finding (Err _) = (new ≡ old) × Grows found finding (false ∷ [])
 
--- what became of a message
-unfoldable pub IsAnsweredAs : Turn → World → World → Message → Option (List ℤ) → Option (List ℤ) → Option (List ℕ) → Option (List ℕ) → Type 0
-IsAnsweredAs Answered old new message told telling before now = IsReplied true old new message told telling before now
-IsAnsweredAs (Ends WriteFault) old new message told telling before now = IsReplied false old new message told telling before now
-IsAnsweredAs (Ends NoClock) old new message told telling before now = (new ≡ old) × Tells told telling [] × (now ≡ before)
-IsAnsweredAs _ old new message told telling before now = ⊥
+-- what an outcome says of an answer, and of a piece
+abbrev pub answer_of : Outcome → Result (Option Answer) FrontError
+answer_of (outcome.Answered result) = result
+answer_of _ = Err Memory
 
--- what became of the reply to a fault
-unfoldable pub IsFaultAnswered : Driven → SessionFault → Option (List ℕ) → Option (List ℕ) → Type 0
-IsFaultAnswered Ended fault before now = IsWritten true before now (error_reply (code_of_session_fault fault))
-IsFaultAnswered WriteFault fault before now = IsWritten false before now (error_reply (code_of_session_fault fault))
-IsFaultAnswered Memory fault before now = now ≡ before
-IsFaultAnswered _ fault before now = ⊥
+abbrev pub piece_of : Outcome → Result (Unit {0}) FrontError
+piece_of (outcome.Held result) = result
+piece_of _ = Err Memory
+
+-- the next of an open connection was answered, or there was no memory
+abbrev pub AnswersOne : Conn → ℤ → FrontState → FrontState → Option (List Bool) → Option (List Bool) → Result (Option Answer) FrontError → Type 0
+AnswersOne conn moment old new found finding (Ok answer) =
+    (given : Next) × IsAnswered conn moment old (Some given) (Ok answer) new × Grows found finding (true ∷ [])
+AnswersOne conn moment old new found finding (Err _) =
+    ((new ≡ old) × Grows found finding (false ∷ [])) ⊎ (line_at conn old.lines ≡ None)
+
+-- a piece came to an open connection, or there was no memory
+abbrev pub FeedsOne : Conn → List ℕ → FrontState → FrontState → Option (List Bool) → Option (List Bool) → Result (Unit {0}) FrontError → Type 0
+FeedsOne conn piece old new found finding (Ok _) =
+    (stream : Stream) × IsOpen conn old.lines stream × (new.lines ≡ with_line conn (Some (fed stream piece)) old.lines)
+    × (new.server ≡ old.server) × Grows found finding (true ∷ [])
+FeedsOne conn piece old new found finding (Err _) =
+    ((new ≡ old) × Grows found finding (false ∷ []))
+    ⊎ ((line_at conn old.lines ≡ None)
+    ⊎ ((stream : Stream) × IsOpen conn old.lines stream × (1_048_576 < length stream.held + length piece)))
+
+-- ---- one reply
+
+-- by whether it was written whole, and whether it is the last
+abbrev pub turn_after : Bool → Bool → Turn
+turn_after false last = Ends driven.WriteFault
+turn_after true true = Ends driven.Ended
+turn_after true false = Answered
+
+-- an answer was written, or a part of it; without one there is no turn yet
+abbrev pub IsSentAs : Turn → Option Answer → Option (List ℕ) → Option (List ℕ) → Option (List WriteEnd) → Option (List WriteEnd) → Type 0
+IsSentAs turn (Some answer) before now written writing =
+    (whole : Bool) × IsWritten whole (bytes_of answer.reply) before now written writing × (turn ≡ turn_after whole answer.last)
+IsSentAs turn None before now written writing = (turn ≡ Waits) × (now ≡ before) × (writing ≡ written)
+
+-- the next of a connection was answered at that moment, and the reply was written; or there was no memory
+abbrev pub IsAnsweredAt : Turn → Conn → ℤ → FrontState → FrontState → Option (List Bool) → Option (List Bool) → Option (List ℕ) → Option (List ℕ) → Option (List WriteEnd) → Option (List WriteEnd) → Type 0
+IsAnsweredAt turn conn moment old new found finding before now written writing =
+    ((answer : Option Answer) × (given : Next) × IsAnswered conn moment old (Some given) (Ok answer) new × Grows found finding (true ∷ [])
+    × IsSentAs turn answer before now written writing)
+    ⊎ (((turn ≡ Ends driven.Memory) × (new ≡ old) × Grows found finding (false ∷ []) × (now ≡ before) × (writing ≡ written))
+    ⊎ (line_at conn old.lines ≡ None))
+
+-- so it was at the clock's moment, where there was one
+abbrev pub IsAnsweredNow : Turn → Conn → FrontState → FrontState → Option (List Bool) → Option (List Bool) → Option (List ℕ) → Option (List ℕ) → Option (List WriteEnd) → Option (List WriteEnd) → Option (List (Option ℤ)) → Option (List (Option ℤ)) → Type 0
+IsAnsweredNow turn conn old new found finding before now written writing told telling =
+    ((moment : ℤ) × Grows told telling (Some moment ∷ []) × IsAnsweredAt turn conn moment old new found finding before now written writing)
+    ⊎ ((turn ≡ Ends driven.NoClock) × Grows told telling (None ∷ []) × (new ≡ old) × (finding ≡ found) × (now ≡ before) × (writing ≡ written))
+
+-- ---- messages
 
 -- a session holds no whole message, and wants more bytes
 abbrev pub IsWaiting : Stream → Type 0
 IsWaiting stream = IsNext stream next.More stream
 
--- the messages of events were answered, each with one whole reply, and the connection goes on
-pub record HasAnswered (old new : World) (stream after : Stream) (told telling : Option (List ℤ)) (before now : Option (List ℕ)) : Type 0 where
-  pub events : List Event
+-- after so many reads the messages of events were answered, each with one whole reply, and the connection goes on
+pub record GoesOn (count : ℕ) (conn : Conn) (old new : FrontState) (stream after : Stream) (before now : Known) : Type 0 where
+  pub calls : Calls
+  pub events : List messages.Event
   pub run : List Reply
-  pub messages : Cuts stream (messages_of events) after
-  pub is_run : IsRun old events run new
-  pub tells : Tells told telling (moments_of events)
-  pub wrote : Appends before now (concat (map bytes_of run))
+  pub made : AreMade calls before now
+  pub messages : Cuts (fed stream (bytes_read calls.reads)) (messages_of events) after
+  pub lines : new.lines ≡ with_line conn (Some after) old.lines
+  pub opens : IsOpen conn new.lines after
+  pub is_run : IsRun old.server.world events run new.server.world
+  pub work : IsWorkOfRun old.server.world old.server.tally events run new.server.world new.server.tally
+  pub read : All IsReadOn calls.reads
+  pub counted : length calls.reads ≡ count
+  pub told : calls.told ≡ map Some (moments_of events)
+  pub written : AreSent (map bytes_of run) calls.writes
+  pub memory : All HadMemory calls.memory
 
--- messages were answered, and then the connection ended so
-pub record EndsAs (driven : Driven) (old new : World) (stream after : Stream) (told telling : Option (List ℤ)) (before now : Option (List ℕ)) : Type 0 where
-  pub moments : List ℤ
-  pub written : List ℕ
-  pub tells : Tells told telling moments
-  pub wrote : Appends before now written
-  pub is_driven : IsDriven driven old new stream after moments written
-  pub session : driven ≡ Ended → after.ended ≡ true
+-- what became of what a connection holds: a message was answered, or there is none yet, or the connection has ended
+abbrev pub IsTurn : Turn → Conn → FrontState → FrontState → Stream → Known → Known → Type 0
+IsTurn Answered conn old new stream before now =
+    (after : Stream) × GoesOn 0 conn old new stream after before now × (length after.held + 1 < length stream.held)
+IsTurn Waits conn old new stream before now = (after : Stream) × GoesOn 0 conn old new stream after before now × IsWaiting after
+IsTurn (Ends driven) conn old new stream before now = IsDrivenWithin 0 driven conn old new stream before now
 
--- what became of what a session holds: a message was answered, or there is none yet, or the connection has ended
-abbrev pub IsTurn : Turn → World → World → Stream → Stream → Option (List ℤ) → Option (List ℤ) → Option (List ℕ) → Option (List ℕ) → Type 0
-IsTurn Answered old new stream after told telling before now = HasAnswered old new stream after told telling before now
-IsTurn Waits old new stream after told telling before now = HasAnswered old new stream after told telling before now × IsWaiting after
-IsTurn (Ends driven) old new stream after told telling before now = EndsAs driven old new stream after told telling before now
+-- all that the connection held was answered, and more bytes are wanted; or the connection has ended
+abbrev pub IsHeldAnswered : Option Driven → Option Stream → Conn → FrontState → FrontState → Known → Known → Type 0
+IsHeldAnswered None (Some stream) conn old new before now = IsTurn Waits conn old new stream before now
+IsHeldAnswered (Some driven) (Some stream) conn old new before now = IsDrivenWithin 0 driven conn old new stream before now
+IsHeldAnswered result None conn old new before now = (result ≡ Some driven.Ended) × (new ≡ old) × (now ≡ before)
 
--- all that the session held was answered, and more bytes are wanted; or the connection has ended
-abbrev pub IsHeldAnswered : Option Driven → World → World → Stream → Stream → Option (List ℤ) → Option (List ℤ) → Option (List ℕ) → Option (List ℕ) → Type 0
-IsHeldAnswered None old new stream after told telling before now = IsTurn Waits old new stream after told telling before now
-IsHeldAnswered (Some driven) old new stream after told telling before now = EndsAs driven old new stream after told telling before now
+-- bytes were read once and answered, and the connection goes on or has ended
+abbrev pub IsRead : Option Driven → Conn → FrontState → FrontState → Stream → Known → Known → Type 0
+IsRead None conn old new stream before now = (after : Stream) × GoesOn 1 conn old new stream after before now × IsWaiting after
+IsRead (Some driven) conn old new stream before now = IsDrivenWithin 1 driven conn old new stream before now
 
--- bytes were read, all whole messages of them were answered, and more bytes are wanted
-pub record HasRead (old new : World) (stream after : Stream) (left rest : Option (List ℕ)) (told telling : Option (List ℤ)) (before now : Option (List ℕ)) : Type 0 where
-  pub bytes : List ℕ
-  pub reads : Consumes left rest bytes
-  pub answered : HasAnswered old new (fed stream bytes) after told telling before now
-  pub waits : IsWaiting after
-
--- bytes were read and answered, and then the connection ended so
-pub record HasClosed (driven : Driven) (old new : World) (stream after : Stream) (left rest : Option (List ℕ)) (told telling : Option (List ℤ)) (before now : Option (List ℕ)) : Type 0 where
-  pub bytes : List ℕ
-  pub moments : List ℤ
-  pub written : List ℕ
-  pub reads : Consumes left rest bytes
-  pub tells : Tells told telling moments
-  pub wrote : Appends before now written
-  pub is_driven : IsDriven driven old new (fed stream bytes) after moments written
-  pub ended : HasEnded driven after rest
-
--- where no whole message was left, bytes were read and answered, and the connection goes on or has ended
-unfoldable pub IsRead : Option Driven → World → World → Stream → Stream → Option (List ℕ) → Option (List ℕ) → Option (List ℤ) → Option (List ℤ) → Option (List ℕ) → Option (List ℕ) → Type 0
-IsRead None old new stream after left rest told telling before now = IsWaiting stream → HasRead old new stream after left rest told telling before now
-IsRead (Some driven) old new stream after left rest told telling before now = IsWaiting stream → HasClosed driven old new stream after left rest told telling before now
+-- after so many reads, and all that was held before, an open connection holds no whole message
+abbrev pub HasRead : ℕ → Conn → FrontState → FrontState → Known → Known → Type 0
+HasRead count conn old new before now =
+    (stream after : Stream) × IsOpen conn old.lines stream × GoesOn count conn old new stream after before now × IsWaiting after

@@ -22,5 +22,12 @@ pub mod Growth
 pub mod Stop
 pub mod Handling
 pub mod Connection
+pub mod Lines
+pub mod Front
+pub mod Fronting
+pub mod FrontLaws
+pub mod Transfers
+pub mod Sending
+pub mod Multiplexer
 pub mod Driven
 pub mod Driving

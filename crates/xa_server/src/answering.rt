@@ -1,18 +1,25 @@
-//! The messages that the session of a connection holds, one after another, each with its reply.
-ghost use Rattle.xa_server.specs.Driving.{IsAnsweredAs, IsFaultAnswered, IsHeldAnswered, IsTurn};
-ghost use Rattle.xa_server.specs.World.{world};
+//! The messages that a connection holds, one after another, each with its reply.
+ghost use Rattle.std.specs.Prelude.{◌≡◌, ℕ, List, Option, Some, pos};
+ghost use Rattle.xa_http.specs.Stream.{Stream};
+ghost use Rattle.xa_server.specs.Driven.{known};
+ghost use Rattle.xa_server.specs.Driving.{AnswersOne, IsAnsweredAt, IsAnsweredNow, IsHeldAnswered, IsSentAs, IsTurn, PlaysOne, answer_of};
+ghost use Rattle.xa_server.specs.Lines.{IsOpen, line_at};
+ghost use Rattle.xa_server.specs.Transfers.{ReadEnd};
 
 use crate::clock::Clock;
 use crate::driven::Driven;
-use crate::error_code::fault_reply;
-use crate::sending::send;
-use crate::server::Server;
-use std::alloc::Global;
-use std::io::Write;
-use xa_http::{Message, Next, Session, SessionFault};
-use xa_records::Records;
+use crate::event::{Answer, Event, Outcome};
+use crate::front_error::FrontError;
+use crate::lines::Conn;
+use crate::multiplexer::Multiplexer;
+use crate::sending::send_whole;
+use crate::writer::Writer;
+use std::alloc::AllocError;
+use std::slice;
+use xa_http::Look;
+use xa_value::Moment;
 
-/// What became of the session of a connection.
+/// What became of what a connection holds.
 enum Turn {
     /// A message was answered.
     Answered,
@@ -22,86 +29,155 @@ enum Turn {
     Ends(Driven),
 }
 
-/// Answers a message at the clock's moment, and sends the reply.
-#[tactic(auto, unfolding(crate::specs::Driving::IsAnsweredAs))]
-fn answer_message<R: Records, W: Write, C: Clock>(
-    server: &mut Server<R>,
-    message: &Message,
-    writer: &mut W,
-    clock: &mut C,
-) -> Turn
-    ensures answered { (R.custody server.new.records).sound → IsAnsweredAs result (world R.custody server.old) (world R.custody server.new) message.now
-        (C.told clock.old) (C.told clock.new) (W.contents writer.old) (W.contents writer.new) }
-    ensures sound { (R.custody server.new.records).sound → (R.custody server.old.records).sound }
+/// Plays one event, and gives its outcome.
+pub(crate) fn play_one<F: Multiplexer>(
+    front: &mut F,
+    event: &Event<'_>,
+) -> Result<Outcome, AllocError>
+    ensures played { F.is_sound front.new → PlaysOne event.now (F.state front.old) (F.state front.new) (F.had_memory front.old) (F.had_memory front.new) result }
+    ensures sound { F.is_sound front.new → F.is_sound front.old }
 {
-    let Some(moment) = clock.now() else {
-        return Turn::Ends(Driven::NoClock);
-    };
-    let reply = server.serve(moment, message);
-    if send(writer, reply.bytes()) {
+    let mut outcomes = front.play(slice::from_ref(event))?;
+    match outcomes.pop() {
+        Some(outcome) => Ok(outcome),
+        None => Err(AllocError),
+    }
+}
+
+/// What an outcome says of an answer.
+fn answer_of(outcome: Outcome) -> Result<Option<Answer>, FrontError>
+    ensures { result ≡ answer_of outcome }
+{
+    match outcome {
+        Outcome::Answered(answered) => answered,
+        _ => Err(FrontError::Memory),
+    }
+}
+
+/// Has the next of an open connection answered.
+fn play_answer<F: Multiplexer>(
+    front: &mut F,
+    conn: Conn,
+    moment: Moment,
+) -> Result<Option<Answer>, FrontError>
+    ensures answered { F.is_sound front.new → AnswersOne conn moment (F.state front.old) (F.state front.new) (F.had_memory front.old) (F.had_memory front.new) result }
+    ensures sound { F.is_sound front.new → F.is_sound front.old }
+{
+    match play_one(front, &Event::Answer(conn, moment)) {
+        Ok(outcome) => answer_of(outcome),
+        Err(_) => Err(FrontError::Memory),
+    }
+}
+
+/// Sends the reply of an answer.
+fn send_answer<W: Writer>(writer: &mut W, answer: &Answer) -> Turn
+    ensures { IsSentAs result (Some answer.now) (W.contents writer.old) (W.contents writer.new) (W.writes writer.old) (W.writes writer.new) }
+{
+    if !send_whole(writer, answer.reply.bytes()) {
+        return Turn::Ends(Driven::WriteFault);
+    }
+    if answer.last {
+        Turn::Ends(Driven::Ended)
+    } else {
         Turn::Answered
-    } else {
-        Turn::Ends(Driven::WriteFault)
     }
 }
 
-/// Sends the reply to the fault by which a stream ends.
-#[tactic(auto, unfolding(crate::specs::Driving::IsFaultAnswered))]
-fn answer_fault<W: Write>(alloc: Global, fault: SessionFault, writer: &mut W) -> Driven
-    ensures { IsFaultAnswered result fault (W.contents writer.old) (W.contents writer.new) }
-{
-    let Ok(reply) = fault_reply(alloc, fault) else {
-        return Driven::Memory;
-    };
-    if send(writer, reply.as_slice()) {
-        Driven::Ended
-    } else {
-        Driven::WriteFault
-    }
-}
-
-/// Answers the next whole message that the session holds, or the fault by which it ends.
-#[tactic(auto, using(crate::proofs::DrivingLemmas::message_turn, crate::proofs::DrivingLemmas::fault_turn, crate::proofs::DrivingLemmas::more_turn, crate::proofs::DrivingLemmas::ended_turn, crate::proofs::DrivingLemmas::memory_turn))]
-fn answer_next<R: Records, W: Write, C: Clock>(
-    alloc: Global,
-    server: &mut Server<R>,
-    session: &mut Session,
+/// Answers the next of an open connection at that moment, and sends the reply.
+fn answer_at<F: Multiplexer, W: Writer>(
+    front: &mut F,
+    conn: Conn,
+    moment: Moment,
     writer: &mut W,
-    clock: &mut C,
 ) -> Turn
-    ensures turn { (R.custody server.new.records).sound → IsTurn result (world R.custody server.old) (world R.custody server.new) session.old session.new
-        (C.told clock.old) (C.told clock.new) (W.contents writer.old) (W.contents writer.new) }
-    ensures sound { (R.custody server.new.records).sound → (R.custody server.old.records).sound }
+    ensures answered { F.is_sound front.new → IsAnsweredAt result conn moment (F.state front.old) (F.state front.new) (F.had_memory front.old) (F.had_memory front.new)
+        (W.contents writer.old) (W.contents writer.new) (W.writes writer.old) (W.writes writer.new) }
+    ensures sound { F.is_sound front.new → F.is_sound front.old }
 {
-    match session.next() {
-        Ok(Next::Message(message)) => answer_message(server, &message, writer, clock),
-        Ok(Next::More) => Turn::Waits,
-        Ok(Next::Fault(fault)) => Turn::Ends(answer_fault(alloc, fault, writer)),
-        Ok(Next::Ended) => Turn::Ends(Driven::Ended),
+    match play_answer(front, conn, moment) {
+        Ok(Some(answer)) => send_answer(writer, &answer),
+        Ok(None) => Turn::Waits,
         Err(_) => Turn::Ends(Driven::Memory),
     }
 }
 
-/// Answers all whole messages that the session holds. How the connection has ended, if it has.
-#[tactic(auto, using(crate::proofs::DrivingLemmas::none_answered, crate::proofs::DrivingLemmas::answered_more, crate::proofs::DrivingLemmas::ends_after, crate::proofs::DrivingLemmas::memory_turn))]
-pub(crate) fn answer_held<R: Records, W: Write, C: Clock>(
-    alloc: Global,
-    server: &mut Server<R>,
-    session: &mut Session,
+/// Answers the message at the front of a connection at the clock's moment, and sends the reply.
+fn answer_message<F: Multiplexer, W: Writer, C: Clock>(
+    front: &mut F,
+    conn: Conn,
+    writer: &mut W,
+    clock: &mut C,
+) -> Turn
+    ensures answered { F.is_sound front.new → IsAnsweredNow result conn (F.state front.old) (F.state front.new) (F.had_memory front.old) (F.had_memory front.new)
+        (W.contents writer.old) (W.contents writer.new) (W.writes writer.old) (W.writes writer.new) (C.told clock.old) (C.told clock.new) }
+    ensures sound { F.is_sound front.new → F.is_sound front.old }
+{
+    let Some(moment) = clock.now() else {
+        return Turn::Ends(Driven::NoClock);
+    };
+    answer_at(front, conn, moment, writer)
+}
+
+/// Answers the fault by which the stream of a connection ends, and sends the reply. No moment is in it.
+fn answer_fault<F: Multiplexer, W: Writer>(front: &mut F, conn: Conn, writer: &mut W) -> Turn
+    ensures answered { F.is_sound front.new → IsAnsweredAt result conn (pos 0) (F.state front.old) (F.state front.new) (F.had_memory front.old) (F.had_memory front.new)
+        (W.contents writer.old) (W.contents writer.new) (W.writes writer.old) (W.writes writer.new) }
+    ensures sound { F.is_sound front.new → F.is_sound front.old }
+{
+    let Some(moment) = Moment::new(0) else {
+        unreachable!()
+    };
+    answer_at(front, conn, moment, writer)
+}
+
+/// Answers the next whole message that the connection holds, or the fault by which its stream ends. No clock is asked where
+/// there is no message.
+fn answer_next<F: Multiplexer, W: Writer, C: Clock>(
+    front: &mut F,
+    conn: Conn,
+    writer: &mut W,
+    clock: &mut C,
+) -> Turn
+    ensures turn { F.is_sound front.new → (stream : Stream) (left : Option (List ℕ)) (reads : Option (List ReadEnd))
+        → IsOpen conn (F.state front.old).lines stream
+        → IsTurn result conn (F.state front.old) (F.state front.new) stream
+        (known (F.had_memory front.old) left reads (W.contents writer.old) (W.writes writer.old) (C.told clock.old))
+        (known (F.had_memory front.new) left reads (W.contents writer.new) (W.writes writer.new) (C.told clock.new)) }
+    ensures sound { F.is_sound front.new → F.is_sound front.old }
+{
+    match front.look(conn) {
+        Ok(Look::Message) => answer_message(front, conn, writer, clock),
+        Ok(Look::Fault(_)) => answer_fault(front, conn, writer),
+        Ok(Look::More) => Turn::Waits,
+        Ok(Look::Ended) => Turn::Ends(Driven::Ended),
+        Err(_) => Turn::Ends(Driven::Memory),
+    }
+}
+
+/// Answers all whole messages that the connection holds. How it has ended, if it has; one that isn't open has.
+pub(crate) fn answer_held<F: Multiplexer, W: Writer, C: Clock>(
+    front: &mut F,
+    conn: Conn,
     writer: &mut W,
     clock: &mut C,
 ) -> Option<Driven>
-    ensures held { (R.custody server.new.records).sound → IsHeldAnswered result (world R.custody server.old) (world R.custody server.new) session.old session.new
-        (C.told clock.old) (C.told clock.new) (W.contents writer.old) (W.contents writer.new) }
-    ensures sound { (R.custody server.new.records).sound → (R.custody server.old.records).sound }
+    ensures held { F.is_sound front.new → (left : Option (List ℕ)) (reads : Option (List ReadEnd))
+        → IsHeldAnswered result (line_at conn (F.state front.old).lines) conn (F.state front.old) (F.state front.new)
+        (known (F.had_memory front.old) left reads (W.contents writer.old) (W.writes writer.old) (C.told clock.old))
+        (known (F.had_memory front.new) left reads (W.contents writer.new) (W.writes writer.new) (C.told clock.new)) }
+    ensures sound { F.is_sound front.new → F.is_sound front.old }
 {
-    for _ in 0..u64::MAX {
-        match answer_next(alloc, server, session, writer, clock) {
+    let Some(held) = front.held(conn) else {
+        return Some(Driven::Ended);
+    };
+    // A message has more than one byte, so a connection holds fewer than that.
+    let turns = held.saturating_add(1);
+    for _turn in 0..turns {
+        match answer_next(front, conn, writer, clock) {
             Turn::Answered => {}
             Turn::Waits => return None,
             Turn::Ends(driven) => return Some(driven),
         }
     }
-    // No session holds this many.
     Some(Driven::Memory)
 }

@@ -1,16 +1,20 @@
 //! A connection, from its first byte to its end.
-ghost use Rattle.xa_server.specs.Driven.{IsConnection};
-ghost use Rattle.xa_server.specs.Driving.{IsRead};
-ghost use Rattle.xa_server.specs.World.{world};
+ghost use Rattle.std.specs.Prelude.{◌≡◌, ◌≤◌, List, Option};
+ghost use Rattle.xa_http.specs.Stream.{Stream};
+ghost use Rattle.xa_server.specs.Driven.{IsConnection, known};
+ghost use Rattle.xa_server.specs.Driving.{FeedsOne, IsRead, IsWaiting, piece_of};
+ghost use Rattle.xa_server.specs.Lines.{IsOpen, line_at};
 
-use crate::answering::answer_held;
+use crate::answering::{answer_held, play_one};
 use crate::clock::Clock;
 use crate::driven::Driven;
-use crate::server::Server;
-use std::alloc::Global;
-use std::io::{ErrorKind, Read, Write};
-use xa_http::Session;
-use xa_records::Records;
+use crate::event::{Event, Outcome};
+use crate::front_error::FrontError;
+use crate::lines::Conn;
+use crate::multiplexer::Multiplexer;
+use crate::reader::Reader;
+use crate::writer::Writer;
+use std::io::ErrorKind;
 
 /// How many bytes are read at once.
 const PIECE_BYTES: usize = 65_536;
@@ -18,61 +22,78 @@ const PIECE_BYTES: usize = 65_536;
 /// How often a connection is read from.
 const MAX_READS: u32 = 1_000_000;
 
-/// Reads once from a connection, and answers all messages that are whole then. How the connection has ended, if it has.
-#[tactic(auto, using(crate::proofs::DrivingLemmas::retried, crate::proofs::DrivingLemmas::failed_read, crate::proofs::DrivingLemmas::not_fed, crate::proofs::DrivingLemmas::piece_answered, crate::proofs::DrivingLemmas::last_answered))]
-fn read_on<R: Records, I: Read, W: Write, C: Clock>(
-    alloc: Global,
-    server: &mut Server<R>,
-    session: &mut Session,
+/// What an outcome says of a piece.
+fn piece_of(outcome: Outcome) -> Result<(), FrontError>
+    ensures { result ≡ piece_of outcome }
+{
+    match outcome {
+        Outcome::Held(held) => held,
+        _ => Err(FrontError::Memory),
+    }
+}
+
+/// Puts a piece to an open connection.
+fn play_piece<F: Multiplexer>(front: &mut F, conn: Conn, piece: &[u8]) -> Result<(), FrontError>
+    ensures fed { F.is_sound front.new → FeedsOne conn piece.now (F.state front.old) (F.state front.new) (F.had_memory front.old) (F.had_memory front.new) result }
+    ensures sound { F.is_sound front.new → F.is_sound front.old }
+{
+    match play_one(front, &Event::Piece(conn, piece)) {
+        Ok(outcome) => piece_of(outcome),
+        Err(_) => Err(FrontError::Memory),
+    }
+}
+
+/// Reads once from a connection of which no whole message is left, and answers all messages that are whole then. How
+/// the connection has ended, if it has.
+fn read_on<F: Multiplexer, I: Reader, W: Writer, C: Clock>(
+    front: &mut F,
+    conn: Conn,
     reader: &mut I,
     writer: &mut W,
     clock: &mut C,
     piece: &mut [u8; PIECE_BYTES],
 ) -> Option<Driven>
-    ensures read { (R.custody server.new.records).sound → IsRead result (world R.custody server.old) (world R.custody server.new) session.old session.new
-        (I.remaining reader.old) (I.remaining reader.new) (C.told clock.old) (C.told clock.new) (W.contents writer.old) (W.contents writer.new) }
-    ensures sound { (R.custody server.new.records).sound → (R.custody server.old.records).sound }
+    ensures read { F.is_sound front.new → (stream : Stream) → IsOpen conn (F.state front.old).lines stream → IsWaiting stream
+        → IsRead result conn (F.state front.old) (F.state front.new) stream
+        (known (F.had_memory front.old) (I.remaining reader.old) (I.reads reader.old) (W.contents writer.old) (W.writes writer.old) (C.told clock.old))
+        (known (F.had_memory front.new) (I.remaining reader.new) (I.reads reader.new) (W.contents writer.new) (W.writes writer.new) (C.told clock.new)) }
+    ensures sound { F.is_sound front.new → F.is_sound front.old }
 {
-    let count = match reader.read(piece) {
+    let count = match reader.receive(piece) {
+        Ok(0) => return Some(Driven::Ended),
         Ok(count) => count,
         Err(error) if error.kind() == ErrorKind::Interrupted => return None,
         Err(_) => return Some(Driven::ReadFault),
     };
-    if session.feed(&piece[..count]).is_err() {
-        return Some(Driven::Memory);
-    }
-    match answer_held(alloc, server, session, writer, clock) {
-        None if count == 0 => Some(Driven::Ended),
-        answered => answered,
+    match play_piece(front, conn, &piece[..count]) {
+        Ok(()) => answer_held(front, conn, writer, clock),
+        Err(_) => Some(Driven::Memory),
     }
 }
 
-/// Answers the messages of a connection, each at the clock's moment, until it ends. Each reply is sent whole and once, before the next message is answered:
-/// a message is done only after the reply to the one before it was sent. At most 65,536 bytes are read at once, and at most 1,000,000 times.
-#[tactic(auto, using(crate::proofs::DrivingLemmas::read_more, crate::proofs::DrivingLemmas::connection_closed, crate::proofs::DrivingLemmas::connection_left))]
-pub fn drive<R: Records, I: Read, W: Write, C: Clock>(
-    alloc: Global,
-    server: &mut Server<R>,
+/// Answers the messages of a connection, each at the clock's moment, until it ends: first those that it holds already,
+/// then those that are read. Each reply is sent whole and once, before the next message is answered: a message is done
+/// only after the reply to the one before it was sent. At most 65,536 bytes are read at once, and at most 1,000,000
+/// times. An interrupted read is one of these, and the next follows it. A connection that isn't open has ended: nothing
+/// is read, and nothing changes.
+pub fn drive<F: Multiplexer, I: Reader, W: Writer, C: Clock>(
+    front: &mut F,
+    conn: Conn,
     reader: &mut I,
     writer: &mut W,
     clock: &mut C,
 ) -> Driven
-    ensures connection { (R.custody server.new.records).sound → IsConnection result (world R.custody server.old) (world R.custody server.new)
-        (I.remaining reader.old) (I.remaining reader.new) (C.told clock.old) (C.told clock.new) (W.contents writer.old) (W.contents writer.new) }
-    ensures sound { (R.custody server.new.records).sound → (R.custody server.old.records).sound }
+    ensures connection { F.is_sound front.new → IsConnection result (line_at conn (F.state front.old).lines) conn (F.state front.old) (F.state front.new)
+        (known (F.had_memory front.old) (I.remaining reader.old) (I.reads reader.old) (W.contents writer.old) (W.writes writer.old) (C.told clock.old))
+        (known (F.had_memory front.new) (I.remaining reader.new) (I.reads reader.new) (W.contents writer.new) (W.writes writer.new) (C.told clock.new)) }
+    ensures sound { F.is_sound front.new → F.is_sound front.old }
 {
-    let mut session = Session::new(alloc);
+    if let Some(driven) = answer_held(front, conn, writer, clock) {
+        return driven;
+    }
     let mut piece = [0; PIECE_BYTES];
-    for _ in 0..MAX_READS {
-        if let Some(driven) = read_on(
-            alloc,
-            server,
-            &mut session,
-            reader,
-            writer,
-            clock,
-            &mut piece,
-        ) {
+    for _read in 0..MAX_READS {
+        if let Some(driven) = read_on(front, conn, reader, writer, clock, &mut piece) {
             return driven;
         }
     }

@@ -3,15 +3,17 @@
 /// How a connection ended.
 #[derive(Clone, Copy, Debug, PartialEq, Eq)]
 pub enum Driven {
-    /// Its stream has ended, or its session: by a message that closes it, or by a fault, which was answered.
+    /// Its stream has ended, or its session: by a message that closes it, or by a fault, which was answered. Or it
+    /// wasn't open.
     Ended,
-    /// A read failed. All messages that were whole by then are answered.
+    /// A read failed; an interrupted one hasn't. All messages that were whole by then are answered.
     ReadFault,
-    /// A write failed. The message whose reply it was is done, and of that reply a part may have been sent.
+    /// A write or a flush failed; an interrupted write hasn't. The message whose reply it was is done, and of that reply a part
+    /// may have been sent.
     WriteFault,
-    /// The clock told no moment. The message that wanted one is not answered.
+    /// The clock was asked and told no moment. The message that wanted one is not answered, and is held as before.
     NoClock,
-    /// It was read from as often as a connection may be. All messages that were whole by then are answered.
+    /// It was read from 1,000,000 times. All messages that were whole by then are answered.
     TooManyReads,
     /// There was no memory. Whole messages may be left unanswered.
     Memory,

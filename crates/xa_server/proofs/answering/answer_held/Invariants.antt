@@ -1,12 +1,15 @@
-use Rattle.xa_server.specs.Driving.{HasAnswered}
-use Rattle.xa_server.specs.World.{world}
+use Rattle.std.proofs.Common.{ℕ, List, Option}
+use Rattle.xa_server.specs.Driven.{known}
+use Rattle.xa_server.specs.Transfers.{ReadEnd}
+use Rattle.xa_server.proofs.CourseLemmas.{Shrinks}
 use Rattle.xa_server.proofs.answering.answer_held.Given as goal
 
--- messages were answered
-abbrev pub invariant-loop : goal.invariant-loop
-invariant-loop g l = record {
-  sound : (g.R.Records.custody l.server.records).sound → (g.R.Records.custody l.fn.server.records).sound;
-  answered : (g.R.Records.custody l.server.records).sound →
-      HasAnswered (world g.R.Records.custody l.fn.server) (world g.R.Records.custody l.server) l.fn.session l.session
-      (g.C.Clock.told l.fn.clock) (g.C.Clock.told l.clock) (g.W.Write.contents l.fn.writer) (g.W.Write.contents l.writer);
+-- each turn has answered a message, and the connection holds less
+abbrev pub invariant-loop-turn : goal.invariant-loop-turn
+invariant-loop-turn g l = record {
+  sound : g.F.Multiplexer.is_sound l.front → g.F.Multiplexer.is_sound l.fn.front;
+  shrinks : g.F.Multiplexer.is_sound l.front → (left : Option (List ℕ)) (reads : Option (List ReadEnd)) →
+      Shrinks l._turn l.conn (g.F.Multiplexer.state l.fn.front) (g.F.Multiplexer.state l.front)
+      (known (g.F.Multiplexer.had_memory l.fn.front) left reads (g.W.Writer.contents l.fn.writer) (g.W.Writer.writes l.fn.writer) (g.C.Clock.told l.fn.clock))
+      (known (g.F.Multiplexer.had_memory l.front) left reads (g.W.Writer.contents l.writer) (g.W.Writer.writes l.writer) (g.C.Clock.told l.clock));
 }

@@ -1,10 +1,27 @@
-use Rattle.xa_server.specs.World.{world}
-use Rattle.xa_server.proofs.DrivingLemmas.{not_begun}
+use Rattle.std.proofs.Common.{refl, arith}
+use Rattle.xa_server.proofs.CourseLemmas.{begun, held_ends, read_ends, read_more, read_out}
 use Rattle.xa_server.proofs.course.drive.Goals as goal
 
-pub loop-init : goal.loop-init
-loop-init g c = record {
-  sound = λ sound. sound;
-  read = λ _. not_begun (world g.R.Records.custody c.args.server.now) c.new-session.result (g.I.Read.remaining c.args.reader.now)
-      (g.C.Clock.told c.args.clock.now) (g.W.Write.contents c.args.writer.now) c.new-session.ensures;
+pub returns-in-Some-clause-connection : goal.returns-in-Some-clause-connection
+returns-in-Some-clause-connection g c = λ sound. held_ends c.in-Some.driven _ c.args.conn _ _ _ _ (c.in-Some.ensures.held sound _ _)
+
+pub loop-read-init : goal.loop-read-init
+loop-read-init g c = record {
+  sound = c.answer_held.ensures.sound;
+  read = λ sound. begun _ c.args.conn _ _ _ _ refl (c.in_default.ensures.held sound _ _);
 }
+
+pub returns-in-Some-read_on-clause-connection : goal.returns-in-Some-read_on-clause-connection
+returns-in-Some-read_on-clause-connection g c = λ sound.
+    read_ends _ c.in-Some-read_on.driven c.args.conn _ _ _ _ _ _ c.loop-read-test.true (c.loop-read.invariant.read (c.read_on.ensures.sound sound))
+    (c.in-Some-read_on.ensures.read sound)
+
+pub loop-read-preserved : goal.loop-read-preserved
+loop-read-preserved g c = record {
+  sound = λ sound. c.loop-read.invariant.sound (c.read_on.ensures.sound sound);
+  read = λ sound.
+      read_more _ c.args.conn _ _ _ _ _ _ (c.loop-read.invariant.read (c.read_on.ensures.sound sound)) (c.in_default-read_on.ensures.read sound);
+}
+
+pub returns-clause-connection : goal.returns-clause-connection
+returns-clause-connection g c = λ sound. read_out c.loop-read._read c.args.conn _ _ _ _ (omega (arith, c.loop-read-test.false, c.loop-read.auto._read-end)) (c.loop-read.invariant.read sound)

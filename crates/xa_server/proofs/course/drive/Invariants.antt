@@ -1,15 +1,13 @@
-use Rattle.std.proofs.Common.{[]}
-use Rattle.xa_server.specs.Driven.{stream_of}
+use Rattle.xa_server.specs.Driven.{known}
 use Rattle.xa_server.specs.Driving.{HasRead}
-use Rattle.xa_server.specs.World.{world}
 use Rattle.xa_server.proofs.course.drive.Given as goal
 
--- bytes were read, all whole messages of them were answered, and more bytes are wanted
-abbrev pub invariant-loop : goal.invariant-loop
-invariant-loop g l = record {
-  sound : (g.R.Records.custody l.server.records).sound → (g.R.Records.custody l.fn.server.records).sound;
-  read : (g.R.Records.custody l.server.records).sound →
-      HasRead (world g.R.Records.custody l.fn.server) (world g.R.Records.custody l.server) (stream_of []) l.session
-      (g.I.Read.remaining l.fn.reader) (g.I.Read.remaining l.reader)
-      (g.C.Clock.told l.fn.clock) (g.C.Clock.told l.clock) (g.W.Write.contents l.fn.writer) (g.W.Write.contents l.writer);
+-- all that was held and read so far was answered, and more bytes are wanted
+abbrev pub invariant-loop-read : goal.invariant-loop-read
+invariant-loop-read g l = record {
+  sound : g.F.Multiplexer.is_sound l.front → g.F.Multiplexer.is_sound l.fn.front;
+  read : g.F.Multiplexer.is_sound l.front →
+      HasRead l._read l.conn (g.F.Multiplexer.state l.fn.front) (g.F.Multiplexer.state l.front)
+      (known (g.F.Multiplexer.had_memory l.fn.front) (g.I.Reader.remaining l.fn.reader) (g.I.Reader.reads l.fn.reader) (g.W.Writer.contents l.fn.writer) (g.W.Writer.writes l.fn.writer) (g.C.Clock.told l.fn.clock))
+      (known (g.F.Multiplexer.had_memory l.front) (g.I.Reader.remaining l.reader) (g.I.Reader.reads l.reader) (g.W.Writer.contents l.writer) (g.W.Writer.writes l.writer) (g.C.Clock.told l.clock));
 }

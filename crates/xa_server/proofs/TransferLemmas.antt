@@ -1,0 +1,111 @@
+-- What is known of calls, one after another.
+use Rattle.std.proofs.Common.{◌≡◌, ℕ, List, [], ◌∷◌, ◌++◌, refl, sym, ap, subst, ◌∙◌, Option, Some, None}
+use Rattle.std.specs.Io.KnownBytes.{Appends, Consumes}
+use Rattle.std.specs.Prelude.{Bool, ℤ}
+use Rattle.std.proofs.lemmas.List.{append-nil, append_assoc}
+use Rattle.xa_server.proofs.ConnectionLemmas.{appends_none, appends_trans, consumes_none, consumes_trans}
+use Rattle.xa_server.specs.Driven.{AreMade, AreSent, Calls, Known, known}
+use Rattle.xa_server.specs.Transfers.{Grows, IsWrittenWhole, ReadEnd, WriteEnd, bytes_read, bytes_taken, flushed, gave, took, unflushed, unread, unwritten}
+
+pub grows_none : {A : Type 0} (a : Option (List A)) → Grows a a []
+grows_none None = tt
+grows_none (Some x) = sym (append-nil x)
+
+pub grows_trans : {A : Type 0} (a b c : Option (List A)) (xs ys : List A) → Grows a b xs → Grows b c ys → Grows a c (xs ++ ys)
+grows_trans None b c xs ys p q = tt
+grows_trans (Some x) None c xs ys p q = absurd p
+grows_trans (Some x) (Some y) None xs ys p q = absurd q
+grows_trans {A} (Some x) (Some y) (Some z) xs ys p q = q ∙ ap (λ (l : List A). l ++ ys) p ∙ append_assoc x xs ys
+
+pub read_trans : (rs qs : List ReadEnd) → bytes_read (rs ++ qs) ≡ bytes_read rs ++ bytes_read qs
+read_trans [] qs = refl
+read_trans (gave room bytes ∷ rs) qs = ap (λ (bs : List ℕ). bytes ++ bs) (read_trans rs qs) ∙ sym (append_assoc bytes (bytes_read rs) (bytes_read qs))
+read_trans (unread kind ∷ rs) qs = read_trans rs qs
+
+pub taken_trans : (ws vs : List WriteEnd) → bytes_taken (ws ++ vs) ≡ bytes_taken ws ++ bytes_taken vs
+taken_trans [] vs = refl
+taken_trans (took bytes ∷ ws) vs = ap (λ (bs : List ℕ). bytes ++ bs) (taken_trans ws vs) ∙ sym (append_assoc bytes (bytes_taken ws) (bytes_taken vs))
+taken_trans (unwritten kind ∷ ws) vs = taken_trans ws vs
+taken_trans (flushed ∷ ws) vs = taken_trans ws vs
+taken_trans (unflushed kind ∷ ws) vs = taken_trans ws vs
+
+-- ---- all together
+
+abbrev pub no_calls : Calls
+no_calls = record { memory = []; reads = []; writes = []; told = [] }
+
+-- these, and then those
+abbrev pub both : Calls → Calls → Calls
+both first later = record {
+  memory = first.memory ++ later.memory;
+  reads = first.reads ++ later.reads;
+  writes = first.writes ++ later.writes;
+  told = first.told ++ later.told;
+}
+
+pub made_none : (x : Known) → AreMade no_calls x x
+made_none x = record {
+  memory = grows_none x.memory;
+  left = consumes_none x.left;
+  reads = grows_none x.reads;
+  contents = appends_none x.contents;
+  writes = grows_none x.writes;
+  told = grows_none x.told;
+}
+
+pub made_trans : (first later : Calls) (x y z : Known) → AreMade first x y → AreMade later y z → AreMade (both first later) x z
+made_trans first later x y z a b = record {
+  memory = grows_trans x.memory y.memory z.memory first.memory later.memory a.memory b.memory;
+  left =
+      subst (λ (bs : List ℕ). Consumes x.left z.left bs) (sym (read_trans first.reads later.reads))
+      (consumes_trans x.left y.left z.left (bytes_read first.reads) (bytes_read later.reads) a.left b.left);
+  reads = grows_trans x.reads y.reads z.reads first.reads later.reads a.reads b.reads;
+  contents =
+      subst (λ (bs : List ℕ). Appends x.contents z.contents bs) (sym (taken_trans first.writes later.writes))
+      (appends_trans x.contents y.contents z.contents (bytes_taken first.writes) (bytes_taken later.writes) a.contents b.contents);
+  writes = grows_trans x.writes y.writes z.writes first.writes later.writes a.writes b.writes;
+  told = grows_trans x.told y.told z.told first.told later.told a.told b.told;
+}
+
+-- nothing was read
+pub made_unread : (found : List Bool) (writes : List WriteEnd) (told : List (Option ℤ)) (f g : Option (List Bool)) (l : Option (List ℕ)) (r : Option (List ReadEnd))
+    (c d : Option (List ℕ)) (w v : Option (List WriteEnd)) (k j : Option (List (Option ℤ)))
+    → Grows f g found → Appends c d (bytes_taken writes) → Grows w v writes → Grows k j told
+    → AreMade (record { memory = found; reads = []; writes = writes; told = told }) (known f l r c w k) (known g l r d v j)
+made_unread found writes told f g l r c d w v k j finds appends grows tells = record {
+  memory = finds;
+  left = consumes_none l;
+  reads = grows_none r;
+  contents = appends;
+  writes = grows;
+  told = tells;
+}
+
+-- something was, or that failed
+pub made_read : (found : List Bool) (read : ReadEnd) (f g : Option (List Bool)) (l m : Option (List ℕ)) (r q : Option (List ReadEnd))
+    (c : Option (List ℕ)) (w : Option (List WriteEnd)) (k : Option (List (Option ℤ)))
+    → Grows f g found → Consumes l m (bytes_read (read ∷ [])) → Grows r q (read ∷ [])
+    → AreMade (record { memory = found; reads = read ∷ []; writes = []; told = [] }) (known f l r c w k) (known g m q c w k)
+made_read found read f g l m r q c w k finds consumes reads = record {
+  memory = finds;
+  left = consumes;
+  reads = reads;
+  contents = appends_none c;
+  writes = grows_none w;
+  told = grows_none k;
+}
+
+-- ---- replies
+
+pub sent_trans : (rs qs : List (List ℕ)) (ws vs : List WriteEnd) → AreSent rs ws → AreSent qs vs → AreSent (rs ++ qs) (ws ++ vs)
+sent_trans [] qs ws vs none later = subst (λ (xs : List WriteEnd). AreSent qs (xs ++ vs)) (sym none) later
+sent_trans (r ∷ rs) qs ws vs is later = (
+  is.0,
+  is.1 ++ vs,
+  is.2,
+  sent_trans rs qs is.1 vs is.3 later,
+  ap (λ (xs : List WriteEnd). xs ++ vs) is.4 ∙ append_assoc is.0 is.1 vs,
+)
+
+pub one_sent : (reply : List ℕ) (ws : List WriteEnd) → IsWrittenWhole reply ws → AreSent (reply ∷ []) ws
+one_sent reply ws is = (ws, [], is, refl, sym (append-nil ws))

@@ -1,0 +1,385 @@
+-- What becomes of what a connection holds: one message, one fault, or nothing.
+use Rattle.std.proofs.Common.{◌≡◌, ◌≢◌, ℕ, ◌+◌, ◌<◌, ◌≤◌, arith, Bool, true, false, List, [], ◌∷◌, ◌++◌, length, map, refl, sym, ap, subst, ◌∙◌, Option, Some, None, Ok, Err, inl, inr, length-append}
+use Rattle.std.specs.Prelude.{ℤ}
+use Rattle.std.specs.Io.KnownBytes.{Appends}
+use Rattle.std.specs.List.{All}
+use Rattle.std.proofs.lemmas.Bool.{false≢true}
+use Rattle.std.proofs.lemmas.List.{append-nil}
+use Rattle.std.proofs.lemmas.List.Elements.{All-nil, All-cons}
+use Rattle.xa_http.specs.declared.fault.SessionFault.{SessionFault}
+use Rattle.xa_http.specs.declared.message.Message.{Message}
+use Rattle.xa_http.specs.declared.session.Look.{Look}
+use Rattle.xa_http.specs.declared.session.Look.TheVariants as look
+use Rattle.xa_http.specs.declared.session.Next.{Next}
+use Rattle.xa_http.specs.declared.session.Next.TheVariants as next
+use Rattle.xa_http.specs.Messages.{Cuts, IsFaulty, IsFirst, IsLook, IsNext}
+use Rattle.xa_http.specs.Stream.{Stream, fed}
+use Rattle.xa_http.proofs.LawLemmas.{answers_messages}
+use Rattle.xa_http.proofs.SizeLemmas.{first_shrinks}
+use Rattle.xa_server.specs.declared.answering.Turn.{Turn}
+use Rattle.xa_server.specs.declared.answering.Turn.TheVariants.{Answered, Waits, Ends}
+use Rattle.xa_server.specs.declared.driven.Driven.{Driven}
+use Rattle.xa_server.specs.declared.driven.Driven.TheVariants.{Ended, WriteFault, NoClock, Memory}
+use Rattle.xa_server.specs.declared.event.Answer.{Answer}
+use Rattle.xa_server.specs.declared.front_error.FrontError.{FrontError}
+use Rattle.xa_server.specs.declared.front_error.FrontError.TheVariants as error
+use Rattle.xa_server.specs.declared.lines.Conn.{Conn}
+use Rattle.xa_server.specs.declared.replies.Reply.{Reply}
+use Rattle.xa_server.specs.declared.replies.Reply.TheVariants.{Sent}
+use Rattle.xa_server.specs.Connection.{fault_replies}
+use Rattle.xa_server.specs.Driven.{AreMade, AreWritten, Calls, HadMemory, HasTold, HaveMemory, HaveRead, IsDriven, IsDrivenWithin, Known, StopsAfter, known}
+use Rattle.xa_server.specs.Driving.{GoesOn, IsAnsweredAt, IsAnsweredNow, IsSentAs, IsTurn, IsWaiting, turn_after}
+use Rattle.xa_server.specs.ErrorCode.{code_of_session_fault, error_reply}
+use Rattle.xa_server.specs.Front.{FrontState, IsAnswered, IsGiven, ServerState}
+use Rattle.xa_server.specs.Lines.{IsLooked, IsOpen, line_at, with_line}
+use Rattle.xa_server.specs.Multiplexer.{found_memory}
+use Rattle.xa_server.specs.Replies.{bytes_of}
+use Rattle.xa_server.specs.Sending.{IsTaken, IsWritten}
+use Rattle.xa_server.specs.Served.{IsRun, IsServed}
+use Rattle.xa_server.specs.Transfers.{Grows, IsReadOn, ReadEnd, WriteEnd, bytes_taken}
+use Rattle.xa_server.specs.Work.{IsWork, IsWorkOfRun}
+use Rattle.xa_server.proofs.DrivingLemmas.{fed_nothing}
+use Rattle.xa_server.proofs.IsolationLemmas.{headline, isolated}
+use Rattle.xa_server.proofs.MultiplexerLemmas.{line_kept, looked, not_closed, same_stream, still_open}
+use Rattle.xa_server.proofs.ConnectionLemmas.{appends_none}
+use Rattle.xa_server.proofs.TransferLemmas.{grows_none, grows_trans, made_unread, one_sent}
+
+-- ---- one end, or none
+
+one_found : All HadMemory (true ∷ [])
+one_found = All-cons HadMemory true [] refl (All-nil HadMemory)
+
+two_found : All HadMemory (true ∷ true ∷ [])
+two_found = All-cons HadMemory true (true ∷ []) refl one_found
+
+-- it ends, and no message was answered
+ends_idle : (driven : Driven) (conn : Conn) (a b : FrontState) (s after : Stream) (fault : Option SessionFault) (found : List Bool) (writes : List WriteEnd)
+    (told : List (Option ℤ)) (x y : Known) → AreMade (record { memory = found; reads = []; writes = writes; told = told }) x y
+    → b.server ≡ a.server → b.lines ≡ with_line conn (Some after) a.lines → StopsAfter driven fault [] s after → HaveRead driven [] after y.left
+    → HasTold driven [] told → AreWritten driven (fault_replies fault) writes → HaveMemory driven found → IsDrivenWithin 0 driven conn a b s x y
+ends_idle driven conn a b s after fault found writes told x y made server lines stops read tells written finds = (
+  record {
+    calls = record { memory = found; reads = []; writes = writes; told = told };
+    events = [];
+    run = [];
+    fault = fault;
+    last = s;
+    after = after;
+    made = made;
+    messages = fed_nothing s;
+    stops = stops;
+    lines = lines;
+    is_run = ap (λ (v : ServerState). v.world) server;
+    work = (ap (λ (v : ServerState). v.world) server, ap (λ (v : ServerState). v.tally) server);
+    headline = headline a.server.world b.server.world [] [] (ap (λ (v : ServerState). v.world) server);
+    beside_refusals = λ domain. isolated domain a.server.world b.server.world [] [] (ap (λ (v : ServerState). v.world) server);
+    read = read;
+    told = tells;
+    written = written;
+    memory = finds;
+  },
+  omega arith,
+)
+
+first_fed : (s : Stream) (message : Message) (after : Stream) → IsFirst s message after → Cuts (fed s []) (message ∷ []) after
+first_fed s message after first = (after, subst (λ (u : Stream). IsFirst u message after) (sym (fed_nothing s)) first, refl)
+
+-- it ends after one message
+ends_one : (driven : Driven) (conn : Conn) (a b : FrontState) (s after : Stream) (moment : ℤ) (message : Message) (reply : Reply) (found : List Bool)
+    (writes : List WriteEnd) (x y : Known) → AreMade (record { memory = found; reads = []; writes = writes; told = Some moment ∷ [] }) x y
+    → IsFirst s message after → IsServed a.server.world b.server.world moment message reply
+    → IsWork a.server.world.kept moment message reply a.server.tally b.server.tally → b.lines ≡ with_line conn (Some after) a.lines
+    → StopsAfter driven None [] after after → HaveRead driven [] after y.left → HasTold driven (moment ∷ []) (Some moment ∷ [])
+    → AreWritten driven (bytes_of reply ∷ []) writes → HaveMemory driven found → IsDrivenWithin 0 driven conn a b s x y
+ends_one driven conn a b s after moment message reply found writes x y made first served work lines stops read tells written finds =
+    let run : IsRun a.server.world ((moment, message) ∷ []) (reply ∷ []) b.server.world = (b.server.world, served, refl) in (
+      record {
+        calls = record { memory = found; reads = []; writes = writes; told = Some moment ∷ [] };
+        events = (moment, message) ∷ [];
+        run = reply ∷ [];
+        fault = None;
+        last = after;
+        after = after;
+        made = made;
+        messages = first_fed s message after first;
+        stops = stops;
+        lines = lines;
+        is_run = run;
+        work = (b.server.world, b.server.tally, served, work, (refl, refl));
+        headline = headline a.server.world b.server.world ((moment, message) ∷ []) (reply ∷ []) run;
+        beside_refusals = λ domain. isolated domain a.server.world b.server.world ((moment, message) ∷ []) (reply ∷ []) run;
+        read = read;
+        told = tells;
+        written = written;
+        memory = finds;
+      },
+      omega arith,
+    )
+
+-- it goes on after one message
+goes_one : (conn : Conn) (a b : FrontState) (s after : Stream) (moment : ℤ) (message : Message) (reply : Reply) (writes : List WriteEnd) (x y : Known)
+    → AreMade (record { memory = true ∷ true ∷ []; reads = []; writes = writes; told = Some moment ∷ [] }) x y
+    → IsFirst s message after → IsServed a.server.world b.server.world moment message reply
+    → IsWork a.server.world.kept moment message reply a.server.tally b.server.tally → b.lines ≡ with_line conn (Some after) a.lines → IsOpen conn a.lines s
+    → IsTaken true (bytes_of reply) writes → GoesOn 0 conn a b s after x y
+goes_one conn a b s after moment message reply writes x y made first served work lines opens written = record {
+  calls = record { memory = true ∷ true ∷ []; reads = []; writes = writes; told = Some moment ∷ [] };
+  events = (moment, message) ∷ [];
+  run = reply ∷ [];
+  made = made;
+  messages = first_fed s message after first;
+  lines = lines;
+  opens = still_open conn a.lines b.lines s after opens lines;
+  is_run = (b.server.world, served, refl);
+  work = (b.server.world, b.server.tally, served, work, (refl, refl));
+  read = All-nil IsReadOn;
+  counted = refl;
+  told = refl;
+  written = one_sent (bytes_of reply) writes written;
+  memory = two_found;
+}
+
+-- it goes on, and no message was answered
+goes_idle : (conn : Conn) (a b : FrontState) (s : Stream) (found : List Bool) (x y : Known)
+    → AreMade (record { memory = found; reads = []; writes = []; told = [] }) x y → b.server ≡ a.server → b.lines ≡ with_line conn (Some s) a.lines
+    → IsOpen conn a.lines s → All HadMemory found → GoesOn 0 conn a b s s x y
+goes_idle conn a b s found x y made server lines opens finds = record {
+  calls = record { memory = found; reads = []; writes = []; told = [] };
+  events = [];
+  run = [];
+  made = made;
+  messages = fed_nothing s;
+  lines = lines;
+  opens = still_open conn a.lines b.lines s s opens lines;
+  is_run = ap (λ (v : ServerState). v.world) server;
+  work = (ap (λ (v : ServerState). v.world) server, ap (λ (v : ServerState). v.tally) server);
+  read = All-nil IsReadOn;
+  counted = refl;
+  told = refl;
+  written = refl;
+  memory = finds;
+}
+
+-- ---- one reply
+
+cut_short : (reply : List ℕ) (writes : List WriteEnd) → IsTaken false reply writes → AreWritten WriteFault (reply ∷ []) writes
+cut_short reply writes cut = record {
+  whole = [];
+  last = reply;
+  before = [];
+  part = writes;
+  all = refl;
+  sent = refl;
+  cut = cut;
+  in_order = refl;
+}
+
+-- a message was answered, and its reply sent, or a part of it
+message_sent : (whole last : Bool) (turn : Turn) (conn : Conn) (old new : FrontState) (s after : Stream) (moment : ℤ) (message : Message) (reply : Reply)
+    (f h : Option (List Bool)) (l : Option (List ℕ)) (r : Option (List ReadEnd)) (c d : Option (List ℕ)) (w v : Option (List WriteEnd)) (k j : Option (List (Option ℤ)))
+    → IsFirst s message after → IsServed old.server.world new.server.world moment message reply
+    → IsWork old.server.world.kept moment message reply old.server.tally new.server.tally → new.lines ≡ with_line conn (Some after) old.lines
+    → IsOpen conn old.lines s → last ≡ after.ended → Grows f h (true ∷ true ∷ []) → Grows k j (Some moment ∷ [])
+    → IsWritten whole (bytes_of reply) c d w v → turn ≡ turn_after whole last
+    → IsTurn turn conn old new s (known f l r c w k) (known h l r d v j)
+message_sent false last turn conn old new s after moment message reply f h l r c d w v k j first served work lines opens ended finds tells sent same =
+    subst (λ (t : Turn). IsTurn t conn old new s (known f l r c w k) (known h l r d v j)) (sym same)
+    (ends_one WriteFault conn old new s after moment message reply (true ∷ true ∷ []) sent.writings (known f l r c w k) (known h l r d v j)
+    (made_unread (true ∷ true ∷ []) sent.writings (Some moment ∷ []) f h l r c d w v k j finds sent.appends sent.grows tells)
+    first served work lines refl (All-nil IsReadOn) refl (cut_short (bytes_of reply) sent.writings sent.taken) two_found)
+message_sent true true turn conn old new s after moment message reply f h l r c d w v k j first served work lines opens ended finds tells sent same =
+    subst (λ (t : Turn). IsTurn t conn old new s (known f l r c w k) (known h l r d v j)) (sym same)
+    (ends_one Ended conn old new s after moment message reply (true ∷ true ∷ []) sent.writings (known f l r c w k) (known h l r d v j)
+    (made_unread (true ∷ true ∷ []) sent.writings (Some moment ∷ []) f h l r c d w v k j finds sent.appends sent.grows tells)
+    first served work lines (inr (sym ended, refl)) (inl (All-nil IsReadOn, sym ended)) refl (one_sent (bytes_of reply) sent.writings sent.taken) two_found)
+message_sent true false turn conn old new s after moment message reply f h l r c d w v k j first served work lines opens ended finds tells sent same =
+    subst (λ (t : Turn). IsTurn t conn old new s (known f l r c w k) (known h l r d v j)) (sym same) (
+      after,
+      goes_one conn old new s after moment message reply sent.writings (known f l r c w k) (known h l r d v j)
+          (made_unread (true ∷ true ∷ []) sent.writings (Some moment ∷ []) f h l r c d w v k j finds sent.appends sent.grows tells)
+          first served work lines opens sent.taken,
+      first_shrinks s message after first,
+    )
+
+-- so was the fault by which the stream ends
+fault_sent : (whole : Bool) (turn : Turn) (conn : Conn) (old new : FrontState) (s after : Stream) (fault : SessionFault) (reply : Reply)
+    (f h : Option (List Bool)) (l : Option (List ℕ)) (r : Option (List ReadEnd)) (c d : Option (List ℕ)) (w v : Option (List WriteEnd)) (k : Option (List (Option ℤ)))
+    → IsNext s (next.Fault fault) after → bytes_of reply ≡ error_reply (code_of_session_fault fault) → new.server ≡ old.server
+    → new.lines ≡ with_line conn (Some after) old.lines → Grows f h (true ∷ true ∷ []) → IsWritten whole (bytes_of reply) c d w v
+    → turn ≡ turn_after whole true → IsTurn turn conn old new s (known f l r c w k) (known h l r d v k)
+fault_sent false turn conn old new s after fault reply f h l r c d w v k is bytes server lines finds sent same =
+    subst (λ (t : Turn). IsTurn t conn old new s (known f l r c w k) (known h l r d v k)) (sym same)
+    (ends_idle WriteFault conn old new s after (Some fault) (true ∷ true ∷ []) sent.writings [] (known f l r c w k) (known h l r d v k)
+    (made_unread (true ∷ true ∷ []) sent.writings [] f h l r c d w v k k finds sent.appends sent.grows (grows_none k))
+    server lines is (All-nil IsReadOn) refl
+    (cut_short (error_reply (code_of_session_fault fault)) sent.writings (subst (λ (b : List ℕ). IsTaken false b sent.writings) bytes sent.taken)) two_found)
+fault_sent true turn conn old new s after fault reply f h l r c d w v k is bytes server lines finds sent same =
+    subst (λ (t : Turn). IsTurn t conn old new s (known f l r c w k) (known h l r d v k)) (sym same)
+    (ends_idle Ended conn old new s after (Some fault) (true ∷ true ∷ []) sent.writings [] (known f l r c w k) (known h l r d v k)
+    (made_unread (true ∷ true ∷ []) sent.writings [] f h l r c d w v k k finds sent.appends sent.grows (grows_none k))
+    server lines is (inl (All-nil IsReadOn, ap (λ (u : Stream). u.ended) is.2)) refl
+    (one_sent (error_reply (code_of_session_fault fault)) sent.writings (subst (λ (b : List ℕ). IsTaken true b sent.writings) bytes sent.taken)) two_found)
+
+-- ---- without an answer
+
+still : (old new : FrontState) → new ≡ old → new.server ≡ old.server
+still old new same = ap (λ (v : FrontState). v.server) same
+
+kept : (conn : Conn) (old new : FrontState) (s : Stream) → IsOpen conn old.lines s → new ≡ old → new.lines ≡ with_line conn (Some s) old.lines
+kept conn old new s opens same = line_kept conn old.lines new.lines s opens (ap (λ (v : FrontState). v.lines) same)
+
+appends_same : (c d : Option (List ℕ)) → d ≡ c → Appends c d []
+appends_same c d same = subst (λ (z : Option (List ℕ)). Appends c z []) (sym same) (appends_none c)
+
+writes_same : (w v : Option (List WriteEnd)) → v ≡ w → Grows w v []
+writes_same w v same = subst (λ (z : Option (List WriteEnd)). Grows w z []) (sym same) (grows_none w)
+
+-- there was no memory, for these calls of the front and after what the clock told
+wanted : (turn : Turn) (before : List Bool) (told : List (Option ℤ)) (conn : Conn) (old new : FrontState) (s : Stream) (f h : Option (List Bool)) (l : Option (List ℕ))
+    (r : Option (List ReadEnd)) (c d : Option (List ℕ)) (w v : Option (List WriteEnd)) (k j : Option (List (Option ℤ)))
+    → IsOpen conn old.lines s → new ≡ old → All HadMemory before → Grows f h (before ++ false ∷ []) → d ≡ c → v ≡ w → Grows k j told
+    → HasTold Memory [] told → turn ≡ Ends Memory → IsTurn turn conn old new s (known f l r c w k) (known h l r d v j)
+wanted turn before told conn old new s f h l r c d w v k j opens same all finds contents writes tells is turns =
+    subst (λ (t : Turn). IsTurn t conn old new s (known f l r c w k) (known h l r d v j)) (sym turns)
+    (ends_idle Memory conn old new s s None (before ++ false ∷ []) [] told (known f l r c w k) (known h l r d v j)
+    (made_unread (before ++ false ∷ []) [] told f h l r c d w v k j finds (appends_same c d contents) (writes_same w v writes) tells)
+    (still old new same) (kept conn old new s opens same) (inl refl) (All-nil IsReadOn) is refl (before, all, refl))
+
+-- there is no whole message
+waits : (turn : Turn) (found : List Bool) (conn : Conn) (old new : FrontState) (s after : Stream) (f h : Option (List Bool)) (l : Option (List ℕ)) (r : Option (List ReadEnd))
+    (c d : Option (List ℕ)) (w v : Option (List WriteEnd)) (k : Option (List (Option ℤ))) → IsOpen conn old.lines s → IsNext s next.More after → new.server ≡ old.server
+    → new.lines ≡ with_line conn (Some after) old.lines → All HadMemory found → Grows f h found → d ≡ c → v ≡ w → turn ≡ Waits
+    → IsTurn turn conn old new s (known f l r c w k) (known h l r d v k)
+waits turn found conn old new s after f h l r c d w v k opens more server lines all finds contents writes turns =
+    subst (λ (t : Turn). IsTurn t conn old new s (known f l r c w k) (known h l r d v k)) (sym turns) (
+      s,
+      goes_idle conn old new s found (known f l r c w k) (known h l r d v k)
+          (made_unread found [] [] f h l r c d w v k k finds (appends_same c d contents) (writes_same w v writes) (grows_none k))
+          server (subst (λ (u : Stream). new.lines ≡ with_line conn (Some u) old.lines) more.2 lines) opens all,
+      (more.0, more.1, refl),
+    )
+
+-- ---- the next of a connection
+
+-- what was given is the message that stands first
+message_given : (turn : Turn) (answer : Option Answer) (conn : Conn) (old new : FrontState) (s rest after : Stream) (moment : ℤ) (message : Message) (given : Next)
+    (f g h : Option (List Bool)) (l : Option (List ℕ)) (r : Option (List ReadEnd)) (c d : Option (List ℕ)) (w v : Option (List WriteEnd)) (k j : Option (List (Option ℤ)))
+    → IsOpen conn old.lines s → IsFirst s message rest → IsNext s given after → IsGiven moment old.server given after answer new.server
+    → new.lines ≡ with_line conn (Some after) old.lines → Grows f g (true ∷ []) → Grows g h (true ∷ []) → Grows k j (Some moment ∷ [])
+    → IsSentAs turn answer c d w v → IsTurn turn conn old new s (known f l r c w k) (known h l r d v j)
+message_given turn None conn old new s rest after moment message given f g h l r c d w v k j opens first is gives lines looks finds tells sent =
+    let only = answers_messages s message rest given after first is in
+    absurd (subst (λ (n : Next). IsGiven moment old.server n after None new.server) only.0 gives)
+message_given turn (Some answer) conn old new s rest after moment message given f g h l r c d w v k j opens first is gives lines looks finds tells sent =
+    let only = answers_messages s message rest given after first is in
+    let gave : IsGiven moment old.server (next.Message message) after (Some answer) new.server
+    = subst (λ (n : Next). IsGiven moment old.server n after (Some answer) new.server) only.0 gives in
+    message_sent sent.0 answer.last turn conn old new s after moment message answer.reply f h l r c d w v k j
+    (subst (λ (u : Stream). IsFirst s message u) (sym only.1) first) gave.0 gave.1 lines opens gave.2
+    (grows_trans f g h (true ∷ []) (true ∷ []) looks finds) tells sent.1 sent.2
+
+message_at : (turn : Turn) (conn : Conn) (old new : FrontState) (s rest : Stream) (moment : ℤ) (message : Message)
+    (f g h : Option (List Bool)) (l : Option (List ℕ)) (r : Option (List ReadEnd)) (c d : Option (List ℕ)) (w v : Option (List WriteEnd)) (k j : Option (List (Option ℤ)))
+    → IsOpen conn old.lines s → IsFirst s message rest → Grows f g (true ∷ []) → Grows k j (Some moment ∷ []) → IsAnsweredAt turn conn moment old new g h c d w v
+    → IsTurn turn conn old new s (known f l r c w k) (known h l r d v j)
+message_at turn conn old new s rest moment message f g h l r c d w v k j opens first looks tells (inl (answer, given, is, finds, sent)) =
+    message_given turn answer conn old new s rest is.1 moment message given f g h l r c d w v k j opens first
+    (subst (λ (u : Stream). IsNext u given is.1) (same_stream conn old.lines is.0 s is.2 opens) is.3) is.4 is.5 looks finds tells sent
+message_at turn conn old new s rest moment message f g h l r c d w v k j opens first looks tells (inr (inl (turns, same, finds, contents, writes))) =
+    wanted turn (true ∷ []) (Some moment ∷ []) conn old new s f h l r c d w v k j opens same one_found (grows_trans f g h (true ∷ []) (false ∷ []) looks finds)
+    contents writes tells (inr (moment, refl)) turns
+message_at turn conn old new s rest moment message f g h l r c d w v k j opens first looks tells (inr (inr closed)) = absurd (not_closed conn old.lines s opens closed)
+
+message_now : (turn : Turn) (conn : Conn) (old new : FrontState) (s rest : Stream) (message : Message)
+    (f g h : Option (List Bool)) (l : Option (List ℕ)) (r : Option (List ReadEnd)) (c d : Option (List ℕ)) (w v : Option (List WriteEnd)) (k j : Option (List (Option ℤ)))
+    → IsOpen conn old.lines s → IsFirst s message rest → Grows f g (true ∷ []) → IsAnsweredNow turn conn old new g h c d w v k j
+    → IsTurn turn conn old new s (known f l r c w k) (known h l r d v j)
+message_now turn conn old new s rest message f g h l r c d w v k j opens first looks (inl (moment, tells, is)) =
+    message_at turn conn old new s rest moment message f g h l r c d w v k j opens first looks tells is
+message_now turn conn old new s rest message f g h l r c d w v k j opens first looks (inr (turns, tells, same, finds, contents, writes)) =
+    subst (λ (t : Turn). IsTurn t conn old new s (known f l r c w k) (known h l r d v j)) (sym turns)
+    (ends_idle NoClock conn old new s s None (true ∷ []) [] (None ∷ []) (known f l r c w k) (known h l r d v j)
+    (made_unread (true ∷ []) [] (None ∷ []) f h l r c d w v k j (subst (λ (z : Option (List Bool)). Grows f z (true ∷ [])) (sym finds) looks)
+    (appends_same c d contents) (writes_same w v writes) tells)
+    (still old new same) (kept conn old new s opens same) (message, rest, first, refl) (All-nil IsReadOn) refl refl one_found)
+
+-- what was given is a fault, or as yet nothing
+fault_given : (turn : Turn) (answer : Option Answer) (conn : Conn) (old new : FrontState) (s after : Stream) (moment : ℤ) (fault : SessionFault) (given : Next)
+    (f g h : Option (List Bool)) (l : Option (List ℕ)) (r : Option (List ReadEnd)) (c d : Option (List ℕ)) (w v : Option (List WriteEnd)) (k : Option (List (Option ℤ)))
+    → IsOpen conn old.lines s → s.ended ≡ false → IsFaulty s.held fault → IsNext s given after → IsGiven moment old.server given after answer new.server
+    → new.lines ≡ with_line conn (Some after) old.lines → Grows f g (true ∷ []) → Grows g h (true ∷ [])
+    → IsSentAs turn answer c d w v → IsTurn turn conn old new s (known f l r c w k) (known h l r d v k)
+fault_given turn answer conn old new s after moment fault (next.Message message) f g h l r c d w v k opens on faulty is gives lines looks finds sent =
+    let none : next.Fault fault ≡ next.Message message = (answers_messages s message after (next.Fault fault) (record s { ended = true }) is (on, faulty, refl)).0 in
+    absurd (not_message none)
+  where
+    not_message : next.Fault fault ≡ next.Message message → ⊥
+    not_message same = cc
+fault_given turn None conn old new s after moment fault (next.Fault other) f g h l r c d w v k opens on faulty is gives lines looks finds sent = absurd gives
+fault_given turn (Some answer) conn old new s after moment fault (next.Fault other) f g h l r c d w v k opens on faulty is gives lines looks finds sent =
+    fault_sent sent.0 turn conn old new s after other answer.reply f h l r c d w v k is (ap bytes_of gives.0) gives.2 lines
+    (grows_trans f g h (true ∷ []) (true ∷ []) looks finds) sent.1 (sent.2 ∙ ap (λ (b : Bool). turn_after sent.0 b) gives.1)
+fault_given turn (Some answer) conn old new s after moment fault next.More f g h l r c d w v k opens on faulty is gives lines looks finds sent = absurd gives
+fault_given turn None conn old new s after moment fault next.More f g h l r c d w v k opens on faulty is gives lines looks finds sent =
+    waits turn (true ∷ true ∷ []) conn old new s after f h l r c d w v k opens is gives lines two_found
+    (grows_trans f g h (true ∷ []) (true ∷ []) looks finds) sent.1 sent.2 sent.0
+fault_given turn answer conn old new s after moment fault next.Ended f g h l r c d w v k opens on faulty is gives lines looks finds sent =
+    absurd (false≢true (sym on ∙ is.0))
+
+fault_at : (turn : Turn) (conn : Conn) (old new : FrontState) (s : Stream) (moment : ℤ) (fault : SessionFault)
+    (f g h : Option (List Bool)) (l : Option (List ℕ)) (r : Option (List ReadEnd)) (c d : Option (List ℕ)) (w v : Option (List WriteEnd)) (k : Option (List (Option ℤ)))
+    → IsOpen conn old.lines s → s.ended ≡ false → IsFaulty s.held fault → Grows f g (true ∷ []) → IsAnsweredAt turn conn moment old new g h c d w v
+    → IsTurn turn conn old new s (known f l r c w k) (known h l r d v k)
+fault_at turn conn old new s moment fault f g h l r c d w v k opens on faulty looks (inl (answer, given, is, finds, sent)) =
+    fault_given turn answer conn old new s is.1 moment fault given f g h l r c d w v k opens on faulty
+    (subst (λ (u : Stream). IsNext u given is.1) (same_stream conn old.lines is.0 s is.2 opens) is.3) is.4 is.5 looks finds sent
+fault_at turn conn old new s moment fault f g h l r c d w v k opens on faulty looks (inr (inl (turns, same, finds, contents, writes))) =
+    wanted turn (true ∷ []) [] conn old new s f h l r c d w v k k opens same one_found (grows_trans f g h (true ∷ []) (false ∷ []) looks finds)
+    contents writes (grows_none k) (inl refl) turns
+fault_at turn conn old new s moment fault f g h l r c d w v k opens on faulty looks (inr (inr closed)) = absurd (not_closed conn old.lines s opens closed)
+
+-- ---- by what stands at the front
+
+pub message_turn : (turn : Turn) (conn : Conn) (old mid new : FrontState) (s : Stream)
+    (f g h : Option (List Bool)) (l : Option (List ℕ)) (r : Option (List ReadEnd)) (c d : Option (List ℕ)) (w v : Option (List WriteEnd)) (k j : Option (List (Option ℤ)))
+    → IsOpen conn old.lines s → IsLooked conn old.lines (Ok look.Message) → mid ≡ old → Grows f g (true ∷ []) → IsAnsweredNow turn conn mid new g h c d w v k j
+    → IsTurn turn conn old new s (known f l r c w k) (known h l r d v j)
+message_turn turn conn old mid new s f g h l r c d w v k j opens looks same finds is =
+    let seen = looked conn old.lines s look.Message opens looks in
+    let message : Message = seen.1.0 in
+    message_now turn conn old new s (record { held = seen.1.1; ended = message.close }) message f g h l r c d w v k j opens (seen.0, seen.1.2, refl) finds
+    (subst (λ (m : FrontState). IsAnsweredNow turn conn m new g h c d w v k j) same is)
+
+pub fault_turn : (turn : Turn) (conn : Conn) (moment : ℤ) (old mid new : FrontState) (s : Stream) (fault : SessionFault)
+    (f g h : Option (List Bool)) (l : Option (List ℕ)) (r : Option (List ReadEnd)) (c d : Option (List ℕ)) (w v : Option (List WriteEnd)) (k : Option (List (Option ℤ)))
+    → IsOpen conn old.lines s → IsLooked conn old.lines (Ok (look.Fault fault)) → mid ≡ old → Grows f g (true ∷ []) → IsAnsweredAt turn conn moment mid new g h c d w v
+    → IsTurn turn conn old new s (known f l r c w k) (known h l r d v k)
+fault_turn turn conn moment old mid new s fault f g h l r c d w v k opens looks same finds is =
+    let seen = looked conn old.lines s (look.Fault fault) opens looks in
+    fault_at turn conn old new s moment fault f g h l r c d w v k opens seen.0 seen.1 finds
+    (subst (λ (m : FrontState). IsAnsweredAt turn conn moment m new g h c d w v) same is)
+
+pub more_turn : (conn : Conn) (old new : FrontState) (s : Stream) (f g : Option (List Bool)) (l : Option (List ℕ)) (r : Option (List ReadEnd)) (c : Option (List ℕ))
+    (w : Option (List WriteEnd)) (k : Option (List (Option ℤ))) → IsOpen conn old.lines s → IsLooked conn old.lines (Ok look.More) → new ≡ old → Grows f g (true ∷ [])
+    → IsTurn Waits conn old new s (known f l r c w k) (known g l r c w k)
+more_turn conn old new s f g l r c w k opens looks same finds =
+    let seen = looked conn old.lines s look.More opens looks in
+    waits Waits (true ∷ []) conn old new s s f g l r c c w w k opens (seen.0, seen.1, refl) (still old new same) (kept conn old new s opens same) one_found finds refl refl refl
+
+pub ended_turn : (conn : Conn) (old new : FrontState) (s : Stream) (f g : Option (List Bool)) (l : Option (List ℕ)) (r : Option (List ReadEnd)) (c : Option (List ℕ))
+    (w : Option (List WriteEnd)) (k : Option (List (Option ℤ))) → IsOpen conn old.lines s → IsLooked conn old.lines (Ok look.Ended) → new ≡ old → Grows f g (true ∷ [])
+    → IsTurn (Ends Ended) conn old new s (known f l r c w k) (known g l r c w k)
+ended_turn conn old new s f g l r c w k opens looks same finds =
+    let seen = looked conn old.lines s look.Ended opens looks in
+    ends_idle Ended conn old new s s None (true ∷ []) [] [] (known f l r c w k) (known g l r c w k)
+    (made_unread (true ∷ []) [] [] f g l r c c w w k k finds (appends_none c) (grows_none w) (grows_none k))
+    (still old new same) (kept conn old new s opens same) (inr (seen, refl)) (inl (All-nil IsReadOn, seen)) refl refl one_found
+
+pub memory_turn : (error : FrontError) (conn : Conn) (old new : FrontState) (s : Stream) (f g : Option (List Bool)) (l : Option (List ℕ)) (r : Option (List ReadEnd))
+    (c : Option (List ℕ)) (w : Option (List WriteEnd)) (k : Option (List (Option ℤ))) → IsOpen conn old.lines s → IsLooked conn old.lines (Err error) → new ≡ old
+    → Grows f g (found_memory {X = Look} (Err error) ∷ []) → IsTurn (Ends Memory) conn old new s (known f l r c w k) (known g l r c w k)
+memory_turn error.Memory conn old new s f g l r c w k opens looks same finds =
+    wanted (Ends Memory) [] [] conn old new s f g l r c c w w k k opens same (All-nil HadMemory) finds refl refl (grows_none k) (inl refl) refl
+memory_turn error.NoSuchConnection conn old new s f g l r c w k opens looks same finds = absurd (not_closed conn old.lines s opens looks)
+memory_turn error.TooManyConnections conn old new s f g l r c w k opens looks same finds = absurd looks
+memory_turn error.Full conn old new s f g l r c w k opens looks same finds = absurd looks

@@ -1,0 +1,5 @@
+use Rattle.std.proofs.Common.{◌≡◌, None, replicate}
+use Rattle.xa_server.proofs.lines.Lines.new.Given as goal
+
+abbrev pub invariant-loop : goal.invariant-loop
+invariant-loop l = l.lines.items ≡ replicate l.counter None

@@ -1,0 +1,10 @@
+use Rattle.std.proofs.Common.{◌≤◌, length}
+use Rattle.xa_server.specs.Sending.{SendsPart}
+use Rattle.xa_server.proofs.sending.send_whole.Given as goal
+
+-- the bytes so far are sent
+abbrev pub invariant-loop-tried : goal.invariant-loop-tried
+invariant-loop-tried g l = record {
+  within : l.sent ≤ length l.bytes;
+  sent : SendsPart l.bytes l.sent l._tried (g.W.Writer.contents l.fn.writer) (g.W.Writer.contents l.writer) (g.W.Writer.writes l.fn.writer) (g.W.Writer.writes l.writer);
+}

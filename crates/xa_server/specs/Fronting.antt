@@ -1,0 +1,107 @@
+-- The next answer of one connection: words that contracts of a front's calls cite beside its definition.
+use Rattle.std.specs.Prelude.{◌≡◌, ◌⊎◌, ℕ, ℤ, true, false, List, [], ◌∷◌, Option, Some, None, Result, Ok, Err}
+use Rattle.xa_http.specs.declared.fault.SessionFault.{SessionFault}
+use Rattle.xa_http.specs.declared.message.Message.{Message}
+use Rattle.xa_http.specs.declared.session.Next.{Next}
+use Rattle.xa_http.specs.declared.session.Next.TheVariants as next
+use Rattle.xa_http.specs.Messages.{IsFirst, IsNext}
+use Rattle.xa_http.specs.Stream.{Stream}
+use Rattle.xa_records.specs.Kept.{Kept}
+use Rattle.xa_server.specs.Crash.{IfSent, IsStepMade}
+use Rattle.xa_server.specs.declared.event.Answer.{Answer}
+use Rattle.xa_server.specs.declared.event.Event.{Event}
+use Rattle.xa_server.specs.declared.event.Outcome.{Outcome}
+use Rattle.xa_server.specs.declared.event.Outcome.TheVariants as outcome
+use Rattle.xa_server.specs.declared.front_error.FrontError.{FrontError}
+use Rattle.xa_server.specs.declared.front_error.FrontError.TheVariants.{Memory, NoSuchConnection}
+use Rattle.xa_server.specs.declared.lines.Conn.{Conn}
+use Rattle.xa_server.specs.declared.replies.Reply.TheVariants.{Sent}
+use Rattle.xa_server.specs.ErrorCode.{code_of_session_fault, error_reply}
+use Rattle.xa_server.specs.Front.{Does, FrontState, IsAnswered, IsGiven, ServerState}
+use Rattle.xa_server.specs.Lines.{IsOpen, Lines, line_at, with_line}
+use Rattle.xa_server.specs.Owner.{owner}
+use Rattle.xa_server.specs.Served.{CountsReply}
+use Rattle.xa_server.specs.World.{World}
+
+-- the next of a connection's stream was answered, or nothing was done
+abbrev pub Answers : Conn → ℤ → FrontState → FrontState → Result (Option Answer) FrontError → Type 0
+Answers conn moment old new result = (given : Option Next) × IsAnswered conn moment old given result new
+
+-- the next of a stream was answered; without memory nothing was done
+abbrev pub AnswersNext : ℤ → ServerState → ServerState → Stream → Stream → Result (Option Answer) FrontError → Type 0
+AnswersNext moment old new stream after (Ok answer) =
+    (given : Next) × IsNext stream given after × IsGiven moment old given after answer new
+AnswersNext moment old new stream after (Err error) = (error ≡ Memory) × (stream.ended ≡ false) × (after ≡ stream) × (new ≡ old)
+
+-- what a session's next is answered, where the reply to a message may be any
+abbrev pub IsNextGiven : Next → Stream → Option Answer → Type 0
+IsNextGiven (next.Message message) after (Some answer) = answer.last ≡ after.ended
+IsNextGiven (next.Fault fault) after (Some answer) =
+    (answer.reply ≡ Sent (error_reply (code_of_session_fault fault))) × (answer.last ≡ true)
+IsNextGiven next.More after None = Unit {0}
+IsNextGiven next.Ended after None = Unit {0}
+IsNextGiven _ after _ = ⊥
+
+-- what becomes of a stream by an answer, whatever the server does
+abbrev pub TakesNext : Stream → Stream → Result (Option Answer) FrontError → Type 0
+TakesNext stream after (Ok answer) = (given : Next) × IsNext stream given after × IsNextGiven given after answer
+TakesNext stream after (Err error) = (error ≡ Memory) × (stream.ended ≡ false) × (after ≡ stream)
+
+-- and of the connections
+abbrev pub TakesLine : Conn → Lines → Lines → Result (Option Answer) FrontError → Type 0
+TakesLine conn old new (Ok answer) =
+    (stream after : Stream) × IsOpen conn old stream × TakesNext stream after (Ok answer) × (new ≡ with_line conn (Some after) old)
+TakesLine conn old new (Err NoSuchConnection) = (line_at conn old ≡ None) × (new ≡ old)
+TakesLine conn old new (Err Memory) = (stream : Stream) × IsOpen conn old stream × (stream.ended ≡ false) × (new ≡ old)
+TakesLine conn old new (Err _) = ⊥
+
+-- an event did what it does
+abbrev pub DoesEvent : Event → FrontState → Outcome → FrontState → Type 0
+DoesEvent event old outcome new = (given : Option Next) × Does event old given outcome new
+
+-- the fault by which a stream ends was answered; without memory nothing was done
+abbrev pub IsFaultGiven : SessionFault → Stream → Stream → Result (Option Answer) FrontError → Type 0
+IsFaultGiven fault stream after (Ok (Some answer)) =
+    IsNext stream (next.Fault fault) after × (answer.reply ≡ Sent (error_reply (code_of_session_fault fault))) × (answer.last ≡ true)
+IsFaultGiven fault stream after (Ok None) = ⊥
+IsFaultGiven fault stream after (Err error) = (error ≡ Memory) × (after ≡ stream)
+
+-- unless a message was refused
+abbrev pub IfAnswerSent : Result (Option Answer) FrontError → Type 0 → Type 0
+IfAnswerSent (Ok (Some answer)) claim = IfSent answer.reply claim
+IfAnswerSent _ claim = claim
+
+-- the keeper has counted one more failure where a message was refused for want of storage, and else none
+abbrev pub CountsAnswer : ℕ → ℕ → Result (Option Answer) FrontError → Type 0
+CountsAnswer old new (Ok (Some answer)) = CountsReply old new answer.reply
+CountsAnswer old new _ = new ≡ old
+
+-- the message is the first of a stream
+abbrev pub IsFirstOf : Option Stream → Message → Type 0
+IsFirstOf None message = ⊥
+IsFirstOf (Some stream) message = (rest : Stream) × IsFirst stream message rest
+
+-- what a crash after an answer may leave: what it might have left before, or all with the step made that the first message of the stream makes
+abbrev pub LeavesAnswer : (Kept → Type 0) → (Kept → Type 0) → World → ℤ → Option Stream → Type 0
+LeavesAnswer before after old moment line =
+    (left : Kept) → after left
+    → before left ⊎ ((message : Message) × IsFirstOf line message × IsStepMade old left moment message (owner message))
+
+-- unless an event cut off a message that was refused
+abbrev pub IfOutcomeSent : Outcome → Type 0 → Type 0
+IfOutcomeSent (outcome.Answered result) claim = IfAnswerSent result claim
+IfOutcomeSent _ claim = claim
+
+-- none of them did
+abbrev pub IfAllSent : List Outcome → Type 0 → Type 0
+IfAllSent [] claim = claim
+IfAllSent (outcome ∷ outcomes) claim = IfOutcomeSent outcome (IfAllSent outcomes claim)
+
+-- the keeper has counted one more failure for each message that was refused for want of storage, and else none
+abbrev pub CountsOutcome : ℕ → ℕ → Outcome → Type 0
+CountsOutcome old new (outcome.Answered result) = CountsAnswer old new result
+CountsOutcome old new _ = new ≡ old
+
+abbrev pub CountsOutcomes : ℕ → ℕ → List Outcome → Type 0
+CountsOutcomes old new [] = new ≡ old
+CountsOutcomes old new (outcome ∷ outcomes) = (mid : ℕ) × CountsOutcome old mid outcome × CountsOutcomes mid new outcomes

@@ -1,0 +1,80 @@
+-- The connections of a front, each with its stream.
+use Rattle.std.specs.Prelude.{◌≡◌, ◌+◌, ◌<◌, ◌≤◌, ℕ, false, suc, List, [], ◌∷◌, length, replicate, slice_index_or, slice_set, Option, Some, None, option_map, Result, Ok, Err}
+use Rattle.xa_http.specs.declared.session.Look.{Look}
+use Rattle.xa_http.specs.Messages.{IsLook}
+use Rattle.xa_http.specs.Stream.{Stream, fed}
+use Rattle.xa_server.specs.declared.front_error.FrontError.{FrontError}
+use Rattle.xa_server.specs.declared.front_error.FrontError.TheVariants.{Memory, NoSuchConnection, TooManyConnections, Full}
+use Rattle.xa_server.specs.declared.lines.Conn.{Conn}
+
+-- the 64 connections by their numbers: the stream of each that is open
+abbrev pub Lines : Type 0
+Lines = List (Option Stream)
+
+-- none is open
+abbrev pub none_open : Lines
+none_open = replicate 64 None
+
+-- the stream of a connection, if it is open
+abbrev pub line_at : Conn → Lines → Option Stream
+line_at conn lines = slice_index_or lines conn.number None
+
+-- with another stream in its place, or with none
+abbrev pub with_line : Conn → Option Stream → Lines → Lines
+with_line conn line lines = slice_set lines conn.number line
+
+-- the connection is open, with that stream
+abbrev pub IsOpen : Conn → Lines → Stream → Type 0
+IsOpen conn lines stream = line_at conn lines ≡ Some stream
+
+-- the least number of which none is open
+abbrev pub first_free : Lines → Option ℕ
+first_free [] = None
+first_free (None ∷ lines) = Some 0
+first_free (Some _ ∷ lines) = option_map suc (first_free lines)
+
+-- a stream of which nothing has come
+abbrev pub empty_stream : Stream
+empty_stream = record { held = []; ended = false }
+
+-- a connection is opened by the least number of which none is open, and holds nothing; none can be where all 64 are open
+abbrev pub IsOpened : Lines → Result Conn FrontError → Lines → Type 0
+IsOpened old (Ok conn) new = (first_free old ≡ Some conn.number) × (new ≡ with_line conn (Some empty_stream) old)
+IsOpened old (Err TooManyConnections) new = (first_free old ≡ None) × (new ≡ old)
+IsOpened old (Err _) new = ⊥
+
+-- a piece comes to what the connection holds, whole, where both together are at most 1,048,576 bytes; or nothing of it does
+abbrev pub IsHeld : Conn → List ℕ → Lines → Result (Unit {0}) FrontError → Lines → Type 0
+IsHeld conn piece old (Ok _) new =
+    (stream : Stream) × IsOpen conn old stream × (length stream.held + length piece ≤ 1_048_576)
+    × (new ≡ with_line conn (Some (fed stream piece)) old)
+IsHeld conn piece old (Err NoSuchConnection) new = (line_at conn old ≡ None) × (new ≡ old)
+IsHeld conn piece old (Err Full) new =
+    (stream : Stream) × IsOpen conn old stream × (1_048_576 < length stream.held + length piece) × (new ≡ old)
+IsHeld conn piece old (Err Memory) new =
+    (stream : Stream) × IsOpen conn old stream × (length stream.held + length piece ≤ 1_048_576) × (new ≡ old)
+IsHeld conn piece old (Err TooManyConnections) new = ⊥
+
+-- a stream takes a piece, whole or not at all; word of a private function
+abbrev pub IsFed : Stream → List ℕ → Result (Unit {0}) FrontError → Stream → Type 0
+IsFed old piece (Ok _) new = (length old.held + length piece ≤ 1_048_576) × (new ≡ fed old piece)
+IsFed old piece (Err Full) new = (1_048_576 < length old.held + length piece) × (new ≡ old)
+IsFed old piece (Err Memory) new = (length old.held + length piece ≤ 1_048_576) × (new ≡ old)
+IsFed old piece (Err _) new = ⊥
+
+-- a connection is closed, and its bytes are gone
+abbrev pub IsClosed : Conn → Lines → Result (Unit {0}) FrontError → Lines → Type 0
+IsClosed conn old (Ok _) new = (stream : Stream) × IsOpen conn old stream × (new ≡ with_line conn None old)
+IsClosed conn old (Err NoSuchConnection) new = (line_at conn old ≡ None) × (new ≡ old)
+IsClosed conn old (Err _) new = ⊥
+
+-- how many bytes a connection holds, if it is open
+abbrev pub held_at : Conn → Lines → Option ℕ
+held_at conn lines = option_map (λ (stream : Stream). length stream.held) (line_at conn lines)
+
+-- what stands at the front of a connection's stream
+abbrev pub IsLooked : Conn → Lines → Result Look FrontError → Type 0
+IsLooked conn lines (Ok look) = (stream : Stream) × IsOpen conn lines stream × IsLook stream look
+IsLooked conn lines (Err NoSuchConnection) = line_at conn lines ≡ None
+IsLooked conn lines (Err Memory) = (stream : Stream) × IsOpen conn lines stream × (stream.ended ≡ false)
+IsLooked conn lines (Err _) = ⊥

@@ -1,0 +1,24 @@
+-- What a connection is driven on, and which of its calls have found memory.
+use Rattle.std.specs.Prelude.{Bool, true, false, Result, Ok, Err}
+use Rattle.xa_records.specs.Keeper.{Custody}
+use Rattle.xa_server.specs.declared.event.Outcome.{Outcome}
+use Rattle.xa_server.specs.declared.event.Outcome.TheVariants as outcome
+use Rattle.xa_server.specs.declared.front_error.FrontError.{FrontError}
+use Rattle.xa_server.specs.declared.front_error.FrontError.TheVariants.{Memory}
+use Rattle.xa_server.specs.Front.{Fronted}
+
+-- a front is sound where its keeper is
+abbrev pub front_is_sound : {R : Type 0} → (R → Custody) → Fronted R → Type 0
+front_is_sound custody front = (custody front.server.records).sound
+
+-- whether a call has found memory, by its result
+abbrev pub found_memory : {X : Type 0} → Result X FrontError → Bool
+found_memory (Err Memory) = false
+found_memory _ = true
+
+-- whether it has, by its outcome where it was played
+abbrev pub outcome_found_memory : Outcome → Bool
+outcome_found_memory (outcome.Begun result) = found_memory result
+outcome_found_memory (outcome.Held result) = found_memory result
+outcome_found_memory (outcome.Answered result) = found_memory result
+outcome_found_memory (outcome.Finished result) = found_memory result

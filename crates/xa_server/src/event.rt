@@ -1,0 +1,40 @@
+//! What is done with the connections of a front, one thing after another.
+use crate::front_error::FrontError;
+use crate::lines::Conn;
+use crate::replies::Reply;
+use xa_value::Moment;
+
+/// The reply to a message of a connection, or to the fault by which its stream ends.
+#[derive(Debug, Drop)]
+pub struct Answer {
+    /// The reply.
+    pub reply: Reply,
+    /// Whether it is the last of its connection: its session has ended with it.
+    pub last: bool,
+}
+
+/// A call of `Front`, with its arguments.
+#[derive(Clone, Copy)]
+pub enum Event<'a> {
+    /// `open`.
+    Begin,
+    /// `piece`.
+    Piece(Conn, &'a [u8]),
+    /// `answer`.
+    Answer(Conn, Moment),
+    /// `close`.
+    Finish(Conn),
+}
+
+/// What that call has given.
+#[derive(Debug, Drop)]
+pub enum Outcome {
+    /// Of `Begin`.
+    Begun(Result<Conn, FrontError>),
+    /// Of `Piece`.
+    Held(Result<(), FrontError>),
+    /// Of `Answer`.
+    Answered(Result<Option<Answer>, FrontError>),
+    /// Of `Finish`.
+    Finished(Result<(), FrontError>),
+}

@@ -1,0 +1,235 @@
+//! Many connections over one server.
+ghost use Rattle.std.specs.Prelude.{◌≡◌, IfOk, OnErr, MatchResult, Some};
+ghost use Rattle.xa_http.specs.declared.session.Look.TheVariants as look;
+ghost use Rattle.xa_http.specs.Messages.{IsLook};
+ghost use Rattle.xa_server.specs.Front.{IsPlayed, front_state, server_state};
+ghost use Rattle.xa_server.specs.FrontLaws.{LinesAreStreams};
+ghost use Rattle.xa_server.specs.Fronting.{Answers, AnswersNext, CountsAnswer, CountsOutcome, CountsOutcomes, DoesEvent, IfAllSent, IfAnswerSent, IfOutcomeSent, IsFaultGiven, LeavesAnswer, TakesLine, TakesNext};
+ghost use Rattle.xa_server.specs.Lines.{IsClosed, IsHeld, IsLooked, IsOpened, held_at, line_at, none_open};
+ghost use Rattle.xa_server.specs.World.{world};
+
+use crate::error_code::fault_reply;
+use crate::event::{Answer, Event, Outcome};
+use crate::front_error::FrontError;
+use crate::lines::{Conn, Lines};
+use crate::replies::Reply;
+use crate::server::Server;
+use std::alloc::{AllocError, AllocFailed, Global};
+use std::marker::Model;
+use xa_http::{Look, Next, Session, SessionFault};
+use xa_records::Records;
+use xa_value::Moment;
+
+/// A server with 64 connections, which may all be open at once. The messages of each are cut from its own bytes,
+/// whatever comes on the others in between; all are answered by the one server.
+#[derive(Drop)]
+pub struct Front<R: Records> {
+    alloc: Global,
+    server: Server<R>,
+    lines: Lines,
+}
+
+impl<R: Records> Model for Front<R> {
+    ghost use Rattle.std.specs.Coded.{codes};
+    ghost use Rattle.xa_server.specs.Front.{Fronted};
+
+    ghost Value = { Fronted R };
+
+    ghost coded = { Prim.hlevel (codes, R.code) };
+
+    ghost view = { λ f. record { server = f.server; lines = f.lines } };
+}
+
+impl<R: Records> Front<R> {
+    /// A front over the server, with no connection open. Without memory the server is handed back.
+    pub fn new(alloc: Global, server: Server<R>) -> Result<Front<R>, AllocFailed<Server<R>>>
+        ensures { MatchResult result (λ front. (front.server ≡ server) × (front.lines ≡ none_open)) (λ failed. failed.value ≡ server) }
+    {
+        let Ok(lines) = Lines::new(alloc) else {
+            return Err(AllocFailed { value: server });
+        };
+        Ok(Front {
+            alloc,
+            server,
+            lines,
+        })
+    }
+
+    /// The server, as the messages so far have left it. Its connections are gone.
+    pub fn into_server(self) -> Server<R>
+        ensures { result ≡ self.server }
+    {
+        self.server
+    }
+
+    /// Opens the connection of the least number of which none is open. It holds nothing, and takes no memory.
+    pub fn open(&mut self) -> Result<Conn, FrontError>
+        ensures opened { IsOpened self.old.lines result self.new.lines }
+        ensures server { self.new.server ≡ self.old.server }
+    {
+        self.lines.open(self.alloc)
+    }
+
+    /// Takes a piece of the connection's stream, whole; or nothing of it, where the connection would hold more than
+    /// 1,048,576 bytes. A connection whose session has ended takes it too, and answers nothing to it.
+    pub fn piece(&mut self, conn: Conn, piece: &[u8]) -> Result<(), FrontError>
+        ensures held { IsHeld conn piece.now self.old.lines result self.new.lines }
+        ensures server { self.new.server ≡ self.old.server }
+    {
+        self.lines.piece(conn, piece)
+    }
+
+    /// Closes the connection. The bytes that it holds are gone.
+    pub fn close(&mut self, conn: Conn) -> Result<(), FrontError>
+        ensures closed { IsClosed conn self.old.lines result self.new.lines }
+        ensures server { self.new.server ≡ self.old.server }
+    {
+        self.lines.close(conn)
+    }
+
+    /// Answers the first whole message of the connection's bytes, or the fault by which its stream ends; nothing where
+    /// there is neither. No other connection's bytes change. Without memory before the message is cut off, or for the
+    /// reply to the fault, nothing has changed. The reply to a fault is the same at every moment.
+    pub fn answer(&mut self, conn: Conn, moment: Moment) -> Result<Option<Answer>, FrontError>
+        ensures answered { (R.custody self.new.server.records).sound → Answers conn moment (front_state R.custody self.old) (front_state R.custody self.new) result }
+        ensures line { TakesLine conn self.old.lines self.new.lines result }
+        ensures err { OnErr result (self.new ≡ self.old) }
+        ensures sound { (R.custody self.new.server.records).sound → (R.custody self.old.server.records).sound }
+        ensures clean { (R.custody self.new.server.records).clean → (R.custody self.old.server.records).clean }
+        ensures stays { (R.custody self.new.server.records).clean → (R.custody self.old.server.records).sound → IfAnswerSent result (R.custody self.new.server.records).sound }
+        ensures crash { (R.custody self.new.server.records).clean → (R.custody self.old.server.records).sound →
+            LeavesAnswer (R.custody self.old.server.records).may_leave (R.custody self.new.server.records).may_leave (world R.custody self.old.server) moment (line_at conn self.old.lines) }
+        ensures counts { CountsAnswer (R.custody self.old.server.records).faults (R.custody self.new.server.records).faults result }
+    {
+        let mut session = self.lines.take(conn)?;
+        let answered = answer_next(self.alloc, &mut self.server, &mut session, moment);
+        self.lines.put(conn, Some(session));
+        answered
+    }
+
+    /// What stands at the front of the connection's stream. Nothing is changed.
+    pub(crate) fn look(&mut self, conn: Conn) -> Result<Look, FrontError>
+        ensures look { IsLooked conn self.old.lines result }
+        ensures same { self.new ≡ self.old }
+    {
+        self.lines.look(conn)
+    }
+
+    /// How many bytes the connection holds, if it is open.
+    pub(crate) fn held_len(&self, conn: Conn) -> Option<usize>
+        ensures { result ≡ held_at conn self.now.lines }
+    {
+        self.lines.held_len(conn)
+    }
+
+    /// Makes these calls, one after another. Whatever comes on which connection, and in which pieces, each domain's
+    /// replies are those of its own machine, used by it alone; with refusals, as if the refused messages had never come.
+    /// Room for all outcomes is taken first, and without it nothing is done.
+    pub fn play(&mut self, events: &[Event<'_>]) -> Result<Vec<Outcome>, AllocError>
+        ensures played { IfOk result (λ outcomes. (R.custody self.new.server.records).sound →
+            IsPlayed (front_state R.custody self.old) (front_state R.custody self.new) events.now outcomes.items) }
+        ensures sound { (R.custody self.new.server.records).sound → (R.custody self.old.server.records).sound }
+        ensures clean { (R.custody self.new.server.records).clean → (R.custody self.old.server.records).clean }
+        ensures stays { IfOk result (λ outcomes. (R.custody self.new.server.records).clean → (R.custody self.old.server.records).sound →
+            IfAllSent outcomes.items (R.custody self.new.server.records).sound) }
+        ensures counts { IfOk result (λ outcomes. CountsOutcomes (R.custody self.old.server.records).faults (R.custody self.new.server.records).faults outcomes.items) }
+        ensures err { OnErr result (self.new ≡ self.old) }
+    {
+        let mut outcomes = Vec::with_capacity(self.alloc, events.len())?;
+        for event in events {
+            let outcome = self.outcome(event);
+            outcomes.push(outcome).unwrap();
+        }
+        Ok(outcomes)
+    }
+
+    /// Makes one call.
+    fn outcome(&mut self, event: &Event<'_>) -> Outcome
+        ensures does { (R.custody self.new.server.records).sound → DoesEvent event.now (front_state R.custody self.old) result (front_state R.custody self.new) }
+        ensures sound { (R.custody self.new.server.records).sound → (R.custody self.old.server.records).sound }
+        ensures clean { (R.custody self.new.server.records).clean → (R.custody self.old.server.records).clean }
+        ensures stays { (R.custody self.new.server.records).clean → (R.custody self.old.server.records).sound → IfOutcomeSent result (R.custody self.new.server.records).sound }
+        ensures counts { CountsOutcome (R.custody self.old.server.records).faults (R.custody self.new.server.records).faults result }
+    {
+        match event {
+            Event::Begin => Outcome::Begun(self.open()),
+            Event::Piece(conn, piece) => Outcome::Held(self.piece(*conn, piece)),
+            Event::Answer(conn, moment) => Outcome::Answered(self.answer(*conn, *moment)),
+            Event::Finish(conn) => Outcome::Finished(self.close(*conn)),
+        }
+    }
+}
+
+/// Answers the next of a stream: its first message, or the fault by which it ends.
+#[tactic(auto, using(crate::proofs::NextLemmas::fault_answered, crate::proofs::NextLemmas::fault_taken))]
+fn answer_next<R: Records>(
+    alloc: Global,
+    server: &mut Server<R>,
+    session: &mut Session,
+    moment: Moment,
+) -> Result<Option<Answer>, FrontError>
+    ensures answered { (R.custody server.new.records).sound → AnswersNext moment (server_state R.custody server.old) (server_state R.custody server.new) session.old session.new result }
+    ensures stream { TakesNext session.old session.new result }
+    ensures err { OnErr result ((server.new ≡ server.old) × (session.new ≡ session.old)) }
+    ensures sound { (R.custody server.new.records).sound → (R.custody server.old.records).sound }
+    ensures clean { (R.custody server.new.records).clean → (R.custody server.old.records).clean }
+    ensures stays { (R.custody server.new.records).clean → (R.custody server.old.records).sound → IfAnswerSent result (R.custody server.new.records).sound }
+    ensures crash { (R.custody server.new.records).clean → (R.custody server.old.records).sound →
+        LeavesAnswer (R.custody server.old.records).may_leave (R.custody server.new.records).may_leave (world R.custody server.old) moment (Some session.old) }
+    ensures counts { CountsAnswer (R.custody server.old.records).faults (R.custody server.new.records).faults result }
+{
+    match session.look()? {
+        Look::Message => answer_message(server, session, moment),
+        Look::Fault(fault) => answer_fault(alloc, session, fault),
+        Look::More => Ok(None),
+        Look::Ended => Ok(None),
+    }
+}
+
+/// Answers the first message of a stream.
+fn answer_message<R: Records>(
+    server: &mut Server<R>,
+    session: &mut Session,
+    moment: Moment,
+) -> Result<Option<Answer>, FrontError>
+    requires { IsLook session.old look.Message }
+    ensures answered { (R.custody server.new.records).sound → AnswersNext moment (server_state R.custody server.old) (server_state R.custody server.new) session.old session.new result }
+    ensures stream { TakesNext session.old session.new result }
+    ensures err { OnErr result ((server.new ≡ server.old) × (session.new ≡ session.old)) }
+    ensures sound { (R.custody server.new.records).sound → (R.custody server.old.records).sound }
+    ensures clean { (R.custody server.new.records).clean → (R.custody server.old.records).clean }
+    ensures stays { (R.custody server.new.records).clean → (R.custody server.old.records).sound → IfAnswerSent result (R.custody server.new.records).sound }
+    ensures crash { (R.custody server.new.records).clean → (R.custody server.old.records).sound →
+        LeavesAnswer (R.custody server.old.records).may_leave (R.custody server.new.records).may_leave (world R.custody server.old) moment (Some session.old) }
+    ensures counts { CountsAnswer (R.custody server.old.records).faults (R.custody server.new.records).faults result }
+{
+    let Next::Message(message) = session.next()? else {
+        unreachable!()
+    };
+    let reply = server.serve(moment, &message);
+    let last = session.has_ended();
+    Ok(Some(Answer { reply, last }))
+}
+
+/// Answers the fault by which a stream ends. The session has ended then; without memory for the reply it hasn't.
+fn answer_fault(
+    alloc: Global,
+    session: &mut Session,
+    fault: SessionFault,
+) -> Result<Option<Answer>, FrontError>
+    requires { IsLook session.old (look.Fault fault) }
+    ensures { IsFaultGiven fault session.old session.new result }
+{
+    let reply = fault_reply(alloc, fault)?;
+    session.end();
+    Ok(Some(Answer {
+        reply: Reply::Sent(reply),
+        last: true,
+    }))
+}
+
+/// Law: while a connection is open, the messages that are answered on it are the first of the bytes that it takes, each
+/// with its reply, however the pieces of all connections are cut and mixed.
+pub fn lines_are_streams()
+    ensures { LinesAreStreams }
+{}

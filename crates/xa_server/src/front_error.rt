@@ -1,0 +1,31 @@
+//! Why a call on a connection is refused.
+ghost use Rattle.std.specs.Prelude.{◌≡◌};
+ghost use Rattle.xa_server.specs.declared.front_error.FrontError.TheVariants.{Memory};
+
+use std::alloc::AllocError;
+use thiserror::Error;
+
+/// Why a call on a connection is refused. Nothing has changed.
+#[derive(Clone, Copy, Debug, PartialEq, Eq, Error)]
+pub enum FrontError {
+    /// There was no memory for it.
+    #[error("out of memory")]
+    Memory,
+    /// No connection of that number is open.
+    #[error("no such connection is open")]
+    NoSuchConnection,
+    /// 64 connections are open.
+    #[error("no more connections can be open")]
+    TooManyConnections,
+    /// The bytes that the connection holds and the piece are more than 1,048,576 together.
+    #[error("the connection holds too many bytes")]
+    Full,
+}
+
+impl From<AllocError> for FrontError {
+    ghost from_gives = { λ _ e. e ≡ Memory };
+
+    fn from(_error: AllocError) -> FrontError {
+        FrontError::Memory
+    }
+}

@@ -1,0 +1,150 @@
+//! The connections of a front, each with its stream.
+ghost use Rattle.std.specs.Prelude.{◌≡◌, IfOk, MatchOption, MatchResult, None, Some};
+ghost use Rattle.xa_server.specs.Lines.{IsClosed, IsFed, IsHeld, IsLooked, IsOpen, IsOpened, first_free, held_at, line_at, none_open, with_line};
+ghost use Rattle.xa_server.specs.declared.front_error.FrontError.TheVariants.{NoSuchConnection};
+
+use crate::front_error::FrontError;
+use std::alloc::{AllocError, Global};
+use std::marker::Model;
+use std::mem;
+use xa_http::{Look, Session};
+
+/// How many connections there are.
+const CONNECTIONS: usize = 64;
+
+/// How many bytes a connection holds at most.
+const MAX_HELD_BYTES: usize = 1_048_576;
+
+/// A connection of a front, by its number. Once it is closed, no call takes it, until its number is opened again; then
+/// it is that new connection.
+#[derive(Clone, Copy, Debug, PartialEq, Eq)]
+pub struct Conn {
+    number: usize,
+}
+
+/// The connections, by their numbers: the session of each that is open. One that isn't has no buffer.
+#[derive(Drop)]
+pub(crate) struct Lines {
+    lines: Vec<Option<Session>>,
+}
+
+impl Model for Lines {
+    ghost use Rattle.std.specs.Prelude.{◌≡◌, length, List, Option};
+    ghost use Rattle.xa_http.specs.Stream.{Stream};
+
+    ghost Value = { List (Option Stream) };
+
+    ghost view = { λ l. l.lines.items };
+
+    ghost invariant = { λ l. length l.lines.items ≡ 64 };
+}
+
+impl Lines {
+    /// No connection is open.
+    pub(crate) fn new(alloc: Global) -> Result<Lines, AllocError>
+        ensures { IfOk result (λ lines. lines ≡ none_open) }
+    {
+        let mut lines = Vec::with_capacity(alloc, CONNECTIONS)?;
+        for _ in 0..CONNECTIONS {
+            lines.push(None)?;
+        }
+        Ok(Lines { lines })
+    }
+
+    /// Opens the connection of the least number that is free. It holds nothing, and no memory is taken for it.
+    pub(crate) fn open(&mut self, alloc: Global) -> Result<Conn, FrontError>
+        ensures { IsOpened self.old result self.new }
+    {
+        let Some(number) = first_free(&self.lines) else {
+            return Err(FrontError::TooManyConnections);
+        };
+        let conn = Conn { number };
+        self.put(conn, Some(Session::new(alloc)));
+        Ok(conn)
+    }
+
+    /// Puts the piece behind the bytes that the connection holds, whole or not at all.
+    #[tactic(auto, using(crate::proofs::LineLemmas::held))]
+    pub(crate) fn piece(&mut self, conn: Conn, piece: &[u8]) -> Result<(), FrontError>
+        ensures { IsHeld conn piece.now self.old result self.new }
+    {
+        let mut session = self.take(conn)?;
+        let fed = feed(&mut session, piece);
+        self.put(conn, Some(session));
+        fed
+    }
+
+    /// What stands at the front of the connection's stream. Nothing is changed.
+    pub(crate) fn look(&mut self, conn: Conn) -> Result<Look, FrontError>
+        ensures look { IsLooked conn self.old result }
+        ensures same { self.new ≡ self.old }
+    {
+        let mut session = self.take(conn)?;
+        let look = session.look();
+        self.put(conn, Some(session));
+        Ok(look?)
+    }
+
+    /// Closes the connection, and lets its bytes go.
+    pub(crate) fn close(&mut self, conn: Conn) -> Result<(), FrontError>
+        ensures { IsClosed conn self.old result self.new }
+    {
+        drop(self.take(conn)?);
+        Ok(())
+    }
+
+    /// Takes the session of the connection out. It isn't open then.
+    pub(crate) fn take(&mut self, conn: Conn) -> Result<Session, FrontError>
+        ensures { MatchResult result
+            (λ session. IsOpen conn self.old session × (self.new ≡ with_line conn None self.old))
+            (λ error. (error ≡ NoSuchConnection) × (line_at conn self.old ≡ None) × (self.new ≡ self.old)) }
+    {
+        match self.put(conn, None) {
+            Some(session) => Ok(session),
+            None => Err(FrontError::NoSuchConnection),
+        }
+    }
+
+    /// How many bytes the connection holds, if it is open.
+    pub(crate) fn held_len(&self, conn: Conn) -> Option<usize>
+        ensures { result ≡ held_at conn self.now }
+    {
+        let session = self.lines.get(conn.number)?.as_ref()?;
+        Some(session.held_len())
+    }
+
+    /// Puts the session there, and gives what was there before.
+    pub(crate) fn put(&mut self, conn: Conn, session: Option<Session>) -> Option<Session>
+        ensures before { result ≡ line_at conn self.old }
+        ensures after { self.new ≡ with_line conn session self.old }
+    {
+        match self.lines.get_mut(conn.number) {
+            Some(line) => mem::replace(line, session),
+            None => None,
+        }
+    }
+}
+
+/// The least place at which no session is.
+#[tactic(auto, using(crate::proofs::LineLemmas::from_first))]
+fn first_free(lines: &[Option<Session>]) -> Option<usize>
+    ensures { result ≡ first_free lines.now }
+{
+    for (number, line) in lines.iter().enumerate() {
+        if line.is_none() {
+            return Some(number);
+        }
+    }
+    None
+}
+
+/// Feeds the piece to the session, unless it would hold too many bytes then.
+fn feed(session: &mut Session, piece: &[u8]) -> Result<(), FrontError>
+    ensures { IsFed session.old piece.now result session.new }
+{
+    if session.held_len().saturating_add(piece.len()) > MAX_HELD_BYTES {
+        return Err(FrontError::Full);
+    }
+    session.feed(piece)?;
+    Ok(())
+}

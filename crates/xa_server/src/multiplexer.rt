@@ -1,0 +1,65 @@
+//! What a connection is driven on.
+ghost use Rattle.std.specs.Prelude.{◌≡◌, [], ◌∷◌, Bool, false, List, map, MatchResult, None, OnErr, IfOk, Option};
+ghost use Rattle.xa_server.specs.Front.{FrontState, IsPlayed, front_state};
+ghost use Rattle.xa_server.specs.Lines.{IsLooked, held_at};
+ghost use Rattle.xa_server.specs.Multiplexer.{front_is_sound, found_memory, outcome_found_memory};
+ghost use Rattle.xa_server.specs.Transfers.{Grows};
+
+use crate::event::{Event, Outcome};
+use crate::front::Front;
+use crate::front_error::FrontError;
+use crate::lines::Conn;
+use std::alloc::AllocError;
+use xa_http::Look;
+use xa_records::Records;
+
+/// What a connection is driven on: a `Front`. Beside what a front says of its calls, it may say which of them have
+/// found memory.
+pub trait Multiplexer {
+    /// Whether it does what its clauses say: a front does where its keeper is sound.
+    ghost is_sound: { Self → Type 0 };
+
+    /// What is known of its server and of its connections.
+    ghost state: { Self → FrontState };
+
+    /// Whether its calls have found memory, one after another, where that is known.
+    ghost had_memory: { Self → Option (List Bool) } = { λ _. None };
+
+    /// How many bytes the connection holds, if it is open.
+    fn held(&self, conn: Conn) -> Option<usize>
+        ensures { result ≡ held_at conn (state self.now).lines };
+
+    /// What stands at the front of the connection's stream. Nothing is changed.
+    fn look(&mut self, conn: Conn) -> Result<Look, FrontError>
+        ensures look { IsLooked conn (state self.old).lines result }
+        ensures same { state self.new ≡ state self.old }
+        ensures sound { is_sound self.new → is_sound self.old }
+        ensures memory { Grows (had_memory self.old) (had_memory self.new) (found_memory result ∷ []) };
+
+    /// Plays the events, one after another. Without memory for all outcomes nothing is done.
+    fn play(&mut self, events: &[Event<'_>]) -> Result<Vec<Outcome>, AllocError>
+        ensures played { IfOk result (λ outcomes. is_sound self.new → IsPlayed (state self.old) (state self.new) events.now outcomes.items) }
+        ensures err { OnErr result (state self.new ≡ state self.old) }
+        ensures sound { is_sound self.new → is_sound self.old }
+        ensures memory { MatchResult result
+            (λ outcomes. Grows (had_memory self.old) (had_memory self.new) (map outcome_found_memory outcomes.items))
+            (λ _. Grows (had_memory self.old) (had_memory self.new) (false ∷ [])) };
+}
+
+impl<R: Records> Multiplexer for Front<R> {
+    ghost is_sound = { front_is_sound R.custody };
+
+    ghost state = { front_state R.custody };
+
+    fn held(&self, conn: Conn) -> Option<usize> {
+        self.held_len(conn)
+    }
+
+    fn look(&mut self, conn: Conn) -> Result<Look, FrontError> {
+        Front::look(self, conn)
+    }
+
+    fn play(&mut self, events: &[Event<'_>]) -> Result<Vec<Outcome>, AllocError> {
+        Front::play(self, events)
+    }
+}
