@@ -1,7 +1,9 @@
-pub mod EntryLemmas
+pub mod ConnectionLemmas
 pub mod PartLemmas
+pub mod PieceLemmas
 pub mod ReadingLemmas
 pub mod ReplayLemmas
 pub mod ServingLemmas
 pub mod StoreLemmas
+pub mod TellingLemmas
 pub mod TokenLemmas

@@ -1,112 +1,146 @@
 -- The entries of a transcript, read and answered one after another.
-use Rattle.std.proofs.Common.{◌≡◌, ℕ, ◌+◌, List, [], ◌∷◌, ◌++◌, length, slice_index_or, slice_set, Option, Some, Ok, Err, false, ◌≢◌, refl, sym, ap, subst, ◌∙◌, append_assoc, append-nil, length-append, set-set, arith}
-use Rattle.std.specs.Prelude.{IfOk, IsTrue, Result}
-use Rattle.std.specs.Io.KnownBytes.{Consumes}
+use Rattle.std.proofs.Common.{◌≡◌, ◌≢◌, ℕ, ◌+◌, Bool, true, false, List, [], ◌∷◌, ◌++◌, length, Option, Some, None, Ok, Err, refl, sym, ap, subst, ◌∙◌, append_assoc, append-nil, length-append, set-set, arith, ◌⊎◌, inl, inr}
+use Rattle.std.specs.Prelude.{⊤, IfOk, IsTrue, Result, slice_get, slice_set}
+use Rattle.std.specs.Io.KnownBytes.{Appends, Consumes, Keeps, append_known}
+use Rattle.std.proofs.lemmas.Bool.{false≢true}
 use Rattle.xa_http.specs.Stream.{Stream}
+use Rattle.xa_server.specs.declared.lines.Conn.{Conn}
 use Rattle.xa_server.specs.declared.replies.Reply.{Reply}
 use Rattle.xa_server.specs.Alone.{Event}
+use Rattle.xa_server.specs.Front.{FrontState, ServerState}
+use Rattle.xa_server.specs.Lines.{IsOpen, Lines, empty_stream, first_free, none_open, with_line}
 use Rattle.xa_server.specs.Served.{IsRun}
 use Rattle.xa_server.specs.World.{World}
 use Rattle.xa_server.proofs.ConnectionLemmas.{appends_none, appends_trans, consumes_none, consumes_trans, run_trans}
 use Rattle.xa_server.proofs.IsolationLemmas.{isolated}
 use Rattle.pdpd.specs.declared.connection.Connection.{Connection}
-use Rattle.pdpd.specs.declared.connection.Connection.TheVariants.{Closed, Open, Ended}
+use Rattle.pdpd.specs.declared.exit.Exit.{Exit}
+use Rattle.pdpd.specs.declared.exit.Exit.TheVariants as exit
 use Rattle.pdpd.specs.declared.heading.Heading.{Heading}
-use Rattle.pdpd.specs.declared.open_stream.OpenStream.{OpenStream}
 use Rattle.pdpd.specs.declared.transcript.ReadFault.{ReadFault}
-use Rattle.pdpd.specs.declared.transcript.ReadFault.TheVariants.{Malformed, Failed, Memory}
-use Rattle.pdpd.specs.Entry.{IsEntryAnswered, events_at, reply_entries}
-use Rattle.pdpd.specs.Exit.{exit_of_read}
-use Rattle.pdpd.specs.Replay.{AreEntries, AreReplied, Between, ConnectionTakes, Entry, Exchange, IsEntryReplied, IsReplayed, Replays, StreamTakes, followed, no_exchange}
-use Rattle.pdpd.specs.Replaying.{Writes}
+use Rattle.pdpd.specs.declared.transcript.ReadFault.TheVariants as read
+use Rattle.pdpd.specs.declared.transcript_fault.TranscriptFault.{TranscriptFault}
+use Rattle.pdpd.specs.Exit.{breaks_off, exit_of_read}
+use Rattle.pdpd.specs.Replay.{AreEntries, AreReplied, ConnectionTakes, Entry, Exchange, Gave, IsEntryReplied, IsReplayed, IsTranscriptRead, OpenTakes, Replays, StreamTakes, all_open, followed, no_exchange}
+use Rattle.pdpd.specs.Replaying.{AllBegun, AreOf, IsBegun, IsFinished, Takes, TakesAsHeld, TakesOpen, Writes, connections_from}
 use Rattle.pdpd.specs.Transcript.{IsEntry, IsNoEntry, Rejects, TakesEntry, TakesOrRejects}
+use Rattle.pdpd.proofs.ConnectionLemmas.{line_found, line_put, some_number}
+use Rattle.pdpd.proofs.PieceLemmas.{set_same}
 
--- ---- one entry
+-- ---- what a connection takes
 
--- an entry's connection is taken from its place, and put back
-pub entry_replied : (heading : Heading) (bytes : List ℕ) (old new : World) (first middle last : List Connection) (was is : Connection) (before now : Option (List ℕ))
-    → was ≡ slice_index_or first heading.connection Closed → middle ≡ slice_set first heading.connection Closed → last ≡ slice_set middle heading.connection is
-    → Writes before now (ConnectionTakes heading bytes was is old new)
-    → Writes before now (IsEntryReplied heading bytes (record { world = old; connections = first }) (record { world = new; connections = last }))
-entry_replied heading bytes old new first middle last was is before now at taken put (exchange, wrote, takes) = (
-  exchange,
-  wrote,
-  (
-    is,
-    subst (λ (c : Connection). ConnectionTakes heading bytes c is old new exchange) at takes,
-    put ∙ ap (λ (cs : List Connection). slice_set cs heading.connection is) taken ∙ set-set first heading.connection Closed is,
-  ),
-)
+-- no bytes close it, and the next begins in its place
+pub closed : (heading : Heading) (bytes : List ℕ) (was is : Connection) (old mid new : FrontState) (before : Option (List ℕ)) → bytes ≡ [] → IsFinished was.conn old mid
+    → IsBegun is mid new → Takes heading bytes was is old new before before
+unfolding Takes
+closed heading bytes was is old mid new before none finished begun = λ stream line.
+    let least : is.conn.number ≡ was.conn.number
+    = some_number is.conn.number was.conn.number (sym begun.least ∙ ap first_free finished.lines ∙ line.free) in
+    let same : is.conn ≡ was.conn = λ i. record { number = least i } in
+    let server : new.server ≡ old.server = begun.server ∙ finished.server in
+    record {
+      after = empty_stream;
+      takes = (
+        no_exchange,
+        appends_none before,
+        subst (λ (bs : List ℕ). ConnectionTakes heading bs stream empty_stream old new no_exchange) (sym none) (refl, server, refl),
+      );
+      lines =
+          begun.lines
+          ∙ ap (λ (c : Conn). with_line c (Some empty_stream) mid.lines) same
+          ∙ ap (λ (ls : Lines). with_line was.conn (Some empty_stream) ls) finished.lines
+          ∙ set-set old.lines was.conn.number None (Some empty_stream);
+      same = same;
+      ended = begun.goes_on;
+    }
 
--- no bytes close a connection, and nothing is written
-pub nothing_taken : (heading : Heading) (bytes : List ℕ) (was : Connection) (world : World) (before : Option (List ℕ)) → bytes ≡ []
-    → Writes before before (ConnectionTakes heading bytes was Closed world world)
-nothing_taken heading bytes was world before none = (
-  no_exchange,
-  appends_none before,
-  subst (λ (bs : List ℕ). ConnectionTakes heading bs was Closed world world no_exchange) (sym none) (refl, refl, refl),
-)
+pub closed_as : (sound : Type 0) (heading : Heading) (bytes : List ℕ) (was : Connection) (old mid new : FrontState) (before : Option (List ℕ)) (result : Result Connection Exit) → bytes ≡ []
+    → (sound → IsFinished was.conn old mid) → IfOk result (λ is. sound → IsBegun is mid new)
+    → IfOk result (λ is. sound → Takes heading bytes was is old new before before)
+closed_as sound heading bytes was old mid new before (Ok is) none finished begun = λ kept. closed heading bytes was is old mid new before none (finished kept) (begun kept)
+closed_as sound heading bytes was old mid new before (Err exit) none finished begun = tt
 
--- nor is it where its stream has ended
-pub passed_over : (heading : Heading) (bytes : List ℕ) (was : Connection) (world : World) (before : Option (List ℕ)) → bytes ≢ [] → was ≡ Ended
-    → Writes before before (ConnectionTakes heading bytes was Ended world world)
-passed_over heading [] was world before some ended = absurd (some refl)
-passed_over heading (byte ∷ bytes) was world before some ended = (
-  no_exchange,
-  appends_none before,
-  subst (λ (c : Connection). ConnectionTakes heading (byte ∷ bytes) c Ended world world no_exchange) (sym ended) (refl, refl, refl),
-)
+-- bytes are passed over where its session has ended
+pub passed_over : (heading : Heading) (bytes : List ℕ) (was : Connection) (front : FrontState) (before : Option (List ℕ)) → bytes ≢ [] → was.has_ended ≡ true
+    → Takes heading bytes was was front front before before
+unfolding Takes
+passed_over heading [] was front before some ended = absurd (some refl)
+passed_over heading (byte ∷ bytes) was front before some ended = λ stream line.
+    let over : stream.ended ≡ true = sym line.ended ∙ ended in
+    record {
+      after = stream;
+      takes = (
+        no_exchange,
+        appends_none before,
+        subst (λ (b : Bool). OpenTakes b heading (byte ∷ bytes) stream stream front front no_exchange) (sym over) (refl, refl, refl),
+      );
+      lines = sym (set_same front.lines was.conn.number stream line.line);
+      same = refl;
+      ended = line.ended;
+    }
 
--- what follows from what a result has
-pub as_well : {X Y : Type 0} (first second : X → Type 0) (result : Result X Y) → ((x : X) → first x → second x) → IfOk result first → IfOk result second
-as_well first second (Ok x) on has = on x has
-as_well first second (Err y) on has = has
+-- and else taken
+pub gone_on : (heading : Heading) (bytes : List ℕ) (was : Connection) (has_ended : Bool) (old new : FrontState) (before now : Option (List ℕ)) → bytes ≢ []
+    → was.has_ended ≡ false → TakesOpen was.conn heading bytes old new has_ended before now
+    → Takes heading bytes was (record { conn = was.conn; has_ended = has_ended }) old new before now
+unfolding Takes TakesOpen
+gone_on heading [] was has_ended old new before now some goes_on takes = absurd (some refl)
+gone_on heading (byte ∷ bytes) was has_ended old new before now some goes_on takes = λ stream line.
+    let on : stream.ended ≡ false = sym line.ended ∙ goes_on in
+    let is = takes stream line.line on in
+    record {
+      after = is.after;
+      takes = (
+        is.takes.0,
+        is.takes.1,
+        subst (λ (b : Bool). OpenTakes b heading (byte ∷ bytes) stream is.after old new is.takes.0) (sym on) is.takes.2,
+      );
+      lines = is.lines;
+      same = refl;
+      ended = is.ended;
+    }
 
--- the bytes open a closed connection
-pub opened : (heading : Heading) (bytes : List ℕ) (was is : Connection) (stream : Stream) (old new : World) (before now : Option (List ℕ)) → bytes ≢ [] → was ≡ Closed
-    → stream ≡ record { held = []; ended = false } → Writes before now (StreamTakes heading bytes stream is old new)
-    → Writes before now (ConnectionTakes heading bytes was is old new)
-opened heading [] was is stream old new before now some closed anew taken = absurd (some refl)
-opened heading (byte ∷ bytes) was is stream old new before now some closed anew taken =
-    subst (λ (c : Connection). Writes before now (ConnectionTakes heading (byte ∷ bytes) c is old new)) (sym closed)
-    (subst (λ (s : Stream). Writes before now (StreamTakes heading (byte ∷ bytes) s is old new)) anew taken)
+-- ---- an entry's connection
 
--- or go on with an open one
-pub gone_on : (heading : Heading) (bytes : List ℕ) (was is : Connection) (open_stream : OpenStream) (old new : World) (before now : Option (List ℕ)) → bytes ≢ []
-    → was ≡ Open open_stream → Writes before now (StreamTakes heading bytes open_stream.session is old new)
-    → Writes before now (ConnectionTakes heading bytes was is old new)
-gone_on heading [] was is open_stream old new before now some open_now taken = absurd (some refl)
-gone_on heading (byte ∷ bytes) was is open_stream old new before now some open_now taken =
-    subst (λ (c : Connection). Writes before now (ConnectionTakes heading (byte ∷ bytes) c is old new)) (sym open_now) taken
+pub entry_taken : (heading : Heading) (bytes : List ℕ) (held are : List Connection) (was is : Connection) (old new : FrontState) (before now : Option (List ℕ))
+    → slice_get held heading.connection ≡ Some was → Takes heading bytes was is old new before now → are ≡ slice_set held heading.connection is
+    → TakesAsHeld heading bytes held are old new before now
+unfolding Takes TakesAsHeld
+entry_taken heading bytes held are was is old new before now at takes put = λ known.
+    let conn : Conn = record { number = heading.connection } in
+    let there = line_found held old.lines heading.connection was known at in
+    let taken = takes there.0 there.1 in
+    let same : was.conn ≡ conn = there.2 in
+    let line : IsOpen conn old.lines there.0 = subst (λ (c : Conn). IsOpen c old.lines there.0) same there.1.line in
+    let lines : new.lines ≡ with_line conn (Some taken.after) old.lines = taken.lines ∙ ap (λ (c : Conn). with_line c (Some taken.after) old.lines) same in (
+      (taken.takes.0, taken.takes.1, (there.0, taken.after, line, taken.takes.2, lines)),
+      put
+          ∙ line_put held old.lines heading.connection was is taken.after known at (taken.same ∙ same) taken.ended
+          ∙ sym (ap (connections_from 0) lines),
+    )
 
--- a stream takes the bytes of an entry, and ends
-pub stream_ended : (heading : Heading) (bytes : List ℕ) (stream after : Stream) (old new : World) (before now : Option (List ℕ))
-    → IsEntryAnswered heading.connection heading.moment bytes old new stream after before now → IsTrue after.ended
-    → Writes before now (StreamTakes heading bytes stream Ended old new)
-stream_ended heading bytes stream after old new before now (replies, answered, wrote) over = (
-  record { events = events_at heading.moment answered.messages; replies = answered.run; written = reply_entries heading.connection replies },
-  wrote,
-  (after, replies, answered, over, refl),
-)
+-- ---- what an entry takes is a run
 
--- what a stream takes is a run
-stream_run : (heading : Heading) (bytes : List ℕ) (stream : Stream) (is : Connection) (old new : World) (exchange : Exchange)
-    → StreamTakes heading bytes stream is old new exchange → IsRun old exchange.events exchange.replies new
-stream_run heading bytes stream is old new exchange (after, replies, answered, over, same) =
+stream_run : (heading : Heading) (bytes : List ℕ) (was is : Stream) (old new : World) (exchange : Exchange)
+    → StreamTakes heading bytes was is old new exchange → IsRun old exchange.events exchange.replies new
+stream_run heading bytes was is old new exchange (after, replies, answered, kept, same) =
     subst (λ (e : Exchange). IsRun old e.events e.replies new) (sym same) answered.is_run
 
-none_run : (old new : World) (exchange : Exchange) → new ≡ old → exchange ≡ no_exchange → IsRun old exchange.events exchange.replies new
-none_run old new exchange same none = subst (λ (e : Exchange). IsRun old e.events e.replies new) (sym none) same
+none_run : (old new : FrontState) (exchange : Exchange) → new.server ≡ old.server → exchange ≡ no_exchange → IsRun old.server.world exchange.events exchange.replies new.server.world
+none_run old new exchange same none =
+    subst (λ (e : Exchange). IsRun old.server.world e.events e.replies new.server.world) (sym none) (ap (λ (s : ServerState). s.world) same)
 
--- and so is what a connection takes
-takes_run : (heading : Heading) (bytes : List ℕ) (was is : Connection) (old new : World) (exchange : Exchange)
-    → ConnectionTakes heading bytes was is old new exchange → IsRun old exchange.events exchange.replies new
+open_run : (ended : Bool) (heading : Heading) (bytes : List ℕ) (was is : Stream) (old new : FrontState) (exchange : Exchange)
+    → OpenTakes ended heading bytes was is old new exchange → IsRun old.server.world exchange.events exchange.replies new.server.world
+open_run true heading bytes was is old new exchange takes = none_run old new exchange takes.1 takes.2
+open_run false heading bytes was is old new exchange takes = stream_run heading bytes was is old.server.world new.server.world exchange takes
+
+takes_run : (heading : Heading) (bytes : List ℕ) (was is : Stream) (old new : FrontState) (exchange : Exchange)
+    → ConnectionTakes heading bytes was is old new exchange → IsRun old.server.world exchange.events exchange.replies new.server.world
 takes_run heading [] was is old new exchange takes = none_run old new exchange takes.1 takes.2
-takes_run heading (byte ∷ bytes) Closed is old new exchange takes = stream_run heading (byte ∷ bytes) (record { held = []; ended = false }) is old new exchange takes
-takes_run heading (byte ∷ bytes) (Open open_stream) is old new exchange takes = stream_run heading (byte ∷ bytes) open_stream.session is old new exchange takes
-takes_run heading (byte ∷ bytes) Ended is old new exchange takes = none_run old new exchange takes.1 takes.2
+takes_run heading (byte ∷ bytes) was is old new exchange takes = open_run was.ended heading (byte ∷ bytes) was is old new exchange takes
 
--- ---- entries
+-- ---- entries that are answered
 
 abbrev exchange_of : List Event → List Reply → List ℕ → Exchange
 exchange_of events replies written = record { events = events; replies = replies; written = written }
@@ -126,20 +160,13 @@ followed_assoc a b c =
     (a.replies ++ (b.replies ++ c.replies)) ((a.written ++ b.written) ++ c.written) (a.written ++ (b.written ++ c.written))
     (append_assoc a.events b.events c.events) (append_assoc a.replies b.replies c.replies) (append_assoc a.written b.written c.written)
 
-entries_more : (entries : List Entry) (heading : Heading) (bytes text more : List ℕ) → AreEntries entries text → IsEntry heading bytes more
-    → AreEntries (entries ++ record { heading = heading; bytes = bytes } ∷ []) (text ++ more)
-entries_more [] heading bytes text more none is =
-    (more, [], is, refl, ap (λ (t : List ℕ). t ++ more) none ∙ sym (append-nil more))
-entries_more (entry ∷ entries) heading bytes text more (first, others, is_first, are_others, same) is =
-    (first, others ++ more, is_first, entries_more entries heading bytes others more are_others is, ap (λ (t : List ℕ). t ++ more) same ∙ append_assoc first others more)
-
-replied_more : (entries : List Entry) (heading : Heading) (bytes : List ℕ) (old mid new : Between) (exchange more : Exchange) → AreReplied entries old mid exchange
+replied_more : (entries : List Entry) (heading : Heading) (bytes : List ℕ) (old mid new : FrontState) (exchange more : Exchange) → AreReplied entries old mid exchange
     → IsEntryReplied heading bytes mid new more → AreReplied (entries ++ record { heading = heading; bytes = bytes } ∷ []) old new (followed exchange more)
 replied_more [] heading bytes old mid new exchange more (same, none) is = (
   new,
   more,
   no_exchange,
-  subst (λ (b : Between). IsEntryReplied heading bytes b new more) same is,
+  subst (λ (f : FrontState). IsEntryReplied heading bytes f new more) same is,
   (refl, refl),
   ap (λ (e : Exchange). followed e more) none ∙ sym (followed_none more),
 )
@@ -152,78 +179,198 @@ replied_more (entry ∷ entries) heading bytes old mid new exchange more (betwee
   ap (λ (e : Exchange). followed e more) same ∙ followed_assoc first others more,
 )
 
--- that many entries are answered, and the next one has that number
-pub record SoFar (old new : Between) (left rest before now : Option (List ℕ)) (number : ℕ) : Type 0 where
-  pub entries : List Entry
-  pub replays : Replays old new left rest before now entries []
-  pub counted : number ≡ length entries + 1
-
--- none is answered yet
-pub so_far_none : (old : Between) (left before : Option (List ℕ)) → SoFar old old left left before before 1
-so_far_none old left before = record {
-  entries = [];
-  replays =
-      record {
-        text = [];
-        exchange = no_exchange;
-        read = consumes_none left;
-        are_entries = refl;
-        are_replied = (refl, refl);
-        is_run = refl;
-        isolated = λ domain. isolated domain old.world old.world [] [] refl;
-        wrote = appends_none before;
-      };
-  counted = refl;
+replays_none : (front : FrontState) (before : Option (List ℕ)) → Replays front front before before []
+replays_none front before = record {
+  exchange = no_exchange;
+  are_replied = (refl, refl);
+  is_run = refl;
+  isolated = λ domain. isolated domain front.server.world front.server.world [] [] refl;
+  wrote = appends_none before;
 }
 
--- one more is answered
-pub so_far_one_entry : (old mid new : Between) (left between rest before written now : Option (List ℕ)) (number : ℕ) (heading : Heading) (bytes : List ℕ)
-    → SoFar old mid left between before written number → TakesEntry between rest bytes (Some heading) → Writes written now (IsEntryReplied heading bytes mid new)
-    → SoFar old new left rest before now (number + 1)
-so_far_one_entry old mid new left between rest before written now number heading bytes so_far (more, taken, is) (reply, wrote, replied) =
-    let r = so_far.replays in
-    let here : IsRun mid.world reply.events reply.replies new.world
-    = takes_run heading bytes (slice_index_or mid.connections heading.connection Closed) replied.0 mid.world new.world reply replied.1 in
-    let run : IsRun old.world (r.exchange.events ++ reply.events) (r.exchange.replies ++ reply.replies) new.world
-    = run_trans old.world mid.world new.world r.exchange.events reply.events r.exchange.replies reply.replies r.is_run here in
-    let front : Consumes left between r.text = subst (λ (t : List ℕ). Consumes left between t) (append-nil r.text) r.read in
+replays_more : (entries : List Entry) (heading : Heading) (bytes : List ℕ) (old mid new : FrontState) (before written now : Option (List ℕ))
+    → Replays old mid before written entries → Writes written now (IsEntryReplied heading bytes mid new)
+    → Replays old new before now (entries ++ record { heading = heading; bytes = bytes } ∷ [])
+replays_more entries heading bytes old mid new before written now r (reply, wrote, replied) =
+    let here : IsRun mid.server.world reply.events reply.replies new.server.world
+    = takes_run heading bytes replied.0 replied.1 mid new reply replied.3 in
+    let run : IsRun old.server.world (r.exchange.events ++ reply.events) (r.exchange.replies ++ reply.replies) new.server.world
+    = run_trans old.server.world mid.server.world new.server.world r.exchange.events reply.events r.exchange.replies reply.replies r.is_run here in
     record {
-      entries = so_far.entries ++ record { heading = heading; bytes = bytes } ∷ [];
-      replays =
-          record {
-            text = r.text ++ more;
-            exchange = followed r.exchange reply;
-            read = subst (λ (t : List ℕ). Consumes left rest t) (sym (append-nil (r.text ++ more))) (consumes_trans left between rest r.text more front taken);
-            are_entries = entries_more so_far.entries heading bytes r.text more r.are_entries is;
-            are_replied = replied_more so_far.entries heading bytes old mid new r.exchange reply r.are_replied replied;
-            is_run = run;
-            isolated = λ domain. isolated domain old.world new.world (r.exchange.events ++ reply.events) (r.exchange.replies ++ reply.replies) run;
-            wrote = appends_trans before written now r.exchange.written reply.written r.wrote wrote;
-          };
-      counted = omega (arith, so_far.counted, length-append so_far.entries (record { heading = heading; bytes = bytes } ∷ []));
+      exchange = followed r.exchange reply;
+      are_replied = replied_more entries heading bytes old mid new r.exchange reply r.are_replied replied;
+      is_run = run;
+      isolated = λ domain.
+          isolated domain old.server.world new.server.world (r.exchange.events ++ reply.events) (r.exchange.replies ++ reply.replies) run;
+      wrote = appends_trans before written now r.exchange.written reply.written r.wrote wrote;
     }
 
+-- ---- entries that are read
+
+entries_more : (entries : List Entry) (heading : Heading) (bytes text more : List ℕ) → AreEntries entries text → IsEntry heading bytes more
+    → AreEntries (entries ++ record { heading = heading; bytes = bytes } ∷ []) (text ++ more)
+entries_more [] heading bytes text more none is =
+    (more, [], is, refl, ap (λ (t : List ℕ). t ++ more) none ∙ sym (append-nil more))
+entries_more (entry ∷ entries) heading bytes text more (first, others, is_first, are_others, same) is =
+    (first, others ++ more, is_first, entries_more entries heading bytes others more are_others is, ap (λ (t : List ℕ). t ++ more) same ∙ append_assoc first others more)
+
+-- that many entries are read, and the next one has that number
+pub record SoFar (done : List Entry → Type 0) (left rest : Option (List ℕ)) (number : ℕ) : Type 0 where
+  pub entries : List Entry
+  pub gave : Gave left rest entries []
+  pub counted : number ≡ length entries + 1
+  pub holds : done entries
+
+read_none : (done : List Entry → Type 0) (left : Option (List ℕ)) → done [] → SoFar done left left 1
+read_none done left is = record { entries = []; gave = ([], consumes_none left, refl); counted = refl; holds = is }
+
+read_more : (done after : List Entry → Type 0) (left mid rest : Option (List ℕ)) (number : ℕ) (heading : Heading) (bytes : List ℕ) → SoFar done left mid number
+    → TakesEntry mid rest bytes (Some heading) → ((entries : List Entry) → done entries → after (entries ++ record { heading = heading; bytes = bytes } ∷ []))
+    → SoFar after left rest (number + 1)
+read_more done after left mid rest number heading bytes so_far (more, taken, is) on =
+    let gave = so_far.gave in
+    let front : Consumes left mid gave.0 = subst (λ (t : List ℕ). Consumes left mid t) (append-nil gave.0) gave.1 in
+    record {
+      entries = so_far.entries ++ record { heading = heading; bytes = bytes } ∷ [];
+      gave = (
+        gave.0 ++ more,
+        subst (λ (t : List ℕ). Consumes left rest t) (sym (append-nil (gave.0 ++ more))) (consumes_trans left mid rest gave.0 more front taken),
+        entries_more so_far.entries heading bytes gave.0 more gave.2 is,
+      );
+      counted = omega (arith, so_far.counted, length-append so_far.entries (record { heading = heading; bytes = bytes } ∷ []));
+      holds = on so_far.entries so_far.holds;
+    }
+
+-- nothing is left
+read_all : (done : List Entry → Type 0) (left mid rest : Option (List ℕ)) (number : ℕ) (bytes : List ℕ) → SoFar done left mid number → TakesEntry mid rest bytes None
+    → IsTranscriptRead done left rest exit.Done
+read_all done left mid rest number bytes so_far (none, end) =
+    let gave = so_far.gave in
+    let all : Consumes left rest ((gave.0 ++ []) ++ []) = consumes_trans left mid rest (gave.0 ++ []) [] gave.1 none in
+    (so_far.entries, (gave.0, subst (λ (t : List ℕ). Consumes left rest t) (append-nil (gave.0 ++ [])) all, gave.2), end, so_far.holds)
+
 -- the next entry can't be read
-pub ends_badly : (old new : Between) (left between rest before now : Option (List ℕ)) (number : ℕ) (is : Option Heading → Type 0) (f : ReadFault)
-    → SoFar old new left between before now number → TakesOrRejects is (Rejects IsNoEntry between rest) (Err f)
-    → IsReplayed old new left rest before now (Err (exit_of_read number f))
-ends_badly old new left between rest before now number is (Malformed wrong) so_far (behind, taken, is_no) =
-    let r = so_far.replays in
-    let front : Consumes left between r.text = subst (λ (t : List ℕ). Consumes left between t) (append-nil r.text) r.read in (
-      so_far.entries,
-      behind,
-      record {
-        text = r.text;
-        exchange = r.exchange;
-        read = consumes_trans left between rest r.text behind front taken;
-        are_entries = r.are_entries;
-        are_replied = r.are_replied;
-        is_run = r.is_run;
-        isolated = r.isolated;
-        wrote = r.wrote;
-      },
-      is_no,
-      so_far.counted,
+read_badly : (done : List Entry → Type 0) (left mid rest : Option (List ℕ)) (number : ℕ) (is : Option Heading → Type 0) (f : ReadFault) → SoFar done left mid number
+    → TakesOrRejects is (Rejects IsNoEntry mid rest) (Err f) → IsTranscriptRead done left rest (exit_of_read number f)
+read_badly done left mid rest number is (read.Malformed wrong) so_far (behind, taken, is_no) =
+    let gave = so_far.gave in
+    let front : Consumes left mid gave.0 = subst (λ (t : List ℕ). Consumes left mid t) (append-nil gave.0) gave.1 in
+    (so_far.entries, behind, (gave.0, consumes_trans left mid rest gave.0 behind front taken, gave.2), is_no, so_far.counted, so_far.holds)
+read_badly done left mid rest number is read.Failed so_far reads = tt
+read_badly done left mid rest number is read.Memory so_far reads = tt
+
+-- where something else failed, nothing is said
+pub broken_off : (done : List Entry → Type 0) (left rest : Option (List ℕ)) (exit : Exit) → IsTrue (breaks_off exit) → IsTranscriptRead done left rest exit
+broken_off done left rest exit.Done breaks = absurd (false≢true breaks)
+broken_off done left rest exit.Failed breaks = tt
+broken_off done left rest exit.Usage breaks = tt
+broken_off done left rest (exit.Malformed number wrong) breaks = absurd (false≢true breaks)
+broken_off done left rest exit.Store breaks = tt
+broken_off done left rest exit.Socket breaks = tt
+broken_off done left rest exit.Memory breaks = tt
+
+-- nor where the store or memory did, before anything was read
+pub unopened : (done : List Entry → Type 0) (left : Option (List ℕ)) (end : Exit) → (end ≡ exit.Memory) ⊎ (end ≡ exit.Store)
+    → (rest : Option (List ℕ)) × IsTranscriptRead done left rest end
+unopened done left end (inl memory) = (left, subst (λ (e : Exit). IsTranscriptRead done left left e) (sym memory) tt)
+unopened done left end (inr store) = (left, subst (λ (e : Exit). IsTranscriptRead done left left e) (sym store) tt)
+
+read_as_well : (done after : List Entry → Type 0) (left rest : Option (List ℕ)) (exit : Exit) → ((entries : List Entry) → done entries → after entries)
+    → IsTranscriptRead done left rest exit → IsTranscriptRead after left rest exit
+read_as_well done after left rest exit.Done on is = (is.0, is.1, is.2, on is.0 is.3)
+read_as_well done after left rest (exit.Malformed number wrong) on is = (is.0, is.1, is.2, is.3, is.4, on is.0 is.5)
+read_as_well done after left rest exit.Failed on is = tt
+read_as_well done after left rest exit.Usage on is = tt
+read_as_well done after left rest exit.Store on is = tt
+read_as_well done after left rest exit.Socket on is = tt
+read_as_well done after left rest exit.Memory on is = tt
+
+-- ---- all of them
+
+-- the entries before the one of that number are read
+unfoldable pub ReadTo : Option (List ℕ) → Option (List ℕ) → ℕ → Type 0
+ReadTo left rest number = SoFar (λ _. ⊤) left rest number
+
+-- and answered
+unfoldable pub AnsweredTo : List Connection → List Connection → FrontState → FrontState → Option (List ℕ) → Option (List ℕ) → Option (List ℕ) → Option (List ℕ) → ℕ → Type 0
+AnsweredTo held are old new left rest before now number = AreOf held old.lines → SoFar (Replays old new before now) left rest number × AreOf are new.lines
+
+pub given_none : (left : Option (List ℕ)) → ReadTo left left 1
+unfolding ReadTo
+given_none left = read_none (λ _. ⊤) left tt
+
+pub given_more : (left mid rest : Option (List ℕ)) (number : ℕ) (heading : Heading) (bytes : List ℕ) → ReadTo left mid number → TakesEntry mid rest bytes (Some heading)
+    → ReadTo left rest (number + 1)
+unfolding ReadTo
+given_more left mid rest number heading bytes so_far takes = read_more (λ _. ⊤) (λ _. ⊤) left mid rest number heading bytes so_far takes (λ _ _. tt)
+
+pub given_all : (left mid rest : Option (List ℕ)) (number : ℕ) (bytes : List ℕ) → ReadTo left mid number → TakesEntry mid rest bytes None
+    → IsTranscriptRead (λ _. ⊤) left rest exit.Done
+unfolding ReadTo
+given_all left mid rest number bytes so_far none = read_all (λ _. ⊤) left mid rest number bytes so_far none
+
+pub given_badly : (left mid rest : Option (List ℕ)) (number : ℕ) (is : Option Heading → Type 0) (f : ReadFault) → ReadTo left mid number
+    → TakesOrRejects is (Rejects IsNoEntry mid rest) (Err f) → IsTranscriptRead (λ _. ⊤) left rest (exit_of_read number f)
+unfolding ReadTo
+given_badly left mid rest number is f so_far rejects = read_badly (λ _. ⊤) left mid rest number is f so_far rejects
+
+pub answered_none : (held : List Connection) (front : FrontState) (left before : Option (List ℕ)) → AnsweredTo held held front front left left before before 1
+unfolding AnsweredTo
+answered_none held front left before = λ known. (read_none (Replays front front before before) left (replays_none front before), known)
+
+pub answered_more : (held were are : List Connection) (old mid new : FrontState) (left between rest before written now : Option (List ℕ)) (number : ℕ) (heading : Heading)
+    (bytes : List ℕ) → AnsweredTo held were old mid left between before written number → TakesEntry between rest bytes (Some heading)
+    → TakesAsHeld heading bytes were are mid new written now → AnsweredTo held are old new left rest before now (number + 1)
+unfolding AnsweredTo TakesAsHeld
+answered_more held were are old mid new left between rest before written now number heading bytes so_far takes here = λ known.
+    let was = so_far known in
+    let is = here was.1 in (
+      read_more (Replays old mid before written) (Replays old new before now) left between rest number heading bytes was.0 takes
+          (λ entries r. replays_more entries heading bytes old mid new before written now r is.0),
+      is.1,
     )
-ends_badly old new left between rest before now number is Failed so_far reads = tt
-ends_badly old new left between rest before now number is Memory so_far reads = tt
+
+pub answered_all : (held are : List Connection) (old new : FrontState) (left mid rest before now : Option (List ℕ)) (number : ℕ) (bytes : List ℕ)
+    → AnsweredTo held are old new left mid before now number → TakesEntry mid rest bytes None → AreOf held old.lines
+    → IsTranscriptRead (Replays old new before now) left rest exit.Done
+unfolding AnsweredTo
+answered_all held are old new left mid rest before now number bytes so_far none known =
+    read_all (Replays old new before now) left mid rest number bytes (so_far known).0 none
+
+pub answered_badly : (held are : List Connection) (old new : FrontState) (left mid rest before now : Option (List ℕ)) (number : ℕ) (is : Option Heading → Type 0)
+    (f : ReadFault) → AnsweredTo held are old new left mid before now number → TakesOrRejects is (Rejects IsNoEntry mid rest) (Err f) → AreOf held old.lines
+    → IsTranscriptRead (Replays old new before now) left rest (exit_of_read number f)
+unfolding AnsweredTo
+answered_badly held are old new left mid rest before now number is f so_far rejects known =
+    read_badly (Replays old new before now) left mid rest number is f (so_far known).0 rejects
+
+-- what was held is written at the end
+flushed : (before written now : Option (List ℕ)) (bytes : List ℕ) → Appends before written bytes → Keeps written (append_known now []) → Appends before now bytes
+flushed None written now bytes appends keeps = tt
+flushed (Some xs) None now bytes appends keeps = absurd appends
+flushed (Some xs) (Some ys) None bytes appends keeps = absurd keeps
+flushed (Some xs) (Some ys) (Some zs) bytes appends keeps = sym (append-nil zs) ∙ keeps ∙ appends
+
+replays_flushed : (old new : FrontState) (before written now : Option (List ℕ)) (entries : List Entry) → Keeps written (append_known now [])
+    → Replays old new before written entries → Replays old new before now entries
+replays_flushed old new before written now entries keeps r = record {
+  exchange = r.exchange;
+  are_replied = r.are_replied;
+  is_run = r.is_run;
+  isolated = r.isolated;
+  wrote = flushed before written now r.exchange.written r.wrote keeps;
+}
+
+pub replayed_all : (connections : List Connection) (old mid new : FrontState) (left rest before written now : Option (List ℕ)) (exit : Exit) → old.lines ≡ none_open
+    → AllBegun connections old mid
+    → (AreOf connections mid.lines → IsTranscriptRead (Replays mid new before written) left rest exit)
+    → Keeps written (append_known now [])
+    → IsReplayed old new left rest before now exit
+unfolding AllBegun
+replayed_all connections old mid new left rest before written now exit none begun answered keeps =
+    let all = begun none in
+    let known : AreOf connections mid.lines = subst (λ (ls : Lines). AreOf connections ls) (sym (ap (λ (f : FrontState). f.lines) all.0)) all.1 in
+    let read : IsTranscriptRead (Replays (record old { lines = all_open }) new before written) left rest exit
+    = subst (λ (f : FrontState). IsTranscriptRead (Replays f new before written) left rest exit) all.0 (answered known) in
+    read_as_well (Replays (record old { lines = all_open }) new before written) (Replays (record old { lines = all_open }) new before now) left rest exit
+    (λ entries r. replays_flushed (record old { lines = all_open }) new before written now entries keeps r) read

@@ -6,6 +6,7 @@ use Rattle.pdpd.specs.declared.command_line.Command.TheVariants.{Help, Version, 
 use Rattle.pdpd.specs.declared.exit.Exit.{Exit}
 use Rattle.pdpd.specs.declared.exit.Exit.TheVariants.{Done, Failed, Usage}
 use Rattle.pdpd.specs.Exit.{ends_serving}
+use Rattle.pdpd.specs.Fault.{IsNoAddress}
 
 -- how the program may end by what the words of the command line ask for
 abbrev pub MayEnd : Option Command → Exit → Type 0
@@ -13,4 +14,4 @@ MayEnd None exit = exit ≡ Usage
 MayEnd (Some Help) exit = (exit ≡ Done) ⊎ (exit ≡ Failed)
 MayEnd (Some Version) exit = (exit ≡ Done) ⊎ (exit ≡ Failed)
 MayEnd (Some (Replay token)) exit = (exit ≡ Usage) ↔ IsFalse (is_token token)
-MayEnd (Some (Serve _)) exit = IsTrue (ends_serving exit)
+MayEnd (Some (Serve serving)) exit = IsTrue (ends_serving exit) × (IsNoAddress serving.address → exit ≡ Usage)

@@ -1,10 +1,9 @@
 -- What the bytes of an entry are answered, and what is written of the replies.
 use Rattle.std.specs.Prelude.{◌≡◌, ℕ, ℤ, List, ◌++◌, length, map, Option, codes, decimal}
-use Rattle.std.specs.Io.KnownBytes.{Appends}
 use Rattle.std.specs.List.{flat_map}
 use Rattle.xa_http.specs.declared.message.Message.{Message}
 use Rattle.xa_http.specs.declared.fault.SessionFault.{SessionFault}
-use Rattle.xa_http.specs.Stream.{Stream, fed}
+use Rattle.xa_http.specs.Stream.{Stream}
 use Rattle.xa_server.specs.declared.replies.Reply.{Reply}
 use Rattle.xa_server.specs.Alone.{Event}
 use Rattle.xa_server.specs.Connection.{HasMessages, all_replies}
@@ -32,9 +31,3 @@ pub record IsAnswered (moment : ℤ) (old new : World) (stream after : Stream) (
   pub has_messages : HasMessages stream messages fault after
   pub is_run : IsRun old (events_at moment messages) run new
   pub are_all : replies ≡ all_replies run fault
-
--- a stream took the bytes, and then what it holds was answered, and the replies were written to the connection
-abbrev pub IsEntryAnswered : ℕ → ℤ → List ℕ → World → World → Stream → Stream → Option (List ℕ) → Option (List ℕ) → Type 0
-IsEntryAnswered connection moment bytes old new stream after before now =
-    (replies : List (List ℕ)) × IsAnswered moment old new (fed stream bytes) after replies
-    × Appends before now (reply_entries connection replies)

@@ -1,5 +1,8 @@
 -- Why `pdpd serve` ends before its connections are served, and how the program ends then.
-use Rattle.std.specs.Prelude.{◌≡◌, ◌⊎◌, Bool, true, false, Option, Some, None}
+use Rattle.std.specs.Prelude.{◌≡◌, ◌⊎◌, ◌==◌, ◌||◌, ⊤, ℕ, Bool, true, false, List, [], ◌∷◌, Option, Some, None}
+use Rattle.std.specs.List.{list_any}
+use Rattle.std.specs.Net.Grammar.{IsSocketText}
+use Rattle.std.specs.declared.net.socket_addr.SocketAddr.{SocketAddr}
 use Rattle.std.specs.declared.io.ErrorKind.{ErrorKind}
 use Rattle.std.specs.declared.io.ErrorKind.TheVariants as kind
 use Rattle.xa_server.specs.declared.driven.Driven.{Driven}
@@ -7,12 +10,13 @@ use Rattle.xa_server.specs.declared.driven.Driven.TheVariants as driven
 use Rattle.pdpd.specs.declared.exit.Exit.{Exit}
 use Rattle.pdpd.specs.declared.exit.Exit.TheVariants as exit
 use Rattle.pdpd.specs.declared.fault.Fault.{Fault}
-use Rattle.pdpd.specs.declared.fault.Fault.TheVariants.{Address, Work, TokenUnread, TokenBad, Store, Socket, Connection, Clock, Output, Memory}
+use Rattle.pdpd.specs.declared.fault.Fault.TheVariants.{Address, Work, Idle, TokenUnread, TokenBad, Store, Socket, Connection, Clock, Output, Memory}
 
 -- how the program ends
 abbrev pub exit_of_fault : Fault → Exit
 exit_of_fault Address = exit.Usage
 exit_of_fault Work = exit.Usage
+exit_of_fault Idle = exit.Usage
 exit_of_fault TokenUnread = exit.Usage
 exit_of_fault TokenBad = exit.Usage
 exit_of_fault (Store _) = exit.Store
@@ -22,9 +26,43 @@ exit_of_fault Clock = exit.Socket
 exit_of_fault Output = exit.Failed
 exit_of_fault Memory = exit.Memory
 
--- the program ends so by the fault, or it is want of memory
-abbrev pub EndsBy : Exit → Fault → Type 0
-EndsBy exit fault = (exit_of_fault fault ≡ exit) ⊎ (fault ≡ Memory)
+-- ---- what each step that fails may end by: a fault of its own, or want of memory
+
+-- the operator's token
+abbrev pub IsOfToken : Fault → Type 0
+IsOfToken TokenUnread = ⊤
+IsOfToken TokenBad = ⊤
+IsOfToken Memory = ⊤
+IsOfToken _ = ⊥
+
+-- the store
+abbrev pub IsOfStore : Fault → Type 0
+IsOfStore (Store _) = ⊤
+IsOfStore Memory = ⊤
+IsOfStore _ = ⊥
+
+-- either
+abbrev pub IsOfFiles : Fault → Type 0
+IsOfFiles fault = IsOfToken fault ⊎ IsOfStore fault
+
+-- the connections
+abbrev pub IsOfServing : Fault → Type 0
+IsOfServing Socket = ⊤
+IsOfServing Output = ⊤
+IsOfServing Connection = ⊤
+IsOfServing Clock = ⊤
+IsOfServing Memory = ⊤
+IsOfServing _ = ⊥
+
+-- a setting
+abbrev pub IsOfSetting : Fault → Fault → Type 0
+IsOfSetting setting fault = (fault ≡ setting) ⊎ (fault ≡ Memory)
+
+-- a text writes no address
+abbrev pub IsNoAddress : List ℕ → Type 0
+IsNoAddress text = (address : SocketAddr) → ¬ (IsSocketText text address)
+
+-- ---- connections
 
 -- the end of a connection that ends the program: the next would end so too
 abbrev pub fault_of_end : Driven → Option Fault
@@ -42,3 +80,15 @@ is_passing kind.NetworkDown = true
 is_passing kind.TimedOut = true
 is_passing kind.Interrupted = true
 is_passing _ = false
+
+-- so it may after these failures of the network, which have no kind of their own: Linux's EPROTO, ENOPROTOOPT, EHOSTDOWN, ENONET and EOPNOTSUPP (accept(2))
+abbrev pub is_of_network : ℕ → Bool
+is_of_network number = list_any (λ n. number == n) (71 ∷ 92 ∷ 112 ∷ 64 ∷ 95 ∷ [])
+
+-- and where there was no room for it, which passes: EMFILE, ENFILE, ENOMEM and ENOBUFS
+abbrev pub is_want_of_room : ℕ → Bool
+is_want_of_room number = list_any (λ n. number == n) (24 ∷ 23 ∷ 12 ∷ 105 ∷ [])
+
+-- by the kind of the failure, and by its number
+abbrev pub goes_on_after : ErrorKind → ℕ → Bool
+goes_on_after kind number = is_want_of_room number || is_passing kind || is_of_network number

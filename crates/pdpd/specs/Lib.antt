@@ -1,4 +1,3 @@
-pub mod Batch
 pub mod CommandLine
 pub mod Connections
 pub mod Ending
@@ -9,5 +8,7 @@ pub mod Heading
 pub mod Reading
 pub mod Replay
 pub mod Replaying
+pub mod Serving
+pub mod Telling
 pub mod Token
 pub mod Transcript

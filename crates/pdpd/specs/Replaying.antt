@@ -1,15 +1,82 @@
 -- What the program holds and writes while a transcript is replayed: words that only contracts of private functions cite.
-use Rattle.std.specs.Prelude.{ℕ, List, Option}
+use Rattle.std.specs.Prelude.{◌≡◌, ℕ, suc, Bool, false, List, [], ◌∷◌, Option, Some, None, Result, Ok, Err}
 use Rattle.std.specs.Io.KnownBytes.{Appends}
-use Rattle.xa_records.specs.Keeper.{Custody}
-use Rattle.xa_server.specs.World.{Serving, world}
+use Rattle.xa_http.specs.Stream.{Stream}
+use Rattle.xa_server.specs.Front.{FrontState}
+use Rattle.xa_server.specs.declared.lines.Conn.{Conn}
+use Rattle.xa_server.specs.Lines.{IsOpen, Lines, empty_stream, first_free, none_open, with_line}
 use Rattle.pdpd.specs.declared.connection.Connection.{Connection}
-use Rattle.pdpd.specs.Replay.{Between, Exchange}
+use Rattle.pdpd.specs.declared.exit.Exit.{Exit}
+use Rattle.pdpd.specs.declared.exit.Exit.TheVariants.{Done}
+use Rattle.pdpd.specs.declared.heading.Heading.{Heading}
+use Rattle.pdpd.specs.Replay.{ConnectionTakes, Exchange, IsEntryReplied, StreamTakes, all_open}
 
--- what is held of a server and connections
-abbrev pub between : {R : Type 0} → (R → Custody) → Serving R → List Connection → Between
-between custody server connections = record { world = world custody server; connections = connections }
+-- how the program ends by a result
+abbrev pub end_of : Result (Unit {0}) Exit → Exit
+end_of (Ok _) = Done
+end_of (Err exit) = exit
 
 -- that holds of an exchange, and a writer took what was written
 abbrev pub Writes : Option (List ℕ) → Option (List ℕ) → (Exchange → Type 0) → Type 0
 Writes before now is = (exchange : Exchange) × Appends before now exchange.written × is exchange
+
+-- the connections from that number on, as far as they are open: each with its own number, and whether its session has ended
+abbrev pub connections_from : ℕ → Lines → List Connection
+connections_from number [] = []
+connections_from number (None ∷ lines) = []
+connections_from number (Some stream ∷ lines) =
+    record { conn = record { number = number }; has_ended = stream.ended } ∷ connections_from (suc number) lines
+
+-- the connections that are held are those of the lines
+abbrev pub AreOf : List Connection → Lines → Type 0
+AreOf connections lines = connections ≡ connections_from 0 lines
+
+-- what is held of a connection that is open with the stream: were it closed, it would be the least that is free
+pub record IsLine (connection : Connection) (lines : Lines) (stream : Stream) : Type 0 where
+  pub line : IsOpen connection.conn lines stream
+  pub ended : connection.has_ended ≡ stream.ended
+  pub free : first_free (with_line connection.conn None lines) ≡ Some connection.conn.number
+
+-- the connection was opened: it is the least that was free, and holds nothing
+pub record IsBegun (connection : Connection) (old new : FrontState) : Type 0 where
+  pub least : first_free old.lines ≡ Some connection.conn.number
+  pub lines : new.lines ≡ with_line connection.conn (Some empty_stream) old.lines
+  pub server : new.server ≡ old.server
+  pub goes_on : connection.has_ended ≡ false
+
+-- the connection was closed
+pub record IsFinished (conn : Conn) (old new : FrontState) : Type 0 where
+  pub lines : new.lines ≡ with_line conn None old.lines
+  pub server : new.server ≡ old.server
+
+-- a connection that goes on took the bytes of an entry, and the replies were written; whether its session has ended then
+pub record HasStreamTaken (conn : Conn) (heading : Heading) (bytes : List ℕ) (old new : FrontState) (stream : Stream) (has_ended : Bool) (before now : Option (List ℕ)) : Type 0 where
+  pub after : Stream
+  pub takes : Writes before now (StreamTakes heading bytes stream after old.server.world new.server.world)
+  pub lines : new.lines ≡ with_line conn (Some after) old.lines
+  pub ended : has_ended ≡ after.ended
+
+unfoldable pub TakesOpen : Conn → Heading → List ℕ → FrontState → FrontState → Bool → Option (List ℕ) → Option (List ℕ) → Type 0
+TakesOpen conn heading bytes old new has_ended before now =
+    (stream : Stream) → IsOpen conn old.lines stream → stream.ended ≡ false → HasStreamTaken conn heading bytes old new stream has_ended before now
+
+-- a connection took the bytes of an entry, and the replies were written; it stays the one of its number, and no other connection has changed
+pub record HasTaken (heading : Heading) (bytes : List ℕ) (was is : Connection) (old new : FrontState) (stream : Stream) (before now : Option (List ℕ)) : Type 0 where
+  pub after : Stream
+  pub takes : Writes before now (ConnectionTakes heading bytes stream after old new)
+  pub lines : new.lines ≡ with_line was.conn (Some after) old.lines
+  pub same : is.conn ≡ was.conn
+  pub ended : is.has_ended ≡ after.ended
+
+unfoldable pub Takes : Heading → List ℕ → Connection → Connection → FrontState → FrontState → Option (List ℕ) → Option (List ℕ) → Type 0
+Takes heading bytes was is old new before now =
+    (stream : Stream) → IsLine was old.lines stream → HasTaken heading bytes was is old new stream before now
+
+-- an entry was answered, and the replies written; what is held of the connections is right afterwards, if it was before
+unfoldable pub TakesAsHeld : Heading → List ℕ → List Connection → List Connection → FrontState → FrontState → Option (List ℕ) → Option (List ℕ) → Type 0
+TakesAsHeld heading bytes was are old new before now =
+    AreOf was old.lines → Writes before now (IsEntryReplied heading bytes old new) × AreOf are new.lines
+
+-- all connections were opened, where none was before
+unfoldable pub AllBegun : List Connection → FrontState → FrontState → Type 0
+AllBegun connections old new = old.lines ≡ none_open → (new ≡ record old { lines = all_open }) × AreOf connections all_open

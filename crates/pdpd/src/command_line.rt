@@ -1,4 +1,4 @@
-//! The command line, and the variable PDPD_WORK of the environment.
+//! The command line, and the variables PDPD_WORK and PDPD_IDLE of the environment.
 ghost use Rattle.std.specs.Prelude.{◌≡◌, map, option_map, string_bytes};
 ghost use Rattle.pdpd.specs.CommandLine as spec;
 
@@ -8,8 +8,11 @@ use xa_value::{TextRef, number_up_to};
 /// At most this many connections are served.
 const MAX_CONNECTIONS: usize = 1_000_000;
 
-/// The limit of work for one message where PDPD_WORK isn't set: some two seconds of work.
-const WORK: usize = 1_500_000_000;
+/// The limit of work for one message where PDPD_WORK isn't set: some 0.3 seconds, in which everybody else waits. The dearest honest ask measured takes 3,000,000.
+const WORK: usize = 150_000_000;
+
+/// For how many seconds a connection may give nothing, or take nothing, where PDPD_IDLE isn't set.
+const IDLE: usize = 30;
 
 /// What `pdpd serve` is asked to do.
 #[derive(Drop)]
@@ -112,6 +115,16 @@ pub fn work_of(set: Option<&str>) -> Option<usize>
 {
     match set {
         None => Some(WORK),
+        Some(text) => number_up_to(usize::MAX, text.as_bytes()),
+    }
+}
+
+/// For how many seconds a connection may give nothing, or take nothing, by what PDPD_IDLE is set to; 0 for ever.
+pub fn idle_of(set: Option<&str>) -> Option<usize>
+    ensures { result ≡ spec.idle_of (option_map (λ text. text.now) set.entry) }
+{
+    match set {
+        None => Some(IDLE),
         Some(text) => number_up_to(usize::MAX, text.as_bytes()),
     }
 }

@@ -11,6 +11,8 @@ use std::fmt;
 /// Why a store can't be opened.
 #[derive(Clone, Copy)]
 pub enum StoreFault {
+    /// The folder of the file isn't there.
+    NoFolder,
     /// The file isn't there and can't be made, or can't be opened.
     Unopened,
     /// Another program has it open.
@@ -32,12 +34,13 @@ pub enum StoreFault {
 impl StoreFault {
     fn advice(self) -> &'static str {
         match self {
+            StoreFault::NoFolder => "can't be opened; its folder isn't there, make that first",
             StoreFault::Unopened =>
-                "can't be opened; its folder has to be there, and this user has to be allowed to write in it",
-            StoreFault::Busy => "another program has it open; stop that one first",
+                "can't be opened; it has to be a file, and this user has to be allowed to read and write it, and to write in its folder",
+            StoreFault::Busy => "in use: another program has it open; stop that one first",
             StoreFault::NoDatabase =>
                 "not a database of SQLite that can be read; name another file",
-            StoreFault::Corrupt => "the file is damaged; put back a backup",
+            StoreFault::Corrupt => "the file's pages are damaged; put back a backup",
             StoreFault::Schema => "not a store of this program (schema)",
             StoreFault::Row => "a row of the store is damaged; put back a backup",
             StoreFault::Full => "the disk is full; make room on it",
@@ -53,6 +56,8 @@ pub enum Fault {
     Address,
     /// PDPD_WORK is no number.
     Work,
+    /// PDPD_IDLE is no number.
+    Idle,
     /// The token file can't be read.
     TokenUnread,
     /// Its first line is no token.
@@ -78,7 +83,8 @@ impl Fault {
         ensures serving { IsTrue (ends_serving result) }
     {
         match self {
-            Fault::Address | Fault::Work | Fault::TokenUnread | Fault::TokenBad => Exit::Usage,
+            Fault::Address | Fault::Work | Fault::Idle | Fault::TokenUnread | Fault::TokenBad =>
+                Exit::Usage,
             Fault::Store(_) => Exit::Store,
             Fault::Socket | Fault::Connection | Fault::Clock => Exit::Socket,
             Fault::Output => Exit::Failed,
@@ -91,6 +97,7 @@ impl Fault {
         match self {
             Fault::Address => "not an IP address, `:` and a port, such as 127.0.0.1:8080",
             Fault::Work => "PDPD_WORK is to be a number of units of work, or 0 for no limit",
+            Fault::Idle => "PDPD_IDLE is to be a number of seconds, or 0 for no limit",
             Fault::TokenUnread =>
                 "can't be read; its first line is to be the operator's token (8 to 64 visible ASCII characters)",
             Fault::TokenBad => "its first line is no token (8 to 64 visible ASCII characters)",
@@ -98,7 +105,7 @@ impl Fault {
             Fault::Socket =>
                 "no connections can be taken there; another program may have the port, or this machine another address",
             Fault::Connection => "taking a connection failed; start the program again",
-            Fault::Clock => "the clock can't be read, or is not in the years 1970 to 9999; set it",
+            Fault::Clock => "the clock can't be read, or is not in the years 0001 to 9999; set it",
             Fault::Output => "standard output failed",
             Fault::Memory => "out of memory",
         }
@@ -110,8 +117,27 @@ impl Fault {
             Fault::TokenUnread | Fault::TokenBad => Some(serving.token_file.as_str()),
             Fault::Store(_) => Some(serving.database.as_str()),
             Fault::Address | Fault::Socket | Fault::Connection => Some(serving.address.as_str()),
-            Fault::Work | Fault::Clock | Fault::Output | Fault::Memory => None,
+            Fault::Work | Fault::Idle | Fault::Clock | Fault::Output | Fault::Memory => None,
         }
+    }
+}
+
+/// A text on one line: a control character in it, such as a line feed, is shown by its number.
+#[derive(Clone, Copy)]
+pub struct OneLine<'a> {
+    pub text: &'a str,
+}
+
+impl fmt::Display for OneLine<'_> {
+    fn fmt<W: fmt::Write>(&self, f: &mut fmt::Formatter<W>) -> fmt::Result {
+        for character in self.text.chars() {
+            if character.is_control() {
+                write!(f, "\\u{{{:x}}}", u32::from(character))?;
+            } else {
+                write!(f, "{character}")?;
+            }
+        }
+        Ok(())
     }
 }
 
@@ -126,7 +152,7 @@ impl fmt::Display for FaultLine<'_> {
     fn fmt<W: fmt::Write>(&self, f: &mut fmt::Formatter<W>) -> fmt::Result {
         let advice = self.fault.advice();
         match self.fault.subject(self.serving) {
-            Some(subject) => write!(f, "pdpd serve: {subject}: {advice}"),
+            Some(text) => write!(f, "pdpd serve: {}: {advice}", OneLine { text }),
             None => write!(f, "pdpd serve: {advice}"),
         }
     }

@@ -8,19 +8,19 @@ ghost use Rattle.pdpd.specs.declared.exit.Exit.TheVariants.{Done, Failed, Usage}
 ghost use Rattle.pdpd.specs.CommandLine.{command_of};
 ghost use Rattle.pdpd.specs.Ending.{MayEnd};
 ghost use Rattle.pdpd.specs.Exit.{ends_serving};
+ghost use Rattle.pdpd.specs.Fault.{IsNoAddress};
 
-mod answers;
 mod command_line;
 mod connection;
 mod exit;
 mod fault;
 mod heading;
 mod help;
-mod open_stream;
 mod piece;
 mod replay;
 mod serve;
 mod store;
+mod telling;
 mod token;
 mod transcript;
 mod transcript_fault;
@@ -65,7 +65,8 @@ fn tell(rt: &HostRuntime, text: &str) -> Exit
 
 /// Serves connections, and gives the exit. A line on standard error tells of a fault.
 fn exit_of_serving(rt: &HostRuntime, serving: &Serving<'_>) -> Exit
-    ensures { IsTrue (ends_serving result) }
+    ensures serving { IsTrue (ends_serving result) }
+    ensures address { IsNoAddress serving.now.address → result ≡ Usage }
 {
     match serve::serve(rt, serving) {
         Ok(()) => Exit::Done,

@@ -1,156 +1,250 @@
 //! The replay of a transcript.
-ghost use Rattle.std.specs.Prelude.{◌≡◌, ◌≢◌, ◌↔◌, IsTrue, IsFalse, IfOk, IfErr, slice_index_or, slice_set, replicate};
-ghost use Rattle.std.specs.Io.Buffered.{writer_contents};
+ghost use Rattle.std.specs.Prelude.{◌≡◌, ◌≢◌, ◌↔◌, [], ⊤, IsTrue, IsFalse, IfOk, IfErr, OnOk, Option, List, ℕ, slice_get, slice_set};
+ghost use Rattle.std.specs.Io.Buffered.{writer_buffer, writer_contents, writer_inner};
 ghost use Rattle.sha2.specs.Sha256.{sha256};
 ghost use Rattle.xa_notation.specs.Tokens.{is_token};
-ghost use Rattle.xa_server.specs.World.{world};
+ghost use Rattle.xa_http.specs.Stream.{fed};
+ghost use Rattle.xa_server.specs.Front.{front_state};
+ghost use Rattle.xa_server.specs.Lines.{none_open};
 ghost use Rattle.pdpd.specs.Exit.{breaks_off};
 ghost use Rattle.pdpd.specs.Reading.{remaining_of};
-ghost use Rattle.pdpd.specs.Replay.{ConnectionTakes, IsEntryReplied, IsReplayed, StreamTakes};
-ghost use Rattle.pdpd.specs.Replaying.{Writes, between};
+ghost use Rattle.pdpd.specs.Replay.{IsReplayed, IsTranscriptRead, Replays};
+ghost use Rattle.pdpd.specs.Replaying.{AllBegun, AreOf, Takes, TakesAsHeld, TakesOpen, end_of};
+ghost use Rattle.pdpd.specs.Telling.{HasTold, progress_at};
 ghost use Rattle.pdpd.specs.declared.exit.Exit.TheVariants.{Memory, Usage};
-ghost use Rattle.pdpd.specs.declared.connection.Connection.TheVariants.{Closed};
 
-use crate::answers::answer;
-use crate::connection::{Connection, closed_connections};
+use crate::connection::{Connection, begin, finish, open_all};
 use crate::exit::Exit;
 use crate::heading::Heading;
-use crate::open_stream::OpenStream;
 use crate::store::records_in_memory;
+use crate::telling::{Progress, answers_behind, write_outcomes};
 use crate::transcript::Transcript;
 use std::alloc::Global;
 use std::io::{BufWriter, Read, Write};
-use std::mem;
-use xa_http::Session;
 use xa_notation::is_token;
 use xa_records::{Digest, Records};
-use xa_server::Server;
+use xa_server::{Conn, Event, Front, Server};
 
 /// How many bytes of replies are held before they are written.
 const BUFFER_BYTES: usize = 65_536;
+
+/// How many bytes of an entry are handed over at once: all messages that are whole then are answered before the next.
+const PIECE_BYTES: usize = 65_536;
 
 /// What the program holds between entries.
 #[derive(Drop)]
 struct Replayer<R: Records + Drop, W: Write + Drop> {
     alloc: Global,
-    server: Server<R>,
+    front: Front<R>,
     connections: Vec<Connection>,
     writer: BufWriter<W>,
 }
 
 impl<R: Records + Drop, W: Write + Drop> Replayer<R, W> {
-    /// Over what a keeper keeps, with all connections closed.
+    /// Over what a keeper keeps; no connection is open yet.
     fn new(alloc: Global, records: R, writer: W, token: &str) -> Result<Replayer<R, W>, Exit>
-        ensures operator { IfOk result (λ replayer. replayer.server.operator ≡ sha256 token.now) }
-        ensures records { IfOk result (λ replayer. replayer.server.records ≡ records) }
-        ensures closed { IfOk result (λ replayer. replayer.connections.items ≡ replicate 64 Closed) }
+        ensures operator { IfOk result (λ replayer. replayer.front.server.operator ≡ sha256 token.now) }
+        ensures records { IfOk result (λ replayer. replayer.front.server.records ≡ records) }
+        ensures closed { IfOk result (λ replayer. replayer.front.lines ≡ none_open) }
+        ensures writer { IfOk result (λ replayer. writer_inner replayer.writer ≡ writer) }
+        ensures unwritten { IfOk result (λ replayer. writer_buffer replayer.writer ≡ []) }
         ensures err { IfErr result (λ exit. exit ≡ Memory) }
     {
         let operator = Digest::of(token.as_bytes());
+        let server = Server::new(alloc, records, operator)?;
         Ok(Replayer {
             alloc,
-            server: Server::new(alloc, records, operator)?,
-            connections: closed_connections(alloc)?,
+            front: Front::new(alloc, server)?,
+            connections: Vec::new(alloc),
             writer: BufWriter::with_capacity(alloc, BUFFER_BYTES, writer)?,
         })
     }
 
-    /// Hands the bytes of an entry to its connection, and writes the replies to them.
-    fn entry(&mut self, heading: Heading, bytes: &[u8]) -> Result<(), Exit>
-        ensures replied { IfOk result (λ _. (R.custody self.new.server.records).sound →
-            Writes (writer_contents W.contents self.old.writer) (writer_contents W.contents self.new.writer)
-            (IsEntryReplied heading bytes.now (between R.custody self.old.server self.old.connections.items) (between R.custody self.new.server self.new.connections.items))) }
-        ensures sound { (R.custody self.new.server.records).sound → (R.custody self.old.server.records).sound }
+    /// Opens all connections.
+    fn open_all(&mut self) -> Result<(), Exit>
+        ensures opened { OnOk result ((R.custody self.new.front.server.records).sound → AllBegun self.new.connections.items (front_state R.custody self.old.front) (front_state R.custody self.new.front)) }
+        ensures writer { self.new.writer ≡ self.old.writer }
+        ensures sound { (R.custody self.new.front.server.records).sound → (R.custody self.old.front.server.records).sound }
         ensures err { IfErr result (λ exit. IsTrue (breaks_off exit)) }
     {
-        let place = heading.connection;
-        let before = self.replace(place, Connection::Closed);
-        let after = self.connection_after(before, heading, bytes)?;
-        self.replace(place, after);
+        self.connections = open_all(self.alloc, &mut self.front)?;
         Ok(())
     }
 
-    /// The connection at that place, where another is now.
-    fn replace(&mut self, place: usize, by: Connection) -> Connection
-        ensures before { result ≡ slice_index_or self.old.connections.items place Closed }
-        ensures after { self.new.connections.items ≡ slice_set self.old.connections.items place by }
-        ensures server { self.new.server ≡ self.old.server }
+    /// Hands the bytes of an entry to its connection, and writes the replies to them.
+    #[tactic(auto, using(crate::proofs::ReplayLemmas::entry_taken))]
+    fn entry(&mut self, heading: &Heading, bytes: &[u8]) -> Result<(), Exit>
+        ensures replied { OnOk result ((R.custody self.new.front.server.records).sound →
+            TakesAsHeld heading.now bytes.now self.old.connections.items self.new.connections.items (front_state R.custody self.old.front) (front_state R.custody self.new.front)
+            (writer_contents W.contents self.old.writer) (writer_contents W.contents self.new.writer)) }
+        ensures sound { (R.custody self.new.front.server.records).sound → (R.custody self.old.front.server.records).sound }
+        ensures err { IfErr result (λ exit. IsTrue (breaks_off exit)) }
+    {
+        let number = heading.connection;
+        let Some(was) = self.connection(number) else {
+            return Err(Exit::Memory);
+        };
+        let is = self.connection_after(was, heading, bytes)?;
+        self.put(number, is);
+        Ok(())
+    }
+
+    /// The connection of that number.
+    fn connection(&self, number: usize) -> Option<Connection>
+        ensures { result ≡ slice_get self.now.connections.items number }
+    {
+        self.connections.get(number).copied()
+    }
+
+    /// Holds that of the connection of that number.
+    fn put(&mut self, number: usize, connection: Connection)
+        ensures after { self.new.connections.items ≡ slice_set self.old.connections.items number connection }
+        ensures front { self.new.front ≡ self.old.front }
         ensures writer { self.new.writer ≡ self.old.writer }
     {
-        match self.connections.get_mut(place) {
-            Some(connection) => mem::replace(connection, by),
-            None => Connection::Closed,
+        if let Some(held) = self.connections.get_mut(number) {
+            *held = connection;
         }
     }
 
-    /// What a connection is after it has taken the bytes of an entry, and the replies to them are written. It is opened
-    /// where it isn't open, and no bytes close it.
+    /// What a connection is after it has taken the bytes of an entry, and the replies to them are written. No bytes close it, and the next begins in its
+    /// place.
+    #[tactic(auto, using(crate::proofs::ReplayLemmas::closed, crate::proofs::ReplayLemmas::passed_over, crate::proofs::ReplayLemmas::gone_on))]
     fn connection_after(
         &mut self,
         was: Connection,
-        heading: Heading,
+        heading: &Heading,
         bytes: &[u8],
     ) -> Result<Connection, Exit>
-        ensures taken { IfOk result (λ is. (R.custody self.new.server.records).sound →
-            Writes (writer_contents W.contents self.old.writer) (writer_contents W.contents self.new.writer)
-            (ConnectionTakes heading bytes.now was is (world R.custody self.old.server) (world R.custody self.new.server))) }
+        ensures taken { IfOk result (λ is. (R.custody self.new.front.server.records).sound →
+            Takes heading.now bytes.now was is (front_state R.custody self.old.front) (front_state R.custody self.new.front)
+            (writer_contents W.contents self.old.writer) (writer_contents W.contents self.new.writer)) }
         ensures others { self.new.connections ≡ self.old.connections }
-        ensures sound { (R.custody self.new.server.records).sound → (R.custody self.old.server.records).sound }
+        ensures sound { (R.custody self.new.front.server.records).sound → (R.custody self.old.front.server.records).sound }
         ensures err { IfErr result (λ exit. IsTrue (breaks_off exit)) }
     {
         if bytes.is_empty() {
-            return Ok(Connection::Closed);
+            finish(&mut self.front, was.conn)?;
+            return begin(&mut self.front);
         }
-        match was {
-            Connection::Closed => self.stream_after(Session::new(self.alloc), heading, bytes),
-            Connection::Open(stream) => self.stream_after(stream.session, heading, bytes),
-            Connection::Ended => Ok(Connection::Ended),
+        if was.has_ended {
+            return Ok(was);
         }
+        let has_ended = self.take(was.conn, heading, bytes)?;
+        Ok(Connection {
+            conn: was.conn,
+            has_ended,
+        })
     }
 
-    /// The connection of a stream after it has taken the bytes of an entry, and the replies to them are written. What
-    /// follows the end of the stream is dropped.
-    fn stream_after(
-        &mut self,
-        session: Session,
-        heading: Heading,
-        bytes: &[u8],
-    ) -> Result<Connection, Exit>
-        ensures taken { IfOk result (λ is. (R.custody self.new.server.records).sound →
-            Writes (writer_contents W.contents self.old.writer) (writer_contents W.contents self.new.writer)
-            (StreamTakes heading bytes.now session is (world R.custody self.old.server) (world R.custody self.new.server))) }
+    /// Hands bytes over, a piece at a time, and writes the replies to all messages that are whole after each. What follows the end of the session is dropped.
+    /// Whether it has ended.
+    #[tactic(auto, using(crate::proofs::PieceLemmas::taken_none, crate::proofs::PieceLemmas::taken_more, crate::proofs::PieceLemmas::taken_ended, crate::proofs::PieceLemmas::taken_all))]
+    fn take(&mut self, conn: Conn, heading: &Heading, bytes: &[u8]) -> Result<bool, Exit>
+        ensures taken { IfOk result (λ has_ended. (R.custody self.new.front.server.records).sound →
+            TakesOpen conn heading.now bytes.now (front_state R.custody self.old.front) (front_state R.custody self.new.front) has_ended
+            (writer_contents W.contents self.old.writer) (writer_contents W.contents self.new.writer)) }
         ensures others { self.new.connections ≡ self.old.connections }
-        ensures sound { (R.custody self.new.server.records).sound → (R.custody self.old.server.records).sound }
+        ensures sound { (R.custody self.new.front.server.records).sound → (R.custody self.old.front.server.records).sound }
         ensures err { IfErr result (λ exit. IsTrue (breaks_off exit)) }
     {
-        let mut session = session;
-        answer(
-            self.alloc,
-            &mut self.server,
-            heading.moment,
-            &mut session,
-            bytes,
-            heading.connection,
-            &mut self.writer,
-        )?;
-        if session.has_ended() {
-            return Ok(Connection::Ended);
+        let mut rest = bytes;
+        while rest.len() > PIECE_BYTES {
+            let (piece, after) = rest.split_at(PIECE_BYTES);
+            if self.take_piece(conn, heading, piece)? {
+                return Ok(true);
+            }
+            rest = after;
         }
-        Ok(Connection::Open(OpenStream { session }))
+        self.take_piece(conn, heading, rest)
+    }
+
+    /// Hands a piece over, and writes the replies to all messages that are whole then. Whether the session has ended.
+    #[tactic(auto, using(crate::proofs::PieceLemmas::told_on))]
+    fn take_piece(&mut self, conn: Conn, heading: &Heading, piece: &[u8]) -> Result<bool, Exit>
+        ensures told { IfOk result (λ has_ended. (R.custody self.new.front.server.records).sound →
+            HasTold conn heading.now (λ stream. fed stream piece.now) (front_state R.custody self.old.front) (front_state R.custody self.new.front) (progress_at has_ended)
+            (writer_contents W.contents self.old.writer) (writer_contents W.contents self.new.writer)) }
+        ensures others { self.new.connections ≡ self.old.connections }
+        ensures sound { (R.custody self.new.front.server.records).sound → (R.custody self.old.front.server.records).sound }
+        ensures err { IfErr result (λ exit. IsTrue (breaks_off exit)) }
+    {
+        let mut progress = self.first_answers(conn, heading, piece)?;
+        for _ in 0..u64::MAX {
+            match progress {
+                Progress::Answered => progress = self.more_answers(conn, heading)?,
+                Progress::Waits => return Ok(false),
+                Progress::Ended => return Ok(true),
+            }
+        }
+        // No piece holds this many messages.
+        Err(Exit::Memory)
+    }
+
+    /// Hands a piece over, asks for the first two answers, and writes their replies: most entries hold one message.
+    #[tactic(auto, using(crate::proofs::PieceLemmas::pieced_as))]
+    fn first_answers(
+        &mut self,
+        conn: Conn,
+        heading: &Heading,
+        piece: &[u8],
+    ) -> Result<Progress, Exit>
+        ensures told { IfOk result (λ is. (R.custody self.new.front.server.records).sound →
+            HasTold conn heading.now (λ stream. fed stream piece.now) (front_state R.custody self.old.front) (front_state R.custody self.new.front) is
+            (writer_contents W.contents self.old.writer) (writer_contents W.contents self.new.writer)) }
+        ensures others { self.new.connections ≡ self.old.connections }
+        ensures sound { (R.custody self.new.front.server.records).sound → (R.custody self.old.front.server.records).sound }
+        ensures err { IfErr result (λ exit. IsTrue (breaks_off exit)) }
+    {
+        let moment = heading.moment;
+        let outcomes = self.front.play(&[
+            Event::Piece(conn, piece),
+            Event::Answer(conn, moment),
+            Event::Answer(conn, moment),
+        ])?;
+        let Some(answers) = answers_behind(outcomes.as_slice()) else {
+            return Err(Exit::Memory);
+        };
+        write_outcomes(&mut self.writer, heading.connection, answers)
+    }
+
+    /// Asks for some more answers, and writes their replies.
+    #[tactic(auto, using(crate::proofs::PieceLemmas::asked_as))]
+    fn more_answers(&mut self, conn: Conn, heading: &Heading) -> Result<Progress, Exit>
+        ensures told { IfOk result (λ is. (R.custody self.new.front.server.records).sound →
+            HasTold conn heading.now (λ stream. stream) (front_state R.custody self.old.front) (front_state R.custody self.new.front) is
+            (writer_contents W.contents self.old.writer) (writer_contents W.contents self.new.writer)) }
+        ensures others { self.new.connections ≡ self.old.connections }
+        ensures sound { (R.custody self.new.front.server.records).sound → (R.custody self.old.front.server.records).sound }
+        ensures err { IfErr result (λ exit. IsTrue (breaks_off exit)) }
+    {
+        let moment = heading.moment;
+        let outcomes = self.front.play(&[
+            Event::Answer(conn, moment),
+            Event::Answer(conn, moment),
+            Event::Answer(conn, moment),
+            Event::Answer(conn, moment),
+            Event::Answer(conn, moment),
+            Event::Answer(conn, moment),
+            Event::Answer(conn, moment),
+            Event::Answer(conn, moment),
+        ])?;
+        write_outcomes(&mut self.writer, heading.connection, &outcomes)
     }
 }
 
 /// Answers the entries of a transcript, one after another.
-#[tactic(auto, using(crate::proofs::ReplayLemmas::so_far_none))]
-fn answer_all<I: Read, R: Records + Drop, W: Write + Drop>(
+#[tactic(auto, using(crate::proofs::ReplayLemmas::given_none, crate::proofs::ReplayLemmas::given_more, crate::proofs::ReplayLemmas::given_all, crate::proofs::ReplayLemmas::given_badly, crate::proofs::ReplayLemmas::answered_none, crate::proofs::ReplayLemmas::answered_more, crate::proofs::ReplayLemmas::answered_all, crate::proofs::ReplayLemmas::answered_badly, crate::proofs::ReplayLemmas::broken_off))]
+fn answer_entries<I: Read, R: Records + Drop, W: Write + Drop>(
     transcript: &mut Transcript<I>,
     replayer: &mut Replayer<R, W>,
 ) -> Result<(), Exit>
-    ensures replayed { (R.custody replayer.new.server.records).sound →
-        IsReplayed (between R.custody replayer.old.server replayer.old.connections.items) (between R.custody replayer.new.server replayer.new.connections.items)
-        (remaining_of I.remaining transcript.old) (remaining_of I.remaining transcript.new)
-        (writer_contents W.contents replayer.old.writer) (writer_contents W.contents replayer.new.writer) result }
-    ensures sound { (R.custody replayer.new.server.records).sound → (R.custody replayer.old.server.records).sound }
+    ensures replayed { (R.custody replayer.new.front.server.records).sound → AreOf replayer.old.connections.items replayer.old.front.lines →
+        IsTranscriptRead (Replays (front_state R.custody replayer.old.front) (front_state R.custody replayer.new.front)
+        (writer_contents W.contents replayer.old.writer) (writer_contents W.contents replayer.new.writer))
+        (remaining_of I.remaining transcript.old) (remaining_of I.remaining transcript.new) (end_of result) }
+    ensures read { IsTranscriptRead (λ _. ⊤) (remaining_of I.remaining transcript.old) (remaining_of I.remaining transcript.new) (end_of result) }
+    ensures sound { (R.custody replayer.new.front.server.records).sound → (R.custody replayer.old.front.server.records).sound }
     ensures err { IfErr result (λ exit. exit ≢ Usage) }
 {
     let mut bytes = Vec::new(replayer.alloc);
@@ -162,32 +256,31 @@ fn answer_all<I: Read, R: Records + Drop, W: Write + Drop>(
         let Some(heading) = next else {
             return Ok(());
         };
-        replayer.entry(heading, &bytes)?;
+        replayer.entry(&heading, &bytes)?;
     }
     // No reader gives this many.
     Err(Exit::Failed)
 }
 
-/// Answers the messages of a transcript over a keeper, each at the moment of the entry that makes it whole, and writes the
-/// replies. `token` is the operator's. What was answered is written, however it ends.
-fn replay_over<R: Records + Drop, I: Read + Drop, W: Write + Drop>(
-    alloc: Global,
-    records: R,
-    reader: I,
-    writer: W,
-    token: &str,
+/// Answers the entries of a transcript, each message at the moment of the entry that makes it whole, and writes the replies. What was answered is written, however it
+/// ends. No connection is open when it begins.
+#[tactic(auto, using(crate::proofs::ReplayLemmas::replayed_all, crate::proofs::ReplayLemmas::broken_off))]
+fn replay_all<I: Read, R: Records + Drop, W: Write + Drop>(
+    transcript: &mut Transcript<I>,
+    replayer: &mut Replayer<R, W>,
 ) -> Exit
-    ensures { result ≢ Usage }
+    requires { replayer.old.front.lines ≡ none_open }
+    ensures replayed { (R.custody replayer.new.front.server.records).sound →
+        IsReplayed (front_state R.custody replayer.old.front) (front_state R.custody replayer.new.front)
+        (remaining_of I.remaining transcript.old) (remaining_of I.remaining transcript.new)
+        (writer_contents W.contents replayer.old.writer) (W.contents (writer_inner replayer.new.writer)) result }
+    ensures read { IsTranscriptRead (λ _. ⊤) (remaining_of I.remaining transcript.old) (remaining_of I.remaining transcript.new) result }
+    ensures other { result ≢ Usage }
 {
-    let mut replayer = match Replayer::new(alloc, records, writer, token) {
-        Ok(replayer) => replayer,
-        Err(exit) => return exit,
-    };
-    let mut transcript = match Transcript::new(alloc, reader) {
-        Ok(transcript) => transcript,
-        Err(error) => return Exit::from(error),
-    };
-    let exit = match answer_all(&mut transcript, &mut replayer) {
+    if let Err(exit) = replayer.open_all() {
+        return exit;
+    }
+    let exit = match answer_entries(transcript, replayer) {
         Ok(()) => Exit::Done,
         Err(exit) => exit,
     };
@@ -197,14 +290,36 @@ fn replay_over<R: Records + Drop, I: Read + Drop, W: Write + Drop>(
     }
 }
 
-/// Answers the messages of a transcript, over a store in memory that keeps no domains yet.
+/// Replays a transcript over a keeper.
+fn replay_over<R: Records + Drop, I: Read + Drop, W: Write + Drop>(
+    alloc: Global,
+    records: R,
+    reader: I,
+    writer: W,
+    token: &str,
+) -> Exit
+    ensures read { (rest : Option (List ℕ)) × IsTranscriptRead (λ _. ⊤) (I.remaining reader) rest result }
+    ensures other { result ≢ Usage }
+{
+    let mut replayer = match Replayer::new(alloc, records, writer, token) {
+        Ok(replayer) => replayer,
+        Err(exit) => return exit,
+    };
+    match Transcript::new(alloc, reader) {
+        Ok(mut transcript) => replay_all(&mut transcript, &mut replayer),
+        Err(error) => Exit::from(error),
+    }
+}
+
+/// Answers the messages of a transcript, over a store in memory that keeps no domains yet, and writes the replies. `token` is the operator's.
 pub fn replay<I: Read + Drop, W: Write + Drop>(
     alloc: Global,
     reader: I,
     writer: W,
     token: &str,
 ) -> Exit
-    ensures { (result ≡ Usage) ↔ IsFalse (is_token token.now) }
+    ensures usage { (result ≡ Usage) ↔ IsFalse (is_token token.now) }
+    ensures read { (rest : Option (List ℕ)) × IsTranscriptRead (λ _. ⊤) (I.remaining reader) rest result }
 {
     if !is_token(token.as_bytes()) {
         return Exit::Usage;

@@ -1,28 +1,34 @@
 //! `pdpd serve`: connections, one after another.
-ghost use Rattle.std.specs.Prelude.{◌≡◌, IfErr, IfOk, MatchResult, Some, None};
+ghost use Rattle.std.specs.Prelude.{◌≡◌, ◌↔◌, IfErr, IfOk, MatchResult, OnOk, Err, None, Some, IsFalse, IsTrue};
 ghost use Rattle.std.specs.Net.Grammar.{IsSocketText, Parses};
-ghost use Rattle.xa_server.specs.World.{world};
-ghost use Rattle.pdpd.specs.Connections.{AreIsolated, IsConnectionServed};
-ghost use Rattle.pdpd.specs.declared.exit.Exit.TheVariants.{Socket, Usage};
-ghost use Rattle.pdpd.specs.declared.fault.Fault.TheVariants.{Address, Connection};
-ghost use Rattle.pdpd.specs.Fault.{EndsBy, fault_of_end, is_passing};
+ghost use Rattle.xa_server.specs.Front.{front_state};
+ghost use Rattle.xa_server.specs.Lines.{none_open};
+ghost use Rattle.pdpd.specs.declared.fault.Fault.TheVariants.{Address, Connection, Idle, Memory, Work};
+ghost use Rattle.pdpd.specs.Fault.{IsNoAddress, IsOfFiles, IsOfServing, IsOfSetting, fault_of_end, goes_on_after, is_of_network, is_passing, is_want_of_room};
+ghost use Rattle.pdpd.specs.Serving.{Serves, ServesOne};
+ghost use Rattle.pdpd.specs.Token.{IsOperator};
 
-use crate::command_line::{Serving, work_of};
+use crate::command_line::{Serving, idle_of, work_of};
 use crate::fault::Fault;
-use crate::store::records_in_file;
+use crate::store::{FileRecords, records_in_file};
 use crate::token::operator_of_file;
 use crate::wall_clock::WallClock;
 use std::alloc::Global;
 use std::env::{self, VarError};
-use std::io::ErrorKind;
+use std::io::{self, ErrorKind};
 use std::net::{SocketAddr, TcpListener, TcpStream};
-use xa_records::Records;
-use xa_server::{Clock, Driven, Server, drive};
+use std::thread;
+use std::time::Duration;
+use xa_records::{Digest, Records};
+use xa_server::{Clock, Driven, Front, Server, drive};
 
 /// How often in a row a connection may fail as it is taken: a peer that closed it first doesn't end the program.
 const MAX_FAILURES: u32 = 1_000;
 
-/// Whether the next connection may be taken after that failure: it was the peer's or the network's, not the listener's.
+/// How many milliseconds pass before a connection for which there was no room is taken again: 1,000 of them are ten seconds.
+const PAUSE: u64 = 10;
+
+/// Whether the next connection may be taken after a failure of that kind: it was the peer's or the network's, not the listener's.
 fn is_passing(kind: ErrorKind) -> bool
     ensures { result ≡ is_passing kind }
 {
@@ -38,15 +44,50 @@ fn is_passing(kind: ErrorKind) -> bool
     )
 }
 
+/// Whether a failure of that number was the network's: EPROTO, ENOPROTOOPT, EHOSTDOWN, ENONET or EOPNOTSUPP, which have no kind of their own.
+fn is_of_network(number: u32) -> bool
+    ensures { result ≡ is_of_network number }
+{
+    matches!(number, 71 | 92 | 112 | 64 | 95)
+}
+
+/// Whether by a failure of that number there was no room for a connection: EMFILE, ENFILE, ENOMEM or ENOBUFS.
+fn is_want_of_room(number: u32) -> bool
+    ensures { result ≡ is_want_of_room number }
+{
+    matches!(number, 24 | 23 | 12 | 105)
+}
+
+/// The system's number of a failure; 0 where it has none.
+fn number_of(error: &io::Error) -> u32 {
+    match error.raw_os_error() {
+        Some(number) => number.unsigned_abs(),
+        None => 0,
+    }
+}
+
+/// Waits until the next connection may be taken after that failure, if it may.
+fn wait_after(rt: &HostRuntime, kind: ErrorKind, number: u32) -> Result<(), Fault>
+    ensures { MatchResult result (λ _. IsTrue (goes_on_after kind number)) (λ fault. (fault ≡ Connection) × IsFalse (goes_on_after kind number)) }
+{
+    if is_want_of_room(number) {
+        thread::sleep(rt, Duration::from_millis(PAUSE));
+        return Ok(());
+    }
+    if is_passing(kind) || is_of_network(number) {
+        return Ok(());
+    }
+    Err(Fault::Connection)
+}
+
 /// The next connection.
-fn next_connection(listener: &TcpListener) -> Result<TcpStream, Fault>
+fn next_connection(rt: &HostRuntime, listener: &TcpListener) -> Result<TcpStream, Fault>
     ensures { IfErr result (λ fault. fault ≡ Connection) }
 {
     for _ in 0..MAX_FAILURES {
         match listener.accept() {
             Ok((stream, _peer)) => return Ok(stream),
-            Err(error) if is_passing(error.kind()) => {}
-            Err(_) => return Err(Fault::Connection),
+            Err(error) => wait_after(rt, error.kind(), number_of(&error))?,
         }
     }
     Err(Fault::Connection)
@@ -54,7 +95,8 @@ fn next_connection(listener: &TcpListener) -> Result<TcpStream, Fault>
 
 /// Whether the next connection is served after one that ended so.
 fn after(driven: Driven) -> Result<(), Fault>
-    ensures { MatchResult result (λ _. fault_of_end driven ≡ None) (λ fault. fault_of_end driven ≡ Some fault) }
+    ensures after { MatchResult result (λ _. fault_of_end driven ≡ None) (λ fault. fault_of_end driven ≡ Some fault) }
+    ensures err { IfErr result IsOfServing }
 {
     match driven {
         Driven::NoClock => Err(Fault::Clock),
@@ -63,41 +105,79 @@ fn after(driven: Driven) -> Result<(), Fault>
     }
 }
 
-/// Serves a connection, each message at the clock's moment, until it ends (`xa_server`, `drive`).
+/// Sets how long a connection may give nothing, or take nothing, in seconds; 0 for ever. Such a read or write fails.
+fn set_idle(stream: &TcpStream, idle: usize) {
+    if idle == 0 {
+        return;
+    }
+    let wait = Duration::from_secs(idle as u64);
+    // These fail only at a wait of no time, or of a stream that is gone, where the next read fails.
+    let _ = stream.set_read_timeout(Some(wait));
+    let _ = stream.set_write_timeout(Some(wait));
+}
+
+/// Serves a connection, each message at the clock's moment, until it ends (`xa_server`, `drive`). No other is open then, and none is afterwards.
 #[tactic(auto, using(crate::proofs::ServingLemmas::served_one))]
 fn serve_connection<R: Records, C: Clock>(
-    alloc: Global,
-    server: &mut Server<R>,
+    front: &mut Front<R>,
     stream: &TcpStream,
     clock: &mut C,
 ) -> Result<(), Fault>
-    ensures served { IfOk result (λ _. (R.custody server.new.records).sound → IsConnectionServed (world R.custody server.old) (world R.custody server.new)) }
-    ensures sound { (R.custody server.new.records).sound → (R.custody server.old.records).sound }
-    ensures err { IfErr result (EndsBy Socket) }
+    ensures served { OnOk result ((R.custody front.new.server.records).sound → ServesOne (front_state R.custody front.old) (front_state R.custody front.new)) }
+    ensures sound { (R.custody front.new.server.records).sound → (R.custody front.old.server.records).sound }
+    ensures err { IfErr result IsOfServing }
 {
-    // A reply that waits for the peer's acknowledgement comes later, and is no other.
-    let _ = stream.set_nodelay(true);
-    after(drive(alloc, server, &mut &*stream, &mut &*stream, clock))
+    let Ok(conn) = front.open() else {
+        return Err(Fault::Memory);
+    };
+    let driven = drive(front, conn, &mut &*stream, &mut &*stream, clock);
+    match front.close(conn) {
+        Ok(()) => after(driven),
+        Err(_) => Err(Fault::Memory),
+    }
 }
 
-/// Serves that many connections, one after another.
-#[tactic(auto, using(crate::proofs::ServingLemmas::served_none, crate::proofs::ServingLemmas::served_more))]
-fn serve_connections<R: Records, C: Clock>(
-    alloc: Global,
-    server: &mut Server<R>,
+/// Takes a connection and serves it.
+fn serve_next<R: Records, C: Clock>(
+    rt: &HostRuntime,
+    front: &mut Front<R>,
     listener: &TcpListener,
     clock: &mut C,
-    connections: usize,
+    idle: usize,
 ) -> Result<(), Fault>
-    ensures served { IfOk result (λ _. (R.custody server.new.records).sound → AreIsolated connections (world R.custody server.old) (world R.custody server.new)) }
-    ensures sound { (R.custody server.new.records).sound → (R.custody server.old.records).sound }
-    ensures err { IfErr result (EndsBy Socket) }
+    ensures served { OnOk result ((R.custody front.new.server.records).sound → ServesOne (front_state R.custody front.old) (front_state R.custody front.new)) }
+    ensures sound { (R.custody front.new.server.records).sound → (R.custody front.old.server.records).sound }
+    ensures err { IfErr result IsOfServing }
 {
-    for _ in 0..connections {
-        let stream = next_connection(listener)?;
-        serve_connection(alloc, server, &stream, clock)?;
+    let stream = next_connection(rt, listener)?;
+    set_idle(&stream, idle);
+    serve_connection(front, &stream, clock)
+}
+
+/// Serves that many connections, one after another. No more are taken once the last of them has come: who comes later is refused at once.
+#[tactic(auto, using(crate::proofs::ServingLemmas::served_none, crate::proofs::ServingLemmas::served_more, crate::proofs::ServingLemmas::served_last))]
+fn serve_connections<R: Records, C: Clock>(
+    rt: &HostRuntime,
+    front: &mut Front<R>,
+    listener: TcpListener,
+    clock: &mut C,
+    connections: usize,
+    idle: usize,
+) -> Result<(), Fault>
+    ensures served { OnOk result ((R.custody front.new.server.records).sound → Serves connections (front_state R.custody front.old) (front_state R.custody front.new)) }
+    ensures sound { (R.custody front.new.server.records).sound → (R.custody front.old.server.records).sound }
+    ensures err { IfErr result IsOfServing }
+{
+    let Some(others) = connections.checked_sub(1) else {
+        return Ok(());
+    };
+    for _ in 0..others {
+        serve_next(rt, front, &listener, clock, idle)?;
     }
-    Ok(())
+    let stream = next_connection(rt, &listener)?;
+    drop(listener);
+    set_idle(&stream, idle);
+    serve_connection(front, &stream, clock)
 }
 
 /// The server with that limit of work for one message; 0 for none.
@@ -113,12 +193,14 @@ fn with_limit<R: Records>(server: Server<R>, work: usize) -> Server<R>
 /// Takes connections at the address, says so, and serves them.
 fn serve_at<R: Records>(
     rt: &HostRuntime,
-    server: &mut Server<R>,
+    front: &mut Front<R>,
     address: SocketAddr,
     serving: &Serving<'_>,
+    idle: usize,
 ) -> Result<(), Fault>
-    ensures served { IfOk result (λ _. (R.custody server.new.records).sound → AreIsolated serving.now.connections (world R.custody server.old) (world R.custody server.new)) }
-    ensures sound { (R.custody server.new.records).sound → (R.custody server.old.records).sound }
+    ensures served { OnOk result ((R.custody front.new.server.records).sound → Serves serving.now.connections (front_state R.custody front.old) (front_state R.custody front.new)) }
+    ensures sound { (R.custody front.new.server.records).sound → (R.custody front.old.server.records).sound }
+    ensures err { IfErr result IsOfServing }
 {
     let Ok(listener) = TcpListener::bind(rt, address) else {
         return Err(Fault::Socket);
@@ -126,13 +208,13 @@ fn serve_at<R: Records>(
     if println!(rt; "listening {}", serving.address.as_str()).is_err() {
         return Err(Fault::Output);
     }
-    let mut clock = WallClock::new(rt);
     serve_connections(
-        rt.alloc(),
-        server,
-        &listener,
-        &mut clock,
+        rt,
+        front,
+        listener,
+        &mut WallClock,
         serving.connections,
+        idle,
     )
 }
 
@@ -149,7 +231,7 @@ fn address_of(word: &str) -> Result<SocketAddr, Fault>
 
 /// The limit of work for one message, by the environment; 0 for none.
 fn work(rt: &HostRuntime) -> Result<usize, Fault>
-    ensures { IfErr result (EndsBy Usage) }
+    ensures { IfErr result (IsOfSetting Work) }
 {
     let work = match env::var(rt, "PDPD_WORK") {
         Ok(set) => work_of(Some(set.as_str())),
@@ -160,12 +242,58 @@ fn work(rt: &HostRuntime) -> Result<usize, Fault>
     work.ok_or(Fault::Work)
 }
 
-/// Serves connections over the store in the file. Faults are looked for in this order: the address, PDPD_WORK, the token file, the store, the socket.
-pub fn serve(rt: &HostRuntime, serving: &Serving<'_>) -> Result<(), Fault> {
-    let address = address_of(serving.address.as_str())?;
-    let work = work(rt)?;
+/// For how many seconds a connection may give nothing, or take nothing, by the environment; 0 for ever.
+fn idle(rt: &HostRuntime) -> Result<usize, Fault>
+    ensures { IfErr result (IsOfSetting Idle) }
+{
+    let idle = match env::var(rt, "PDPD_IDLE") {
+        Ok(set) => idle_of(Some(set.as_str())),
+        Err(VarError::NotPresent) => idle_of(None),
+        Err(VarError::NotUnicode) => None,
+        Err(VarError::OutOfMemory) => return Err(Fault::Memory),
+    };
+    idle.ok_or(Fault::Idle)
+}
+
+/// A server over the keeper, for that operator and with that limit of work, and its connections, none of which is open.
+fn front_over<R: Records + Drop>(
+    alloc: Global,
+    records: R,
+    operator: Digest,
+    work: usize,
+) -> Result<Front<R>, Fault>
+    ensures operator { IfOk result (λ front. front.server.operator ≡ operator) }
+    ensures records { IfOk result (λ front. front.server.records ≡ records) }
+    ensures closed { IfOk result (λ front. front.lines ≡ none_open) }
+    ensures err { IfErr result (λ fault. fault ≡ Memory) }
+{
+    let server = Server::new(alloc, records, operator)?;
+    Ok(Front::new(alloc, with_limit(server, work))?)
+}
+
+/// The front of a server over the store in the file, for the operator whose token is the first line of the token file.
+fn front_of_files(
+    rt: &HostRuntime,
+    serving: &Serving<'_>,
+    work: usize,
+) -> Result<Front<FileRecords>, Fault>
+    ensures operator { IfOk result (λ front. IsOperator front.server.operator) }
+    ensures closed { IfOk result (λ front. front.lines ≡ none_open) }
+    ensures err { IfErr result IsOfFiles }
+{
     let operator = operator_of_file(rt, serving.token_file.as_str())?;
     let records = records_in_file(rt, serving.database.as_str())?;
-    let server = Server::new(rt.alloc(), records, operator)?;
-    serve_at(rt, &mut with_limit(server, work), address, serving)
+    front_over(rt.alloc(), records, operator, work)
+}
+
+/// Serves connections over the store in the file. Faults are looked for in this order: the address, PDPD_WORK, PDPD_IDLE, the token file, the store, the socket.
+#[tactic(auto, using(crate::proofs::ServingLemmas::setting_not_address, crate::proofs::ServingLemmas::files_not_address, crate::proofs::ServingLemmas::serving_not_address, crate::proofs::ServingLemmas::address_found))]
+pub fn serve(rt: &HostRuntime, serving: &Serving<'_>) -> Result<(), Fault>
+    ensures address { (result ≡ Err Address) ↔ IsNoAddress serving.now.address }
+{
+    let address = address_of(serving.address.as_str())?;
+    let work = work(rt)?;
+    let idle = idle(rt)?;
+    let mut front = front_of_files(rt, serving, work)?;
+    serve_at(rt, &mut front, address, serving, idle)
 }

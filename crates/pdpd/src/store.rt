@@ -1,23 +1,24 @@
 //! The store of `pdpd serve`, and that of `pdpd replay`.
 
-ghost use Rattle.std.specs.Prelude.{◌≡◌, ◌≢◌, IfErr, IfOk, IsTrue};
+ghost use Rattle.std.specs.Prelude.{◌≡◌, ◌≢◌, ◌⊎◌, IfErr, IfOk, IsTrue};
 ghost use Rattle.sqlite.specs.Files.{file_state, over_files};
 ghost use Rattle.sqlite.specs.Steps.{over_memory};
 ghost use Rattle.xa_records.specs.Kept.{nothing_kept};
 ghost use Rattle.xa_store.specs.Keeper.{IsSound};
 ghost use Rattle.xa_store.specs.KeeperReading.{kept_by};
-ghost use Rattle.pdpd.specs.declared.exit.Exit.TheVariants.{Store, Usage};
-ghost use Rattle.pdpd.specs.Fault.{EndsBy};
+ghost use Rattle.pdpd.specs.declared.exit.Exit.TheVariants.{Memory, Store, Usage};
+ghost use Rattle.pdpd.specs.Fault.{IsOfStore};
 
 use crate::exit::Exit;
-use crate::fault::{Fault, StoreFault};
+use crate::fault::{Fault, OneLine, StoreFault};
 use sqlite::{Connection, Error, ErrorCode, File, FileStore, MemStore};
 use std::alloc::Global;
+use std::fs;
 use xa_store::{OpenError, SqlRecords};
 
 /// Why the file can't be opened.
 fn fault_of_file(error: Error) -> Fault
-    ensures { EndsBy Store result }
+    ensures { IsOfStore result }
 {
     match error {
         Error::SqliteFailure(ErrorCode::OutOfMemory) => Fault::Memory,
@@ -30,9 +31,28 @@ fn fault_of_file(error: Error) -> Fault
     }
 }
 
+/// Whether the folder of a file isn't there.
+fn has_no_folder(rt: &HostRuntime, path: &str) -> bool {
+    match path.rsplit_once('/') {
+        Some((folder, _)) if !folder.is_empty() => matches!(fs::exists(rt, folder), Ok(false)),
+        _ => false,
+    }
+}
+
+/// Why the file can't be opened, where its folder isn't there.
+fn fault_at(rt: &HostRuntime, path: &str, fault: Fault) -> Fault
+    ensures { IsOfStore fault → IsOfStore result }
+{
+    if matches!(fault, Fault::Store(StoreFault::Unopened)) && has_no_folder(rt, path) {
+        Fault::Store(StoreFault::NoFolder)
+    } else {
+        fault
+    }
+}
+
 /// Why its tables can't be opened.
 fn fault_of_tables(error: OpenError) -> Fault
-    ensures { EndsBy Store result }
+    ensures { IsOfStore result }
 {
     match error {
         OpenError::NotThisSchema => Fault::Store(StoreFault::Schema),
@@ -47,19 +67,26 @@ fn fault_of_tables(error: OpenError) -> Fault
 fn tell_of_tables(rt: &HostRuntime, path: &str, are_ours: bool) {
     if !are_ours {
         let _ = eprintln!(rt;
-            "pdpd serve: {path}: other tables, indexes or views stand beside the program's, or its own were made otherwise; it is served, but nothing is proved of what is kept there"
+            "pdpd serve: {}: other tables, indexes or views stand beside the program's, or its own were made otherwise; it is served, but nothing is proved of what is kept there",
+            OneLine { text: path }
         );
     }
 }
 
+/// What keeps domains in a file.
+pub type FileRecords = SqlRecords<FileStore<File>>;
+
+/// What keeps domains in memory.
+pub type MemoryRecords = SqlRecords<MemStore>;
+
 /// The keeper over the file, which is made where it isn't there. A line on standard error tells of tables of which nothing is proved.
-pub fn records_in_file(rt: &HostRuntime, path: &str) -> Result<SqlRecords<FileStore<File>>, Fault>
+pub fn records_in_file(rt: &HostRuntime, path: &str) -> Result<FileRecords, Fault>
     ensures sound { IfOk result (λ records. IsTrue records.ours → IsTrue (file_state records.conn).is_open → IsSound over_files records) }
-    ensures err { IfErr result (EndsBy Store) }
+    ensures err { IfErr result IsOfStore }
 {
     let conn = match Connection::open(rt, path) {
         Ok(conn) => conn,
-        Err(error) => return Err(fault_of_file(error)),
+        Err(error) => return Err(fault_at(rt, path, fault_of_file(error))),
     };
     match SqlRecords::open(rt.alloc(), conn) {
         Ok(records) => {
@@ -71,9 +98,10 @@ pub fn records_in_file(rt: &HostRuntime, path: &str) -> Result<SqlRecords<FileSt
 }
 
 /// A keeper in memory, which keeps no domains yet.
-pub fn records_in_memory(alloc: Global) -> Result<SqlRecords<MemStore>, Exit>
+pub fn records_in_memory(alloc: Global) -> Result<MemoryRecords, Exit>
     ensures nothing { IfOk result (λ records. kept_by over_memory records ≡ nothing_kept) }
     ensures sound { IfOk result (IsSound over_memory) }
+    ensures end { IfErr result (λ exit. (exit ≡ Memory) ⊎ (exit ≡ Store)) }
     ensures err { IfErr result (λ exit. exit ≢ Usage) }
 {
     let conn = Connection::open_in_memory(alloc)?;

@@ -2,20 +2,23 @@
 ghost use Rattle.std.specs.Prelude.{◌≡◌, IfErr, IfOk, IfSome, IsFalse, IsTrue, MatchResult, take};
 ghost use Rattle.sha2.specs.Sha256.{sha256};
 ghost use Rattle.xa_notation.specs.Tokens.{is_token};
-ghost use Rattle.pdpd.specs.declared.exit.Exit.TheVariants.{Usage};
 ghost use Rattle.pdpd.specs.declared.fault.Fault.TheVariants.{TokenBad};
-ghost use Rattle.pdpd.specs.Fault.{EndsBy};
+ghost use Rattle.pdpd.specs.Fault.{IsOfToken};
 ghost use Rattle.pdpd.specs.Token.{IsOperator, IsOperatorOf, first_line};
 
-use crate::fault::Fault;
+use crate::fault::{Fault, OneLine};
 use std::alloc::Global;
-use std::fs::{File, Files};
+use std::fs::{File, OpenFile};
 use std::io::{self, ErrorKind, Read};
+use std::os::unix::fs::PermissionsExt;
 use xa_notation::is_token;
 use xa_records::Digest;
 
 /// At most this many bytes of the file are read: a token is shorter.
 const MAX_BYTES: u64 = 128;
+
+/// The bits of a file's mode by which its group and all others can read it.
+const OTHERS_READ: u32 = 0o044;
 
 /// A text up to its first line feed, or to its end.
 #[tactic(auto, using(crate::proofs::TokenLemmas::no_feed_more))]
@@ -54,7 +57,7 @@ fn beginning_of<R: Read + Drop>(alloc: Global, reader: R) -> io::Result<Vec<u8>>
 
 /// Why there is no token: the file can't be read.
 fn fault_of_reading(error: io::Error) -> Fault
-    ensures { EndsBy Usage result }
+    ensures { IsOfToken result }
 {
     match error.kind() {
         ErrorKind::OutOfMemory => Fault::Memory,
@@ -66,7 +69,7 @@ fn fault_of_reading(error: io::Error) -> Fault
 fn operator_of<R: Read + Drop>(alloc: Global, reader: R) -> Result<Digest, Fault>
     ensures known { IfOk result (λ operator. IfSome (R.remaining reader) (IsOperatorOf operator)) }
     ensures operator { IfOk result IsOperator }
-    ensures err { IfErr result (EndsBy Usage) }
+    ensures err { IfErr result IsOfToken }
 {
     match beginning_of(alloc, reader) {
         Ok(bytes) => operator_in(&bytes),
@@ -74,13 +77,28 @@ fn operator_of<R: Read + Drop>(alloc: Global, reader: R) -> Result<Digest, Fault
     }
 }
 
-/// The digest of the operator's token, which is the first line of the file.
-pub fn operator_of_file(rt: &(impl Files + AllocGlobal), path: &str) -> Result<Digest, Fault>
-    ensures operator { IfOk result IsOperator }
-    ensures err { IfErr result (EndsBy Usage) }
-{
-    match File::open(rt, path) {
-        Ok(file) => operator_of(rt.alloc(), file),
-        Err(error) => Err(fault_of_reading(error)),
+/// Whether others than its owner can read the file.
+fn lets_others_read(file: &impl OpenFile) -> bool {
+    match file.metadata() {
+        Ok(metadata) => metadata.permissions().mode() & OTHERS_READ != 0,
+        Err(_) => false,
     }
+}
+
+/// The digest of the operator's token, which is the first line of the file. A line on standard error tells of a file that others can read.
+pub fn operator_of_file(rt: &HostRuntime, path: &str) -> Result<Digest, Fault>
+    ensures operator { IfOk result IsOperator }
+    ensures err { IfErr result IsOfToken }
+{
+    let file = match File::open(rt, path) {
+        Ok(file) => file,
+        Err(error) => return Err(fault_of_reading(error)),
+    };
+    if lets_others_read(&file) {
+        let _ = eprintln!(rt;
+            "pdpd serve: {}: others than its owner can read the operator's token; chmod 600",
+            OneLine { text: path }
+        );
+    }
+    operator_of(rt.alloc(), file)
 }

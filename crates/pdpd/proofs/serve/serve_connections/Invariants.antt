@@ -1,10 +1,11 @@
-use Rattle.xa_server.specs.World.{world}
-use Rattle.pdpd.specs.Connections.{AreIsolated}
+use Rattle.xa_server.specs.Front.{front_state}
+use Rattle.pdpd.specs.Serving.{Serves}
 use Rattle.pdpd.proofs.serve.serve_connections.Given as goal
 
 -- so many connections are served
 abbrev pub invariant-loop : goal.invariant-loop
 invariant-loop g l = record {
-  sound : (g.R.Records.custody l.server.records).sound → (g.R.Records.custody l.fn.server.records).sound;
-  served : (g.R.Records.custody l.server.records).sound → AreIsolated l.counter (world g.R.Records.custody l.fn.server) (world g.R.Records.custody l.server);
+  sound : (g.R.Records.custody l.front.server.records).sound → (g.R.Records.custody l.fn.front.server.records).sound;
+  served : (g.R.Records.custody l.front.server.records).sound →
+      Serves l.counter (front_state g.R.Records.custody l.fn.front) (front_state g.R.Records.custody l.front);
 }

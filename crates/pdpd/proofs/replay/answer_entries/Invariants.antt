@@ -1,0 +1,17 @@
+use Rattle.std.specs.Io.Buffered.{writer_contents}
+use Rattle.xa_server.specs.Front.{front_state}
+use Rattle.pdpd.specs.Reading.{remaining_of}
+use Rattle.pdpd.proofs.ReplayLemmas.{AnsweredTo, ReadTo}
+use Rattle.pdpd.proofs.replay.answer_entries.Given as goal
+
+-- the entries before the one of that number are answered
+abbrev pub invariant-loop-number : goal.invariant-loop-number
+invariant-loop-number g l = record {
+  sound : (g.R.Records.custody l.replayer.front.server.records).sound → (g.R.Records.custody l.fn.replayer.front.server.records).sound;
+  read : ReadTo (remaining_of g.I.Read.remaining l.fn.transcript) (remaining_of g.I.Read.remaining l.transcript) l.number;
+  answered : (g.R.Records.custody l.replayer.front.server.records).sound →
+      AnsweredTo l.fn.replayer.connections.items l.replayer.connections.items
+      (front_state g.R.Records.custody l.fn.replayer.front) (front_state g.R.Records.custody l.replayer.front)
+      (remaining_of g.I.Read.remaining l.fn.transcript) (remaining_of g.I.Read.remaining l.transcript)
+      (writer_contents g.W.Write.contents l.fn.replayer.writer) (writer_contents g.W.Write.contents l.replayer.writer) l.number;
+}

@@ -1,0 +1,107 @@
+-- What a connection is told by one answer after another: words that only contracts of private functions cite.
+use Rattle.std.specs.Prelude.{◌≡◌, ℕ, ℤ, Bool, true, false, List, [], ◌∷◌, ◌++◌, Option, Some, None, Ok, Err}
+use Rattle.std.specs.Io.KnownBytes.{Appends}
+use Rattle.xa_http.specs.declared.fault.SessionFault.{SessionFault}
+use Rattle.xa_http.specs.declared.message.Message.{Message}
+use Rattle.xa_http.specs.declared.session.Next.TheVariants as next
+use Rattle.xa_http.specs.Messages.{Cuts, IsNext}
+use Rattle.xa_http.specs.Stream.{Stream}
+use Rattle.xa_server.specs.declared.event.Outcome.{Outcome}
+use Rattle.xa_server.specs.declared.event.Outcome.TheVariants.{Answered, Held}
+use Rattle.xa_server.specs.declared.lines.Conn.{Conn}
+use Rattle.xa_server.specs.declared.replies.Reply.{Reply}
+use Rattle.xa_server.specs.Connection.{all_replies}
+use Rattle.xa_server.specs.Front.{FrontState}
+use Rattle.xa_server.specs.Lines.{IsOpen, with_line}
+use Rattle.xa_server.specs.Replies.{bytes_of}
+use Rattle.xa_server.specs.Served.{IsRun}
+use Rattle.xa_server.specs.World.{World}
+use Rattle.pdpd.specs.declared.heading.Heading.{Heading}
+use Rattle.pdpd.specs.declared.telling.Progress.{Progress}
+use Rattle.pdpd.specs.declared.telling.Progress.TheVariants as progress
+use Rattle.pdpd.specs.Entry.{events_at, reply_entries}
+
+-- ---- one outcome after another
+
+-- the reply that an outcome tells, if it does
+abbrev pub reply_told : Outcome → List (List ℕ)
+reply_told (Answered (Ok (Some answer))) = bytes_of answer.reply ∷ []
+reply_told _ = []
+
+-- the replies that outcomes tell, one after another
+abbrev pub replies_told : List Outcome → List (List ℕ)
+replies_told [] = []
+replies_told (outcome ∷ outcomes) = reply_told outcome ++ replies_told outcomes
+
+-- after an answer, which is the last of its session or isn't
+abbrev pub after_answer : Bool → Progress
+after_answer true = progress.Ended
+after_answer false = progress.Answered
+
+-- after none: a session that has ended stays so
+abbrev pub after_none : Progress → Progress
+after_none progress.Ended = progress.Ended
+after_none progress.Answered = progress.Waits
+after_none progress.Waits = progress.Waits
+
+abbrev pub progress_after : Progress → Outcome → Progress
+progress_after was (Answered (Ok (Some answer))) = after_answer answer.last
+progress_after was (Answered (Ok None)) = after_none was
+progress_after was _ = was
+
+-- after one outcome and another
+abbrev pub progress_of : Progress → List Outcome → Progress
+progress_of was [] = was
+progress_of was (outcome ∷ outcomes) = progress_of (progress_after was outcome) outcomes
+
+-- the outcomes behind that of a piece that was taken
+abbrev pub answers_behind : List Outcome → Option (List Outcome)
+answers_behind (Held (Ok _) ∷ outcomes) = Some outcomes
+answers_behind _ = None
+
+-- ---- what a stream holds, answered as far as that
+
+-- where the messages were cut off, the stream stands still, or it has ended by the fault
+abbrev pub LeavesOff : Option SessionFault → Stream → Stream → Type 0
+LeavesOff None last after = after ≡ last
+LeavesOff (Some fault) last after = IsNext last (next.Fault fault) after
+
+-- so much of what a stream held was answered: messages at its front, each at that moment, and after them the fault by which it ends, if that was reached
+pub record AreTold (moment : ℤ) (old new : World) (stream after : Stream) (replies : List (List ℕ)) : Type 0 where
+  pub messages : List Message
+  pub fault : Option SessionFault
+  pub run : List Reply
+  pub last : Stream
+  pub cut : Cuts stream messages last
+  pub ends : LeavesOff fault last after
+  pub is_run : IsRun old (events_at moment messages) run new
+  pub are_all : replies ≡ all_replies run fault
+
+-- how the stream stands
+abbrev pub Stands : Progress → Stream → Type 0
+Stands progress.Answered stream = stream.ended ≡ false
+Stands progress.Waits stream = IsNext stream next.More stream
+Stands progress.Ended stream = stream.ended ≡ true
+
+-- a connection that held the stream was told the replies, and no other connection has changed
+pub record IsTold (conn : Conn) (moment : ℤ) (old new : FrontState) (stream : Stream) (is : Progress) (replies : List (List ℕ)) : Type 0 where
+  pub after : Stream
+  pub told : AreTold moment old.server.world new.server.world stream after replies
+  pub stands : Stands is after
+  pub line : IsOpen conn new.lines after
+  pub lines : new.lines ≡ with_line conn (Some after) old.lines
+
+-- and the replies were written
+abbrev pub IsToldAndWritten : Conn → Heading → FrontState → FrontState → Stream → Progress → Option (List ℕ) → Option (List ℕ) → Type 0
+IsToldAndWritten conn heading old new stream is before now =
+    (replies : List (List ℕ)) × IsTold conn heading.moment old new stream is replies × Appends before now (reply_entries heading.connection replies)
+
+-- so a connection that was open, and whose session hadn't ended, was told what it holds, with the piece that came, if one did
+unfoldable pub HasTold : Conn → Heading → (Stream → Stream) → FrontState → FrontState → Progress → Option (List ℕ) → Option (List ℕ) → Type 0
+HasTold conn heading with_piece old new is before now =
+    (stream : Stream) → IsOpen conn old.lines stream → stream.ended ≡ false → IsToldAndWritten conn heading old new (with_piece stream) is before now
+
+-- whether no more comes of a piece: its session has ended, or waits for the next
+abbrev pub progress_at : Bool → Progress
+progress_at true = progress.Ended
+progress_at false = progress.Waits
