@@ -40,7 +40,7 @@ check: ## proves a crate, over what earlier checks kept
 api: pdpd ## proves and builds pdpd, and sends it every example of the API reference (docs/API.md, docs/openapi.yaml)
 	tests/api
 
-memory: pdpd ## proves and builds pdpd, and refuses it each of its allocations in turn; compiles a few lines of C with cc
+memory: ## refuses pdpd and xa_trials each of their allocations in turn, as `make test` does too; compiles a few lines of C with cc
 	tests/memory
 
 edits: ## tries the further wrong bodies in edits/NAME, each of which the prover must reject

@@ -21,8 +21,10 @@ from exchanges import Exchanges
 from functions import BAG_FUNCTIONS, DURATIONS, FUNCTIONS, HIGHER_ORDER, V1, V3
 from inputs import as_read, as_written
 from keeping import Keeping
+from mixing import Drives, Mixing
 from rows import encoded, line
 from small_bodies import SmallBodies
+from streams import differing
 from texts import Texts
 from trees import Trees
 from values import Fault, read
@@ -31,7 +33,7 @@ from views import Decisions, Links
 
 # The kinds of rows, and of each how many there are to how many others.
 SHARES = {"values": 16, "expressions": 30, "requests": 15, "documents": 10, "links": 4, "decisions": 10, "servers": 1, "rooms": 1, "sockets": 1,
-          "bodies": 8, "records": 6}
+          "fronts": 1, "drives": 1, "bodies": 8, "records": 6}
 # One run of `rt try` answers at most 1 MiB, and gives up after ten minutes: this many rows a file, of this many bytes.
 ROWS_A_FILE, BYTES_A_FILE = 500, 1_500_000
 
@@ -46,9 +48,10 @@ class Rows:
         self.kinds = list(kinds or SHARES)
         documents, decisions = Breaking(self), Decisions(self)
         exchanges = Exchanges(Commands(decisions, documents))
+        mixing = Mixing(exchanges)
         self.makers = {"values": self.of_values, "expressions": self.of_expressions, "requests": Bodies(self).next, "documents": documents.next,
                        "links": Links(self).next, "decisions": decisions.next, "servers": exchanges.next,
-                       "rooms": exchanges.rooms, "sockets": exchanges.sockets, "bodies": SmallBodies(self).next, "records": Keeping(self).next}
+                       "rooms": exchanges.rooms, "sockets": exchanges.sockets, "fronts": mixing.next, "drives": Drives(mixing).next, "bodies": SmallBodies(self).next, "records": Keeping(self).next}
 
     def sound(self, data_type, name=""):
         """A text that reads, and that the named function is likely to take."""
@@ -203,6 +206,7 @@ def answers_of(path):
 def compare(answers, rows):
     wanted = [line(as_written(row.fields, row.answer or answer(row.fields)))[:-1] for row in rows]
     rows = [row.fields for row in rows]
+    alone = [differing(fields[1:]) for fields in rows if fields[0] == "front"]
     differ = [it for it in zip(rows, wanted, answers) if it[1] != it[2]]
     for fields, by_model, found in differ[:20]:
         print(f"{line(fields)[:2000].rstrip()}\n    model    {by_model[:2000]}\n    program  {found[:2000]}")
@@ -211,7 +215,10 @@ def compare(answers, rows):
     print(f"{len(answers)} of {len(rows)} rows answered, {len(differ)} otherwise than the model")
     print("rows: " + ", ".join(f"{kind} {count}" for kind, count in sorted(kinds.items())))
     print("refusals: " + ", ".join(f"{fault[1:]} {count}" for fault, count in sorted(faults.items())))
-    return 0 if len(answers) == len(rows) and not differ else 1
+    differ_alone = sum(others for _, others in alone)
+    if alone:
+        print(f"{sum(every for every, _ in alone)} connections in {len(alone)} rows, {differ_alone} answered otherwise than their streams in one piece")
+    return 0 if len(answers) == len(rows) and not differ and not differ_alone else 1
 
 
 def main():

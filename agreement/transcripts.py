@@ -145,7 +145,7 @@ class Transcripts:
     def next(self):
         self.commands.begin(Server(OPERATOR_TOKEN), self.random.sample(NAMES, 3))
         self.server = Server(OPERATOR_TOKEN)
-        numbers = self.random.sample(range(64), self.one_of([1, 2, 3, 5]))
+        numbers = self.random.sample(range(64), self.one_of([1, 2, 3, 5, 64]))
         self.entries, self.connections, self.pieces = [], Connections(), {number: [] for number in numbers}
         for name in self.commands.names:
             if self.seldom(0.6):

@@ -11,6 +11,7 @@ OPERATOR = "operator-token-1"
 MOST_CONNECTIONS = 1_000_000
 PATIENCE = 30
 PIECE = 100  # messages that are sent together
+os.umask(0o077)  # a token file that others can read gets a line on standard error
 
 
 def message(method, path, token, body=None, more=""):

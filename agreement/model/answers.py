@@ -4,6 +4,8 @@ import hashlib
 import combining
 import decisions
 import documents
+import drives
+import fronts
 import linking
 import messages
 import questions
@@ -12,6 +14,7 @@ import requests
 import route_bodies
 import routes
 import servers
+import tripping
 import versions
 from contexts import FIRST_MOMENT, LAST_MOMENT, moment_as
 from functions import BAG_FUNCTIONS, BAG_SIGNATURES, FUNCTIONS, HIGHER_ORDER, bag_function_named, fits, higher_order
@@ -177,12 +180,13 @@ KINDS = {
     "apply": apply, "higher": higher, "token": token, "domain": domain, "number": number,
     "evaluate": questions.evaluate, "target": questions.target,
     "months": months, "nanoseconds": nanoseconds, "held": held, "digest": digest,
-    "server": servers.server, "loopback": servers.loopback, "stream": messages.stream, "route": routes.route, "combine": combining.combine,
+    "server": servers.server, "loopback": servers.loopback, "front": fronts.front, "played": fronts.front, "driven": drives.driven, "stream": messages.stream, "route": routes.route, "combine": combining.combine,
     "version": versions.version, "pattern": versions.pattern, "matches": versions.matches, "versions": versions.versions,
     "resolve": versions.resolve, "document": documents.document,
     "link": linking.link, "decide": decisions.decide, "request": requests.request, "individuals": requests.individuals,
     "new_token": route_bodies.new_token, "old_token": route_bodies.old_token, "root": route_bodies.root, "rows": route_bodies.rows,
-    "keeper": records.keeper,
+    "keeper": records.keeper, "keeper_with": records.keeper_with,
+    "tripped": tripping.tripped, "tripped_after": tripping.tripped_after,
 }
 
 

@@ -14,6 +14,7 @@ from json_texts import MOST_NESTED
 from policies import without_duties
 from questions import Questions, place_of
 from rows import encoded, text_of
+from servers import SETUP
 
 RULES = "urn:oasis:names:tc:xacml:3.0:rule-combining-algorithm:deny-overrides"
 MAX_DOCUMENT_BYTES = 65_536
@@ -262,8 +263,17 @@ def versions(fields, answer):
             Row(["resolve", f"policy|p|||{right}", "policy|p|" + left], ["!None" if answer == ["Greater"] else "0"])]
 
 
+CALLS = ("begin", "piece", "answer", "finish", "moment")
+
+
+def front(fields, answer):
+    """The row itself; and where its events are calls of a front alone, the same events as one list, which is played."""
+    words = {field.partition(":")[0] for field in fields} - set(SETUP)
+    return [Row([kind, *fields], answer) for kind in ("front", "played") if kind == "front" or words <= set(CALLS)]
+
+
 CLOCK = "urn:oasis:names:tc:xacml:1.0:environment:current-"
-BY_OTHERS = {"evaluate": evaluate, "target": target, "moment": moment, "held": held, "matches": matches, "versions": versions}
+BY_OTHERS = {"front": front, "evaluate": evaluate, "target": target, "moment": moment, "held": held, "matches": matches, "versions": versions}
 
 
 def by_others(fields, answer):

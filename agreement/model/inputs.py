@@ -91,9 +91,11 @@ def call(field):
 
 
 READ = {
-    "server": events, "server_in_memory": events, "loopback": events, "decide": decide,
+    "server": events, "server_in_memory": events, "loopback": events, "front": events, "played": events, "driven": events, "decide": decide,
+    "tripped": events, "tripped_after": lambda fields: [fields[0], *events(fields[1:])],
     "link": lambda fields: [root_body(fields[0]), *fields[1:]],
     "resolve": lambda fields: [root_body(fields[0]), *map(document_with_key, fields[1:])],
+    "keeper_with": lambda fields: [fields[0], *map(call, fields[1:])],
     "keeper": lambda fields: list(map(call, fields)), "keeper_in_memory": lambda fields: list(map(call, fields)),
 }
 

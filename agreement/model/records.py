@@ -3,6 +3,8 @@
 A change alters one domain, or is refused and alters nothing. Each domain has a number, which no other ever has, and an epoch, which rises by one
 with each change of what decides: of its documents, of which of them are active, of its root, of its source of attributes.
 """
+import copy
+
 from documents import DocumentFault
 from linking import active_of
 from route_bodies import reference_shown, rows_of, rows_shown
@@ -11,6 +13,8 @@ from rows import decoded, encoded, text_of
 from versions import NoVersion, numbers, reference_of
 
 MOST_TOKENS, MOST_DOCUMENTS, MOST_ROWS = 32, 256, 1024
+# no number and no epoch rises above it
+GREATEST = 2**63 - 1
 
 
 class Refused(Exception):
@@ -24,8 +28,8 @@ class Malformed(Exception):
 class Domain:
     """A domain, with nothing in it at first."""
 
-    def __init__(self, number):
-        self.number, self.epoch = number, 0
+    def __init__(self, number, epoch=0):
+        self.number, self.epoch = number, epoch
         self.tokens, self.documents, self.root, self.source = {}, {}, None, []
 
     def decides(self):
@@ -137,14 +141,21 @@ class Keeper:
     """A keeper, with no domain at first."""
 
     def __init__(self):
-        self.domains, self.next = {}, 1
+        self.domains, self.next, self.faults = {}, 1, 0
+
+    def raised(self, number):
+        """The number after it. A call that would have to raise the greatest one is refused, as if its storage had failed, and is counted."""
+        if number == GREATEST:
+            self.faults += 1
+            raise Refused("Store")
+        return number + 1
 
     def create(self, name):
         if not is_domain_name(name.encode()):
             raise Malformed
         unless(name in self.domains, "Exists")
-        self.domains[name] = Domain(self.next)
-        self.next += 1
+        self.next, number = self.raised(self.next), self.next
+        self.domains[name] = Domain(number)
 
     def remove(self, name):
         unless(name not in self.domains, "Absent")
@@ -152,10 +163,12 @@ class Keeper:
 
     def change(self, change, name, text):
         unless(name not in self.domains, "Absent")
-        domain = self.domains[name]
-        before = domain.decides()
+        domain = copy.copy(self.domains[name])
+        domain.tokens, domain.documents = dict(domain.tokens), dict(domain.documents)
         found = change(domain, text)
-        domain.epoch += domain.decides() != before
+        if domain.decides() != self.domains[name].decides():
+            domain.epoch = self.raised(domain.epoch)
+        self.domains[name] = domain
         return found
 
     def call(self, word, name, text):
@@ -163,7 +176,7 @@ class Keeper:
         if word == "domains":
             return sorted(self.domains) + ["."]
         if word == "faults":
-            return ["0"]
+            return [str(self.faults)]
         if word in READINGS:
             return READINGS[word](self.domains[name], text) if name in self.domains else ["!None"]
         if word in ("create", "remove"):
@@ -175,7 +188,20 @@ class Keeper:
 
 def keeper(*fields):
     """The answer to a row."""
-    held, shown = Keeper(), []
+    return answers(Keeper(), fields)
+
+
+def keeper_with(first, *fields):
+    """The same, of a keeper that begins with one domain of that name, number and epoch."""
+    name, number, epoch = first.split(" ")
+    held = Keeper()
+    held.domains[name], held.next = Domain(int(number), int(epoch)), int(number) + 1
+    return answers(held, fields)
+
+
+def answers(held, fields):
+    """What the keeper answers to the calls."""
+    shown = []
     for field in fields:
         word, name, text = (field.split(" ", 2) + ["", ""])[:3]
         try:

@@ -22,13 +22,13 @@ WRITTEN = {byte: SHORT.get(byte) or (chr(byte) if 32 <= byte < 127 else f"\\x{by
 
 def decoded(field):
     """The bytes that the text of a field stands for."""
-    done, start, count = b"", 0, 1
+    done, start, count = bytearray(), 0, 1
     for found in TOKEN.finditer(field.encode()):
         letter, byte, times, escaped, plain = found.groups()
         if letter:
             done += chr(int(letter, 16)).encode()
         elif byte:
-            done += bytes([int(byte, 16)])
+            done.append(int(byte, 16))
         elif times:
             start, count = len(done), int(times)
         elif escaped == b"}":
@@ -37,13 +37,20 @@ def decoded(field):
             done += LETTERS.get(escaped, escaped)
         else:
             done += plain
-    return done
+    return bytes(done)
 
 
 def encoded(held):
     """The text of the field that stands for the bytes or the text."""
     held = held.encode() if isinstance(held, str) else held
     return held.decode("latin-1").translate(WRITTEN)
+
+
+def shortened(held):
+    """The same, where a few bytes that stand there again and again are written once."""
+    parts = re.split(rb"((?s:(.{1,8}?)\2{15,}))", held)
+    texts = [encoded(part) for part in parts]
+    return texts[0] + "".join(f"\\{{{len(parts[at]) // len(parts[at + 1])},{texts[at + 1]}\\}}" + texts[at + 2] for at in range(1, len(parts), 3))
 
 
 def text_of(field):

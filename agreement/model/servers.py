@@ -116,9 +116,9 @@ class Setup:
         self.name, self.rows = None, []
 
 
-def set_up(fields):
-    """The server that the fields before the first event make."""
-    server = CountingServer(OPERATOR_TOKEN)
+def set_up(fields, beginning=CountingServer):
+    """The server that the fields before the first event make, of one that begins without domains."""
+    server = beginning(OPERATOR_TOKEN)
     setup = Setup(server)
     for field in fields:
         word, _, text = field.partition(":")
@@ -129,15 +129,19 @@ def set_up(fields):
     return server
 
 
-def in_runs(replies):
-    """The replies, and after equal ones in a row how many they are."""
+def in_runs(shown):
+    """The fields of each, and after equal ones in a row how many they are."""
     fields, count = [], 0
-    for place, held in enumerate(replies):
+    for place, held in enumerate(shown):
         count += 1
-        if place + 1 == len(replies) or replies[place + 1] != held:
-            fields += [encoded(held)] + ([f"*{count}"] if count > 1 else [])
+        if place + 1 == len(shown) or shown[place + 1] != held:
+            fields += held + ([f"*{count}"] if count > 1 else [])
             count = 0
     return fields
+
+
+def each_encoded(replies):
+    return [[encoded(reply)] for reply in replies]
 
 
 def replied(stream, server, moment, held):
@@ -152,7 +156,7 @@ def replied(stream, server, moment, held):
 def piece(stream, server, moment, held):
     """What is answered after a piece."""
     replies, fault, found = replied(stream, server, moment, held)
-    fields = in_runs(replies) + [encoded(reply) for reply in fault]
+    fields = in_runs(each_encoded(replies)) + [encoded(reply) for reply in fault]
     if found != "More":
         fields.append("!Ended")
     return fields or ["More"]
@@ -186,12 +190,12 @@ def loopback(*fields):
     return shown
 
 
-def server(*fields):
+def server(*fields, beginning=CountingServer):
     """The answer to a row; None where its messages have a limit of work, of which the model knows nothing."""
     if any(field.startswith("limit:") for field in fields):
         return None
     try:
-        made = set_up(fields)
+        made = set_up(fields, beginning)
     except TurnedAway as reply:
         return [encoded(reply.args[0])]
     stream, moment, shown = Stream(), 0, []

@@ -118,12 +118,17 @@ class Exchanges:
         fields += ["document:" + encoded(self.commands.breaking.text())] * self.seldom(0.03)
         return fields + decisions.root(active) + decisions.world.source()
 
+    def fields_of(self, names, with_views=True):
+        """Fields of the domains of those names, with documents, a root and a source or without."""
+        fields = []
+        for name in names:
+            tokens = self.random.sample(TOKENS, self.random.randint(1, 3))
+            fields += ["domain:" + name] + [self.one_of(["ask:", "admin:"]) + encoded(token) for token in tokens] + (self.view() if with_views else [])
+        return fields
+
     def domains(self):
         """Fields of some domains, or of none, and now and then one that makes none."""
-        fields = []
-        for name in self.random.sample(NAMES, self.one_of([0, 1, 1, 2, 2, 3])):
-            tokens = self.random.sample(TOKENS, self.random.randint(1, 3))
-            fields += ["domain:" + name] + [self.one_of(["ask:", "admin:"]) + encoded(token) for token in tokens] + self.view()
+        fields = self.fields_of(self.random.sample(NAMES, self.one_of([0, 1, 1, 2, 2, 3])))
         slips = ["domain:acme", "domain:Acme", "domain:"] + ["ask:short"] * bool(fields)
         return fields + [self.one_of(slips)] * self.seldom(0.03)
 

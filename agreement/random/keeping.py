@@ -1,6 +1,7 @@
 """Random rows of a keeper of records: changes and readings of a few domains, near to one another, so that they are made, refused and empty by turns."""
 from drafts import written
 from identifiers import SHORTHANDS
+from records import GREATEST
 from rows import encoded
 
 NAMES = ["a", "b", "c"]
@@ -114,4 +115,10 @@ class Keeping:
         calls = self.many() if self.seldom(0.03) else []
         calls += [f"create {name}" for name in NAMES if self.seldom(0.7)]
         calls += [self.one_of(self.calls)() for _ in range(self.one_of([5, 10, 20, 40]))]
-        return ["keeper", *calls, *[f"gate {name}" for name in NAMES], *[f"list {name}" for name in NAMES], *[f"view {name}" for name in NAMES], "domains"]
+        calls += [f"gate {name}" for name in NAMES] + [f"list {name}" for name in NAMES] + [f"view {name}" for name in NAMES] + ["domains", "faults"]
+        return ["keeper_with", self.near_the_greatest(), *calls] if self.seldom(0.1) else ["keeper", *calls]
+
+    def near_the_greatest(self):
+        """A domain with which the keeper begins: its number and its epoch are such that the next, or it, soon can't rise."""
+        number, epoch = (self.one_of([1, GREATEST - 1 - self.random.randrange(4)]), self.one_of([0, GREATEST - self.random.randrange(6)]))
+        return f"{NAMES[0]} {number} {epoch}"

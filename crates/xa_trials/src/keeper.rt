@@ -1,10 +1,10 @@
 //! Rows of a keeper of records: what it answers to changes and readings, one after another. A call is a field of its word, the domain's name and a text,
 //! with a space between: `create a`, `put a ask TOKEN`, `upload a DOCUMENT`. The key of a document is written as a document that has it.
 use crate::answer::Answer;
-use crate::field::kept_text;
+use crate::field::{kept_text, number_of};
 use crate::keeper_changes::{change_document, change_domain, change_held, put_token, upload};
 use crate::keeper_readings::{document, domains, gate, list, view};
-use crate::keepers::tables;
+use crate::keepers::{tables, tables_with};
 use crate::no_answer::NoAnswer;
 use xa_records::{PlainRecords, Records};
 use xa_value::Text;
@@ -23,6 +23,22 @@ pub fn keeper(answer: &mut Answer, calls: &[&str]) -> Result<(), NoAnswer> {
 pub fn keeper_in_memory(answer: &mut Answer, calls: &[&str]) -> Result<(), NoAnswer> {
     let alloc = answer.alloc();
     make_all(answer, PlainRecords::new(alloc), calls)
+}
+
+/// The same, by keepers that begin with one domain, which the text says with its number and its epoch: `NAME NUMBER EPOCH`.
+pub fn keeper_with(answer: &mut Answer, text: &str, calls: &[&str]) -> Result<(), NoAnswer> {
+    let alloc = answer.alloc();
+    let (name, numbers) = first_word_and_rest(text);
+    let (number, epoch) = first_word_and_rest(numbers);
+    let (number, epoch) = (number_of(number)?, number_of(epoch)?);
+    let Ok(plain) = PlainRecords::with_domain(alloc, kept_text(alloc, name)?, number, epoch) else {
+        return Err(NoAnswer::Malformed);
+    };
+    make_all(answer, plain, calls)?;
+    let mut other = Answer::new(alloc);
+    make_all(&mut other, tables_with(alloc, name, number, epoch)?, calls)?;
+    answer.compare(&other);
+    Ok(())
 }
 
 /// Makes the calls, one after another.

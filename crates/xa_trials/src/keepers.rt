@@ -46,3 +46,21 @@ fn keeper_over(
 pub fn tables(alloc: Global) -> Result<SqlRecords<MemStore>, NoAnswer> {
     keeper_over(alloc, connection(alloc)?)
 }
+
+/// A keeper over tables in memory with one domain of that name, number and epoch, in which nothing has been put yet; the next gets the number after it.
+pub fn tables_with(
+    alloc: Global,
+    name: &str,
+    number: u64,
+    epoch: u64,
+) -> Result<SqlRecords<MemStore>, NoAnswer> {
+    let next = number.saturating_add(1);
+    let sql = format!(in alloc;
+        "UPDATE meta SET next_number = {next}; INSERT INTO domains VALUES ({number}, '{name}', {epoch})"
+    )?;
+    let mut conn = tables(alloc)?.into_connection();
+    if conn.execute_batch(sql.as_str()).is_err() {
+        return Err(NoAnswer::Malformed);
+    }
+    keeper_over(alloc, conn)
+}

@@ -3,33 +3,23 @@
 //! its ends in one thread, one after the other: the client connects, writes, and ends its writing side; then the server takes the connection, answers it and
 //! closes it; then the client reads.
 use crate::answer::Answer;
+use crate::clock::StandingClock;
 use crate::decisions::moment_of;
 use crate::field::bytes_of;
 use crate::keepers::tables;
 use crate::no_answer::NoAnswer;
-use crate::server::{answered, make, server_over};
+use crate::server::{answered, server_made};
 use std::io::{Read, Write};
 use std::net::{Ipv4Addr, Shutdown, TcpListener, TcpStream};
 use std::rt::HostRuntime;
 use xa_records::Records;
-use xa_server::{Clock, Server, drive};
-use xa_value::Moment;
+use xa_server::{Front, drive};
 
-/// A clock that stands.
-#[derive(Clone, Copy, Drop)]
-struct StandingClock(Moment);
-
-impl Clock for StandingClock {
-    fn now(&mut self) -> Option<Moment> {
-        Some(self.0)
-    }
-}
-
-/// A server, where it takes connections, and what the client of the next one writes.
+/// A front, where it takes connections, and what the client of the next one writes.
 #[derive(Drop)]
 struct Sockets<R: Records + Drop> {
     rt: HostRuntime,
-    server: Server<R>,
+    front: Front<R>,
     listener: TcpListener,
     clock: StandingClock,
     written: Vec<u8>,
@@ -39,18 +29,19 @@ impl<R: Records + Drop> Sockets<R> {
     /// Has a client connect and write, and the server take the connection, answer it and close it. Adds how that has ended for the server and what the client has
     /// received.
     fn connection(&mut self, answer: &mut Answer) -> Result<(), NoAnswer> {
-        let alloc = answer.alloc();
         let mut client = TcpStream::connect(&self.rt, self.listener.local_addr()?)?;
         client.write_all(&self.written)?;
         client.shutdown(Shutdown::Write)?;
         let (stream, _peer) = self.listener.accept()?;
+        let conn = self.front.open()?;
         let driven = drive(
-            alloc,
-            &mut self.server,
+            &mut self.front,
+            conn,
             &mut &stream,
             &mut &stream,
             &mut self.clock,
         );
+        self.front.close(conn)?;
         drop(stream);
         self.written.clear();
         client.read_to_end(&mut self.written)?;
@@ -71,8 +62,8 @@ impl<R: Records + Drop> Sockets<R> {
                 self.written.extend_from_slice(&bytes)?;
             }
             "close" => self.connection(answer)?,
-            "moment" => self.clock = StandingClock(moment_of(text)?),
-            "made" => make(answer, &mut self.server, text)?,
+            "moment" => self.clock.moment = moment_of(text)?,
+            "made" | "views" | "limit" => {}
             _ => return Err(NoAnswer::Malformed),
         }
         Ok(())
@@ -82,11 +73,16 @@ impl<R: Records + Drop> Sockets<R> {
 /// Lets the events happen over sockets of a server over a keeper of tables.
 fn connections(answer: &mut Answer, rt: &HostRuntime, events: &[&str]) -> Result<(), NoAnswer> {
     let alloc = answer.alloc();
+    let server = server_made(answer, tables(alloc)?, events)?;
+    let clock = StandingClock {
+        moment: moment_of("0")?,
+        left: u64::MAX,
+    };
     let mut sockets = Sockets {
         rt: *rt,
-        server: server_over(alloc, tables(alloc)?)?,
+        front: Front::new(alloc, server)?,
         listener: TcpListener::bind(rt, (Ipv4Addr::LOCALHOST, 0))?,
-        clock: StandingClock(moment_of("0")?),
+        clock,
         written: Vec::new(alloc),
     };
     for event in events {

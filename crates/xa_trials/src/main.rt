@@ -4,10 +4,13 @@
 mod answer;
 mod arguments;
 mod bodies;
+mod clock;
 mod combining;
 mod decisions;
 mod documents;
+mod driven;
 mod field;
+mod fronts;
 mod functions;
 mod keeper;
 mod keeper_changes;
@@ -17,18 +20,25 @@ mod linking;
 mod loopback;
 mod messages;
 mod no_answer;
+mod peer;
 mod plain;
+mod played;
 mod references;
 mod requests;
+mod runs;
 mod server;
 mod stores;
+mod tripped;
+mod tripping;
 mod values;
 mod versions;
+mod words;
 
 use answer::Answer;
 use no_answer::NoAnswer;
 use std::alloc::AllocError;
 use std::io::{self, Write};
+use words::Words;
 
 /// Answers a row of one field behind the kind.
 fn answer_one(answer: &mut Answer, kind: &str, field: &str) -> Result<(), NoAnswer> {
@@ -79,6 +89,10 @@ fn answer_many(answer: &mut Answer, kind: &str, fields: &[&str]) -> Result<(), N
         "decide" => decisions::decision(answer, fields),
         "server" => server::server(answer, fields),
         "server_in_memory" => server::server_in_memory(answer, fields),
+        "front" => fronts::front(answer, fields),
+        "played" => played::played(answer, fields),
+        "driven" => driven::driven(answer, fields),
+        "tripped" => tripped::tripped(answer, fields),
         "keeper" => keeper::keeper(answer, fields),
         "keeper_in_memory" => keeper::keeper_in_memory(answer, fields),
         _ => answer_first(answer, kind, fields),
@@ -97,6 +111,8 @@ fn answer_first(answer: &mut Answer, kind: &str, fields: &[&str]) -> Result<(), 
         "resolve" => references::resolution(answer, first, fields),
         "link" => linking::tree(answer, first, fields),
         "opened" => stores::opening(answer, first, fields),
+        "keeper_with" => keeper::keeper_with(answer, first, fields),
+        "tripped_after" => tripped::tripped_after(answer, first, fields),
         _ => Err(NoAnswer::Malformed),
     }
 }
@@ -114,24 +130,41 @@ fn answer_row(rt: &HostRuntime, answer: &mut Answer, fields: &[&str]) -> Result<
     }
 }
 
+/// Answers the row that a line stands for; or defines a word by it.
+fn answer_line(
+    rt: &HostRuntime,
+    words: &mut Words,
+    answer: &mut Answer,
+    line: &str,
+) -> Result<(), NoAnswer> {
+    let row = words.row(line)?;
+    if let Some(definition) = row.as_str().strip_prefix("define\t") {
+        words.define(definition)?;
+        answer.word("defined");
+        return Ok(());
+    }
+    let fields: Vec<&str> = row.as_str().split('\t').collect(rt.alloc())?;
+    answer_row(rt, answer, &fields)
+}
+
 /// The answer to a line.
-fn answer_to(rt: &HostRuntime, line: &str) -> Result<Answer, AllocError> {
+fn answer_to(rt: &HostRuntime, words: &mut Words, line: &str) -> Answer {
     let mut answer = Answer::new(rt.alloc());
-    let fields: Vec<&str> = line.split('\t').collect(rt.alloc())?;
-    match answer_row(rt, &mut answer, &fields) {
+    match answer_line(rt, words, &mut answer, line) {
         Ok(()) | Err(NoAnswer::Answered) => {}
         Err(NoAnswer::Memory) => answer.cut(),
-        Err(NoAnswer::Malformed) => answer.word("!Malformed"),
+        Err(NoAnswer::Malformed | NoAnswer::Refused(_)) => answer.word("!Malformed"),
         Err(NoAnswer::Socket) => answer.word("!Socket"),
     }
-    Ok(answer)
+    answer
 }
 
 /// The answers to the lines of the text.
 fn answers(rt: &HostRuntime, text: &str) -> Result<String, AllocError> {
     let mut answers = String::new(rt.alloc());
+    let mut words = Words::new(rt.alloc());
     for line in text.lines() {
-        let answer = answer_to(rt, line)?;
+        let answer = answer_to(rt, &mut words, line);
         answers.push_str(answer.line())?;
         answers.push_str("\n")?;
     }

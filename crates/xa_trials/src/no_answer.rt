@@ -1,6 +1,7 @@
 //! Why a row gets no answer.
 use std::alloc::{AllocError, AllocFailed};
 use std::io;
+use xa_server::FrontError;
 
 /// Why a row gets no answer.
 #[derive(Clone, Copy)]
@@ -13,6 +14,8 @@ pub enum NoAnswer {
     Socket,
     /// The answer is there already.
     Answered,
+    /// A call on a connection was refused.
+    Refused(FrontError),
 }
 
 impl From<AllocError> for NoAnswer {
@@ -32,6 +35,15 @@ impl From<io::Error> for NoAnswer {
         match error.kind() {
             io::ErrorKind::OutOfMemory => NoAnswer::Memory,
             _ => NoAnswer::Socket,
+        }
+    }
+}
+
+impl From<FrontError> for NoAnswer {
+    fn from(error: FrontError) -> NoAnswer {
+        match error {
+            FrontError::Memory => NoAnswer::Memory,
+            refusal => NoAnswer::Refused(refusal),
         }
     }
 }

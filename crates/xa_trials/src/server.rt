@@ -1,27 +1,34 @@
-//! Rows of messages: what a server answers to a stream. First come `made:BYTES`, messages that have to succeed and aren't answered. An event is `moment:SECONDS`,
-//! which dates what follows, `piece:BYTES`, the next piece of the stream, `close:`, after which the stream is another, `restart:`, after which the server is
-//! another, too, over the keeper that the one before gave back, or `readings:`, `evaluations:` and `unkept:`, which ask how often the server has done that.
-//! `views:COUNT` says for how many views the server has room, where that isn't 128, and `limit:UNITS` limits the work for each message that follows.
+//! Rows of messages: what a server answers to a stream, on a connection of a front. First come `made:BYTES`, messages that have to succeed and aren't answered,
+//! `views:COUNT`, for how many views the server has room, where that isn't 128, and `limit:UNITS`, which limits the work for each message. An event is
+//! `moment:SECONDS`, which dates what follows, `piece:BYTES`, the next piece of the stream, `close:`, after which the stream is another, `restart:`, after which
+//! the server is another, too, over the keeper that the one before gave back, or `readings:`, `evaluations:` and `unkept:`, which ask how often the server has done
+//! that, and after which the stream is another.
 use crate::answer::Answer;
 use crate::decisions::moment_of;
 use crate::field::{bytes_of, number_of};
 use crate::keepers::{Reopen, tables};
 use crate::no_answer::NoAnswer;
+use crate::runs::Runs;
 use std::alloc::{AllocFailed, Global};
 use xa_http::{Message, Next, Session};
 use xa_records::{Digest, PlainRecords, Records};
-use xa_server::{Reply, Server, fault_reply};
+use xa_server::{Conn, Front, Server};
 use xa_value::Moment;
 
 /// The token of the operator.
 const OPERATOR_TOKEN: &str = "operator-token-1";
 
-/// A server at a moment, with the stream whose messages it answers.
+/// How many bytes are handed over at once.
+const PIECE_BYTES: usize = 65_536;
+
+/// A server at a moment, with the connection whose messages it answers.
 #[derive(Drop)]
 struct Trial<R: Reopen + Drop> {
     alloc: Global,
-    server: Server<R>,
-    session: Session,
+    front: Front<R>,
+    conn: Conn,
+    /// Whether the connection has ended.
+    has_ended: bool,
     moment: Moment,
 }
 
@@ -33,31 +40,8 @@ pub fn server_over<R: Records + Drop>(
     Server::new(alloc, records, Digest::of(OPERATOR_TOKEN.as_bytes()))
 }
 
-/// Adds each reply, and of equal ones in a row the first and how many there are, as `*COUNT`.
-fn push_replies(answer: &mut Answer, replies: &[Reply]) {
-    let mut before: &[u8] = &[];
-    let mut count = 0usize;
-    for reply in replies {
-        if count > 0 && reply.bytes() == before {
-            count = count.saturating_add(1);
-        } else {
-            push_count(answer, count);
-            answer.field("", reply.bytes());
-            before = reply.bytes();
-            count = 1;
-        }
-    }
-    push_count(answer, count);
-}
-
-fn push_count(answer: &mut Answer, count: usize) {
-    if count > 1 {
-        answer.name("*", &count);
-    }
-}
-
 /// Takes the whole messages off the stream, each with the moment. What the stream answers next.
-fn take_messages(
+pub fn take_messages(
     session: &mut Session,
     moment: Moment,
     messages: &mut Vec<(Moment, Message)>,
@@ -71,34 +55,23 @@ fn take_messages(
     Ok(Next::More)
 }
 
-/// The replies to the messages that are whole after the bytes, and what the stream answers next.
-fn replies_to<R: Records + Drop>(
-    alloc: Global,
-    server: &mut Server<R>,
-    session: &mut Session,
-    moment: Moment,
-    field: &str,
-) -> Result<(Vec<Reply>, Next), NoAnswer> {
-    session.feed(&bytes_of(alloc, field)?)?;
-    let mut messages = Vec::new(alloc);
-    let next = take_messages(session, moment, &mut messages)?;
-    Ok((server.run(&messages)?, next))
-}
-
 /// Whether the bytes are a reply of a success.
 fn is_success(reply: &[u8]) -> bool {
     reply.starts_with("HTTP/1.1 200 ".as_bytes()) || reply.starts_with("HTTP/1.1 201 ".as_bytes())
 }
 
 /// Sends the messages of the field at moment 0. The first reply that is no success is the row's whole answer.
-pub fn make<R: Records + Drop>(
+fn make<R: Records + Drop>(
     answer: &mut Answer,
     server: &mut Server<R>,
     field: &str,
 ) -> Result<(), NoAnswer> {
     let alloc = answer.alloc();
     let mut session = Session::new(alloc);
-    let (replies, next) = replies_to(alloc, server, &mut session, moment_of("0")?, field)?;
+    session.feed(&bytes_of(alloc, field)?)?;
+    let mut messages = Vec::new(alloc);
+    let next = take_messages(&mut session, moment_of("0")?, &mut messages)?;
+    let replies = server.run(&messages)?;
     for reply in &replies {
         if !is_success(reply.bytes()) {
             answer.field("", reply.bytes());
@@ -111,71 +84,126 @@ pub fn make<R: Records + Drop>(
     }
 }
 
+/// Whether what the word says is done before the first event.
+fn is_of_setup(word: &str) -> bool {
+    word == "views" || word == "made" || word == "limit"
+}
+
+/// A server over the keeper, as the fields before the first event make it.
+pub fn server_made<R: Records + Drop>(
+    answer: &mut Answer,
+    records: R,
+    events: &[&str],
+) -> Result<Server<R>, NoAnswer> {
+    let mut server = server_over(answer.alloc(), records)?;
+    for event in events {
+        let (word, text) = event.split_once(':').unwrap_or((event, ""));
+        match word {
+            "views" => server = server.with_views(number_of(text)?),
+            "limit" => server = server.with_limit(number_of(text)?),
+            "made" => make(answer, &mut server, text)?,
+            _ => return Ok(server),
+        }
+    }
+    Ok(server)
+}
+
 impl<R: Reopen + Drop> Trial<R> {
+    /// The server at that moment, with one connection.
+    fn new(alloc: Global, server: Server<R>, moment: Moment) -> Result<Trial<R>, NoAnswer> {
+        let mut front = Front::new(alloc, server)?;
+        let conn = front.open()?;
+        Ok(Trial {
+            alloc,
+            front,
+            conn,
+            has_ended: false,
+            moment,
+        })
+    }
+
+    /// Hands over bytes, unless the connection has ended, and adds the replies to all messages that are whole then, and to a fault. Whether there were some.
+    fn push_answers(
+        &mut self,
+        answer: &mut Answer,
+        runs: &mut Runs,
+        bytes: &[u8],
+    ) -> Result<bool, NoAnswer> {
+        if self.has_ended {
+            return Ok(false);
+        }
+        self.front.piece(self.conn, bytes)?;
+        let mut is_answered = false;
+        for _ in 0..u64::MAX {
+            let Some(given) = self.front.answer(self.conn, self.moment)? else {
+                break;
+            };
+            runs.push(answer, given.reply.bytes(), false)?;
+            is_answered = true;
+            self.has_ended = given.last;
+        }
+        Ok(is_answered)
+    }
+
     /// Answers the messages that are whole after the piece.
     fn piece(&mut self, answer: &mut Answer, field: &str) -> Result<(), NoAnswer> {
-        let (replies, next) = replies_to(
-            self.alloc,
-            &mut self.server,
-            &mut self.session,
-            self.moment,
-            field,
-        )?;
-        push_replies(answer, &replies);
-        push_end(answer, next, replies.is_empty())
+        let bytes = bytes_of(self.alloc, field)?;
+        let mut runs = Runs::new(self.alloc);
+        let mut is_answered = false;
+        for part in bytes.chunks(PIECE_BYTES) {
+            if self.push_answers(answer, &mut runs, part)? {
+                is_answered = true;
+            }
+        }
+        runs.end(answer);
+        if self.has_ended {
+            answer.word("!Ended");
+        } else if !is_answered {
+            answer.word("More");
+        }
+        Ok(())
+    }
+
+    /// Goes on with another stream.
+    fn close(&mut self) -> Result<(), NoAnswer> {
+        self.front.close(self.conn)?;
+        self.conn = self.front.open()?;
+        self.has_ended = false;
+        Ok(())
     }
 
     /// Lets happen what the word and the text behind it say.
     fn step(&mut self, answer: &mut Answer, word: &str, text: &str) -> Result<(), NoAnswer> {
         match word {
             "piece" => self.piece(answer, text)?,
-            "made" => make(answer, &mut self.server, text)?,
             "moment" => self.moment = moment_of(text)?,
-            "close" => self.session = Session::new(self.alloc),
-            "readings" => answer.name("readings ", &self.server.readings()),
-            "evaluations" => answer.name("evaluations ", &self.server.evaluations()),
-            "unkept" => answer.name("unkept ", &self.server.unkept()),
+            "close" => self.close()?,
             _ => return Err(NoAnswer::Malformed),
         }
         Ok(())
     }
 
-    /// Goes on with another stream, and with the server that the word and the text behind it say: one with that room for views or that limit of work, or
-    /// another one over the same keeper.
-    fn trial_after(self, word: &str, text: &str) -> Result<Trial<R>, NoAnswer> {
+    /// Goes on with another stream; after a restart with another server over the same keeper, and else after what the server has counted is added.
+    fn trial_after(self, answer: &mut Answer, word: &str) -> Result<Trial<R>, NoAnswer> {
         let Trial {
             alloc,
-            server,
-            session: _,
+            front,
+            conn: _,
+            has_ended: _,
             moment,
         } = self;
-        let server = match word {
-            "views" => server.with_views(number_of(text)?),
-            "limit" => server.with_limit(number_of(text)?),
-            _ => server_over(alloc, server.into_records().keeper_after_stop(alloc)?)?,
-        };
-        Ok(Trial {
-            alloc,
-            server,
-            session: Session::new(alloc),
-            moment,
-        })
-    }
-}
-
-/// Adds what the stream answers after its messages.
-fn push_end(answer: &mut Answer, next: Next, is_first: bool) -> Result<(), NoAnswer> {
-    match next {
-        Next::Fault(fault) => {
-            let bytes = fault_reply(answer.alloc(), fault)?;
-            answer.field("", bytes.as_slice());
-            answer.word("!Ended");
+        let server = front.into_server();
+        match word {
+            "readings" => answer.name("readings ", &server.readings()),
+            "evaluations" => answer.name("evaluations ", &server.evaluations()),
+            "unkept" => answer.name("unkept ", &server.unkept()),
+            _ => {
+                let records = server.into_records().keeper_after_stop(alloc)?;
+                return Trial::new(alloc, server_over(alloc, records)?, moment);
+            }
         }
-        Next::Ended => answer.word("!Ended"),
-        Next::More if is_first => answer.word("More"),
-        Next::More | Next::Message(_) => {}
+        Trial::new(alloc, server, moment)
     }
-    Ok(())
 }
 
 /// What the server answers to the events: over a keeper in memory, and over tables, which have to answer the same.
@@ -202,28 +230,27 @@ pub fn answered(done: Result<(), NoAnswer>) -> Result<(), NoAnswer> {
     }
 }
 
-/// Whether what the word says makes the server another one.
-fn is_change(word: &str) -> bool {
-    word == "views" || word == "limit" || word == "restart"
+/// Whether what the word says is asked of the server, or makes it another one.
+fn is_of_server(word: &str) -> bool {
+    word == "readings" || word == "evaluations" || word == "unkept" || word == "restart"
 }
 
 /// Lets the events happen to a server over the keeper.
-fn stream<R: Reopen + Drop>(
+pub fn stream<R: Reopen + Drop>(
     answer: &mut Answer,
     records: R,
     events: &[&str],
 ) -> Result<(), NoAnswer> {
     let alloc = answer.alloc();
-    let mut trial = Trial {
-        alloc,
-        server: server_over(alloc, records)?,
-        session: Session::new(alloc),
-        moment: moment_of("0")?,
-    };
+    let server = server_made(answer, records, events)?;
+    let mut trial = Trial::new(alloc, server, moment_of("0")?)?;
     for event in events {
         let (word, text) = event.split_once(':').unwrap_or((event, ""));
-        if is_change(word) {
-            trial = trial.trial_after(word, text)?;
+        if is_of_setup(word) {
+            continue;
+        }
+        if is_of_server(word) {
+            trial = trial.trial_after(answer, word)?;
         } else {
             trial.step(answer, word, text)?;
         }

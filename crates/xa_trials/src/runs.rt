@@ -1,0 +1,59 @@
+//! Equal fields in a row.
+use crate::answer::Answer;
+use crate::no_answer::NoAnswer;
+use std::alloc::Global;
+
+/// Fields that are added one after another: equal ones in a row once, and behind them how many they are, as `*COUNT`.
+#[derive(Drop)]
+pub struct Runs {
+    before: Vec<u8>,
+    is_last: bool,
+    count: usize,
+}
+
+impl Runs {
+    /// No field as yet.
+    pub fn new(alloc: Global) -> Runs {
+        Runs {
+            before: Vec::new(alloc),
+            is_last: false,
+            count: 0,
+        }
+    }
+
+    /// Adds a field of these bytes, and behind it one that says so where a connection has ended with them.
+    pub fn push(
+        &mut self,
+        answer: &mut Answer,
+        bytes: &[u8],
+        is_last: bool,
+    ) -> Result<(), NoAnswer> {
+        if self.count > 0 && self.is_last == is_last && self.before.as_slice() == bytes {
+            self.count = self.count.saturating_add(1);
+            return Ok(());
+        }
+        self.end(answer);
+        answer.field("", bytes);
+        push_last(answer, is_last);
+        self.before.clear();
+        self.before.extend_from_slice(bytes)?;
+        self.is_last = is_last;
+        self.count = 1;
+        Ok(())
+    }
+
+    /// Adds how many the last ones are, if they are several.
+    pub fn end(&mut self, answer: &mut Answer) {
+        if self.count > 1 {
+            answer.name("*", &self.count);
+        }
+        self.count = 0;
+    }
+}
+
+/// Adds that a connection has ended, if it has.
+pub fn push_last(answer: &mut Answer, is_last: bool) {
+    if is_last {
+        answer.word("last");
+    }
+}
