@@ -212,7 +212,7 @@ fn serve_at<R: Records>(
         rt,
         front,
         listener,
-        &mut WallClock,
+        &mut WallClock::new(rt),
         serving.connections,
         idle,
     )
