@@ -1,3 +1,4 @@
+pub mod AskedLemmas
 mod IndexLemmas
 mod KeyLemmas
 mod LookLemmas

@@ -26,7 +26,7 @@ use Rattle.xa_profile.specs.Individuals.{individuals}
 use Rattle.xa_profile.specs.Request.{request_of}
 use Rattle.xa_decide.specs.declared.source_row.SourceRow.{SourceRow}
 use Rattle.xa_decide.specs.Context.{clock_value, clock_value_in, entity, if_any, or_else, outside_values, request_values, source_values, values_of}
-use Rattle.xa_decide.specs.Decision.{Viewed, answer, answer_to, by_tree, decided, decision, objects_at, result_of, result_without_objects, results_of, tree_of}
+use Rattle.xa_decide.specs.Decision.{Viewed, answer, answer_to, by_tree, decided, decision, objects_at, result_of, result_without_objects, results_of}
 use Rattle.xa_decide.specs.Timeless.{ContextsDifferInTheClock, TimelessAnswersStay, TimelessRequestsStay, are_timeless, is_timeless_answer, is_timeless_read, is_timeless_request, is_timeless_tree}
 
 -- ---- the clock
@@ -85,22 +85,22 @@ by_tree_same None timeless a b same = refl
 by_tree_same (Some (Err e)) timeless a b same = refl
 by_tree_same (Some (Ok tree)) timeless a b same = steady tree timeless a b same
 
-decision_same : (view : Viewed) → is_timeless_tree (tree_of view.active view.root) ≡ true → (objects : List CategoryObject) (first second : ℤ)
+decision_same : (view : Viewed) → is_timeless_tree view.tree ≡ true → (objects : List CategoryObject) (first second : ℤ)
     → decision view objects first ≡ decision view objects second
 unfolding decision
 decision_same view timeless objects first second =
-    by_tree_same (tree_of view.active view.root) timeless (values_of (record { objects = objects; source = view.source; moment = first }))
+    by_tree_same view.tree timeless (values_of (record { objects = objects; source = view.source; moment = first }))
     (values_of (record { objects = objects; source = view.source; moment = second })) (same_but_for_the_clock objects view.source first second)
 
 -- ---- a request
 
-result_same : (view : Viewed) → is_timeless_tree (tree_of view.active view.root) ≡ true → (objects : List CategoryObject) (first second : ℤ) (individual : Individual)
+result_same : (view : Viewed) → is_timeless_tree view.tree ≡ true → (objects : List CategoryObject) (first second : ℤ) (individual : Individual)
     → result_of view objects first individual ≡ result_of view objects second individual
 result_same view timeless objects first second (Places places) =
     ap (λ e. record { evaluated = e; places = places }) (decision_same view timeless (objects_at objects places) first second)
 result_same view timeless objects first second BadReference = refl
 
-each_same : (view : Viewed) → is_timeless_tree (tree_of view.active view.root) ≡ true → (objects : List CategoryObject) (first second : ℤ) (them : List Individual)
+each_same : (view : Viewed) → is_timeless_tree view.tree ≡ true → (objects : List CategoryObject) (first second : ℤ) (them : List Individual)
     → map (result_of view objects first) them ≡ map (result_of view objects second) them
 each_same view timeless objects first second [] = refl
 each_same view timeless objects first second (x ∷ them) =

@@ -26,18 +26,21 @@ use Rattle.xa_profile.specs.Response.{response_body}
 use Rattle.xa_decide.specs.declared.source_row.SourceRow.{SourceRow}
 use Rattle.xa_decide.specs.Context.{values_of}
 
--- what decides: the active documents, the reference to the root, if one is set, and the rows of the source of attributes
+-- what decides: the tree that the root stands for, if one is set, which may be too large, and the rows of the source of attributes
 pub record Viewed : Type 0 where
-  pub active : List Active
-  pub root : Option Reference
+  pub tree : Option (Result Linked LinkError)
   pub source : List SourceRow
 
--- ---- one individual request
-
--- the tree that a root stands for, where there is one: it may be too large
+-- the tree that a root stands for among the active documents, where there is one: it may be too large
 abbrev pub tree_of : List Active → Option Reference → Option (Result Linked LinkError)
 tree_of active None = None
 tree_of active (Some root) = Some (link active root)
+
+-- what decides by the active documents, the reference to the root, if one is set, and the rows
+abbrev pub view_by : List Active → Option Reference → List SourceRow → Viewed
+view_by active root source = record { tree = tree_of active root; source = source }
+
+-- ---- one individual request
 
 -- what is decided by the tree: NotApplicable without one, and Indeterminate where it is too large
 abbrev pub by_tree : Attributes → Option (Result Linked LinkError) → Evaluated
@@ -48,7 +51,7 @@ by_tree values_of (Some (Err e)) = undecided ProcessingError
 -- what is decided of an individual request that has these Category objects
 unfoldable pub decision : Viewed → List CategoryObject → ℤ → Evaluated
 decision view objects moment =
-    by_tree (values_of (record { objects = objects; source = view.source; moment = moment })) (tree_of view.active view.root)
+    by_tree (values_of (record { objects = objects; source = view.source; moment = moment })) view.tree
 
 -- ---- a request
 

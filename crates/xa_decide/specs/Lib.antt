@@ -1,3 +1,4 @@
+pub mod Asked
 pub mod Context
 pub mod Decision
 pub mod indexing

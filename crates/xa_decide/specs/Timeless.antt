@@ -14,7 +14,7 @@ use Rattle.xa_profile.specs.Individuals.{individuals}
 use Rattle.xa_profile.specs.Request.{request_of}
 use Rattle.xa_decide.specs.declared.source_row.SourceRow.{SourceRow}
 use Rattle.xa_decide.specs.Context.{values_of}
-use Rattle.xa_decide.specs.Decision.{Viewed, answer, decided, tree_of}
+use Rattle.xa_decide.specs.Decision.{Viewed, answer, decided}
 
 -- no designator of the tree names the clock. Where there is no tree, and where it is too large, no attribute is asked for
 abbrev pub is_timeless_tree : Option (Result Linked LinkError) → Bool
@@ -24,7 +24,7 @@ is_timeless_tree (Some (Ok tree)) = is_timeless (designators_of_linked tree)
 
 -- the individual requests go by the tree, whatever they are; one result stands for too many of them
 abbrev pub are_timeless : Viewed → Result (List Individual) TooMany → Bool
-are_timeless view (Ok individuals) = is_timeless_tree (tree_of view.active view.root)
+are_timeless view (Ok individuals) = is_timeless_tree view.tree
 are_timeless view (Err e) = true
 
 -- a request; where one decision for all is wanted (CombinedDecision), one result stands for it

@@ -4,12 +4,12 @@ ghost use Rattle.xa_expr.specs.declared.fault.Fault.TheVariants.{SyntaxError};
 ghost use Rattle.xa_policy.specs.Rule.{undecided};
 ghost use Rattle.xa_profile.specs.declared.individuals.Individual.TheVariants.{Places};
 ghost use Rattle.xa_profile.specs.Response.{response_body};
-ghost use Rattle.xa_decide.specs.Decision.{objects_at, tree_of, by_tree, result_without_objects, result_of, decided, body_of, answer};
+ghost use Rattle.xa_decide.specs.Decision.{objects_at, by_tree, result_without_objects, result_of, decided, body_of, answer};
 ghost use Rattle.xa_decide.specs.Timeless.{is_timeless_answer, is_timeless_request, is_timeless_tree};
 
 use crate::context::IndividualContext;
 use crate::indexed_object::IndexedObject;
-use crate::response_work::units_of_result;
+use crate::response_work::writing_of_result;
 use crate::view::View;
 use crate::work::Work;
 use std::alloc::{AllocError, Global};
@@ -126,7 +126,7 @@ impl<'a> Deciding<'a> {
         let context = self.context_at(alloc, chosen)?;
         let evaluated = by_tree(alloc, self.view.tree(), &context)?;
         self.work
-            .spend(units_of_result(self.objects, chosen, &evaluated))?;
+            .spend_on_result(writing_of_result(self.objects, chosen, &evaluated))?;
         Ok(ResultObject { evaluated, places })
     }
 
@@ -182,7 +182,7 @@ fn outcome_of_individuals<'x>(
     individuals: Items<Individual>,
 ) -> Result<Outcome, AllocError>
     ensures results { IfOk result (λ outcome. outcome.results ≡ map (result_of view.now objects.now moment) individuals) }
-    ensures timeless { IfOk result (λ outcome. outcome.timeless ≡ is_timeless_tree (tree_of view.now.active view.now.root)) }
+    ensures timeless { IfOk result (λ outcome. outcome.timeless ≡ is_timeless_tree view.now.tree) }
 {
     let indexed = indexed_objects(alloc, work, objects)?;
     let deciding = Deciding {
@@ -234,7 +234,7 @@ fn outcome_of_request(
     ensures results { IfOk result (λ outcome. outcome.results ≡ decided view.now request.now moment) }
     ensures timeless { IfOk result (λ outcome. outcome.timeless ≡ is_timeless_request view.now request.now) }
 {
-    let work = Work::new(view.budget(), request.objects.as_slice());
+    let work = Work::new(view, request.objects.as_slice());
     match outcome_by(alloc, view, request, moment, &work) {
         Err(_) if work.wants_order() => {
             outcome_by(alloc, view, request, moment, &work.ordered())
@@ -244,7 +244,7 @@ fn outcome_of_request(
 }
 
 /// The response to the request at the moment: a result for each of its individual requests, by the tree that the view's root stands for,
-/// or one result where these aren't decided. Want of memory is the only error; it is also what comes where the view's limit of work is reached.
+/// or one result where these aren't decided. Want of memory is the only error; it is also what comes where one of the view's limits is reached.
 pub fn decide<'a>(
     alloc: Global,
     view: &View,
@@ -266,7 +266,7 @@ pub fn decide<'a>(
 }
 
 /// What is responded to a body that is no request.
-fn respond_to_no_request(alloc: Global) -> Result<Responded, AllocError>
+fn respond_to_no_request(alloc: Global, view: &View) -> Result<Responded, AllocError>
     ensures body { IfOk result (λ responded. responded.body ≡ response_body [] (result_without_objects SyntaxError ∷ [])) }
     ensures timeless { IfOk result (λ responded. responded.timeless ≡ true) }
 {
@@ -274,8 +274,9 @@ fn respond_to_no_request(alloc: Global) -> Result<Responded, AllocError>
         objects: &[],
         results: one_result(alloc, Fault::SyntaxError)?,
     };
+    let body = view.within_reply_limit(response.to_body(alloc)?)?;
     Ok(Responded {
-        body: Items::from_vec(response.to_body(alloc)?),
+        body: Items::from_vec(body),
         timeless: true,
     })
 }
@@ -291,8 +292,9 @@ fn respond_to_request(
     ensures timeless { IfOk result (λ responded. responded.timeless ≡ is_timeless_request view.now request.now) }
 {
     let decided = decide(alloc, view, request, moment)?;
+    let body = view.within_reply_limit(decided.response.to_body(alloc)?)?;
     Ok(Responded {
-        body: Items::from_vec(decided.response.to_body(alloc)?),
+        body: Items::from_vec(body),
         timeless: decided.timeless,
     })
 }
@@ -313,7 +315,9 @@ pub fn respond(
         Ok(request) => Ok(Some(respond_to_request(alloc, view, &request, moment)?)),
         Err(OrMemory::Memory) => Err(AllocError),
         Err(OrMemory::Error(RequestError::NotJson)) => Ok(None),
-        Err(OrMemory::Error(RequestError::NotProfile)) => Ok(Some(respond_to_no_request(alloc)?)),
+        Err(OrMemory::Error(RequestError::NotProfile)) => {
+            Ok(Some(respond_to_no_request(alloc, view)?))
+        },
     }
 }
 

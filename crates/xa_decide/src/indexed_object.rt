@@ -10,8 +10,9 @@ use crate::attribute::push_attribute;
 use crate::keys::{ByIssuer, ByName, issuer_key};
 use crate::naming::{Naming, naming_of};
 use crate::order::{item_at, order_of, places_among};
-use crate::response_work::units_included;
+use crate::response_work::writing_of_object;
 use crate::work::Work;
+use crate::writing::Writing;
 use std::alloc::{AllocError, Global};
 use std::marker::Model;
 use xa_bag::{Bag, Members};
@@ -19,7 +20,7 @@ use xa_expr::{Budget, Designator};
 use xa_profile::{Attribute, CategoryObject};
 
 /// A Category object, with its attributes to be found by their ids and types, and by their issuers as well, with their values to be searched
-/// where that is asked for often, with what names its entity, and with how much work it is to write what stands of it in a result. It is made
+/// where that is asked for often, with what names its entity, and with what it is to write what stands of it in a result. It is made
 /// once for an object, whatever the number of the individual requests that have it.
 #[derive(Drop)]
 pub(crate) struct IndexedObject<'a> {
@@ -28,7 +29,7 @@ pub(crate) struct IndexedObject<'a> {
     by_issuer: Vec<usize>,
     members: Option<Vec<Members<'a>>>,
     naming: Naming<'a>,
-    units_included: u64,
+    writing: Writing,
 }
 
 impl<'a> Model for IndexedObject<'a> {
@@ -81,7 +82,7 @@ impl<'a> IndexedObject<'a> {
             by_issuer,
             members: work.members(alloc, attributes)?,
             naming: naming_of(object),
-            units_included: units_included(object),
+            writing: writing_of_object(object),
         })
     }
 
@@ -93,9 +94,9 @@ impl<'a> IndexedObject<'a> {
         let _ = &self.object;
     }
 
-    /// The units of writing what stands of the object in a result.
-    pub(crate) fn units_included(&self) -> u64 {
-        self.units_included
+    /// What it is to write what stands of the object in a result.
+    pub(crate) fn writing(&self) -> Writing {
+        self.writing
     }
 
     /// The object's category.

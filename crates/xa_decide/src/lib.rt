@@ -1,6 +1,7 @@
 //! The decision on a request: each of its individual requests in its context, by the tree of policies that the root stands for.
 #![tactic(auto)]
 
+mod asked;
 mod attribute;
 mod bag;
 mod clock;
@@ -21,7 +22,9 @@ mod source_row;
 mod timeless;
 mod view;
 mod work;
+mod writing;
 
+pub use asked::{asks_policies, others_are_answered_alike};
 pub use decision::{Decided, Responded, answer, decide, respond};
 pub use rows::{read_rows, write_rows};
 pub use source_row::SourceRow;

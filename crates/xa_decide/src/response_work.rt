@@ -1,103 +1,114 @@
-//! How much work it is to write a result, in units: the bytes that it has in the body of a response. It is asked before anything is written,
-//! so that a small request for a large response is refused early. A text counts by its bytes; the body may have up to six times as many,
-//! where control characters are escaped.
+//! What it is to write a result. It is asked before anything is written, so that a small request for a large response is refused early.
 use crate::indexed_object::IndexedObject;
-use xa_expr::{units_of, units_of_bag};
+use crate::writing::Writing;
 use xa_policy::{AttributeAssignment, Duties, Duty, Evaluated};
 use xa_profile::{Attribute, CategoryObject};
-use xa_value::Text;
 
-/// At most how many bytes an attribute has beside its texts and values, in names of members, marks and the URI of a data type; and about
-/// how many a Category object, an obligation and a result have.
-const MEMBERS: u64 = 128;
+/// An attribute beside its texts and values: names of members, marks and the URI of a data type, which are at most so many bytes, and at least half as
+/// many.
+const ATTRIBUTE: Writing = Writing {
+    units: 128,
+    bytes: 64,
+};
 
-/// The units of a text that may be left out.
-fn units_of_text(text: &Option<Text>) -> u64 {
-    match text {
-        Some(text) => text.as_bytes().len() as u64,
-        None => 0,
-    }
+/// A Category object beside its category and attributes.
+const OBJECT: Writing = Writing {
+    units: 128,
+    bytes: 32,
+};
+
+/// An obligation or a piece of advice beside its id and attributes.
+const DUTY: Writing = Writing {
+    units: 128,
+    bytes: 8,
+};
+
+/// A result beside its objects, obligations and advice.
+const RESULT: Writing = Writing {
+    units: 128,
+    bytes: 64,
+};
+
+/// An attribute of the request.
+fn writing_of_attribute(attribute: &Attribute) -> Writing {
+    ATTRIBUTE
+        .and(Writing::of_text(&attribute.id))
+        .and(Writing::of_text_if_any(&attribute.issuer))
+        .and(Writing::of_bag(&attribute.values))
 }
 
-/// The units of an attribute of the request.
-fn units_of_attribute(attribute: &Attribute) -> u64 {
-    MEMBERS
-        .saturating_add(attribute.id.as_bytes().len() as u64)
-        .saturating_add(units_of_text(&attribute.issuer))
-        .saturating_add(units_of_bag(&attribute.values))
-}
-
-/// The units of the object's attributes that are to stand in a result; none, where there are none.
-fn units_of_attributes(object: &CategoryObject) -> u64 {
-    let mut units = 0u64;
+/// The object's attributes that are to stand in a result; nothing, where there are none.
+fn writing_of_attributes(object: &CategoryObject) -> Writing {
+    let mut all = Writing::NOTHING;
     for attribute in object.attributes.as_slice() {
         if attribute.include_in_result {
-            units = units.saturating_add(units_of_attribute(attribute));
+            all = all.and(writing_of_attribute(attribute));
         }
     }
-    units
+    all
 }
 
-/// The units of what stands of the object in each result that has it; none, where none of its attributes is to stand there.
-pub(crate) fn units_included(object: &CategoryObject) -> u64 {
-    match units_of_attributes(object) {
-        0 => 0,
-        units => units
-            .saturating_add(MEMBERS)
-            .saturating_add(object.category.as_bytes().len() as u64),
+/// What stands of the object in each result that has it; nothing, where none of its attributes is to stand there.
+pub(crate) fn writing_of_object(object: &CategoryObject) -> Writing {
+    let attributes = writing_of_attributes(object);
+    if attributes.units == 0 {
+        return Writing::NOTHING;
     }
+    OBJECT
+        .and(attributes)
+        .and(Writing::of_text(&object.category))
 }
 
-/// The units of what stands of the objects at the places in a result.
-fn units_at(objects: &[IndexedObject<'_>], places: &[usize]) -> u64 {
-    let mut units = 0u64;
+/// What stands of the objects at the places in a result.
+fn writing_at(objects: &[IndexedObject<'_>], places: &[usize]) -> Writing {
+    let mut all = Writing::NOTHING;
     for place in places {
         if let Some(object) = objects.get(*place) {
-            units = units.saturating_add(object.units_included());
+            all = all.and(object.writing());
         }
     }
-    units
+    all
 }
 
-/// The units of an attribute that an obligation or a piece of advice carries.
-fn units_of_assignment(assignment: &AttributeAssignment) -> u64 {
-    MEMBERS
-        .saturating_add(assignment.attribute_id.as_bytes().len() as u64)
-        .saturating_add(units_of_text(&assignment.category))
-        .saturating_add(units_of_text(&assignment.issuer))
-        .saturating_add(units_of(&assignment.value))
+/// An attribute that an obligation or a piece of advice carries.
+fn writing_of_assignment(assignment: &AttributeAssignment) -> Writing {
+    ATTRIBUTE
+        .and(Writing::of_text(&assignment.attribute_id))
+        .and(Writing::of_text_if_any(&assignment.category))
+        .and(Writing::of_text_if_any(&assignment.issuer))
+        .and(Writing::of_value(&assignment.value))
 }
 
-/// The units of an obligation or a piece of advice.
-fn units_of_duty(duty: &Duty) -> u64 {
-    let mut units = MEMBERS.saturating_add(duty.id.as_bytes().len() as u64);
+/// An obligation or a piece of advice.
+fn writing_of_duty(duty: &Duty) -> Writing {
+    let mut all = DUTY.and(Writing::of_text(&duty.id));
     for assignment in duty.assignments.as_slice() {
-        units = units.saturating_add(units_of_assignment(assignment));
+        all = all.and(writing_of_assignment(assignment));
     }
-    units
+    all
 }
 
-/// The units of obligations or of advice.
-fn units_of_each(duties: &[Duty]) -> u64 {
-    let mut units = 0u64;
+/// Obligations, or advice.
+fn writing_of_each(duties: &[Duty]) -> Writing {
+    let mut all = Writing::NOTHING;
     for duty in duties {
-        units = units.saturating_add(units_of_duty(duty));
+        all = all.and(writing_of_duty(duty));
     }
-    units
+    all
 }
 
-/// The units of obligations and advice.
-fn units_of_duties(duties: &Duties) -> u64 {
-    units_of_each(duties.obligations()).saturating_add(units_of_each(duties.advice()))
+/// Obligations and advice.
+fn writing_of_duties(duties: &Duties) -> Writing {
+    writing_of_each(duties.obligations()).and(writing_of_each(duties.advice()))
 }
 
-/// The units of the result of the individual request that has the objects at these places.
-pub(crate) fn units_of_result(
+/// The result of the individual request that has the objects at these places.
+pub(crate) fn writing_of_result(
     objects: &[IndexedObject<'_>],
     places: &[usize],
     evaluated: &Evaluated,
-) -> u64 {
-    MEMBERS
-        .saturating_add(units_at(objects, places))
-        .saturating_add(units_of_duties(&evaluated.duties))
+) -> Writing {
+    RESULT
+        .and(writing_at(objects, places))
+        .and(writing_of_duties(&evaluated.duties))
 }

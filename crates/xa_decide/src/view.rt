@@ -1,7 +1,7 @@
 //! The view of a domain: what its decisions depend on.
 ghost use Rattle.std.specs.Prelude.{◌≡◌, IfOk};
 ghost use Rattle.xa_link.specs.Linking.{link};
-ghost use Rattle.xa_decide.specs.Decision.{tree_of};
+ghost use Rattle.xa_decide.specs.Decision.{tree_of, view_by};
 ghost use Rattle.xa_decide.specs.Places.{counted, places, places_of_all, places_of_tree};
 ghost use Rattle.xa_decide.specs.Timeless.{is_timeless_tree};
 
@@ -15,33 +15,33 @@ use xa_link::{Active, LinkError, link};
 use xa_policy::{Linked, Reference};
 use xa_value::{Items, OrMemory};
 
-/// What a domain's decisions depend on: its active documents, its root, if it has one, and its source rows; made ready for any number of requests: the
-/// tree that the root stands for is linked, and the rows are in order. Beside these stands how much work a message may ask for, which decides nothing: a
-/// message that asks for more is answered as if memory were wanting.
+/// What a domain's decisions depend on: the tree that its root stands for among its active documents, if it has one, and its source rows; made ready for any number of
+/// requests: the tree is linked, and the rows are in order. Of the documents it holds what the tree shares with them, and nothing of those to which the root doesn't
+/// lead. Beside these stands how much work a message may ask for, and how many bytes the body of its response may have. Neither decides anything: a message that asks
+/// for more is answered as if memory were wanting.
 #[derive(Debug, Drop)]
 pub struct View {
-    active: Items<Active>,
-    root: Option<Reference>,
-    source: Source,
     tree: Option<Result<Linked, LinkError>>,
+    source: Source,
     timeless: bool,
     limit: u64,
+    reply_limit: u64,
 }
 
 impl Model for View {
     ghost use Rattle.std.specs.Coded.{codes};
-    ghost use Rattle.xa_notation.specs.contracts.document.Document as document;
+    ghost use Rattle.xa_policy.specs.contracts.linked.Linked as linked;
     ghost use Rattle.std.specs.Prelude.{◌≡◌};
-    ghost use Rattle.xa_decide.specs.Decision.{Viewed, tree_of};
+    ghost use Rattle.xa_decide.specs.Decision.{Viewed};
     ghost use Rattle.xa_decide.specs.Timeless.{is_timeless_tree};
 
     ghost Value = { Viewed };
 
-    ghost coded = { Prim.hlevel (codes, document.the_row.coded) };
+    ghost coded = { Prim.hlevel (codes, linked.the_row.coded) };
 
-    ghost view = { λ v. record { active = v.active; root = v.root; source = v.source } };
+    ghost view = { λ v. record { tree = v.tree; source = v.source } };
 
-    ghost invariant = { λ v. (v.tree ≡ tree_of v.active v.root) × (v.timeless ≡ is_timeless_tree v.tree) };
+    ghost invariant = { λ v. v.timeless ≡ is_timeless_tree v.tree };
 }
 
 /// Links the tree that a root stands for; it may be too large.
@@ -102,25 +102,24 @@ fn places_of_all(trees: &[Linked]) -> usize
 
 impl View {
     /// A view of these documents, this root and these rows. The tree is linked and the rows are put in order here, once for all requests. The work of a message
-    /// has no limit.
+    /// has no limit, nor has its response.
     pub fn new(
         alloc: Global,
-        active: Items<Active>,
-        root: Option<Reference>,
+        active: &[Active],
+        root: &Option<Reference>,
         source: Items<SourceRow>,
     ) -> Result<View, AllocError>
-        ensures { IfOk result (λ view. view ≡ record { active = active; root = root; source = source }) }
+        ensures { IfOk result (λ view. view ≡ view_by active.now root.now source) }
     {
         let source = Source::new(alloc, source)?;
-        let tree = tree_of(alloc, active.as_slice(), &root)?;
+        let tree = tree_of(alloc, active, root)?;
         let timeless = is_timeless_tree(&tree);
         Ok(View {
-            active,
-            root,
-            source,
             tree,
+            source,
             timeless,
             limit: u64::MAX,
+            reply_limit: u64::MAX,
         })
     }
 
@@ -133,21 +132,45 @@ impl View {
         view
     }
 
+    /// The same view, under which the body of a response may have this many bytes.
+    pub fn with_reply_limit(self, bytes: u64) -> View
+        ensures { result ≡ self }
+    {
+        let mut view = self;
+        view.reply_limit = bytes;
+        view
+    }
+
     /// The work that one message may ask for.
     pub(crate) fn budget(&self) -> Budget {
         Budget::new(self.limit)
     }
 
+    /// How many bytes the body of a response may have.
+    pub(crate) fn reply_limit(&self) -> u64 {
+        self.reply_limit
+    }
+
+    /// The body of a response, if it may have so many bytes.
+    pub(crate) fn within_reply_limit(&self, body: Vec<u8>) -> Result<Vec<u8>, AllocError>
+        ensures { IfOk result (λ kept. kept.items ≡ body.items) }
+    {
+        if body.len() as u64 > self.reply_limit {
+            return Err(AllocError);
+        }
+        Ok(body)
+    }
+
     /// The tree that decides, where there is one.
     pub(crate) fn tree(&self) -> &Option<Result<Linked, LinkError>>
-        ensures { result.now ≡ tree_of self.now.active self.now.root }
+        ensures { result.now ≡ self.now.tree }
     {
         &self.tree
     }
 
     /// Whether no designator of the tree names the clock.
     pub(crate) fn is_timeless(&self) -> bool
-        ensures { result ≡ is_timeless_tree (tree_of self.now.active self.now.root) }
+        ensures { result ≡ is_timeless_tree self.now.tree }
     {
         self.timeless
     }
@@ -155,7 +178,7 @@ impl View {
     /// How many places the linked tree has: its policies and policy sets, and the references that lead nowhere, of which a set may have many; 0 where there is no
     /// tree. The memory of a view grows with them beside its documents and rows.
     pub fn places(&self) -> usize
-        ensures { result ≡ places_of_tree (tree_of self.now.active self.now.root) }
+        ensures { result ≡ places_of_tree self.now.tree }
     {
         match &self.tree {
             Some(Ok(linked)) => places_of(linked),

@@ -1,6 +1,8 @@
-//! The work of one message: how much it may ask for, and how the large bags of its request are searched.
+//! The work of one message: how much it may ask for, how many bytes its response may have, and how the large bags of its request are searched.
 ghost use Rattle.std.specs.Prelude.{◌≡◌, map, IfOk, IfSome};
 
+use crate::view::View;
+use crate::writing::Writing;
 use std::alloc::{AllocError, Global};
 use std::cell::Cell;
 use xa_bag::{Bag, Members};
@@ -54,26 +56,31 @@ enum Search {
     Ordered,
 }
 
-/// The work of one message.
+/// The work of one message, and the bytes that its response may still have.
 #[derive(Drop)]
 pub(crate) struct Work {
     budget: Budget,
+    reply: Budget,
+    reply_limit: u64,
     search: Search,
 }
 
 impl Work {
-    /// The work of a message whose request has these objects: at first their large bags are searched value by value.
-    pub(crate) fn new(budget: Budget, objects: &[CategoryObject]) -> Work {
+    /// The work of a message, by the view's limits, whose request has these objects: at first their large bags are searched value by value.
+    pub(crate) fn new(view: &View, objects: &[CategoryObject]) -> Work {
         let values = large_values(objects).saturating_mul(SCANS);
         Work {
-            budget,
+            budget: view.budget(),
+            reply: Budget::new(view.reply_limit()),
+            reply_limit: view.reply_limit(),
             search: Search::Scanning(Scans::of(values)),
         }
     }
 
-    /// What is left of it, with the values of large bags in order.
+    /// What is left of it, with the values of large bags in order. The response is begun anew.
     pub(crate) fn ordered(self) -> Work {
         let mut work = self;
+        work.reply = Budget::new(work.reply_limit);
         work.search = Search::Ordered;
         work
     }
@@ -94,6 +101,12 @@ impl Work {
     /// Takes the units from what the message may ask for.
     pub(crate) fn spend(&self, units: u64) -> Result<(), AllocError> {
         self.budget.spend(units)
+    }
+
+    /// Takes what it is to write a result: the units from what the message may ask for, and the bytes from what its response may have.
+    pub(crate) fn spend_on_result(&self, writing: Writing) -> Result<(), AllocError> {
+        self.budget.spend(writing.units)?;
+        self.reply.spend(writing.bytes)
     }
 
     /// Takes a look at each value of the bag from what may be looked at one after another.

@@ -1,0 +1,141 @@
+//! What it is to write a part of a response: how much work, and how many bytes. It is asked before anything is written, so that neither is done nor
+//! given room where there is too little left. A text counts by the bytes that JSON has for it: a quotation mark, a backslash and a control character
+//! take two or six (RFC 8259, section 7).
+use xa_bag::Bag;
+use xa_expr::units_of;
+use xa_value::{DataType, Text, Value};
+
+/// What it is to write a part of a response.
+#[derive(Clone, Copy)]
+pub(crate) struct Writing {
+    /// The work, in units.
+    pub(crate) units: u64,
+    /// The bytes, or some fewer: those of texts and binary values as they are written, and the least that stands beside them.
+    pub(crate) bytes: u64,
+}
+
+impl Writing {
+    /// Nothing is written.
+    pub(crate) const NOTHING: Writing = Writing { units: 0, bytes: 0 };
+
+    /// Both of these.
+    pub(crate) fn and(self, other: Writing) -> Writing {
+        Writing {
+            units: self.units.saturating_add(other.units),
+            bytes: self.bytes.saturating_add(other.bytes),
+        }
+    }
+
+    /// So many of these.
+    fn times(self, count: usize) -> Writing {
+        Writing {
+            units: self.units.saturating_mul(count as u64),
+            bytes: self.bytes.saturating_mul(count as u64),
+        }
+    }
+
+    /// A text.
+    pub(crate) fn of_text(text: &Text) -> Writing {
+        let bytes = text.as_bytes();
+        let count = (bytes.len() as u64).saturating_add(escapes_in(bytes));
+        Writing {
+            units: count,
+            bytes: count,
+        }
+    }
+
+    /// A text that may be left out.
+    pub(crate) fn of_text_if_any(text: &Option<Text>) -> Writing {
+        match text {
+            Some(text) => Writing::of_text(text),
+            None => Writing::NOTHING,
+        }
+    }
+
+    /// A value.
+    pub(crate) fn of_value(value: &Value) -> Writing {
+        let widening = widening(value);
+        Writing {
+            units: units_of(value).saturating_add(widening),
+            bytes: length_of(value).saturating_add(widening),
+        }
+    }
+
+    /// The values of a bag. Where these are of one size, nobody looks at them.
+    pub(crate) fn of_bag(bag: &Bag) -> Writing {
+        match bag.values() {
+            [first, ..] if is_of_one_size(bag.data_type()) => {
+                Writing::of_value(first).times(bag.len())
+            },
+            values => Writing::of_values(values),
+        }
+    }
+
+    /// The values, one after another.
+    fn of_values(values: &[Value]) -> Writing {
+        let mut all = Writing::NOTHING;
+        for value in values {
+            all = all.and(Writing::of_value(value));
+        }
+        all
+    }
+}
+
+/// Whether every value of the type is of one size.
+fn is_of_one_size(data_type: DataType) -> bool {
+    !matches!(
+        data_type,
+        DataType::String | DataType::AnyUri | DataType::HexBinary | DataType::Base64Binary
+    )
+}
+
+/// Whether JSON has an escape for the byte.
+fn is_escaped(byte: u8) -> bool {
+    byte < 0x20 || byte == b'"' || byte == b'\\'
+}
+
+/// How many bytes an escape takes more than the byte that it stands for.
+fn escaping(byte: u8) -> u64 {
+    match byte {
+        b'"' | b'\\' | 8 | 9 | 10 | 12 | 13 => 1,
+        0..=31 => 5,
+        _ => 0,
+    }
+}
+
+/// Whether a byte of the text has an escape.
+fn has_escapes(text: &[u8]) -> bool {
+    text.iter()
+        .fold(false, |found, byte| found | is_escaped(*byte))
+}
+
+/// How many bytes the escapes of the text add to it.
+fn escapes_in(text: &[u8]) -> u64 {
+    if !has_escapes(text) {
+        return 0;
+    }
+    text.iter()
+        .fold(0u64, |count, byte| count.saturating_add(escaping(*byte)))
+}
+
+/// How many bytes a value takes more than it has: its escapes, a second digit for each byte, or a third more in base64.
+fn widening(value: &Value) -> u64 {
+    match value {
+        Value::String(text) => escapes_in(text.as_bytes()),
+        Value::AnyUri(text) => escapes_in(text.as_bytes()),
+        Value::HexBinary(bytes) => bytes.as_slice().len() as u64,
+        Value::Base64Binary(bytes) => bytes.as_slice().len() as u64 / 3,
+        _ => 0,
+    }
+}
+
+/// How many bytes of text or of its binary the value has; one, where it is of another type.
+fn length_of(value: &Value) -> u64 {
+    match value {
+        Value::String(text) => text.as_bytes().len() as u64,
+        Value::AnyUri(text) => text.as_bytes().len() as u64,
+        Value::HexBinary(bytes) => bytes.as_slice().len() as u64,
+        Value::Base64Binary(bytes) => bytes.as_slice().len() as u64,
+        _ => 1,
+    }
+}
