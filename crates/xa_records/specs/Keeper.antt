@@ -1,5 +1,5 @@
 -- What a call of a keeper did.
-use Rattle.std.specs.Prelude.{◌≡◌, ◌+◌, ◌^◌, ◌⊎◌, ℕ, List, Result, Ok, Err, OnOk}
+use Rattle.std.specs.Prelude.{◌≡◌, ◌+◌, ◌^◌, ◌⊎◌, ℕ, Bool, true, List, Result, Ok, Err, IsErrOf, IsTrue, OnOk}
 use Rattle.xa_records.specs.declared.refusal.ChangeError.{ChangeError}
 use Rattle.xa_records.specs.declared.refusal.ChangeError.TheVariants.{Failed, Refused}
 use Rattle.xa_records.specs.declared.refusal.Failure.{Failure}
@@ -57,6 +57,8 @@ pub record Custody : Type 1 where
   pub may_leave : Kept → Type 0
   -- how many calls have failed for want of storage
   pub faults : ℕ
+  -- whether it can go on: in memory always, in tables until its store was found to be shut
+  pub is_open : Bool
 
 -- a call reads what is there
 pub record Reading {X : Type 0} (old new : Custody) (result : Result X Failure) (there : X) : Type 0 where
@@ -66,6 +68,11 @@ pub record Reading {X : Type 0} (old new : Custody) (result : Result X Failure) 
   pub stays : new.clean → old.sound → OnOk result new.sound
   pub leaves : new.clean → old.sound → (left : Kept) → new.may_leave left → old.may_leave left
   pub faults : CountsReading old.faults new.faults result
+  -- only a call that answers Store shuts it; and once it is shut, each call answers Store
+  pub was_open : IsTrue new.is_open → IsTrue old.is_open
+  pub stays_open : ¬ IsErrOf result Store → IsTrue new.is_open
+  -- where it is open still after such a call, it goes on
+  pub goes_on : new.clean → old.sound → IsErrOf result Store → IsTrue new.is_open → new.sound
 
 -- a call makes a change of the domain of that name
 pub record Changing {X : Type 0} (old new : Custody) (result : Result X ChangeError) (name : List ℕ) (change : Change) : Type 0 where
@@ -75,7 +82,10 @@ pub record Changing {X : Type 0} (old new : Custody) (result : Result X ChangeEr
   pub stays : new.clean → old.sound → IfAnswered result new.sound
   pub leaves : new.clean → old.sound → Leaves old.may_leave new.may_leave old.kept name change
   pub faults : CountsChange old.faults new.faults result
+  pub was_open : IsTrue new.is_open → IsTrue old.is_open
+  pub stays_open : ¬ IsErrOf result (Failed Store) → IsTrue new.is_open
+  pub goes_on : new.clean → old.sound → IsErrOf result (Failed Store) → IsTrue new.is_open → new.sound
 
--- the keeper in memory: always sound, and a crash leaves nothing
+-- the keeper in memory: always sound and open, and a crash leaves nothing
 abbrev pub in_memory : Kept → ℕ → Custody
-in_memory kept faults = record { kept = kept; sound = Unit {0}; clean = Unit {0}; may_leave = λ _. ⊥; faults = faults }
+in_memory kept faults = record { kept = kept; sound = Unit {0}; clean = Unit {0}; may_leave = λ _. ⊥; faults = faults; is_open = true }

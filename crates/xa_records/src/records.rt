@@ -32,6 +32,12 @@ pub trait Records {
     fn faults(&self) -> u64
         ensures { result ≡ (custody self.now).faults };
 
+    /// Whether it can go on. A keeper that is shut answers `Store` to each call, now and for ever: its storage has to be opened again. It is told to be shut
+    /// only where that was found, after a call that answered `Store`.
+    fn is_open(&self) -> bool
+        ensures told { result ≡ (custody self.now).is_open }
+        ensures sound { (custody self.now).sound → IsTrue result };
+
     /// The domain's number, its epoch and its tokens; nothing, if there is no such domain.
     fn gate(&mut self, alloc: Global, name: &Text) -> Result<Option<Gate>, Failure>
         ensures { Reading (custody self.old) (custody self.new) result (gate_of name.now (custody self.old).kept) };

@@ -97,6 +97,7 @@ module _ (old new : State) (has : old.now.schema ≡ our_schema) (count : ℕ) (
       let last = stands_last rowid_of same_place (Back attribute_row attribute_in) xs added was.attributes.rise refl in
       record {
         schema = adds.schema;
+        database = adds.database;
         tables =
             attributes_now db next was (xs ++ added ∷ []) (subst (λ l. Wrote db next 8 (map attribute_row l)) last wrote)
             (all_last rowid_of same_place (Back attribute_row attribute_in) xs added was.attributes.rise refl backs (attribute_back added reads))
@@ -116,6 +117,7 @@ module _ (old new : State) (has : old.now.schema ≡ our_schema) (count : ℕ) (
       (λ _. refl) works_of_no_attribute edits.rows answer edits.edited in
       record {
         schema = edits.schema;
+        database = edits.database;
         tables =
             attributes_now db next was (delete_where p xs) wrote (all-filter (Back attribute_row attribute_in) (λ a. not (p a)) xs backs)
             (IsKeyedBy-delete_where rowid_of p xs was.attributes.rise) (apart_delete same_place p xs was.attributes.apart);

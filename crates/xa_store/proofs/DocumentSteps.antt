@@ -120,6 +120,7 @@ module _ (old new : State) (has : old.now.schema ≡ our_schema) (count : ℕ) (
       let last = stands_last rowid_of same_document (Back document_row document_in) ds document was.documents.rise refl in
       record {
         schema = adds.schema;
+        database = adds.database;
         tables =
             documents_now db next was (ds ++ document ∷ []) (subst (λ l. Wrote db next 5 (map document_row l)) last wrote)
             (all_last rowid_of same_document (Back document_row document_in) ds document was.documents.rise refl backs (document_back document reads))
@@ -148,6 +149,7 @@ module _ (old new : State) (has : old.now.schema ≡ our_schema) (count : ℕ) (
       (Rattle.std.proofs.lemmas.Bool.cond_both (p d) (f d) d (λ x. KeyReads x.key) (λ _. key_of_back d back) (λ _. key_of_back d back))) ds backs) in
       record {
         schema = edits.schema;
+        database = edits.database;
         tables =
             documents_now db next was (update_where p f ds) wrote still
             (IsKeyedBy-update_where rowid_of p f (λ _. refl) ds was.documents.rise) (apart_update same_document p f (λ a b. refl) (λ a b. refl) ds was.documents.apart);
@@ -164,6 +166,7 @@ module _ (old new : State) (has : old.now.schema ≡ our_schema) (count : ℕ) (
       (λ _. refl) works_of_no_document edits.rows answer edits.edited in
       record {
         schema = edits.schema;
+        database = edits.database;
         tables =
             documents_now db next was (delete_where p ds) wrote (all-filter (Back document_row document_in) (λ d. Rattle.std.proofs.Common.not (p d)) ds backs)
             (IsKeyedBy-delete_where rowid_of p ds was.documents.rise) (apart_delete same_document p ds was.documents.apart);

@@ -53,6 +53,7 @@ module _ (old new : State) (has : old.now.schema ≡ our_schema) (count : ℕ) (
       let alone : is_apart number_of same_name ds domain ≡ true = ap not (any_from_none (λ d. not (int_eq d.number n) && same_name d domain) ds apart) in
       record {
         schema = adds.schema;
+        database = adds.database;
         tables =
             domains_now db new.now.trees was (insert_by number_of ds domain) wrote (all_of (Back domain_row domain_in) (λ _. refl) (insert_by number_of ds domain))
             (IsKeyedBy-insert_by number_of ds domain was.domains.rise)

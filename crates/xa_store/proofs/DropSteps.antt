@@ -256,6 +256,7 @@ module _ (old new : State) (has : old.now.schema ≡ our_schema) (count : ℕ) (
         let no_roots : (a b : RootRow) → Bool = λ a b. false in
         record {
           schema = edits.schema;
+          database = edits.database;
           tables = (
             record {
               meta = subst (λ rows. rows ≡ meta_row (next_in rows) ∷ []) (sym gone.meta) was.meta;

@@ -1,5 +1,6 @@
 -- From what a change does to a connection to what it does to the keeper.
-use Rattle.std.proofs.Common.{◌≡◌, inl, inr, ℕ, Bool, false, List, Result, Ok, Err, IsTrue, sym, subst}
+use Rattle.std.proofs.Common.{◌≡◌, inl, inr, ℕ, Bool, false, List, Result, Ok, Err, IfOk, IsTrue, sym, ap, subst, ◌∙◌}
+use Rattle.sqlite.specs.Effect.{Database}
 use Rattle.sqlite.specs.Held.{Held, state}
 use Rattle.sqlite.specs.State.{HasCleanDisk}
 use Rattle.sqlite.specs.Store.{Ghosts}
@@ -8,60 +9,105 @@ use Rattle.sqlite.proofs.StateLemmas.{clean_if_open}
 use Rattle.xa_records.specs.declared.refusal.ChangeError.{ChangeError}
 use Rattle.xa_records.specs.declared.refusal.ChangeError.TheVariants.{Failed, Refused}
 use Rattle.xa_records.specs.Changes.{Change}
-use Rattle.xa_records.specs.Keeper.{CountsChange, IfAnswered, Leaves}
+use Rattle.xa_records.specs.Keeper.{Changes, IfAnswered, Leaves}
 use Rattle.xa_records.specs.Kept.{Kept, IsMade}
 use Rattle.xa_store.specs.Keeper.{Keeper, IsKeeper, IsSound}
 use Rattle.xa_store.specs.KeeperChange.{IsChanging}
 use Rattle.xa_store.specs.KeeperReading.{kept_by}
-use Rattle.xa_store.specs.Sound.{IsSoundStore, LeavesWorld, Ours}
+use Rattle.xa_store.specs.Sound.{IsSoundStore, LeavesWorld, Ours, SameNow}
+use Rattle.xa_store.specs.Standing.{AnswersAs, TellsChange}
 use Rattle.xa_store.specs.Turns.{Turns}
 use Rattle.xa_store.specs.World.{world_of}
 use Rattle.xa_store.proofs.KeeperReadingLemmas.{sound_store}
+use Rattle.xa_store.proofs.QuietLemmas.{ours_after}
 
-if_answered : {X : Type 0} (P Q : Type 0) (r : Result X ChangeError) → (P → Q) → IfAnswered r P → IfAnswered r Q
-if_answered P Q (Ok x) f p = f p
-if_answered P Q (Err (Refused e)) f p = f p
-if_answered P Q (Err (Failed failure)) f p = tt
+-- what is told is the change's answer
+answered_ok : {X : Type 0} (P : X → Type 0) (before : Bool) (done told : Result X ChangeError) → AnswersAs before done told → IfOk done P → IfOk told P
+answered_ok P before done (Ok x) is p = subst (λ r. IfOk r P) is p
+answered_ok P before done (Err e) is p = tt
 
+answered_stays : {X : Type 0} (P Q R : Type 0) (before : Bool) (done told : Result X ChangeError) → AnswersAs before done told → IfAnswered done P → IfAnswered told (P → Q) → (Q → R) → IfAnswered told R
+answered_stays P Q R before done (Ok x) is p stays last = last (stays (subst (λ r. IfAnswered r P) is p))
+answered_stays P Q R before done (Err (Refused e)) is p stays last = last (stays (subst (λ r. IfAnswered r P) is p))
+answered_stays P Q R before done (Err (Failed failure)) is p stays last = tt
+
+answered_changes : {X : Type 0} (old new : Kept) (name : List ℕ) (change : Change) (before : Bool) (done told : Result X ChangeError) → IsTrue before → AnswersAs before done told
+    → Changes old new done name change → Changes old new told name change
+answered_changes old new name change before done (Ok x) was is does = subst (λ r. Changes old new r name change) is does
+answered_changes old new name change before done (Err (Refused e)) was is does = subst (λ r. Changes old new r name change) is does
+answered_changes old new name change before done (Err (Failed failure)) was is does = subst (λ r. Changes old new r name change) (is was).1 does
+
+-- the change leaves the connection in the middle, and the look at its store after it
 module _ {S : Type 0} (g : Ghosts S) (shut : (s : S) → (g.view s).is_clean ≡ false → (g.view s).is_open ≡ false)
-    (settled : (s : S) (db : Trees) → IsTrue (g.view s).is_open → g.recovers s db → db ≡ (g.view s).committed) (old new : Held S) (ours : Bool) (faults after : ℕ)
-    (was : IsKeeper g (record { conn = old; ours = ours; faults = faults })) {X : Type 0} (change : Change) (name : List ℕ) (r : Result X ChangeError)
-    (turns : Turns change name (state g old) (state g new) r) where
+    (settled : (s : S) (db : Trees) → IsTrue (g.view s).is_open → g.recovers s db → db ≡ (g.view s).committed) (old middle new : Held S) (ours before after : Bool) (faults next : ℕ)
+    (was : IsKeeper g (record { conn = old; ours = ours; is_open = before; faults = faults })) {X : Type 0} (change : Change) (name : List ℕ) (done told : Result X ChangeError)
+    (turns : Turns change name (state g old) (state g middle) done) (tells : TellsChange (state g middle) (state g new) before after faults next done told) where
   clean_up : IsTrue (state g new).is_open → HasCleanDisk (state g new)
   clean_up up = clean_if_open (g.view new.store) (shut new.store) up
 
-  ours_before : IsTrue ours → IsTrue (state g new).is_open → Ours (state g old)
-  ours_before own up = was own (turns.was_open (clean_up up) up)
+  clean_middle : IsTrue (state g new).is_open → HasCleanDisk (state g middle)
+  clean_middle up = tells.looks.clean (clean_up up)
 
-  pub keeper_after : IsTrue ours → IsTrue (state g new).is_open → Ours (state g new)
-  keeper_after own up = turns.ours (clean_up up) (ours_before own up) up
+  open_before : IsTrue (state g new).is_open → IsTrue (state g old).is_open
+  open_before up = turns.was_open (clean_middle up) (tells.looks.was_open up)
+
+  ours_before : IsTrue ours → IsTrue (state g new).is_open → Ours (state g old)
+  ours_before own up = was.0 own (open_before up)
+
+  ours_middle : IsTrue ours → IsTrue (state g new).is_open → Ours (state g middle)
+  ours_middle own up = turns.ours (clean_middle up) (ours_before own up) (tells.looks.was_open up)
+
+  same_after : IsTrue ours → IsTrue (state g new).is_open → SameNow (state g middle) (state g new)
+  same_after own up = tells.looks.same (clean_up up) (ours_middle own up).rests up
+
+  ours_new : IsTrue ours → IsTrue (state g new).is_open → Ours (state g new)
+  ours_new own up = ours_after (state g middle) (state g new) (ours_middle own up) (same_after own up)
+
+  pub keeper_after : IsKeeper g (record { conn = new; ours = ours; is_open = after; faults = next })
+  keeper_after = (ours_new, λ up. tells.not_shut (was.1 (open_before up)) up)
 
   sound_before : IsTrue ours → IsTrue (state g new).is_open → IsSoundStore (state g old)
-  sound_before own up = let before = turns.was_open (clean_up up) up in sound_store (state g old) before (ours_before own up) (λ db may. settled old.store db before may)
+  sound_before own up = let first = open_before up in sound_store (state g old) first (ours_before own up) (λ db may. settled old.store db first may)
+
+  sound_after : IsTrue ours → IsTrue (state g new).is_open → IsSoundStore (state g new)
+  sound_after own up = sound_store (state g new) up (ours_new own up) (λ db may. settled new.store db up may)
+
+  does_so : IsTrue ours → IsTrue (state g new).is_open → Changes (world_of (state g old).now.trees) (world_of (state g new).now.trees) told name change
+  does_so own up =
+      subst (λ (d : Database). Changes (world_of (state g old).now.trees) (world_of d.trees) told name change) (sym (same_after own up).now)
+      (answered_changes (world_of (state g old).now.trees) (world_of (state g middle).now.trees) name change before done told (was.1 (open_before up)) tells.answers
+      (turns.does (clean_middle up) (ours_before own up) (tells.looks.was_open up)))
 
   leaves_made : HasCleanDisk (state g new) → IsSoundStore (state g old) → Leaves (LeavesWorld (state g old)) (LeavesWorld (state g new)) (world_of (state g old).now.trees) name change
-  leaves_made clean sound left it = elim (turns.leaves clean sound.ours it.0 it.1) [
+  leaves_made clean sound left it = elim (turns.leaves (tells.looks.clean clean) sound.ours it.0 (tells.looks.crash clean it.0 it.1)) [
     | inl may ↦ inl (it.0, may, it.2)
-    | inr made ↦ inr (subst (λ (w : Kept). IsMade change name (world_of (state g old).now.trees) w) (sym it.2) made)
+    | inr made ↦ inr (subst (λ (w : Kept). IsMade change name (world_of (state g old).now.trees) w) (sym (it.2 made.0)) made.1)
   ]
 
-  pub is_changing : CountsChange faults after r → IsChanging g (record { conn = old; ours = ours; faults = faults }) (record { conn = new; ours = ours; faults = after }) r name change
-  is_changing counts = record {
-    does = λ sound. let up = sound.1.is_open in turns.does (clean_up up) (ours_before sound.0 up) up;
+  pub is_changing : IsChanging g (record { conn = old; ours = ours; is_open = before; faults = faults }) (record { conn = new; ours = ours; is_open = after; faults = next }) told name change
+  is_changing = record {
+    does = λ sound. does_so sound.0 sound.1.is_open;
     sound = λ sound. (sound.0, sound_before sound.0 sound.1.is_open);
-    clean = turns.clean;
+    clean = λ clean. turns.clean (tells.looks.clean clean);
     stays = λ clean sound.
-        if_answered (IsTrue (state g new).is_open) _ r (λ up. (sound.0, sound_store (state g new) up (turns.ours clean sound.1.ours up) (λ db may. settled new.store db up may)))
-        (turns.stays clean sound.1.ours);
+        answered_stays (IsTrue (state g middle).is_open) (IsTrue (state g new).is_open) _ before done told tells.answers (turns.stays (tells.looks.clean clean) sound.1.ours) tells.stays
+        (λ up. (sound.0, sound_after sound.0 up));
     leaves = λ clean sound. leaves_made clean sound.1;
-    faults = counts;
+    faults = tells.counts;
+    was_open = tells.was_open;
+    stays_open = tells.stays_open;
+    goes_on = λ clean sound failed is. (sound.0, sound_after sound.0 (tells.goes_on clean failed is));
   }
 
   -- of a keeper that is this one
-  pub is_changing_of : (k : Keeper S) → ◌≡◌ {A = Keeper S} (record { conn = old; ours = ours; faults = faults }) k → CountsChange faults after r → IsChanging g k (record { conn = new; ours = ours; faults = after }) r name change
-  is_changing_of k at counts = subst (λ (k : Keeper S). IsChanging g k (record { conn = new; ours = ours; faults = after }) r name change) at (is_changing counts)
+  pub is_changing_of : (k : Keeper S) → ◌≡◌ {A = Keeper S} (record { conn = old; ours = ours; is_open = before; faults = faults }) k
+      → IsChanging g k (record { conn = new; ours = ours; is_open = after; faults = next }) told name change
+  is_changing_of k at = subst (λ (k : Keeper S). IsChanging g k (record { conn = new; ours = ours; is_open = after; faults = next }) told name change) at is_changing
 
-  -- what else the change says, of what was kept
-  pub said_of : (k : Keeper S) → ◌≡◌ {A = Keeper S} (record { conn = old; ours = ours; faults = faults }) k → (Says : Kept → Type 0)
-      → (HasCleanDisk (state g new) → Ours (state g old) → Says (world_of (state g old).now.trees)) → IsSound g (record { conn = new; ours = ours; faults = after }) → Says (kept_by g k)
-  said_of k at Says says sound = subst (λ (k : Keeper S). Says (kept_by g k)) at (let up = sound.1.is_open in says (clean_up up) (ours_before sound.0 up))
+  -- what else the change says of what was answered, by what was kept
+  pub said_of : (k : Keeper S) → ◌≡◌ {A = Keeper S} (record { conn = old; ours = ours; is_open = before; faults = faults }) k → (Says : Kept → X → Type 0)
+      → (HasCleanDisk (state g middle) → Ours (state g old) → IfOk done (Says (world_of (state g old).now.trees)))
+      → IsSound g (record { conn = new; ours = ours; is_open = after; faults = next }) → IfOk told (Says (kept_by g k))
+  said_of k at Says says sound =
+      subst (λ (k : Keeper S). IfOk told (Says (kept_by g k))) at
+      (let up = sound.1.is_open in answered_ok (Says (world_of (state g old).now.trees)) before done told tells.answers (says (clean_middle up) (ours_before sound.0 up)))

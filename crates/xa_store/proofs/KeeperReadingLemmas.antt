@@ -7,66 +7,97 @@ use Rattle.sqlite.specs.Store.{Ghosts}
 use Rattle.sqlite.specs.Tree.{Trees}
 use Rattle.sqlite.proofs.StateLemmas.{clean_if_open}
 use Rattle.xa_records.specs.declared.refusal.Failure.{Failure}
-use Rattle.xa_records.specs.Keeper.{CountsReading, Reads}
+use Rattle.xa_records.specs.Keeper.{Reads}
 use Rattle.xa_records.specs.Kept.{Kept}
 use Rattle.xa_store.specs.Keeper.{Keeper, IsKeeper}
 use Rattle.xa_store.specs.KeeperReading.{IsReading}
 use Rattle.xa_store.specs.Quiet.{Quiet}
-use Rattle.xa_store.specs.Sound.{IsSoundStore, Ours, SameNow}
+use Rattle.xa_store.specs.Sound.{AreOurs, IsSoundStore, Ours, SameNow}
+use Rattle.xa_store.specs.Standing.{TellsReading}
 use Rattle.xa_store.specs.World.{world_of}
 use Rattle.xa_store.proofs.QuietLemmas.{ours_after}
+use Rattle.xa_store.proofs.ReopenLemmas.{are_ours}
 
 -- an open store of our tables, of which a crash leaves the last commit
 pub sound_store : (s : State) → IsTrue s.is_open → Ours s → ((db : Trees) → s.may_leave db → db ≡ s.committed.trees) → IsSoundStore s
 sound_store s up ours law = record {
   is_open = up;
   ours = ours;
-  settled = λ left leaves. leaves.2 ∙ ap world_of (law leaves.0 leaves.1 ∙ sym (ap (λ (d : Database). d.trees) ours.rests.settled));
+  settled = λ db may.
+      let held : db ≡ s.now.trees = law db may ∙ sym (ap (λ (d : Database). d.trees) ours.rests.settled) in
+      (subst AreOurs (sym held) (are_ours s ours), ap world_of held);
 }
 
 was_read : {X : Type 0} (old new : Kept) (r : Result X Failure) (there : X) → IfOk r (λ x. x ≡ there) → new ≡ old → Reads old new r there
 was_read old new (Ok x) there is same = (is, same)
 was_read old new (Err e) there is same = same
 
-on_ok : {X : Type 0} (P Q : Type 0) (r : Result X Failure) → (P → Q) → OnOk r P → OnOk r Q
-on_ok P Q (Ok x) f p = f p
-on_ok P Q (Err e) f p = tt
+-- what is told was read
+told_ok : {X : Type 0} (P : X → Type 0) (read told : Result X Failure) → IfOk told (λ x. read ≡ Ok x) → IfOk read P → IfOk told P
+told_ok P read (Ok x) is p = subst (λ r. IfOk r P) is p
+told_ok P read (Err e) is p = tt
 
+told_stays : {X : Type 0} (P Q R : Type 0) (read told : Result X Failure) → IfOk told (λ x. read ≡ Ok x) → OnOk read P → OnOk told (P → Q) → (Q → R) → OnOk told R
+told_stays P Q R read (Ok x) is p stays last = last (stays (subst (λ r. OnOk r P) is p))
+told_stays P Q R read (Err e) is p stays last = tt
+
+-- the reading leaves the connection in the middle, and the look at its store after it
 module _ {S : Type 0} (g : Ghosts S) (shut : (s : S) → (g.view s).is_clean ≡ false → (g.view s).is_open ≡ false)
-    (settled : (s : S) (db : Trees) → IsTrue (g.view s).is_open → g.recovers s db → db ≡ (g.view s).committed) (old new : Held S) (ours : Bool) (faults after : ℕ)
-    (was : IsKeeper g (record { conn = old; ours = ours; faults = faults })) (quiet : Quiet (state g old) (state g new)) where
+    (settled : (s : S) (db : Trees) → IsTrue (g.view s).is_open → g.recovers s db → db ≡ (g.view s).committed) (old middle new : Held S) (ours before after : Bool) (faults next : ℕ)
+    (was : IsKeeper g (record { conn = old; ours = ours; is_open = before; faults = faults })) (quiet : Quiet (state g old) (state g middle)) {X : Type 0} (read told : Result X Failure)
+    (tells : TellsReading (state g middle) (state g new) before after faults next read told) where
   clean_up : IsTrue (state g new).is_open → HasCleanDisk (state g new)
   clean_up up = clean_if_open (g.view new.store) (shut new.store) up
 
-  same_up : IsTrue ours → IsTrue (state g new).is_open → SameNow (state g old) (state g new)
-  same_up own up = quiet.same (clean_up up) (was own (quiet.was_open up)).rests up
+  open_before : IsTrue (state g new).is_open → IsTrue (state g old).is_open
+  open_before up = quiet.was_open (tells.looks.was_open up)
 
-  pub keeper_after : IsTrue ours → IsTrue (state g new).is_open → Ours (state g new)
-  keeper_after own up = ours_after (state g old) (state g new) (was own (quiet.was_open up)) (same_up own up)
+  same_middle : IsTrue ours → IsTrue (state g new).is_open → SameNow (state g old) (state g middle)
+  same_middle own up = quiet.same (tells.looks.clean (clean_up up)) (was.0 own (open_before up)).rests (tells.looks.was_open up)
+
+  ours_middle : IsTrue ours → IsTrue (state g new).is_open → Ours (state g middle)
+  ours_middle own up = ours_after (state g old) (state g middle) (was.0 own (open_before up)) (same_middle own up)
+
+  same_after : IsTrue ours → IsTrue (state g new).is_open → SameNow (state g middle) (state g new)
+  same_after own up = tells.looks.same (clean_up up) (ours_middle own up).rests up
+
+  ours_new : IsTrue ours → IsTrue (state g new).is_open → Ours (state g new)
+  ours_new own up = ours_after (state g middle) (state g new) (ours_middle own up) (same_after own up)
+
+  pub keeper_after : IsKeeper g (record { conn = new; ours = ours; is_open = after; faults = next })
+  keeper_after = (ours_new, λ up. tells.not_shut (was.1 (open_before up)) up)
 
   sound_before : IsTrue ours → IsTrue (state g new).is_open → IsSoundStore (state g old)
-  sound_before own up = let before = quiet.was_open up in sound_store (state g old) before (was own before) (λ db may. settled old.store db before may)
+  sound_before own up = let first = open_before up in sound_store (state g old) first (was.0 own first) (λ db may. settled old.store db first may)
 
   sound_after : IsTrue ours → IsTrue (state g new).is_open → IsSoundStore (state g new)
-  sound_after own up = sound_store (state g new) up (keeper_after own up) (λ db may. settled new.store db up may)
+  sound_after own up = sound_store (state g new) up (ours_new own up) (λ db may. settled new.store db up may)
 
-  pub is_reading : {X : Type 0} (r : Result X Failure) (there : Kept → X) → (HasCleanDisk (state g new) → OnOk r (IsTrue (state g new).is_open))
-      → (HasCleanDisk (state g new) → Ours (state g old) → IfOk r (λ x. x ≡ there (world_of (state g old).now.trees))) → CountsReading faults after r
-      → IsReading g (record { conn = old; ours = ours; faults = faults }) (record { conn = new; ours = ours; faults = after }) r there
-  is_reading r there opens reads counts = record {
+  pub is_reading : (there : Kept → X) → (HasCleanDisk (state g middle) → OnOk read (IsTrue (state g middle).is_open))
+      → (HasCleanDisk (state g middle) → Ours (state g old) → IfOk read (λ x. x ≡ there (world_of (state g old).now.trees)))
+      → IsReading g (record { conn = old; ours = ours; is_open = before; faults = faults }) (record { conn = new; ours = ours; is_open = after; faults = next }) told there
+  is_reading there opens reads = record {
     reads = λ sound.
         let up = sound.1.is_open in
-        was_read (world_of (state g old).now.trees) (world_of (state g new).now.trees) r (there (world_of (state g old).now.trees)) (reads (clean_up up) (was sound.0 (quiet.was_open up)))
-        (ap (λ (d : Database). world_of d.trees) (same_up sound.0 up).now);
+        let it = there (world_of (state g old).now.trees) in
+        was_read (world_of (state g old).now.trees) (world_of (state g new).now.trees) told it
+        (told_ok (λ x. x ≡ it) read told tells.answers (reads (tells.looks.clean (clean_up up)) (was.0 sound.0 (open_before up))))
+        (ap (λ (d : Database). world_of d.trees) ((same_after sound.0 up).now ∙ (same_middle sound.0 up).now));
     sound = λ sound. (sound.0, sound_before sound.0 sound.1.is_open);
-    clean = quiet.clean;
-    stays = λ clean sound. on_ok (IsTrue (state g new).is_open) _ r (λ up. (sound.0, sound_after sound.0 up)) (opens clean);
-    leaves = λ clean sound left leaves. (leaves.0, quiet.crash clean sound.1.ours.rests leaves.0 leaves.1, leaves.2);
-    faults = counts;
+    clean = λ clean. quiet.clean (tells.looks.clean clean);
+    stays = λ clean sound.
+        told_stays (IsTrue (state g middle).is_open) (IsTrue (state g new).is_open) _ read told tells.answers (opens (tells.looks.clean clean)) tells.stays (λ up. (sound.0, sound_after sound.0 up));
+    leaves = λ clean sound left leaves. (leaves.0, quiet.crash (tells.looks.clean clean) sound.1.ours.rests leaves.0 (tells.looks.crash clean leaves.0 leaves.1), leaves.2);
+    faults = tells.counts;
+    was_open = tells.was_open;
+    stays_open = tells.stays_open;
+    goes_on = λ clean sound failed is. (sound.0, sound_after sound.0 (tells.goes_on clean failed is));
   }
 
   -- of a keeper that is this one
-  pub is_reading_of : {X : Type 0} (k : Keeper S) → ◌≡◌ {A = Keeper S} (record { conn = old; ours = ours; faults = faults }) k → (r : Result X Failure) (there : Kept → X)
-      → (HasCleanDisk (state g new) → OnOk r (IsTrue (state g new).is_open)) → (HasCleanDisk (state g new) → Ours (state g old) → IfOk r (λ x. x ≡ there (world_of (state g old).now.trees)))
-      → CountsReading faults after r → IsReading g k (record { conn = new; ours = ours; faults = after }) r there
-  is_reading_of k at r there opens reads counts = subst (λ (k : Keeper S). IsReading g k (record { conn = new; ours = ours; faults = after }) r there) at (is_reading r there opens reads counts)
+  pub is_reading_of : (k : Keeper S) → ◌≡◌ {A = Keeper S} (record { conn = old; ours = ours; is_open = before; faults = faults }) k → (there : Kept → X)
+      → (HasCleanDisk (state g middle) → OnOk read (IsTrue (state g middle).is_open))
+      → (HasCleanDisk (state g middle) → Ours (state g old) → IfOk read (λ x. x ≡ there (world_of (state g old).now.trees)))
+      → IsReading g k (record { conn = new; ours = ours; is_open = after; faults = next }) told there
+  is_reading_of k at there opens reads =
+      subst (λ (k : Keeper S). IsReading g k (record { conn = new; ours = ours; is_open = after; faults = next }) told there) at (is_reading there opens reads)

@@ -43,6 +43,7 @@ pub mod NextLemmas
 pub mod ReadingLemmas
 pub mod RootLemmas
 pub mod SourceLemmas
+pub mod StandingLemmas
 pub mod KeeperReadingLemmas
 pub mod KeeperLemmas
 pub mod DropSteps
@@ -73,3 +74,4 @@ pub mod VersionLemmas
 pub mod NumberedLemmas
 pub mod OursLemmas
 pub mod OpenLemmas
+pub mod ReopeningLemmas

@@ -110,7 +110,7 @@ taken parts.FirstRow old new count before h =
     let put : with_rowid Chosen (old.now.trees 0) (cast_row meta row) ≡ meta_row (pos 1) = ap (with_rowid Chosen (old.now.trees 0)) cast in
     let wrote = row_added meta_row (λ _. pos 1) (λ _. refl) meta old.now.trees new.now.trees [] before.empty.0 tt (pos 1) row put (works_of_meta [] (meta_row (pos 1))) adds.edited in
     let empty = before.empty in
-    record { schema = adds.schema; made = record { meta = wrote.rows; empty = still (wrote.others) empty } }
+    record { schema = adds.schema; made = record { database = adds.database; meta = wrote.rows; empty = still (wrote.others) empty } }
   where
     still : ((t : ℕ) → t ≢ 0 → IsNoIndex our_schema t → new.now.trees t ≡ old.now.trees t) → AllByRecursion (λ t. old.now.trees t ≡ []) (0 ∷ 1 ∷ 3 ∷ 5 ∷ 7 ∷ 8 ∷ []) → (kind : Kind) → new.now.trees (tree_of kind) ≡ []
     still others empty Domains = others 1 (omega arith) (omega arith, (omega arith, (omega arith, (omega arith, tt)))) ∙ empty.1.0

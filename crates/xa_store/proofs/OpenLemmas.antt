@@ -16,6 +16,7 @@ use Rattle.xa_store.specs.Sound.{Rests, SameNow}
 use Rattle.xa_store.specs.Tables.{our_schema}
 use Rattle.xa_store.specs.World.{world_of}
 use Rattle.xa_store.proofs.ApartLemmas.{survives_still}
+use Rattle.xa_store.proofs.KeeperReadingLemmas.{sound_store}
 use Rattle.xa_store.proofs.OursLemmas.{made_nothing, opened_ours}
 use Rattle.xa_store.proofs.QuietLemmas.{ours_after}
 
@@ -182,32 +183,27 @@ module _ {S : Type 0} (g : Ghosts S) (shut : (s : S) → (g.view s).is_clean ≡
   clean_up up = clean_if_open (g.view last.store) (shut last.store) up
 
   abbrev pub keeper : Bool → Keeper S
-  keeper ours = record { conn = last; ours = ours; faults = 0 }
+  keeper ours = record { conn = last; ours = ours; is_open = true; faults = 0 }
 
   pub is_keeper : (ours : Bool) → Loads old (state g last) (Ok ours) → IsKeeper g (keeper ours)
-  is_keeper ours loads own up = loads.ours (clean_up up) own
+  is_keeper ours loads = (λ own up. loads.ours (clean_up up) own, λ up. refl)
 
   pub opens_keeper : (ours : Bool) → Loads old (state g last) (Ok ours) → Rests old → Opens g old (Ok (keeper ours))
   opens_keeper ours loads rests clean =
       let it = loads.opens clean rests in
       let same = it.2 (loads.stays clean (inl rests)) in
-      (it.0, same, record { ours = it.1; faults = refl }, ap (λ (d : Database). world_of d.trees) (same.now ∙ rests.settled))
+      (it.0, same, record { ours = it.1; is_open = refl; faults = refl }, ap (λ (d : Database). world_of d.trees) (same.now ∙ rests.settled))
 
   pub makes_keeper : (ours : Bool) → Loads old (state g last) (Ok ours) → IsBlank old → Makes g old (Ok (keeper ours))
   makes_keeper ours loads blank clean =
       let it = loads.makes clean blank in
-      (it.1, record { ours = it.0; faults = refl }, made_nothing (state g last).now.trees it.1)
-
-  pub settles_keeper : (ours : Bool) → Loads old (state g last) (Ok ours) → Settles g (keeper ours)
-  settles_keeper ours loads own up db may =
-      let all = loads.ours (clean_up up) own in
-      ap world_of (settled last.store db up may ∙ ap (λ (d : Database). d.trees) (sym all.rests.settled))
+      (it.1, record { ours = it.0; is_open = refl; faults = refl }, made_nothing (state g last).now.trees it.1)
 
   pub sound_keeper : (ours : Bool) → Loads old (state g last) (Ok ours) → IsTrue ours → IsTrue (state g last).is_open → IsSound g (keeper ours)
-  sound_keeper ours loads own up = (
-    own,
-    record { is_open = up; ours = loads.ours (clean_up up) own; settled = λ left leaves. leaves.2 ∙ settles_keeper ours loads own up leaves.0 leaves.1 },
-  )
+  sound_keeper ours loads own up = (own, sound_store (state g last) up (loads.ours (clean_up up) own) (λ db may. settled last.store db up may))
+
+  pub settles_keeper : (ours : Bool) → Loads old (state g last) (Ok ours) → Settles g (keeper ours)
+  settles_keeper ours loads own up = (sound_keeper ours loads own up).1.settled
 
   pub opens_refused : (e : OpenError) → Loads old (state g last) (Err e) → Rests old → Opens g old (Err (e, last))
   opens_refused e loads rests clean = let it = loads.opens clean rests in (it.0, it.2)

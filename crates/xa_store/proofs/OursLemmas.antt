@@ -183,7 +183,7 @@ pub opened_ours : (s : State) → Rests s → IsDatabase s.now → opened s.now.
 opened_ours s rests live h =
     let is = found s.now.trees h in
     let sound : IsSound our_schema s.now.trees = subst (λ schema. IsSound schema s.now.trees) rests.schema live in
-    record { rests = rests; tables = tables s.now.trees is.0 sound is.1 is.2; domains = numbers s.now.trees is.0 sound is.1 is.2; documents = documents s.now.trees is.0 sound is.1 is.2; whole = columns s.now.trees is.0 sound is.1 is.2 }
+    record { rests = rests; database = sound; tables = tables s.now.trees is.0 sound is.1 is.2; domains = numbers s.now.trees is.0 sound is.1 is.2; documents = documents s.now.trees is.0 sound is.1 is.2; whole = columns s.now.trees is.0 sound is.1 is.2 }
 
 -- ---- tables as they are made
 

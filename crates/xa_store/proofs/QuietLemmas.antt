@@ -3,7 +3,7 @@ use Rattle.std.proofs.Common.{◌≡◌, IsTrue, sym, ap, ◌∙◌, subst}
 use Rattle.sqlite.specs.Effect.{Database}
 use Rattle.sqlite.specs.State.{State, HasCleanDisk}
 use Rattle.xa_store.specs.Quiet.{Quiet}
-use Rattle.xa_store.specs.Sound.{AreDocuments, AreTables, AreNumbered, AreWhole, Ours, Rests, SameNow}
+use Rattle.xa_store.specs.Sound.{AreDocuments, AreTables, AreNumbered, AreWhole, IsOurDatabase, Ours, Rests, SameNow}
 use Rattle.xa_store.specs.World.{rows_of}
 
 pub rests_after : (old new : State) → Rests old → SameNow old new → Rests new
@@ -13,6 +13,7 @@ rests_after old new rests same =
 pub ours_after : (old new : State) → Ours old → SameNow old new → Ours new
 ours_after old new ours same = record {
   rests = rests_after old new ours.rests same;
+  database = subst (λ (d : Database). IsOurDatabase d.trees) (sym same.now) ours.database;
   tables = subst (λ (d : Database). AreTables d.trees) (sym same.now) ours.tables;
   domains = subst (λ (d : Database). AreNumbered (rows_of d.trees)) (sym same.now) ours.domains;
   documents = subst (λ (d : Database). AreDocuments (rows_of d.trees).documents) (sym same.now) ours.documents;

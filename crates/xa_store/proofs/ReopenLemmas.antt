@@ -26,7 +26,7 @@ use Rattle.xa_store.specs.declared.opening.kind.Kind.TheVariants.{Domains, Token
 use Rattle.xa_store.specs.Opened.{are_counted, are_rising, as_read, holds_key, holds_value, is_bit, is_count, is_digest, is_given, is_pattern, is_sound, is_sound_table, is_version, is_whole_row, judged, known_next, opened, place_in, read_meta, row_number, tree_of}
 use Rattle.std.specs.Str.{is_utf8}
 use Rattle.xa_store.specs.Rows.{AttributeRow, DocumentRow, DomainRow, RootRow, TokenRow, attribute_in, attribute_row, bit, document_in, document_row, domain_in, domain_row, kind_number, next_in, role_number, root_in, root_row, token_in, token_row, type_number, value_text}
-use Rattle.xa_store.specs.Sound.{AreDocuments, AreRows, AreTables, AreWhole, Ours, place_of}
+use Rattle.xa_store.specs.Sound.{AreDocuments, AreOurs, AreRows, AreTables, AreWhole, Ours, place_of}
 use Rattle.xa_store.specs.World.{rows_of}
 use Rattle.xa_store.proofs.ColumnLemmas.{text_written}
 use Rattle.xa_store.proofs.CountedLemmas.{each_counted}
@@ -158,8 +158,11 @@ module _ (db : Trees) (tables : AreTables db) (documents : AreDocuments (rows_of
   sound : is_sound db next ≡ true
   sound = both_true _ (are_counted (map place_in (db 8))) (both_true (is_count next) (list_all test (Domains ∷ Tokens ∷ Documents ∷ Roots ∷ Attributes ∷ [])) whole.next all_tables) counted
 
-  opens : opened db ≡ Ok tt
-  opens = ap (λ rows. judged db (known_next (map read_meta rows))) tables.meta ∙ ap (λ b. cond b (Ok tt) (Err Damaged)) sound
+  pub tables_open : opened db ≡ Ok tt
+  tables_open = ap (λ rows. judged db (known_next (map read_meta rows))) tables.meta ∙ ap (λ b. cond b (Ok tt) (Err Damaged)) sound
 
 pub ours_open : (s : State) → Ours s → opened s.now.trees ≡ Ok tt
-ours_open s ours = opens s.now.trees ours.tables ours.documents ours.whole
+ours_open s ours = tables_open s.now.trees ours.tables ours.documents ours.whole
+
+pub are_ours : (s : State) → Ours s → AreOurs s.now.trees
+are_ours s ours = record { database = ours.database; opens = ours_open s ours }

@@ -10,7 +10,7 @@ use Rattle.sqlite.specs.Tree.{Trees}
 use Rattle.sqlite.specs.declared.error.Error.{Error}
 use Rattle.xa_records.specs.declared.refusal.Failure.{Failure}
 use Rattle.xa_store.specs.declared.step.Step.{Step}
-use Rattle.xa_store.specs.Sound.{AreTables, Ours, Rests, SameNow}
+use Rattle.xa_store.specs.Sound.{AreTables, IsOurDatabase, Ours, Rests, SameNow}
 use Rattle.xa_store.specs.Steps.{AllowsAll}
 use Rattle.xa_store.specs.Taking.{Committed, IsInside, Took, Holds, Runs}
 use Rattle.xa_store.specs.World.{rows_of}
@@ -29,7 +29,7 @@ module _ {S : Type 0} (g : Ghosts S) (old mid last : Held S) (steps : List Step)
     clean_first clean = omega (arith, survived.clean, commits.clean)
 
     inside : Ours (state g old) → IsInside begun
-    inside ours = record { inside = refl; schema = ours.rests.schema; tables = ours.tables }
+    inside ours = record { inside = refl; schema = ours.rests.schema; database = ours.database; tables = ours.tables }
 
     all_taken : HasCleanDisk (state g last) → Ours (state g old) → AllowsAll steps (rows_of (state g old).now.trees) → Took steps begun (state g mid)
     all_taken clean ours allows = took (clean_before clean) (inside ours) allows
@@ -39,7 +39,7 @@ module _ {S : Type 0} (g : Ghosts S) (old mid last : Held S) (steps : List Step)
       | inl earlier ↦ elim (survived.crash (clean_before clean) db earlier) [ inl first ↦ inl first | inr none ↦ absurd none ]
       | inr is ↦
           let all = all_taken clean ours allows in
-          inr (record { tables = subst AreTables (sym is) all.within.tables; rows = ap rows_of is ∙ all.rows })
+          inr (record { database = subst IsOurDatabase (sym is) all.within.database; tables = subst AreTables (sym is) all.within.tables; rows = ap rows_of is ∙ all.rows })
     ]
 
     ran : {X : Type 0} (x : X)
@@ -55,7 +55,7 @@ module _ {S : Type 0} (g : Ghosts S) (old mid last : Held S) (steps : List Step)
           record {
             is_open = shows.is_open;
             rests = record { schema = ap (λ (d : Database). d.schema) shows.now_is ∙ all.within.schema; settled = shows.now_is ∙ sym shows.committed_is; idle = shows.mode };
-            holds = record { tables = subst AreTables (sym trees) all.within.tables; rows = ap rows_of trees ∙ all.rows };
+            holds = record { database = subst IsOurDatabase (sym trees) all.within.database; tables = subst AreTables (sym trees) all.within.tables; rows = ap rows_of trees ∙ all.rows };
           };
       same = λ clean rests up. tt;
       crash = λ clean up ours allows. left clean ours allows;

@@ -33,7 +33,7 @@ use Rattle.xa_notation.specs.declared.token.Role.TheVariants.{Ask, Admin}
 use Rattle.xa_store.specs.declared.step.Step.{Step}
 use Rattle.xa_store.specs.declared.step.Step.TheVariants.{SetNext, SetEpoch, AddRoot, DropRoot}
 use Rattle.xa_store.specs.Rows.{DomainRow, RootRow, meta_row, next_in, domain_row, domain_in, root_row, root_in, root_of, kind_number, kind_in, role_number, role_in}
-use Rattle.xa_store.specs.Sound.{AreTables, same_name as same_domain}
+use Rattle.xa_store.specs.Sound.{AreTables, IsOurDatabase, same_name as same_domain}
 use Rattle.xa_store.specs.Steps.{after}
 use Rattle.xa_store.specs.Tables.{our_schema, meta, domains, roots}
 use Rattle.xa_store.specs.Texts as text
@@ -134,6 +134,7 @@ roots_apart (r ∷ rs) = (all_of (λ (_ : RootRow). false ≡ false) (λ _. refl
 -- the step was taken
 pub record Stepped (old new : State) (step : Step) : Type 0 where
   pub schema : new.now.schema ≡ our_schema
+  pub database : IsOurDatabase new.now.trees
   pub tables : Hold new.now.trees (after step (rows_of old.now.trees))
 
 module _ (old new : State) (has : old.now.schema ≡ our_schema) (count : ℕ) (was : AreTables old.now.trees) where
@@ -158,6 +159,7 @@ module _ (old new : State) (has : old.now.schema ≡ our_schema) (count : ℕ) (
       f (λ d. Int d.number ∷ Null ∷ Text d.name ∷ Int e ∷ []) (λ _. refl) (λ d. domain_cast d e) (λ _. refl) works_of_nothing works_of_domain few edits.rows answer edits.edited in
       record {
         schema = edits.schema;
+        database = edits.database;
         tables =
             domains_now db next was (update_where (λ d. int_eq d.number n) f ds) wrote (all_of (Back domain_row domain_in) (λ _. refl) (update_where (λ d. int_eq d.number n) f ds))
             (IsKeyedBy-update_where (λ d. d.number) (λ d. int_eq d.number n) f (λ _. refl) ds was.domains.rise)
@@ -174,7 +176,7 @@ module _ (old new : State) (has : old.now.schema ≡ our_schema) (count : ℕ) (
       let hit : AllByRecursion (λ (m : ℤ). Rattle.xa_store.proofs.SqlLemmas.hits 0 (is_one 0 ∷ []) shown [] db refl params (meta_row m) ≡ true) (next_in (db 0) ∷ []) = (last_term (at_ints false Eq (pos 1) (pos 1)), tt) in
       let wrote = row_updated meta_row (λ _. pos 1) (λ _. refl) meta db next (next_in (db 0) ∷ []) was.meta (tt, tt) (is_one 0 ∷ []) shown refl params (λ _. true) hit
       (λ _. n) (λ _. Int (pos 1) ∷ Null ∷ Int (pos 1) ∷ Int n ∷ []) (λ _. refl) (λ _. meta_cast n) (λ _. refl) works_of_no_meta works_of_meta (omega arith) edits.rows answer edits.edited in
-      record { schema = edits.schema; tables = meta_now db next was n wrote }
+      record { schema = edits.schema; database = edits.database; tables = meta_now db next was n wrote }
 
   -- the root goes
   pub root_dropped_stepped : (n : ℤ) → Executes text.root_dropped (Int n ∷ []) old new (Ok count) → Stepped old new (DropRoot n)
@@ -189,6 +191,7 @@ module _ (old new : State) (has : old.now.schema ≡ our_schema) (count : ℕ) (
       (λ _. refl) works_of_no_root edits.rows answer edits.edited in
       record {
         schema = edits.schema;
+        database = edits.database;
         tables = roots_now db next was (delete_where p rs) wrote (all_of (Back root_row root_in) root_back (delete_where p rs)) (IsKeyedBy-delete_where (λ r. r.number) p rs was.roots.rise) (roots_apart (delete_where p rs));
       }
 
@@ -207,4 +210,4 @@ module _ (old new : State) (has : old.now.schema ≡ our_schema) (count : ℕ) (
       let wrote = row_added root_row (λ r. r.number) (λ _. refl) roots db next rs was.roots.written was.roots.rise r row put (works_of_root [] (root_row r)) adds.edited in
       let held = roots_now db next was (insert_by (λ r. r.number) rs r) wrote (all_of (Back root_row root_in) root_back (insert_by (λ r. r.number) rs r))
       (IsKeyedBy-insert_by (λ r. r.number) rs r was.roots.rise) (roots_apart (insert_by (λ r. r.number) rs r)) in
-      record { schema = adds.schema; tables = subst (λ x. Hold next (record (rows_of db) { roots = insert_by (λ r. r.number) rs x })) is held }
+      record { schema = adds.schema; database = adds.database; tables = subst (λ x. Hold next (record (rows_of db) { roots = insert_by (λ r. r.number) rs x })) is held }

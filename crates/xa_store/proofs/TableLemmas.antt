@@ -20,7 +20,9 @@ use Rattle.sqlite.specs.Table.{Table}
 use Rattle.sqlite.specs.Tree.{Trees}
 use Rattle.sqlite.proofs.Callers.{statement_of, runs_as}
 use Rattle.sqlite_schema.specs.declared.schema.Keys.TheVariants.{Enforced}
+use Rattle.sqlite_catalog.specs.Listing.{IsSound}
 use Rattle.sqlite_rules.specs.Calls.{ids_of}
+use Rattle.xa_store.specs.Sound.{IsOurDatabase}
 use Rattle.xa_store.specs.Tables.{our_schema}
 use Rattle.xa_store.proofs.TextLemmas.{IsChange, update, delete}
 
@@ -75,6 +77,7 @@ module _ (sql : List ℕ) (params : Row) (old new : State) (has : old.now.schema
     pub answer : Answers whole (record { lets = []; body = query }) params rows
     pub edited : Edited our_schema Enforced db (edit rows) (Ok new.now.trees)
     pub schema : new.now.schema ≡ our_schema
+    pub database : IsOurDatabase new.now.trees
 
   pub updates : (query : Query) → IsChange sql (update at query) → Executes sql params old new (Ok count) → Edits query (λ rows. edit_of db table (ids_of rows) Given 1 rows)
   updates query is h =
@@ -92,6 +95,7 @@ module _ (sql : List ℕ) (params : Row) (old new : State) (has : old.now.schema
         answer = given.1;
         edited = subst (λ t. Edited our_schema Enforced db (edit_of db table (ids_of given.0) Given 1 given.0) (Ok t)) (sym full) ed.1;
         schema = ap (λ (d : Database). d.schema) now;
+        database = subst (λ schema. IsSound schema new.now.trees) (ap (λ (d : Database). d.schema) now) w.sound;
       }
 
   pub deletes : (query : Query) → IsChange sql (delete at query) → Executes sql params old new (Ok count) → Edits query (λ rows. edit_of db table (ids_of rows) Given 0 [])
@@ -110,12 +114,14 @@ module _ (sql : List ℕ) (params : Row) (old new : State) (has : old.now.schema
         answer = given.1;
         edited = subst (λ t. Edited our_schema Enforced db (edit_of db table (ids_of given.0) Given 0 []) (Ok t)) (sym full) ed.1;
         schema = ap (λ (d : Database). d.schema) now;
+        database = subst (λ schema. IsSound schema new.now.trees) (ap (λ (d : Database). d.schema) now) w.sound;
       }
 
   -- the edit of an insertion of these rows
   pub record Adds (rows : List Row) : Type 0 where
     pub edited : Edited our_schema Enforced db (edit_of db table [] Chosen 0 rows) (Ok new.now.trees)
     pub schema : new.now.schema ≡ our_schema
+    pub database : IsOurDatabase new.now.trees
 
   abbrev its_task : Task
   its_task = record { limit = old.step_limit; keys = Enforced; schema = our_schema; table = table; params = params }
@@ -131,4 +137,5 @@ module _ (sql : List ℕ) (params : Row) (old new : State) (has : old.now.schema
       record {
         edited = subst (λ t. Edited our_schema Enforced db (edit_of db table [] Chosen 0 (value_rows params width (length given / width) given)) (Ok t)) (sym (ap (λ (d : Database). d.trees) done.2)) edit;
         schema = ap (λ (d : Database). d.schema) done.2;
+        database = subst (λ schema. IsSound schema new.now.trees) (ap (λ (d : Database). d.schema) done.2) w.sound;
       }

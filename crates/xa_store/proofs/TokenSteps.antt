@@ -101,6 +101,7 @@ module _ (old new : State) (has : old.now.schema ≡ our_schema) (count : ℕ) (
       let last = stands_last rowid_of same_token (Back token_row token_in) ts token was.tokens.rise refl in
       record {
         schema = adds.schema;
+        database = adds.database;
         tables =
             tokens_now db next was (ts ++ token ∷ []) (subst (λ l. Rattle.xa_store.proofs.WriteLemmas.Wrote db next 3 (map token_row l)) last wrote)
             (all_of (Back token_row token_in) token_back (ts ++ token ∷ [])) (keyed_last rowid_of same_token (Back token_row token_in) ts token was.tokens.rise refl)
@@ -121,6 +122,7 @@ module _ (old new : State) (has : old.now.schema ≡ our_schema) (count : ℕ) (
       f (λ t. Int t.rowid ∷ Int t.number ∷ Blob t.digest ∷ Int (role_number role) ∷ []) (λ _. refl) (λ t. token_cast (f t)) (λ _. refl) works_of_nothing works_of_token few edits.rows answer edits.edited in
       record {
         schema = edits.schema;
+        database = edits.database;
         tables =
             tokens_now db next was (update_where (is_token n g) f ts) wrote (all_of (Back token_row token_in) token_back (update_where (is_token n g) f ts))
             (IsKeyedBy-update_where rowid_of (is_token n g) f (λ _. refl) ts was.tokens.rise) (apart_update same_token (is_token n g) f (λ a b. refl) (λ a b. refl) ts was.tokens.apart);
@@ -137,6 +139,7 @@ module _ (old new : State) (has : old.now.schema ≡ our_schema) (count : ℕ) (
       (λ _. refl) works_of_no_token edits.rows answer edits.edited in
       record {
         schema = edits.schema;
+        database = edits.database;
         tables =
             tokens_now db next was (delete_where (is_token n g) ts) wrote (all_of (Back token_row token_in) token_back (delete_where (is_token n g) ts))
             (IsKeyedBy-delete_where rowid_of (is_token n g) ts was.tokens.rise) (apart_delete same_token (is_token n g) ts was.tokens.apart);

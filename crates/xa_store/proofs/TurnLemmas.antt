@@ -13,12 +13,13 @@ use Rattle.xa_records.specs.Kept.{Domain, Kept, IsChanged, IsMade}
 use Rattle.xa_store.specs.declared.step.Step.{Step}
 use Rattle.xa_store.specs.Planning.{told_by}
 use Rattle.xa_store.specs.Quiet.{Quiet}
-use Rattle.xa_store.specs.Sound.{AreDocuments, AreNumbered, AreWhole, Ours, SameNow}
+use Rattle.xa_store.specs.Sound.{AreDocuments, AreNumbered, AreOurs, AreWhole, Ours, SameNow}
 use Rattle.xa_store.specs.Steps.{AllowsAll}
 use Rattle.xa_store.specs.Taking.{Holds, Made, Runs}
 use Rattle.xa_store.specs.Turns.{IsPlanned, Plans, Turns, answer_of}
 use Rattle.xa_store.specs.World.{Rows, rows_of, kept_of, world_of}
 use Rattle.xa_store.proofs.QuietLemmas.{ours_after}
+use Rattle.xa_store.proofs.ReopenLemmas.{tables_open}
 use Rattle.xa_store.proofs.TextsKept.{documents_kept}
 
 -- a domain that goes over into the state that it has
@@ -71,18 +72,28 @@ module _ (change : Change) (name : List ℕ) (old mid new : State) (quiet : Quie
       held db = subst (λ rows. Holds steps rows db) (same_rows here)
 
       -- the tables after the steps are ours
+      documents_after : (db : Trees) → Holds steps (rows_of mid.now.trees) db → AreDocuments (rows_of db).documents
+      documents_after db holds = subst (λ (rows : Rows). AreDocuments rows.documents) (sym (held db holds).rows) (documents_kept steps (rows_of old.now.trees) (planned clean ours).allows ours.documents)
+
+      whole_after : (db : Trees) → Holds steps (rows_of mid.now.trees) db → AreWhole (rows_of db)
+      whole_after db holds = subst AreWhole (sym (held db holds).rows) ((planned clean ours).whole ours.whole)
+
       ours_made : Made steps mid new → Ours new
       ours_made made = record {
         rests = made.rests;
+        database = made.holds.database;
         tables = made.holds.tables;
         domains = subst AreNumbered (sym (held new.now.trees made.holds).rows) (planned clean ours).numbered;
-        documents = subst (λ (rows : Rows). AreDocuments rows.documents) (sym (held new.now.trees made.holds).rows) (documents_kept steps (rows_of old.now.trees) (planned clean ours).allows ours.documents);
-        whole = subst AreWhole (sym (held new.now.trees made.holds).rows) ((planned clean ours).whole ours.whole);
+        documents = documents_after new.now.trees made.holds;
+        whole = whole_after new.now.trees made.holds;
       }
 
-      left : (db : Trees) → mid.may_leave db ⊎ Holds steps (rows_of mid.now.trees) db → old.may_leave db ⊎ IsMade change name (world_of old.now.trees) (world_of db)
+      ours_left : (db : Trees) → Holds steps (rows_of mid.now.trees) db → AreOurs db
+      ours_left db holds = record { database = holds.database; opens = tables_open db holds.tables (documents_after db holds) (whole_after db holds) }
+
+      left : (db : Trees) → mid.may_leave db ⊎ Holds steps (rows_of mid.now.trees) db → old.may_leave db ⊎ (AreOurs db × IsMade change name (world_of old.now.trees) (world_of db))
       left db (inl may) = inl (quiet.crash clean ours.rests db may)
-      left db (inr holds) = inr (made_of (planned clean ours) db (held db holds))
+      left db (inr holds) = inr (ours_left db holds, made_of (planned clean ours) db (held db holds))
 
     -- a change that is run
     pub turned : (r : Result (Unit {0}) Failure) → Runs steps mid new r → Turns change name old new (answer_of r)

@@ -12,8 +12,10 @@ pub mod Turns
 pub mod Planning
 pub mod Shown
 pub mod KeeperReading
+pub mod Standing
 pub mod KeeperChange
 pub mod Opened
 pub mod Opening
 pub mod Judging
 pub mod Making
+pub mod Reopening

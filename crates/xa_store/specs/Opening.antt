@@ -13,7 +13,7 @@ use Rattle.xa_store.specs.declared.opening.kind.Kind.{Kind}
 use Rattle.xa_store.specs.Keeper.{Keeper}
 use Rattle.xa_store.specs.Opened.{opened, tree_of}
 use Rattle.xa_store.specs.Rows.{meta_row}
-use Rattle.xa_store.specs.Sound.{SameNow}
+use Rattle.xa_store.specs.Sound.{AreOurs, IsOurDatabase, SameNow}
 use Rattle.xa_store.specs.World.{world_of}
 
 abbrev pub no_tables : Schema
@@ -35,8 +35,9 @@ pub record IsBlank (s : State) : Type 0 where
   pub settled : s.now ≡ s.committed
   pub idle : s.in_transaction ≡ false
 
--- the tables as they are made: without domains, of which the first will have the number 1
+-- the tables as they are made, and no others: without domains, of which the first will have the number 1
 pub record IsMade (db : Trees) : Type 0 where
+  pub database : IsOurDatabase db
   pub meta : db 0 ≡ meta_row (pos 1) ∷ []
   pub empty : (kind : Kind) → db (tree_of kind) ≡ []
 
@@ -63,6 +64,7 @@ module _ {S : Type 0} (g : Ghosts S) where
   -- the keeper holds what these tables mean, and no call of it has failed
   pub record Holds (k : Keeper S) : Type 0 where
     pub ours : IsTrue k.ours
+    pub is_open : IsTrue k.is_open
     pub faults : k.faults ≡ 0
 
   -- of a store with our tables: sound ones are taken as they are, and others are left as they are
@@ -85,6 +87,6 @@ pub record LeavesAlone (old new : State) : Type 0 where
 abbrev pub Leaves : State → Trees → Type 0
 Leaves old db = IsTrue (has_room old.now.schema) × (IsBlank old → IsMade db)
 
--- a crash after it leaves what the keeper holds
+-- a crash after it leaves what the keeper holds, in our tables
 abbrev pub Settles : {S : Type 0} → Ghosts S → Keeper S → Type 0
-Settles g k = IsTrue k.ours → IsTrue (state g k.conn).is_open → (db : Trees) → (state g k.conn).may_leave db → world_of db ≡ world_of (state g k.conn).now.trees
+Settles g k = IsTrue k.ours → IsTrue (state g k.conn).is_open → (db : Trees) → (state g k.conn).may_leave db → AreOurs db × (world_of db ≡ world_of (state g k.conn).now.trees)

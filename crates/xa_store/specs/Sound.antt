@@ -1,5 +1,5 @@
 -- When the tables mean what the keeper says that they do.
-use Rattle.std.specs.Prelude.{◌≡◌, ◌≤◌, ℕ, ℤ, pos, Bool, false, ◌&&◌, true, List, [], ◌∷◌, map, Option, Some, None, IsTrue}
+use Rattle.std.specs.Prelude.{◌≡◌, ◌≤◌, ℕ, ℤ, pos, Bool, false, ◌&&◌, true, List, [], ◌∷◌, map, Option, Some, None, Ok, IsTrue}
 use Rattle.std.specs.FinMap.{get}
 use Rattle.std.specs.List.{AllByRecursion}
 use Rattle.std.specs.Ordering.{eq_by_cmp, int_eq}
@@ -7,6 +7,7 @@ use Rattle.std.specs.Str.{is_utf8}
 use Rattle.sqlite.specs.Order.{Row}
 use Rattle.sqlite.specs.State.{State}
 use Rattle.sqlite.specs.Tree.{Trees}
+use Rattle.sqlite_catalog.specs.Listing.{IsSound}
 use Rattle.sqlite_keyed.specs.Keyed.{IsKeyedBy}
 use Rattle.sqlite_keyed.specs.Rules.{AreApart}
 use Rattle.xa_policy.specs.declared.document_key.DocumentKey.{DocumentKey}
@@ -15,7 +16,7 @@ use Rattle.xa_decide.specs.declared.source_row.SourceRow.{SourceRow}
 use Rattle.xa_records.specs.DomainName.{is_domain_name}
 use Rattle.xa_records.specs.DomainState.{IsDocumentOf, StoredDocument, compare_bytes, new_domain}
 use Rattle.xa_records.specs.Kept.{Domain, IsNumbered, Kept}
-use Rattle.xa_store.specs.Opened.{Place, count_from, holds_value, is_count, is_digest, is_given, is_pattern, is_version, places_of}
+use Rattle.xa_store.specs.Opened.{Place, count_from, holds_value, is_count, is_digest, is_given, is_pattern, is_version, opened, places_of}
 use Rattle.xa_store.specs.Rows.{DomainRow, TokenRow, DocumentRow, RootRow, AttributeRow, meta_row, next_in, domain_row, domain_in, token_row, token_in, document_row, document_in, root_row, root_in, attribute_row, attribute_in, text_at, type_number, value_text}
 use Rattle.xa_store.specs.Tables.{our_schema}
 use Rattle.xa_store.specs.World.{Rows, rows_of, state_at, kept_of, world_of}
@@ -96,6 +97,17 @@ pub record AreWhole (rows : Rows) : Type 0 where
   pub attributes : AllByRecursion (λ a. (is_given rows.next a.number ≡ true) × AreSourceTexts a.row) rows.attributes
   pub places : (number : ℤ) → count_from (pos 0) (places_of (map place_of rows.attributes) number) ≡ true
 
+-- ---- all tables of a store
+
+-- our tables and no others, as the store itself lists them, whose rows obey the rules of these tables
+abbrev pub IsOurDatabase : Trees → Type 0
+IsOurDatabase = IsSound our_schema
+
+-- and opening finds them sound
+pub record AreOurs (db : Trees) : Type 0 where
+  pub database : IsOurDatabase db
+  pub opens : opened db ≡ Ok tt
+
 -- ---- a connection between two calls of the keeper
 
 -- its tables are ours, and nothing waits for a commit
@@ -112,17 +124,19 @@ pub record SameNow (old new : State) : Type 0 where
 
 pub record Ours (s : State) : Type 0 where
   pub rests : Rests s
+  pub database : IsOurDatabase s.now.trees
   pub tables : AreTables s.now.trees
   pub domains : AreNumbered (rows_of s.now.trees)
   pub documents : AreDocuments (rows_of s.now.trees).documents
   pub whole : AreWhole (rows_of s.now.trees)
 
--- what a crash now may leave
+-- What a crash now may leave: what our tables mean, and of trees that aren't ours whatever one likes. So where this says that only some things may be left, it says
+-- that all trees that may be left are ours.
 abbrev pub LeavesWorld : State → Kept → Type 0
-LeavesWorld s left = (db : Trees) × s.may_leave db × (left ≡ world_of db)
+LeavesWorld s left = (db : Trees) × s.may_leave db × (AreOurs db → left ≡ world_of db)
 
--- an open store of our tables, of which a crash leaves what it holds
+-- an open store of our tables, of which a crash leaves what it holds, in our tables
 pub record IsSoundStore (s : State) : Type 0 where
   pub is_open : IsTrue s.is_open
   pub ours : Ours s
-  pub settled : (left : Kept) → LeavesWorld s left → left ≡ world_of s.now.trees
+  pub settled : (db : Trees) → s.may_leave db → AreOurs db × (world_of db ≡ world_of s.now.trees)

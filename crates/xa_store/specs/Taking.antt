@@ -7,7 +7,7 @@ use Rattle.sqlite.specs.declared.types.Value.TheVariants.{Text}
 use Rattle.sqlite_typed.specs.Columns.{or_null}
 use Rattle.xa_records.specs.declared.refusal.Failure.{Failure}
 use Rattle.xa_store.specs.declared.step.Step.{Step}
-use Rattle.xa_store.specs.Sound.{AreTables, Ours, Rests, SameNow}
+use Rattle.xa_store.specs.Sound.{AreTables, IsOurDatabase, Ours, Rests, SameNow}
 use Rattle.xa_store.specs.Steps.{AllowsAll, after_all}
 use Rattle.xa_store.specs.Tables.{our_schema}
 use Rattle.xa_store.specs.World.{Rows, rows_of}
@@ -20,6 +20,7 @@ text_column = or_null Text
 pub record IsInside (s : State) : Type 0 where
   pub inside : IsTrue s.in_transaction
   pub schema : s.now.schema ≡ our_schema
+  pub database : IsOurDatabase s.now.trees
   pub tables : AreTables s.now.trees
 
 -- the steps were taken one after another, and the transaction goes on
@@ -29,6 +30,7 @@ pub record Took (steps : List Step) (old new : State) : Type 0 where
 
 -- the tables are the rows after the steps
 pub record Holds (steps : List Step) (before : Rows) (db : Trees) : Type 0 where
+  pub database : IsOurDatabase db
   pub tables : AreTables db
   pub rows : rows_of db ≡ after_all steps before
 

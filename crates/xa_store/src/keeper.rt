@@ -1,5 +1,5 @@
 //! The keeper.
-ghost use Rattle.std.specs.Prelude.{◌≡◌, Ok, IsTrue};
+ghost use Rattle.std.specs.Prelude.{◌≡◌, true, Ok, IsTrue};
 ghost use Rattle.sqlite.specs.Held.{state};
 ghost use Rattle.xa_store.specs.Keeper.{IsSound};
 ghost use Rattle.xa_store.specs.KeeperReading.{kept_by};
@@ -17,6 +17,7 @@ use std::marker::Model;
 pub struct SqlRecords<S: Alter> {
     pub(crate) conn: Connection<S>,
     pub(crate) ours: bool,
+    pub(crate) is_open: bool,
     pub(crate) faults: u64,
 }
 
@@ -27,20 +28,21 @@ impl<S: Alter> Model for SqlRecords<S> {
 
     ghost coded = { keeper_code S.code };
 
-    ghost view = { λ r. record { conn = r.conn; ours = r.ours; faults = r.faults } };
+    ghost view = { λ r. record { conn = r.conn; ours = r.ours; is_open = r.is_open; faults = r.faults } };
 
-    ghost invariant = { λ r. IsKeeper S.Store (record { conn = r.conn; ours = r.ours; faults = r.faults }) };
+    ghost invariant = { λ r. IsKeeper S.Store (record { conn = r.conn; ours = r.ours; is_open = r.is_open; faults = r.faults }) };
 }
 
 impl<S: Alter> SqlRecords<S> {
     /// A keeper over the connection, no call of which has failed.
     pub(crate) fn over(conn: Connection<S>, ours: bool) -> SqlRecords<S>
         requires { IsTrue ours → IsTrue (state S.Store conn).is_open → Ours (state S.Store conn) }
-        ensures { result ≡ record { conn = conn; ours = ours; faults = 0 } }
+        ensures { result ≡ record { conn = conn; ours = ours; is_open = true; faults = 0 } }
     {
         SqlRecords {
             conn,
             ours,
+            is_open: true,
             faults: 0,
         }
     }
@@ -69,6 +71,7 @@ impl<S: Alter> SqlRecords<S> {
         let SqlRecords {
             conn,
             ours: _,
+            is_open: _,
             faults: _,
         } = self;
         conn

@@ -19,6 +19,7 @@ mod root;
 mod run;
 mod shown;
 mod source;
+mod standing;
 mod step;
 mod take;
 mod text;

@@ -18,6 +18,7 @@ mod loading;
 mod looking;
 mod making;
 mod refusing;
+mod reopening;
 mod table_columns;
 mod walking;
 

@@ -68,6 +68,10 @@ impl Records for PlainRecords {
         self.faults
     }
 
+    fn is_open(&self) -> bool {
+        true
+    }
+
     fn gate(&mut self, alloc: Global, name: &Text) -> Result<Option<Gate>, Failure>
         ensures reads { Reading (in_memory self.old.domains self.old.faults) (in_memory self.new.domains self.new.faults)
             result (gate_of name.now self.old.domains) }

@@ -14,12 +14,13 @@ use crate::changes::root::set_root_in;
 use crate::changes::source::set_source_in;
 use crate::changes::tokens::{drop_token_in, put_token_in};
 use crate::keeper::SqlRecords;
+use crate::standing::after_change;
 use sqlite::Alter;
 use std::alloc::Global;
 use xa_decide::SourceRow;
 use xa_notation::Role;
 use xa_policy::{DocumentKey, Reference};
-use xa_records::{ChangeError, Digest, Upload, count_failure};
+use xa_records::{ChangeError, Digest, Upload};
 use xa_value::{Items, Text};
 
 impl<S: Alter> SqlRecords<S> {
@@ -29,8 +30,7 @@ impl<S: Alter> SqlRecords<S> {
         ensures { IsChanging S.Store self.old self.new result name.now created }
     {
         let done = create_in(&mut self.conn, alloc, name);
-        count_failure(&mut self.faults, &done);
-        done
+        after_change(&mut self.conn, &mut self.is_open, &mut self.faults, done)
     }
 
     /// Removes the domain with all that is in it. Refused with `Absent`.
@@ -38,8 +38,7 @@ impl<S: Alter> SqlRecords<S> {
         ensures { IsChanging S.Store self.old self.new result name.now removed }
     {
         let done = remove_in(&mut self.conn, alloc, name);
-        count_failure(&mut self.faults, &done);
-        done
+        after_change(&mut self.conn, &mut self.is_open, &mut self.faults, done)
     }
 
     /// Adds a token with its role, or replaces the role of one that is there. Refused with `Absent` and with `Quota`.
@@ -53,8 +52,7 @@ impl<S: Alter> SqlRecords<S> {
         ensures { IsChanging S.Store self.old self.new result name.now (within (token_put digest role)) }
     {
         let done = put_token_in(&mut self.conn, alloc, name, digest, role);
-        count_failure(&mut self.faults, &done);
-        done
+        after_change(&mut self.conn, &mut self.is_open, &mut self.faults, done)
     }
 
     /// Takes a token away. Refused with `Absent`.
@@ -67,8 +65,7 @@ impl<S: Alter> SqlRecords<S> {
         ensures { IsChanging S.Store self.old self.new result name.now (within (token_dropped digest)) }
     {
         let done = drop_token_in(&mut self.conn, alloc, name, digest);
-        count_failure(&mut self.faults, &done);
-        done
+        after_change(&mut self.conn, &mut self.is_open, &mut self.faults, done)
     }
 
     /// Adds a document, which isn't active at first. Refused with `Absent`, with `SameVersionOtherText` and with `Quota`.
@@ -84,8 +81,7 @@ impl<S: Alter> SqlRecords<S> {
         ensures which { IsSound S.Store self.new → IfOk result (λ u. u ≡ upload_of key (state_of name.now (kept_by S.Store self.old))) }
     {
         let done = upload_in(&mut self.conn, alloc, name, key, text);
-        count_failure(&mut self.faults, &done);
-        done
+        after_change(&mut self.conn, &mut self.is_open, &mut self.faults, done)
     }
 
     /// Makes the document active, or inactive. Refused with `Absent`.
@@ -99,8 +95,7 @@ impl<S: Alter> SqlRecords<S> {
         ensures { IsChanging S.Store self.old self.new result name.now (within (activity_set key.now active)) }
     {
         let done = set_active_in(&mut self.conn, alloc, name, key, active);
-        count_failure(&mut self.faults, &done);
-        done
+        after_change(&mut self.conn, &mut self.is_open, &mut self.faults, done)
     }
 
     /// Deletes a document. Refused with `Absent` and with `StillActive`.
@@ -113,8 +108,7 @@ impl<S: Alter> SqlRecords<S> {
         ensures { IsChanging S.Store self.old self.new result name.now (within (deleted key.now)) }
     {
         let done = delete_in(&mut self.conn, alloc, name, key);
-        count_failure(&mut self.faults, &done);
-        done
+        after_change(&mut self.conn, &mut self.is_open, &mut self.faults, done)
     }
 
     /// Sets the root, or takes it away. Refused with `Absent`.
@@ -127,8 +121,7 @@ impl<S: Alter> SqlRecords<S> {
         ensures { IsChanging S.Store self.old self.new result name.now (within (root_set root)) }
     {
         let done = set_root_in(&mut self.conn, alloc, name, root);
-        count_failure(&mut self.faults, &done);
-        done
+        after_change(&mut self.conn, &mut self.is_open, &mut self.faults, done)
     }
 
     /// Puts these rows into the source of attributes, in place of all that were there. Refused with `Absent` and with `Quota`. It fails with `Store`,
@@ -142,7 +135,6 @@ impl<S: Alter> SqlRecords<S> {
         ensures { IsChanging S.Store self.old self.new result name.now (within (source_set rows)) }
     {
         let done = set_source_in(&mut self.conn, alloc, name, rows);
-        count_failure(&mut self.faults, &done);
-        done
+        after_change(&mut self.conn, &mut self.is_open, &mut self.faults, done)
     }
 }

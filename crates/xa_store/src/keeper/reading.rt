@@ -1,5 +1,4 @@
 //! The readings of the keeper.
-ghost use Rattle.xa_records.specs.Keeper.{CountsReading};
 ghost use Rattle.xa_records.specs.Kept.{names_of};
 ghost use Rattle.xa_records.specs.Readings.{gate_of, listing_of, text_of, view_of};
 ghost use Rattle.xa_store.specs.KeeperReading.{IsReading};
@@ -7,22 +6,12 @@ ghost use Rattle.xa_store.specs.KeeperReading.{IsReading};
 use super::SqlRecords;
 use crate::names::names_in;
 use crate::readings::{gate_in, listing_in, text_in, view_in};
+use crate::standing::after_reading;
 use sqlite::Alter;
 use std::alloc::Global;
 use xa_policy::DocumentKey;
 use xa_records::{Failure, Gate, KeptView, Listed};
 use xa_value::{Items, Text};
-
-/// Counts the reading where the storage failed.
-fn count<X>(faults: &mut u64, read: &Result<X, Failure>)
-    ensures { CountsReading faults.old faults.new read.now }
-{
-    match read {
-        Ok(_) => {},
-        Err(Failure::Memory) => {},
-        Err(Failure::Store) => *faults = faults.saturating_add(1),
-    }
-}
 
 impl<S: Alter> SqlRecords<S> {
     /// The domain's number, its epoch and its tokens; nothing, if there is no such domain.
@@ -30,8 +19,7 @@ impl<S: Alter> SqlRecords<S> {
         ensures { IsReading S.Store self.old self.new result (gate_of name.now) }
     {
         let read = gate_in(&mut self.conn, alloc, name);
-        count(&mut self.faults, &read);
-        read
+        after_reading(&mut self.conn, &mut self.is_open, &mut self.faults, read)
     }
 
     /// What decides in the domain; nothing, if there is no such domain.
@@ -43,8 +31,7 @@ impl<S: Alter> SqlRecords<S> {
         ensures { IsReading S.Store self.old self.new result (view_of name.now) }
     {
         let read = view_in(&mut self.conn, alloc, name);
-        count(&mut self.faults, &read);
-        read
+        after_reading(&mut self.conn, &mut self.is_open, &mut self.faults, read)
     }
 
     /// The text of the document as it was uploaded; nothing, if there is no such domain or document.
@@ -57,8 +44,7 @@ impl<S: Alter> SqlRecords<S> {
         ensures { IsReading S.Store self.old self.new result (text_of name.now key.now) }
     {
         let read = text_in(&mut self.conn, alloc, name, key);
-        count(&mut self.faults, &read);
-        read
+        after_reading(&mut self.conn, &mut self.is_open, &mut self.faults, read)
     }
 
     /// The domain's documents, in the order of their keys; nothing, if there is no such domain.
@@ -70,8 +56,7 @@ impl<S: Alter> SqlRecords<S> {
         ensures { IsReading S.Store self.old self.new result (listing_of name.now) }
     {
         let read = listing_in(&mut self.conn, alloc, name);
-        count(&mut self.faults, &read);
-        read
+        after_reading(&mut self.conn, &mut self.is_open, &mut self.faults, read)
     }
 
     /// The names of all domains, in the order of their bytes.
@@ -79,7 +64,6 @@ impl<S: Alter> SqlRecords<S> {
         ensures { IsReading S.Store self.old self.new result names_of }
     {
         let read = names_in(&mut self.conn, alloc);
-        count(&mut self.faults, &read);
-        read
+        after_reading(&mut self.conn, &mut self.is_open, &mut self.faults, read)
     }
 }

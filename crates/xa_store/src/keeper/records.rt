@@ -1,4 +1,5 @@
 //! The keeper of tables as a keeper of domains.
+ghost use Rattle.std.proofs.Common.{◌∙◌};
 ghost use Rattle.xa_store.specs.KeeperReading.{custody_by};
 
 use super::SqlRecords;
@@ -15,10 +16,14 @@ impl<S: Alter> Records for SqlRecords<S> {
 
     ghost numbered = { λ r is. is.1.ours.domains.numbered };
 
-    ghost settled = { λ r is. is.1.settled };
+    ghost settled = { λ r is left leaves. leaves.2 (is.1.settled leaves.0 leaves.1).0 ∙ (is.1.settled leaves.0 leaves.1).1 };
 
     fn faults(&self) -> u64 {
         self.faults
+    }
+
+    fn is_open(&self) -> bool {
+        self.is_open
     }
 
     fn gate(&mut self, alloc: Global, name: &Text) -> Result<Option<Gate>, Failure> {

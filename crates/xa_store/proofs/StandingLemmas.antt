@@ -1,0 +1,159 @@
+-- Looking at a store, and what is told after that.
+use Rattle.std.proofs.Common.{◌≡◌, inl, inr, ⊎_elim, ℕ, [], List, Bool, true, false, Option, Some, None, Result, Ok, Err, IfErr, IfOk, IsOk, IsTrue, refl, sym, subst, ◌∙◌, true≢false, arith}
+use Rattle.sqlite.specs.Order.{Row}
+use Rattle.sqlite.specs.State.{State, HasCause, HasCleanDisk, IsNoStatement, IsNotRun, IsUnchanged, Survives, store_error}
+use Rattle.sqlite.specs.declared.error.Error.{Error}
+use Rattle.sqlite.specs.declared.error.Error.TheVariants.{SqliteFailure}
+use Rattle.sqlite.specs.declared.error.ErrorCode.TheVariants.{Closed}
+use Rattle.sqlite_trees.specs.declared.error.StoreError.{StoreError}
+use Rattle.sqlite_trees.specs.declared.error.StoreError.TheVariants.{OutOfMemory, Io, Corrupt, Full, Broken, Unstorable}
+use Rattle.xa_records.specs.declared.refusal.ChangeError.{ChangeError}
+use Rattle.xa_records.specs.declared.refusal.ChangeError.TheVariants.{Failed}
+use Rattle.xa_records.specs.declared.refusal.Failure.{Failure}
+use Rattle.xa_records.specs.declared.refusal.Failure.TheVariants.{Memory, Store}
+use Rattle.xa_records.specs.Keeper.{IsOneMore}
+use Rattle.xa_store.specs.Sound.{Rests, SameNow}
+use Rattle.xa_store.specs.Standing.{Looks, Sees, TellsChange, TellsFailure, TellsReading}
+use Rattle.xa_store.proofs.AskLemmas.{rolled_same, unchanged_same}
+
+-- ---- a statement that is prepared, or isn't
+
+not_run_open : (old new : State) (sql : List ℕ) (params : Row) (e : Error) → IsNotRun old new sql params e → IsTrue new.is_open → IsTrue old.is_open
+unfolding IsNotRun
+not_run_open old new sql params e (inl h) up = h.1.0.was_open
+not_run_open old new sql params e (inr h) up = h.3.was_open up
+
+not_run_same : (old new : State) (sql : List ℕ) (params : Row) (e : Error) → Rests old → IsNotRun old new sql params e → IsTrue new.is_open → SameNow old new
+unfolding IsNotRun
+not_run_same old new sql params e rests (inl h) up = unchanged_same old new rests h.1
+not_run_same old new sql params e rests (inr h) up = rolled_same old new rests h.3 up
+
+-- only a store that is shut is told to be
+broken_shut : (old new : State) (cause : StoreError) → SqliteFailure Closed ≡ store_error cause → HasCause old new ⊥ cause → old.is_open ≡ false
+broken_shut old new OutOfMemory is h = absurd cc
+broken_shut old new Io is h = absurd cc
+broken_shut old new Corrupt is h = absurd cc
+broken_shut old new Full is h = absurd cc
+broken_shut old new Broken is h = h
+broken_shut old new Unstorable is h = absurd cc
+
+closed_statement : (s : State) (sql : List ℕ) (params : Row) → ¬ IsNoStatement s sql params (SqliteFailure Closed)
+closed_statement s sql params (inl h) = absurd (let e = h.2 in cc)
+closed_statement s sql params (inr h) = elim h.2 [
+  | inl it ↦ absurd (let e = it.1 in cc)
+  | inr more ↦ elim more [ inl it ↦ absurd (let e = it.1 in cc) | inr it ↦ absurd (let e = it.1 in cc) ]
+]
+
+pub closed_shut : (old new : State) (sql : List ℕ) (params : Row) → IsNotRun old new sql params (SqliteFailure Closed) → ¬ IsTrue new.is_open
+unfolding IsNotRun
+closed_shut old new sql params (inl h) up = closed_statement old sql params h.0
+closed_shut old new sql params (inr h) up = true≢false (sym (h.3.was_open up) ∙ broken_shut old new h.0 h.1 h.2)
+
+module _ {X : Type 0} (P : X → Type 0) (old new : State) (sql : List ℕ) where
+  prepared_open : (r : Result X Error) → IfOk r (λ x. P x × IsUnchanged old new) → IfErr r (λ e. (params : Row) → IsNotRun old new sql params e) → IsTrue new.is_open → IsTrue old.is_open
+  prepared_open (Ok x) fine none up = fine.1.0.was_open
+  prepared_open (Err e) none not up = not_run_open old new sql [] e (not []) up
+
+  prepared_same : (r : Result X Error) → Rests old → IfOk r (λ x. P x × IsUnchanged old new) → IfErr r (λ e. (params : Row) → IsNotRun old new sql params e) → IsTrue new.is_open → SameNow old new
+  prepared_same (Ok x) rests fine none up = unchanged_same old new rests fine.1
+  prepared_same (Err e) rests none not up = not_run_same old new sql [] e rests (not []) up
+
+  pub prepared_looks : (IsTrue new.is_open → HasCleanDisk new) → (r : Result X Error) → (HasCleanDisk new → IfOk r (λ x. P x × IsUnchanged old new))
+      → (HasCleanDisk new → IfErr r (λ e. (params : Row) → IsNotRun old new sql params e)) → Survives old new (λ _. ⊥) → Looks old new
+  prepared_looks clean_up r ok err survives = record {
+    was_open = λ up. let clean = clean_up up in prepared_open r (ok clean) (err clean) up;
+    clean = λ clean. omega (arith, survives.clean);
+    same = λ clean rests up. prepared_same r rests (ok clean) (err clean) up;
+    crash = λ clean db may. ⊎_elim (λ was. was) (λ none. absurd none) (survives.crash clean db may);
+  }
+
+  open_then : (r : Result X Error) → IsOk r → IfOk r (λ x. P x × IsUnchanged old new) → IsTrue new.is_open
+  open_then (Ok x) is fine = fine.1.0.is_open
+  open_then (Err e) is fine = absurd cc
+
+  pub prepared_sees : (IsTrue new.is_open → HasCleanDisk new) → (r : Result X Error) → (HasCleanDisk new → IfOk r (λ x. P x × IsUnchanged old new))
+      → (HasCleanDisk new → IfErr r (λ e. (params : Row) → IsNotRun old new sql params e)) → (seen : Option Bool) → (seen ≡ Some true → IsOk r)
+      → (seen ≡ Some false → r ≡ Err (SqliteFailure Closed)) → Sees new seen
+  prepared_sees clean_up r ok err None opened shut = tt
+  prepared_sees clean_up r ok err (Some true) opened shut = (λ is clean. open_then r (opened refl) (ok clean), λ up. refl)
+  prepared_sees clean_up r ok err (Some false) opened shut = (
+    λ is. absurd cc,
+    λ up. absurd (closed_shut old new sql [] (subst (λ (r2 : Result X Error). IfErr r2 (λ e. (params : Row) → IsNotRun old new sql params e)) (shut refl) (err (clean_up up)) []) up),
+  )
+
+-- ---- what is told
+
+pub still : (s : State) → Looks s s
+still s = record { was_open = λ up. up; clean = λ clean. clean; same = λ clean rests up. record { now = refl; committed = refl; idle = rests.idle }; crash = λ clean db may. may }
+
+module _ {X : Type 0} (old new : State) (after : Bool) (faults next : ℕ) where
+  -- of a keeper that was shut
+  pub shut_reading : (read : Result X Failure) (before : Bool) → before ≡ false → IsOneMore faults next → TellsReading old old before before faults next read (Err Store)
+  shut_reading read before is counts = record {
+    looks = still old;
+    answers = tt;
+    stays = tt;
+    counts = counts;
+    was_open = λ up. up;
+    stays_open = λ other. absurd (other refl);
+    goes_on = λ clean failed up. absurd (true≢false (sym up ∙ is));
+    not_shut = λ up open_now. up;
+  }
+
+  pub shut_change : (done : Result X ChangeError) (before : Bool) → before ≡ false → IsOneMore faults next → TellsChange old old before before faults next done (Err (Failed Store))
+  shut_change done before is counts = record {
+    looks = still old;
+    answers = λ up. absurd (true≢false (sym up ∙ is));
+    stays = tt;
+    counts = counts;
+    was_open = λ up. up;
+    stays_open = λ other. absurd (other refl);
+    goes_on = λ clean failed up. absurd (true≢false (sym up ∙ is));
+    not_shut = λ up open_now. up;
+  }
+
+  -- of a failure
+  pub failed_reading : (before : Bool) → IsTrue before → (read : Result X Failure) (failure : Failure) → Looks old new → TellsFailure new after faults next failure → TellsReading old new before after faults next read (Err failure)
+  failed_reading before was read Memory looks tells = record {
+    looks = looks;
+    answers = tt;
+    stays = tt;
+    counts = tells.1;
+    was_open = λ up. was;
+    stays_open = λ other. tells.0;
+    goes_on = λ clean failed up. absurd cc;
+    not_shut = λ up open_now. tells.0;
+  }
+  failed_reading before was read Store looks tells = record {
+    looks = looks;
+    answers = tt;
+    stays = tt;
+    counts = tells.0;
+    was_open = λ up. was;
+    stays_open = λ other. absurd (other refl);
+    goes_on = λ clean failed up. tells.1.0 up clean;
+    not_shut = λ up open_now. tells.1.1 open_now;
+  }
+
+  pub failed_change : (before : Bool) → IsTrue before → (first failure : Failure) → Looks old new → TellsFailure new after faults next failure
+      → TellsChange {X = X} old new before after faults next (Err (Failed first)) (Err (Failed failure))
+  failed_change before was first Memory looks tells = record {
+    looks = looks;
+    answers = λ up. (first, refl);
+    stays = tt;
+    counts = tells.1;
+    was_open = λ up. was;
+    stays_open = λ other. tells.0;
+    goes_on = λ clean failed up. absurd cc;
+    not_shut = λ up open_now. tells.0;
+  }
+  failed_change before was first Store looks tells = record {
+    looks = looks;
+    answers = λ up. (first, refl);
+    stays = tt;
+    counts = tells.0;
+    was_open = λ up. was;
+    stays_open = λ other. absurd (other refl);
+    goes_on = λ clean failed up. tells.1.0 up clean;
+    not_shut = λ up open_now. tells.1.1 open_now;
+  }

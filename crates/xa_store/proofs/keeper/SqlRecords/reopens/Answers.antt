@@ -1,0 +1,11 @@
+use Rattle.std.proofs.Common.{◌≡◌, ◌↔◌, IsTrue, subst}
+use Rattle.sqlite_schema.specs.declared.schema.Schema.{Schema}
+use Rattle.sqlite.specs.Held.{state}
+use Rattle.xa_store.specs.Tables.{our_schema}
+use Rattle.xa_store.proofs.ReopeningLemmas.{reopens}
+use Rattle.xa_store.proofs.keeper.SqlRecords.reopens.Goals as goal
+
+pub returns : goal.returns
+returns g c =
+    reopens (state g.S.Store c.args.self.now.conn) (state g.T.Store c.args.conn.now) c.schema.ensures.live c.is_ours-is_ours.result
+    (subst (λ (s : Schema). IsTrue c.is_ours-is_ours.result ↔ (s ≡ our_schema)) c.schema.ensures.value c.is_ours-is_ours.ensures)
