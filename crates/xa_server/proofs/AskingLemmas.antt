@@ -7,6 +7,8 @@ use Rattle.xa_value.specs.Gives.{◌>>=◌}
 use Rattle.xa_cache.specs.Bodies.{found}
 use Rattle.xa_cache.specs.declared.key.Key.{Key}
 use Rattle.xa_decide.specs.declared.decision.Responded.{Responded}
+use Rattle.xa_decide.proofs.AskedLemmas.{others_alike}
+use Rattle.xa_decide.specs.Asked.{asks_policies}
 use Rattle.xa_decide.specs.Decision as decision
 use Rattle.xa_decide.specs.Decision.{Viewed}
 use Rattle.xa_decide.specs.Timeless.{is_timeless_answer}
@@ -27,7 +29,7 @@ use Rattle.xa_server.specs.Machine.{by_domain_command, response_to}
 use Rattle.xa_server.specs.Replies.{decision_reply}
 use Rattle.xa_server.specs.Tally.{Tally}
 use Rattle.xa_server.specs.ValidCache.{AreValid, response_body_at}
-use Rattle.xa_server.specs.View.{view_of}
+use Rattle.xa_server.specs.View.{nothing_viewed, view_of}
 use Rattle.xa_server.specs.Work.{IsHeld, IsWorkedOut, body_held, response_of}
 use Rattle.xa_server.proofs.GrowthLemmas.{stays}
 use Rattle.xa_server.proofs.ValidLemmas.{found_right}
@@ -189,3 +191,29 @@ hit_reply kept name body moment opened tally reply opens valid is = by_held (bod
   by_held (Some decided) e is =
       let same : reply ≡ decision_reply decided = cc in
       answers kept kept name body moment (Ok reply) (hit kept name body decided moment opened tally opens valid e ∙ ap Ok (sym same), refl)
+
+-- ---- a body that doesn't ask the policies
+
+-- a view of nothing gives what any gives
+unasked : (view : Viewed) (body : List ℕ) (moment : ℤ) → asks_policies body ≡ false → response_of nothing_viewed body moment ≡ response_of view body moment
+unfolding response_of
+unasked view body moment none =
+    let alike = others_alike body none nothing_viewed view moment moment in
+    ap (λ timeless. option_map (λ answered. (decision.body_of answered, timeless)) (decision.answer nothing_viewed body moment)) alike.1
+    ∙ ap (option_map (λ answered. (decision.body_of answered, is_timeless_answer view body))) alike.0
+
+module _ (kept : Kept) (name body : List ℕ) (moment : ℤ) (opened : Opened) (opens : opened_of name kept ≡ Some opened) (none : asks_policies body ≡ false) where
+  -- the reply by it is that of the domain
+  pub unasked_reply : (result : Result (List ℕ) Stop) → IsResponseReply (response_of nothing_viewed body moment) result → Shows kept kept result (reply_told body moment (state_of name kept))
+  unasked_reply result meant = by_domain (domain_opened kept name opened opens) where
+    by_domain : ((d : Domain) × (get kept.domains name ≡ Some d) × (opened_by (gate_of_domain d) ≡ opened)) → Shows kept kept result (reply_told body moment (state_of name kept))
+    by_domain (d, there, is) =
+        replied kept kept name body moment (view_of d.state) result (rw there refl) (subst (λ r. IsResponseReply r result) (unasked (view_of d.state) body moment none) meant) refl
+
+  -- and so is the work
+  pub unasked_works : (key : Key) (result : Result (List ℕ) Stop) (old new : Tally) → IsFresh key (response_of nothing_viewed body moment) result old new
+      → IsFresh key (worked_in (state_of name kept) body moment) result old new
+  unasked_works key result old new works = by_domain (domain_opened kept name opened opens) where
+    by_domain : ((d : Domain) × (get kept.domains name ≡ Some d) × (opened_by (gate_of_domain d) ≡ opened)) → IsFresh key (worked_in (state_of name kept) body moment) result old new
+    by_domain (d, there, is) =
+        works_by (state_of name kept) (view_of d.state) body moment key result old new (rw there refl) (subst (λ r. IsFresh key r result old new) (unasked (view_of d.state) body moment none) works)

@@ -25,4 +25,6 @@ pub mod WorkLemmas
 pub mod LineLemmas
 pub mod PlayLemmas
 pub mod NextLemmas
+pub mod OpenLemmas
 pub mod FrontLawLemmas
+pub mod InterruptionLemmas

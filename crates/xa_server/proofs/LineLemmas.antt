@@ -1,11 +1,6 @@
 -- The connections of a front, by their numbers.
-use Rattle.std.proofs.Common.{◌≡◌, ℕ, ◌+◌, suc, List, [], ◌∷◌, Option, Some, None, Result, Ok, Err, option_map, refl, sym, ap, ◌∙◌, arith, set-set}
-use Rattle.std.proofs.lemmas.List.{set-get_or}
-use Rattle.xa_http.specs.Stream.{Stream}
-use Rattle.xa_server.specs.declared.front_error.FrontError.{FrontError}
-use Rattle.xa_server.specs.declared.front_error.FrontError.TheVariants.{Memory, NoSuchConnection, TooManyConnections, Full}
-use Rattle.xa_server.specs.declared.lines.Conn.{Conn}
-use Rattle.xa_server.specs.Lines.{IsFed, IsHeld, IsOpen, Lines, first_free, with_line}
+use Rattle.std.proofs.Common.{◌≡◌, ℕ, ◌+◌, suc, [], ◌∷◌, Option, Some, None, option_map, refl, sym, ap, ◌∙◌, arith}
+use Rattle.xa_server.specs.Lines.{Lines, first_free}
 
 -- ---- the least free number
 
@@ -30,29 +25,3 @@ none_on (Some k) = let e : 0 + k ≡ k = omega arith in ap (λ (m : ℕ). Some m
 
 pub from_first : (lines : Lines) → first_free lines ≡ first_free_from 0 lines
 from_first lines = sym (from_is 0 lines ∙ none_on (first_free lines))
-
--- ---- a stream that was taken out, and put back
-
-pub put_back : (conn : Conn) (old middle new : Lines) (stream after : Stream) → IsOpen conn old stream → middle ≡ with_line conn None old
-    → new ≡ with_line conn (Some after) middle → after ≡ stream → new ≡ old
-put_back conn old middle new stream after there taken put same =
-    put ∙ ap (λ s. with_line conn (Some s) middle) same ∙ ap (with_line conn (Some stream)) taken ∙ set-set old conn.number None (Some stream)
-    ∙ ap (λ line. with_line conn line old) (sym there) ∙ set-get_or old conn.number None
-
-pub put_after : (conn : Conn) (old middle new : Lines) (after : Stream) → middle ≡ with_line conn None old → new ≡ with_line conn (Some after) middle
-    → new ≡ with_line conn (Some after) old
-put_after conn old middle new after taken put =
-    put ∙ ap (with_line conn (Some after)) taken ∙ set-set old conn.number None (Some after)
-
--- a piece that its stream takes is one that the connection takes
-pub held : (conn : Conn) (piece : List ℕ) (old middle new : Lines) (stream after : Stream) (result : Result (Unit {0}) FrontError)
-    → IsOpen conn old stream → middle ≡ with_line conn None old → IsFed stream piece result after → new ≡ with_line conn (Some after) middle
-    → IsHeld conn piece old result new
-held conn piece old middle new stream after (Ok done) there taken (fits, is) put =
-    (stream, there, fits, put_after conn old middle new after taken put ∙ ap (λ s. with_line conn (Some s) old) is)
-held conn piece old middle new stream after (Err Full) there taken (over, is) put =
-    (stream, there, over, put_back conn old middle new stream after there taken put is)
-held conn piece old middle new stream after (Err Memory) there taken (fits, is) put =
-    (stream, there, fits, put_back conn old middle new stream after there taken put is)
-held conn piece old middle new stream after (Err NoSuchConnection) there taken none put = absurd none
-held conn piece old middle new stream after (Err TooManyConnections) there taken none put = absurd none

@@ -12,7 +12,8 @@ use Rattle.xa_server.specs.declared.replies.Reply.{Reply}
 use Rattle.xa_server.specs.declared.replies.Reply.TheVariants.{Sent, Refused}
 use Rattle.xa_server.specs.Front.{Does, FrontState, IsPlayed, Plays, ServerState, message_cut, messages_cut, replies_given, reply_given}
 use Rattle.xa_server.specs.Crash.{IfSent}
-use Rattle.xa_server.specs.Fronting.{CountsOutcome, CountsOutcomes, DoesEvent, IfAllSent, IfOutcomeSent}
+use Rattle.xa_server.specs.Fronting.{CountsOutcome, CountsOutcomes, DoesEvent, DoesLines, IfAllSent, IfOutcomeSent, PlaysLines}
+use Rattle.xa_server.specs.Lines.{Lines}
 use Rattle.xa_server.specs.Served.{IsRun}
 use Rattle.xa_server.specs.Tally.{Tally}
 use Rattle.xa_server.specs.Work.{IsWorkOfRun}
@@ -135,6 +136,14 @@ pub event_more : (events : List Event) (outcomes : List Outcome) (old mid new : 
     → (nexts : List (Option Next)) × Plays (events ++ e ∷ []) (outcomes ++ o ∷ []) nexts old new
 event_more events outcomes old mid new e o (nexts, plays) (given, does) =
     (nexts ++ given ∷ [], plays_more events outcomes nexts old mid new e o given plays does)
+
+-- so with the connections alone
+pub lines_more : (events : List Event) (outcomes : List Outcome) (old mid new : Lines) (e : Event) (o : Outcome) → PlaysLines events outcomes old mid
+    → DoesLines e mid o new → PlaysLines (events ++ e ∷ []) (outcomes ++ o ∷ []) old new
+lines_more [] [] old mid new e o same does = (new, subst (λ (ls : Lines). DoesLines e ls o new) same does, refl)
+lines_more (f ∷ events) (p ∷ outcomes) old mid new e o (first, did, rest) does = (first, did, lines_more events outcomes first mid new e o rest does)
+lines_more [] (p ∷ outcomes) old mid new e o none does = absurd none
+lines_more (f ∷ events) [] old mid new e o none does = absurd none
 
 -- ---- the keeper, over one event more
 

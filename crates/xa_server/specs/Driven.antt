@@ -17,7 +17,7 @@ use Rattle.xa_server.specs.Alone.{Event}
 use Rattle.xa_server.specs.Connection.{StopsBy, all_replies, messages_of, moments_of}
 use Rattle.xa_server.specs.Front.{FrontState}
 use Rattle.xa_server.specs.Isolation.{IsIsolated, IsIsolatedBesideRefusals}
-use Rattle.xa_server.specs.Lines.{with_line}
+use Rattle.xa_server.specs.Lines.{IsOpen, Lines, with_line}
 use Rattle.xa_server.specs.Served.{IsRun}
 use Rattle.xa_server.specs.Transfers.{Grows, IsBrokenOff, IsReadOn, IsWrittenWhole, ReadEnd, WriteEnd, bytes_read, bytes_taken, gave, unread}
 use Rattle.xa_server.specs.Work.{IsWorkOfRun}
@@ -151,3 +151,7 @@ IsDrivenWithin most driven conn old new stream before now = (is : IsDriven drive
 abbrev pub IsConnection : Driven → Option Stream → Conn → FrontState → FrontState → Known → Known → Type 0
 IsConnection driven (Some stream) conn old new before now = IsDrivenWithin 1_000_000 driven conn old new stream before now
 IsConnection driven None conn old new before now = (driven ≡ Ended) × (new ≡ old) × (now ≡ before)
+
+-- whatever the keeper does, a connection that is open stays open, and no other changes
+unfoldable pub KeepsOpen : Conn → Lines → Lines → Type 0
+KeepsOpen conn old new = (stream : Stream) → IsOpen conn old stream → (after : Stream) × (new ≡ with_line conn (Some after) old)

@@ -10,6 +10,7 @@ use Rattle.xa_records.specs.Kept.{Kept}
 use Rattle.xa_server.specs.Crash.{IfSent, IsStepMade}
 use Rattle.xa_server.specs.declared.event.Answer.{Answer}
 use Rattle.xa_server.specs.declared.event.Event.{Event}
+use Rattle.xa_server.specs.declared.event.Event.TheVariants as event
 use Rattle.xa_server.specs.declared.event.Outcome.{Outcome}
 use Rattle.xa_server.specs.declared.event.Outcome.TheVariants as outcome
 use Rattle.xa_server.specs.declared.front_error.FrontError.{FrontError}
@@ -18,7 +19,7 @@ use Rattle.xa_server.specs.declared.lines.Conn.{Conn}
 use Rattle.xa_server.specs.declared.replies.Reply.TheVariants.{Sent}
 use Rattle.xa_server.specs.ErrorCode.{code_of_session_fault, error_reply}
 use Rattle.xa_server.specs.Front.{Does, FrontState, IsAnswered, IsGiven, ServerState}
-use Rattle.xa_server.specs.Lines.{IsOpen, Lines, line_at, with_line}
+use Rattle.xa_server.specs.Lines.{IsClosed, IsHeld, IsOpen, IsOpened, Lines, line_at, with_line}
 use Rattle.xa_server.specs.Owner.{owner}
 use Rattle.xa_server.specs.Served.{CountsReply}
 use Rattle.xa_server.specs.World.{World}
@@ -32,6 +33,15 @@ abbrev pub AnswersNext : ℤ → ServerState → ServerState → Stream → Stre
 AnswersNext moment old new stream after (Ok answer) =
     (given : Next) × IsNext stream given after × IsGiven moment old given after answer new
 AnswersNext moment old new stream after (Err error) = (error ≡ Memory) × (stream.ended ≡ false) × (after ≡ stream) × (new ≡ old)
+
+-- the next of a stream that may not be there was answered, or nothing was done
+abbrev pub AnswersIn : ℤ → ServerState → ServerState → Option Stream → Option Stream → Result (Option Answer) FrontError → Type 0
+AnswersIn moment old new line after (Ok answer) =
+    (stream rest : Stream) × (line ≡ Some stream) × AnswersNext moment old new stream rest (Ok answer) × (after ≡ Some rest)
+AnswersIn moment old new line after (Err NoSuchConnection) = (line ≡ None) × (after ≡ line) × (new ≡ old)
+AnswersIn moment old new line after (Err Memory) =
+    (stream : Stream) × (line ≡ Some stream) × (stream.ended ≡ false) × (after ≡ line) × (new ≡ old)
+AnswersIn moment old new line after (Err _) = ⊥
 
 -- what a session's next is answered, where the reply to a message may be any
 abbrev pub IsNextGiven : Next → Stream → Option Answer → Type 0
@@ -47,6 +57,13 @@ abbrev pub TakesNext : Stream → Stream → Result (Option Answer) FrontError �
 TakesNext stream after (Ok answer) = (given : Next) × IsNext stream given after × IsNextGiven given after answer
 TakesNext stream after (Err error) = (error ≡ Memory) × (stream.ended ≡ false) × (after ≡ stream)
 
+-- and of a stream that may not be there
+abbrev pub TakesIn : Option Stream → Option Stream → Result (Option Answer) FrontError → Type 0
+TakesIn old new (Ok answer) = (stream after : Stream) × (old ≡ Some stream) × TakesNext stream after (Ok answer) × (new ≡ Some after)
+TakesIn old new (Err NoSuchConnection) = (old ≡ None) × (new ≡ old)
+TakesIn old new (Err Memory) = (stream : Stream) × (old ≡ Some stream) × (stream.ended ≡ false) × (new ≡ old)
+TakesIn old new (Err _) = ⊥
+
 -- and of the connections
 abbrev pub TakesLine : Conn → Lines → Lines → Result (Option Answer) FrontError → Type 0
 TakesLine conn old new (Ok answer) =
@@ -58,6 +75,20 @@ TakesLine conn old new (Err _) = ⊥
 -- an event did what it does
 abbrev pub DoesEvent : Event → FrontState → Outcome → FrontState → Type 0
 DoesEvent event old outcome new = (given : Option Next) × Does event old given outcome new
+
+-- what an event does to the connections, whatever the server does
+abbrev pub DoesLines : Event → Lines → Outcome → Lines → Type 0
+DoesLines event.Begin old (outcome.Begun result) new = IsOpened old result new
+DoesLines (event.Piece conn piece) old (outcome.Held result) new = IsHeld conn piece.now old result new
+DoesLines (event.Answer conn moment) old (outcome.Answered result) new = TakesLine conn old new result
+DoesLines (event.Finish conn) old (outcome.Finished result) new = IsClosed conn old result new
+DoesLines _ old _ new = ⊥
+
+-- what events do to them, one after another
+abbrev pub PlaysLines : List Event → List Outcome → Lines → Lines → Type 0
+PlaysLines [] [] old new = new ≡ old
+PlaysLines (event ∷ events) (outcome ∷ outcomes) old new = (mid : Lines) × DoesLines event old outcome mid × PlaysLines events outcomes mid new
+PlaysLines _ _ old new = ⊥
 
 -- the fault by which a stream ends was answered; without memory nothing was done
 abbrev pub IsFaultGiven : SessionFault → Stream → Stream → Result (Option Answer) FrontError → Type 0

@@ -11,6 +11,7 @@ pub mod World
 pub mod Served
 pub mod Crash
 pub mod Isolation
+pub mod Interruption
 pub mod Standing
 pub mod ValidCache
 pub mod Work

@@ -55,12 +55,14 @@ IsHeld conn piece old (Err Memory) new =
     (stream : Stream) × IsOpen conn old stream × (length stream.held + length piece ≤ 1_048_576) × (new ≡ old)
 IsHeld conn piece old (Err TooManyConnections) new = ⊥
 
--- a stream takes a piece, whole or not at all; word of a private function
-abbrev pub IsFed : Stream → List ℕ → Result (Unit {0}) FrontError → Stream → Type 0
-IsFed old piece (Ok _) new = (length old.held + length piece ≤ 1_048_576) × (new ≡ fed old piece)
-IsFed old piece (Err Full) new = (1_048_576 < length old.held + length piece) × (new ≡ old)
-IsFed old piece (Err Memory) new = (length old.held + length piece ≤ 1_048_576) × (new ≡ old)
-IsFed old piece (Err _) new = ⊥
+-- a stream takes a piece, whole or not at all, where there is one; word of a private function
+abbrev pub IsFed : Option Stream → List ℕ → Result (Unit {0}) FrontError → Option Stream → Type 0
+IsFed old piece (Ok _) new =
+    (stream : Stream) × (old ≡ Some stream) × (length stream.held + length piece ≤ 1_048_576) × (new ≡ Some (fed stream piece))
+IsFed old piece (Err NoSuchConnection) new = (old ≡ None) × (new ≡ old)
+IsFed old piece (Err Full) new = (stream : Stream) × (old ≡ Some stream) × (1_048_576 < length stream.held + length piece) × (new ≡ old)
+IsFed old piece (Err Memory) new = (stream : Stream) × (old ≡ Some stream) × (length stream.held + length piece ≤ 1_048_576) × (new ≡ old)
+IsFed old piece (Err TooManyConnections) new = ⊥
 
 -- a connection is closed, and its bytes are gone
 abbrev pub IsClosed : Conn → Lines → Result (Unit {0}) FrontError → Lines → Type 0
@@ -72,9 +74,13 @@ IsClosed conn old (Err _) new = ⊥
 abbrev pub held_at : Conn → Lines → Option ℕ
 held_at conn lines = option_map (λ (stream : Stream). length stream.held) (line_at conn lines)
 
--- what stands at the front of a connection's stream
+-- what stands at the front of a stream, where there is one
+abbrev pub IsLookedIn : Option Stream → Result Look FrontError → Type 0
+IsLookedIn line (Ok look) = (stream : Stream) × (line ≡ Some stream) × IsLook stream look
+IsLookedIn line (Err NoSuchConnection) = line ≡ None
+IsLookedIn line (Err Memory) = (stream : Stream) × (line ≡ Some stream) × (stream.ended ≡ false)
+IsLookedIn line (Err _) = ⊥
+
+-- and of a connection's
 abbrev pub IsLooked : Conn → Lines → Result Look FrontError → Type 0
-IsLooked conn lines (Ok look) = (stream : Stream) × IsOpen conn lines stream × IsLook stream look
-IsLooked conn lines (Err NoSuchConnection) = line_at conn lines ≡ None
-IsLooked conn lines (Err Memory) = (stream : Stream) × IsOpen conn lines stream × (stream.ended ≡ false)
-IsLooked conn lines (Err _) = ⊥
+IsLooked conn lines result = IsLookedIn (line_at conn lines) result

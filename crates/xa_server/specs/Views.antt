@@ -3,7 +3,7 @@ use Rattle.std.specs.Prelude.{◌+◌, ◌*◌, ◌-◌, ◌&&◌, ℕ, List, []
 use Rattle.std.specs.List.{fold}
 use Rattle.std.specs.Map.{lookup, remove_entry}
 use Rattle.lru.specs.LruCache.{promoted}
-use Rattle.xa_decide.specs.Decision.{Viewed, tree_of}
+use Rattle.xa_decide.specs.Decision.{Viewed}
 use Rattle.xa_decide.specs.Places.{places_of_tree}
 use Rattle.xa_records.specs.declared.kept_view.KeptView.{KeptView}
 use Rattle.xa_server.specs.declared.ready.Ready.{Ready}
@@ -64,4 +64,4 @@ bytes_of_view kept = added (added (times (bytes_of_texts kept.texts) 16) (times 
 
 -- by how much its tree is: 24 bytes for each place
 abbrev pub bytes_of_tree : Viewed → ℕ
-bytes_of_tree view = times (places_of_tree (tree_of view.active view.root)) 24
+bytes_of_tree view = times (places_of_tree view.tree) 24

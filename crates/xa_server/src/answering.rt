@@ -1,8 +1,9 @@
 //! The messages that a connection holds, one after another, each with its reply.
-ghost use Rattle.std.specs.Prelude.{◌≡◌, ℕ, List, Option, Some, pos};
+ghost use Rattle.std.specs.Prelude.{◌≡◌, ℕ, List, MatchResult, Option, Some, pos};
 ghost use Rattle.xa_http.specs.Stream.{Stream};
-ghost use Rattle.xa_server.specs.Driven.{known};
+ghost use Rattle.xa_server.specs.Driven.{KeepsOpen, known};
 ghost use Rattle.xa_server.specs.Driving.{AnswersOne, IsAnsweredAt, IsAnsweredNow, IsHeldAnswered, IsSentAs, IsTurn, PlaysOne, answer_of};
+ghost use Rattle.xa_server.specs.Fronting.{DoesLines};
 ghost use Rattle.xa_server.specs.Lines.{IsOpen, line_at};
 ghost use Rattle.xa_server.specs.Transfers.{ReadEnd};
 
@@ -35,12 +36,14 @@ pub(crate) fn play_one<F: Multiplexer>(
     event: &Event<'_>,
 ) -> Result<Outcome, AllocError>
     ensures played { F.is_sound front.new → PlaysOne event.now (F.state front.old) (F.state front.new) (F.had_memory front.old) (F.had_memory front.new) result }
+    ensures lines { MatchResult result (λ outcome. DoesLines event.now (F.state front.old).lines outcome (F.state front.new).lines)
+        (λ _. (F.state front.new).lines ≡ (F.state front.old).lines) }
     ensures sound { F.is_sound front.new → F.is_sound front.old }
 {
     let mut outcomes = front.play(slice::from_ref(event))?;
     match outcomes.pop() {
         Some(outcome) => Ok(outcome),
-        None => Err(AllocError),
+        None => unreachable!(),
     }
 }
 
@@ -55,12 +58,14 @@ fn answer_of(outcome: Outcome) -> Result<Option<Answer>, FrontError>
 }
 
 /// Has the next of an open connection answered.
+#[tactic(auto, using(crate::proofs::OpenLemmas::open_kept))]
 fn play_answer<F: Multiplexer>(
     front: &mut F,
     conn: Conn,
     moment: Moment,
 ) -> Result<Option<Answer>, FrontError>
     ensures answered { F.is_sound front.new → AnswersOne conn moment (F.state front.old) (F.state front.new) (F.had_memory front.old) (F.had_memory front.new) result }
+    ensures stays_open { KeepsOpen conn (F.state front.old).lines (F.state front.new).lines }
     ensures sound { F.is_sound front.new → F.is_sound front.old }
 {
     match play_one(front, &Event::Answer(conn, moment)) {
@@ -92,6 +97,7 @@ fn answer_at<F: Multiplexer, W: Writer>(
 ) -> Turn
     ensures answered { F.is_sound front.new → IsAnsweredAt result conn moment (F.state front.old) (F.state front.new) (F.had_memory front.old) (F.had_memory front.new)
         (W.contents writer.old) (W.contents writer.new) (W.writes writer.old) (W.writes writer.new) }
+    ensures stays_open { KeepsOpen conn (F.state front.old).lines (F.state front.new).lines }
     ensures sound { F.is_sound front.new → F.is_sound front.old }
 {
     match play_answer(front, conn, moment) {
@@ -102,6 +108,7 @@ fn answer_at<F: Multiplexer, W: Writer>(
 }
 
 /// Answers the message at the front of a connection at the clock's moment, and sends the reply.
+#[tactic(auto, using(crate::proofs::OpenLemmas::open_kept))]
 fn answer_message<F: Multiplexer, W: Writer, C: Clock>(
     front: &mut F,
     conn: Conn,
@@ -110,6 +117,7 @@ fn answer_message<F: Multiplexer, W: Writer, C: Clock>(
 ) -> Turn
     ensures answered { F.is_sound front.new → IsAnsweredNow result conn (F.state front.old) (F.state front.new) (F.had_memory front.old) (F.had_memory front.new)
         (W.contents writer.old) (W.contents writer.new) (W.writes writer.old) (W.writes writer.new) (C.told clock.old) (C.told clock.new) }
+    ensures stays_open { KeepsOpen conn (F.state front.old).lines (F.state front.new).lines }
     ensures sound { F.is_sound front.new → F.is_sound front.old }
 {
     let Some(moment) = clock.now() else {
@@ -122,6 +130,7 @@ fn answer_message<F: Multiplexer, W: Writer, C: Clock>(
 fn answer_fault<F: Multiplexer, W: Writer>(front: &mut F, conn: Conn, writer: &mut W) -> Turn
     ensures answered { F.is_sound front.new → IsAnsweredAt result conn (pos 0) (F.state front.old) (F.state front.new) (F.had_memory front.old) (F.had_memory front.new)
         (W.contents writer.old) (W.contents writer.new) (W.writes writer.old) (W.writes writer.new) }
+    ensures stays_open { KeepsOpen conn (F.state front.old).lines (F.state front.new).lines }
     ensures sound { F.is_sound front.new → F.is_sound front.old }
 {
     let Some(moment) = Moment::new(0) else {
@@ -132,6 +141,7 @@ fn answer_fault<F: Multiplexer, W: Writer>(front: &mut F, conn: Conn, writer: &m
 
 /// Answers the next whole message that the connection holds, or the fault by which its stream ends. No clock is asked where
 /// there is no message.
+#[tactic(auto, using(crate::proofs::OpenLemmas::open_kept, crate::proofs::OpenLemmas::open_trans))]
 fn answer_next<F: Multiplexer, W: Writer, C: Clock>(
     front: &mut F,
     conn: Conn,
@@ -143,6 +153,7 @@ fn answer_next<F: Multiplexer, W: Writer, C: Clock>(
         → IsTurn result conn (F.state front.old) (F.state front.new) stream
         (known (F.had_memory front.old) left reads (W.contents writer.old) (W.writes writer.old) (C.told clock.old))
         (known (F.had_memory front.new) left reads (W.contents writer.new) (W.writes writer.new) (C.told clock.new)) }
+    ensures stays_open { KeepsOpen conn (F.state front.old).lines (F.state front.new).lines }
     ensures sound { F.is_sound front.new → F.is_sound front.old }
 {
     match front.look(conn) {
@@ -155,6 +166,7 @@ fn answer_next<F: Multiplexer, W: Writer, C: Clock>(
 }
 
 /// Answers all whole messages that the connection holds. How it has ended, if it has; one that isn't open has.
+#[tactic(auto, using(crate::proofs::OpenLemmas::open_kept, crate::proofs::OpenLemmas::open_trans))]
 pub(crate) fn answer_held<F: Multiplexer, W: Writer, C: Clock>(
     front: &mut F,
     conn: Conn,
@@ -165,6 +177,7 @@ pub(crate) fn answer_held<F: Multiplexer, W: Writer, C: Clock>(
         → IsHeldAnswered result (line_at conn (F.state front.old).lines) conn (F.state front.old) (F.state front.new)
         (known (F.had_memory front.old) left reads (W.contents writer.old) (W.writes writer.old) (C.told clock.old))
         (known (F.had_memory front.new) left reads (W.contents writer.new) (W.writes writer.new) (C.told clock.new)) }
+    ensures stays_open { KeepsOpen conn (F.state front.old).lines (F.state front.new).lines }
     ensures sound { F.is_sound front.new → F.is_sound front.old }
 {
     let Some(held) = front.held(conn) else {

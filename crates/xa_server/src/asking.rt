@@ -1,6 +1,7 @@
 //! Asking for a decision. What is held is given again; all else is worked out by what decides in the domain, which is kept ready for the next, counted, and held
-//! where it stays the same.
-ghost use Rattle.std.specs.Prelude.{◌≡◌, Some, IfOk, IfSome, OnErr};
+//! where it stays the same. A body that doesn't ask the policies is answered without what decides, where that isn't ready.
+ghost use Rattle.std.specs.Prelude.{◌≡◌, false, Some, IfOk, IfSome, OnErr};
+ghost use Rattle.xa_decide.specs.Asked.{asks_policies};
 ghost use Rattle.xa_http.specs.declared.command.DomainCommand.TheVariants as domain;
 ghost use Rattle.xa_records.specs.Kept.{state_of};
 ghost use Rattle.xa_records.specs.Readings.{view_of};
@@ -8,11 +9,13 @@ ghost use Rattle.xa_server.specs.Gates.{opened_of};
 ghost use Rattle.xa_server.specs.Handling.{Answers, Counts, IfTold, IsAsked, IsFresh, IsResponseReply, IsResponse, LeavesNoMore, MakesReady, Shows, key_opened, key_within, reply_told, view_told, worked_in};
 ghost use Rattle.xa_server.specs.Machine.{by_domain_command};
 ghost use Rattle.xa_server.specs.Stock.{AllStand};
+ghost use Rattle.xa_server.specs.View.{nothing_viewed};
 ghost use Rattle.xa_server.specs.Views.{added, bytes_of_tree, bytes_of_view};
 ghost use Rattle.xa_server.specs.Work.{body_held, response_of};
 
 use crate::decisions::{Decisions, key_within};
 use crate::error_code::ErrorCode;
+use crate::limits::Limits;
 use crate::opened::Opened;
 use crate::ready::{Ready, bytes_of_tree, bytes_of_view};
 use crate::replies::decision_reply;
@@ -21,14 +24,14 @@ use crate::stop::Stop;
 use crate::view::view_of_kept;
 use std::alloc::Global;
 use xa_cache::Key;
-use xa_decide::{Responded, View, respond};
+use xa_decide::{Responded, View, asks_policies, respond};
 use xa_notation::NotationError;
 use xa_records::{Records, Refusal};
 use xa_shelf::Shelf;
 use xa_value::{Items, Moment, Text};
 
-/// What decides in the domain, made from what is kept of it, with the limit of work for a message. What this costs grows with the texts of the active documents, each of which is looked up on the
-/// shelf, and with the rows of attributes, which are put in order.
+/// What decides in the domain, made from what is kept of it, with what a decision may cost. What this costs grows with the texts of the active documents, each of which is looked up on the
+/// shelf where a root is set, and with the rows of attributes, which are put in order.
 #[tactic(auto, using(crate::proofs::ReadyLemmas::estimated))]
 fn ready_view<R: Records>(
     alloc: Global,
@@ -36,7 +39,7 @@ fn ready_view<R: Records>(
     records: &mut R,
     name: &Text,
     epoch: u64,
-    limit: u64,
+    limits: Limits,
 ) -> Result<Ready, Stop>
     ensures tells { (R.custody records.new).sound → MakesReady (R.custody records.old).kept (R.custody records.new).kept epoch result (view_told (state_of name.now (R.custody records.old).kept)) }
     ensures estimate { (R.custody records.new).sound → IfOk result (λ ready. IfSome (view_of name.now (R.custody records.old).kept) (λ kept. ready.bytes ≡ added (bytes_of_view kept) (bytes_of_tree ready.view))) }
@@ -54,7 +57,7 @@ fn ready_view<R: Records>(
     let bytes = bytes.saturating_add(bytes_of_tree(&view));
     Ok(Ready {
         epoch,
-        view: view.with_limit(limit),
+        view: limits.of_view(view),
         bytes,
     })
 }
@@ -118,7 +121,7 @@ fn reply_by_kept<R: Records>(
         records,
         name,
         opened.epoch,
-        resources.limit,
+        resources.limits,
     )?;
     let reply = reply_by(
         alloc,
@@ -133,7 +136,62 @@ fn reply_by_kept<R: Records>(
     Ok(reply)
 }
 
-/// The reply by a decision that is worked out: by the view that is kept ready, where there is one, and no text is asked for; and else by what is kept.
+/// The reply to a body that doesn't ask the policies: it is the same whatever decides, and nothing of the domain is read for it.
+fn reply_without_policies(
+    alloc: Global,
+    decisions: &mut Decisions,
+    limits: Limits,
+    opened: Opened,
+    key: Option<Key>,
+    body: &[u8],
+    moment: Moment,
+) -> Result<Items<u8>, Stop>
+    requires { key ≡ key_within (key_opened opened body.now) }
+    ensures tells { IsResponseReply (response_of nothing_viewed body.now moment) result }
+    ensures works { IsFresh (key_opened opened body.now) (response_of nothing_viewed body.now moment) result decisions.old decisions.new }
+{
+    let nothing = limits.of_view(View::new(alloc, &[], &None, Items::new(alloc))?);
+    reply_by(alloc, decisions, opened, key, &nothing, body, moment)
+}
+
+/// The reply where no view is kept ready: the body's own questions come first, and what is kept of the domain is read only for a body that asks the policies.
+fn reply_without_view<R: Records>(
+    alloc: Global,
+    resources: &mut Resources,
+    records: &mut R,
+    name: &Text,
+    opened: Opened,
+    key: Option<Key>,
+    body: &[u8],
+    moment: Moment,
+) -> Result<Items<u8>, Stop>
+    requires { key ≡ key_within (key_opened opened body.now) }
+    ensures tells { opened_of name.now (R.custody records.old).kept ≡ Some opened → AllStand (R.custody records.old).kept resources.old → (R.custody records.new).sound → Shows (R.custody records.old).kept (R.custody records.new).kept result (reply_told body.now moment (state_of name.now (R.custody records.old).kept)) }
+    ensures works { opened_of name.now (R.custody records.old).kept ≡ Some opened → AllStand (R.custody records.old).kept resources.old → (R.custody records.new).sound → IsFresh (key_opened opened body.now) (worked_in (state_of name.now (R.custody records.old).kept) body.now moment) result resources.old.tally resources.new.tally }
+    ensures stands { opened_of name.now (R.custody records.old).kept ≡ Some opened → AllStand (R.custody records.old).kept resources.old → (R.custody records.new).sound → AllStand (R.custody records.old).kept resources.new }
+    ensures room { OnErr result (resources.new.room ≡ resources.old.room) }
+    ensures sound { (R.custody records.new).sound → (R.custody records.old).sound }
+    ensures clean { (R.custody records.new).clean → (R.custody records.old).clean }
+    ensures stays { (R.custody records.new).clean → (R.custody records.old).sound → IfTold result (R.custody records.new).sound }
+    ensures leaves { (R.custody records.new).clean → (R.custody records.old).sound → LeavesNoMore (R.custody records.old).may_leave (R.custody records.new).may_leave }
+    ensures counts { Counts (R.custody records.old).faults (R.custody records.new).faults result }
+{
+    if asks_policies(alloc, body)? {
+        return reply_by_kept(alloc, resources, records, name, opened, key, body, moment);
+    }
+    let limits = resources.limits;
+    reply_without_policies(
+        alloc,
+        &mut resources.decisions,
+        limits,
+        opened,
+        key,
+        body,
+        moment,
+    )
+}
+
+/// The reply by a decision that is worked out: by the view that is kept ready, where there is one, and no text is asked for; and else without it.
 fn fresh_reply<R: Records>(
     alloc: Global,
     resources: &mut Resources,
@@ -168,7 +226,7 @@ fn fresh_reply<R: Records>(
         resources.views.touch(opened.number);
         return Ok(reply);
     }
-    reply_by_kept(alloc, resources, records, name, opened, key, body, moment)
+    reply_without_view(alloc, resources, records, name, opened, key, body, moment)
 }
 
 /// The reply to the request of the body by the domain's policies: by the decision that is held, where one is, and else by one that is worked out.
@@ -196,7 +254,8 @@ pub(crate) fn decide<R: Records>(
     let Some(key) = key_within(alloc, opened, body)? else {
         return fresh_reply(alloc, resources, records, name, opened, None, body, moment);
     };
-    if let Some(reply) = resources.decisions.held_reply(alloc, &key)? {
+    let most = resources.limits.reply;
+    if let Some(reply) = resources.decisions.held_reply(alloc, &key, most)? {
         return Ok(reply);
     }
     let key = Some(key);

@@ -1,7 +1,7 @@
 //! A connection, from its first byte to its end.
 ghost use Rattle.std.specs.Prelude.{◌≡◌, ◌≤◌, List, Option};
 ghost use Rattle.xa_http.specs.Stream.{Stream};
-ghost use Rattle.xa_server.specs.Driven.{IsConnection, known};
+ghost use Rattle.xa_server.specs.Driven.{IsConnection, KeepsOpen, known};
 ghost use Rattle.xa_server.specs.Driving.{FeedsOne, IsRead, IsWaiting, piece_of};
 ghost use Rattle.xa_server.specs.Lines.{IsOpen, line_at};
 
@@ -33,8 +33,10 @@ fn piece_of(outcome: Outcome) -> Result<(), FrontError>
 }
 
 /// Puts a piece to an open connection.
+#[tactic(auto, using(crate::proofs::OpenLemmas::open_kept, crate::proofs::OpenLemmas::piece_keeps))]
 fn play_piece<F: Multiplexer>(front: &mut F, conn: Conn, piece: &[u8]) -> Result<(), FrontError>
     ensures fed { F.is_sound front.new → FeedsOne conn piece.now (F.state front.old) (F.state front.new) (F.had_memory front.old) (F.had_memory front.new) result }
+    ensures stays_open { KeepsOpen conn (F.state front.old).lines (F.state front.new).lines }
     ensures sound { F.is_sound front.new → F.is_sound front.old }
 {
     match play_one(front, &Event::Piece(conn, piece)) {
@@ -45,6 +47,7 @@ fn play_piece<F: Multiplexer>(front: &mut F, conn: Conn, piece: &[u8]) -> Result
 
 /// Reads once from a connection of which no whole message is left, and answers all messages that are whole then. How
 /// the connection has ended, if it has.
+#[tactic(auto, using(crate::proofs::OpenLemmas::open_kept, crate::proofs::OpenLemmas::open_trans))]
 fn read_on<F: Multiplexer, I: Reader, W: Writer, C: Clock>(
     front: &mut F,
     conn: Conn,
@@ -57,6 +60,7 @@ fn read_on<F: Multiplexer, I: Reader, W: Writer, C: Clock>(
         → IsRead result conn (F.state front.old) (F.state front.new) stream
         (known (F.had_memory front.old) (I.remaining reader.old) (I.reads reader.old) (W.contents writer.old) (W.writes writer.old) (C.told clock.old))
         (known (F.had_memory front.new) (I.remaining reader.new) (I.reads reader.new) (W.contents writer.new) (W.writes writer.new) (C.told clock.new)) }
+    ensures stays_open { KeepsOpen conn (F.state front.old).lines (F.state front.new).lines }
     ensures sound { F.is_sound front.new → F.is_sound front.old }
 {
     let count = match reader.receive(piece) {
@@ -76,6 +80,7 @@ fn read_on<F: Multiplexer, I: Reader, W: Writer, C: Clock>(
 /// only after the reply to the one before it was sent. At most 65,536 bytes are read at once, and at most 1,000,000
 /// times. An interrupted read is one of these, and the next follows it. A connection that isn't open has ended: nothing
 /// is read, and nothing changes.
+#[tactic(auto, using(crate::proofs::OpenLemmas::open_kept, crate::proofs::OpenLemmas::open_trans))]
 pub fn drive<F: Multiplexer, I: Reader, W: Writer, C: Clock>(
     front: &mut F,
     conn: Conn,
@@ -86,6 +91,7 @@ pub fn drive<F: Multiplexer, I: Reader, W: Writer, C: Clock>(
     ensures connection { F.is_sound front.new → IsConnection result (line_at conn (F.state front.old).lines) conn (F.state front.old) (F.state front.new)
         (known (F.had_memory front.old) (I.remaining reader.old) (I.reads reader.old) (W.contents writer.old) (W.writes writer.old) (C.told clock.old))
         (known (F.had_memory front.new) (I.remaining reader.new) (I.reads reader.new) (W.contents writer.new) (W.writes writer.new) (C.told clock.new)) }
+    ensures stays_open { KeepsOpen conn (F.state front.old).lines (F.state front.new).lines }
     ensures sound { F.is_sound front.new → F.is_sound front.old }
 {
     if let Some(driven) = answer_held(front, conn, writer, clock) {

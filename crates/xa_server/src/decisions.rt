@@ -64,16 +64,18 @@ impl Decisions {
         self.unkept
     }
 
-    /// The reply by the decision that is held under the key, which is its newest use then.
+    /// The reply by the decision that is held under the key, which is its newest use then. A body of more bytes than that is refused here as where it is worked out.
     pub(crate) fn held_reply(
         &mut self,
         alloc: Global,
         key: &Key,
+        most: u64,
     ) -> Result<Option<Items<u8>>, AllocError>
         ensures found { IfOk result (λ reply. reply ≡ option_map decision_reply (found key.now self.old.held)) }
         ensures moves { IsLookedUp (found key.now self.old.held) key.now self.old self.new }
     {
         match self.cache.look(key) {
+            Some(body) if body.len() as u64 > most => Err(AllocError),
             Some(body) => Ok(Some(decision_reply(alloc, body)?)),
             None => Ok(None),
         }

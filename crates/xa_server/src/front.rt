@@ -4,7 +4,7 @@ ghost use Rattle.xa_http.specs.declared.session.Look.TheVariants as look;
 ghost use Rattle.xa_http.specs.Messages.{IsLook};
 ghost use Rattle.xa_server.specs.Front.{IsPlayed, front_state, server_state};
 ghost use Rattle.xa_server.specs.FrontLaws.{LinesAreStreams};
-ghost use Rattle.xa_server.specs.Fronting.{Answers, AnswersNext, CountsAnswer, CountsOutcome, CountsOutcomes, DoesEvent, IfAllSent, IfAnswerSent, IfOutcomeSent, IsFaultGiven, LeavesAnswer, TakesLine, TakesNext};
+ghost use Rattle.xa_server.specs.Fronting.{Answers, AnswersIn, AnswersNext, CountsAnswer, CountsOutcome, CountsOutcomes, DoesEvent, DoesLines, IfAllSent, IfAnswerSent, IfOutcomeSent, IsFaultGiven, LeavesAnswer, PlaysLines, TakesIn, TakesLine, TakesNext};
 ghost use Rattle.xa_server.specs.Lines.{IsClosed, IsHeld, IsLooked, IsOpened, held_at, line_at, none_open};
 ghost use Rattle.xa_server.specs.World.{world};
 
@@ -101,10 +101,10 @@ impl<R: Records> Front<R> {
             LeavesAnswer (R.custody self.old.server.records).may_leave (R.custody self.new.server.records).may_leave (world R.custody self.old.server) moment (line_at conn self.old.lines) }
         ensures counts { CountsAnswer (R.custody self.old.server.records).faults (R.custody self.new.server.records).faults result }
     {
-        let mut session = self.lines.take(conn)?;
-        let answered = answer_next(self.alloc, &mut self.server, &mut session, moment);
-        self.lines.put(conn, Some(session));
-        answered
+        match self.lines.lines.get_mut(conn.number) {
+            Some(line) => answer_line(self.alloc, &mut self.server, line, moment),
+            None => Err(FrontError::NoSuchConnection),
+        }
     }
 
     /// What stands at the front of the connection's stream. Nothing is changed.
@@ -124,10 +124,12 @@ impl<R: Records> Front<R> {
 
     /// Makes these calls, one after another. Whatever comes on which connection, and in which pieces, each domain's
     /// replies are those of its own machine, used by it alone; with refusals, as if the refused messages had never come.
-    /// Room for all outcomes is taken first, and without it nothing is done.
+    /// What becomes of the connections doesn't depend on the keeper. Room for all outcomes is taken first, and without it
+    /// nothing is done.
     pub fn play(&mut self, events: &[Event<'_>]) -> Result<Vec<Outcome>, AllocError>
         ensures played { IfOk result (λ outcomes. (R.custody self.new.server.records).sound →
             IsPlayed (front_state R.custody self.old) (front_state R.custody self.new) events.now outcomes.items) }
+        ensures lines { IfOk result (λ outcomes. PlaysLines events.now outcomes.items self.old.lines self.new.lines) }
         ensures sound { (R.custody self.new.server.records).sound → (R.custody self.old.server.records).sound }
         ensures clean { (R.custody self.new.server.records).clean → (R.custody self.old.server.records).clean }
         ensures stays { IfOk result (λ outcomes. (R.custody self.new.server.records).clean → (R.custody self.old.server.records).sound →
@@ -146,6 +148,7 @@ impl<R: Records> Front<R> {
     /// Makes one call.
     fn outcome(&mut self, event: &Event<'_>) -> Outcome
         ensures does { (R.custody self.new.server.records).sound → DoesEvent event.now (front_state R.custody self.old) result (front_state R.custody self.new) }
+        ensures lines { DoesLines event.now self.old.lines result self.new.lines }
         ensures sound { (R.custody self.new.server.records).sound → (R.custody self.old.server.records).sound }
         ensures clean { (R.custody self.new.server.records).clean → (R.custody self.old.server.records).clean }
         ensures stays { (R.custody self.new.server.records).clean → (R.custody self.old.server.records).sound → IfOutcomeSent result (R.custody self.new.server.records).sound }
@@ -157,6 +160,29 @@ impl<R: Records> Front<R> {
             Event::Answer(conn, moment) => Outcome::Answered(self.answer(*conn, *moment)),
             Event::Finish(conn) => Outcome::Finished(self.close(*conn)),
         }
+    }
+}
+
+/// Answers the next of a connection, if it is open.
+fn answer_line<R: Records>(
+    alloc: Global,
+    server: &mut Server<R>,
+    line: &mut Option<Session>,
+    moment: Moment,
+) -> Result<Option<Answer>, FrontError>
+    ensures answered { (R.custody server.new.records).sound → AnswersIn moment (server_state R.custody server.old) (server_state R.custody server.new) line.old line.new result }
+    ensures line { TakesIn line.old line.new result }
+    ensures err { OnErr result ((server.new ≡ server.old) × (line.new ≡ line.old)) }
+    ensures sound { (R.custody server.new.records).sound → (R.custody server.old.records).sound }
+    ensures clean { (R.custody server.new.records).clean → (R.custody server.old.records).clean }
+    ensures stays { (R.custody server.new.records).clean → (R.custody server.old.records).sound → IfAnswerSent result (R.custody server.new.records).sound }
+    ensures crash { (R.custody server.new.records).clean → (R.custody server.old.records).sound →
+        LeavesAnswer (R.custody server.old.records).may_leave (R.custody server.new.records).may_leave (world R.custody server.old) moment line.old }
+    ensures counts { CountsAnswer (R.custody server.old.records).faults (R.custody server.new.records).faults result }
+{
+    match line {
+        Some(session) => answer_next(alloc, server, session, moment),
+        None => Err(FrontError::NoSuchConnection),
     }
 }
 

@@ -17,6 +17,8 @@ mod event;
 mod front;
 mod front_error;
 mod gates;
+mod interruption;
+mod limits;
 mod lines;
 mod multiplexer;
 mod name;

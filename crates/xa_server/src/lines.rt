@@ -1,7 +1,6 @@
 //! The connections of a front, each with its stream.
-ghost use Rattle.std.specs.Prelude.{◌≡◌, IfOk, MatchOption, MatchResult, None, Some};
-ghost use Rattle.xa_server.specs.Lines.{IsClosed, IsFed, IsHeld, IsLooked, IsOpen, IsOpened, first_free, held_at, line_at, none_open, with_line};
-ghost use Rattle.xa_server.specs.declared.front_error.FrontError.TheVariants.{NoSuchConnection};
+ghost use Rattle.std.specs.Prelude.{◌≡◌, IfOk};
+ghost use Rattle.xa_server.specs.Lines.{IsClosed, IsFed, IsHeld, IsLooked, IsLookedIn, IsOpened, first_free, held_at, line_at, none_open, with_line};
 
 use crate::front_error::FrontError;
 use std::alloc::{AllocError, Global};
@@ -19,13 +18,13 @@ const MAX_HELD_BYTES: usize = 1_048_576;
 /// it is that new connection.
 #[derive(Clone, Copy, Debug, PartialEq, Eq)]
 pub struct Conn {
-    number: usize,
+    pub(crate) number: usize,
 }
 
 /// The connections, by their numbers: the session of each that is open. One that isn't has no buffer.
 #[derive(Drop)]
 pub(crate) struct Lines {
-    lines: Vec<Option<Session>>,
+    pub(crate) lines: Vec<Option<Session>>,
 }
 
 impl Model for Lines {
@@ -64,14 +63,13 @@ impl Lines {
     }
 
     /// Puts the piece behind the bytes that the connection holds, whole or not at all.
-    #[tactic(auto, using(crate::proofs::LineLemmas::held))]
     pub(crate) fn piece(&mut self, conn: Conn, piece: &[u8]) -> Result<(), FrontError>
         ensures { IsHeld conn piece.now self.old result self.new }
     {
-        let mut session = self.take(conn)?;
-        let fed = feed(&mut session, piece);
-        self.put(conn, Some(session));
-        fed
+        match self.lines.get_mut(conn.number) {
+            Some(line) => feed(line, piece),
+            None => Err(FrontError::NoSuchConnection),
+        }
     }
 
     /// What stands at the front of the connection's stream. Nothing is changed.
@@ -79,28 +77,18 @@ impl Lines {
         ensures look { IsLooked conn self.old result }
         ensures same { self.new ≡ self.old }
     {
-        let mut session = self.take(conn)?;
-        let look = session.look();
-        self.put(conn, Some(session));
-        Ok(look?)
+        match self.lines.get_mut(conn.number) {
+            Some(line) => look(line),
+            None => Err(FrontError::NoSuchConnection),
+        }
     }
 
     /// Closes the connection, and lets its bytes go.
     pub(crate) fn close(&mut self, conn: Conn) -> Result<(), FrontError>
         ensures { IsClosed conn self.old result self.new }
     {
-        drop(self.take(conn)?);
-        Ok(())
-    }
-
-    /// Takes the session of the connection out. It isn't open then.
-    pub(crate) fn take(&mut self, conn: Conn) -> Result<Session, FrontError>
-        ensures { MatchResult result
-            (λ session. IsOpen conn self.old session × (self.new ≡ with_line conn None self.old))
-            (λ error. (error ≡ NoSuchConnection) × (line_at conn self.old ≡ None) × (self.new ≡ self.old)) }
-    {
         match self.put(conn, None) {
-            Some(session) => Ok(session),
+            Some(_) => Ok(()),
             None => Err(FrontError::NoSuchConnection),
         }
     }
@@ -114,7 +102,7 @@ impl Lines {
     }
 
     /// Puts the session there, and gives what was there before.
-    pub(crate) fn put(&mut self, conn: Conn, session: Option<Session>) -> Option<Session>
+    fn put(&mut self, conn: Conn, session: Option<Session>) -> Option<Session>
         ensures before { result ≡ line_at conn self.old }
         ensures after { self.new ≡ with_line conn session self.old }
     {
@@ -139,12 +127,26 @@ fn first_free(lines: &[Option<Session>]) -> Option<usize>
 }
 
 /// Feeds the piece to the session, unless it would hold too many bytes then.
-fn feed(session: &mut Session, piece: &[u8]) -> Result<(), FrontError>
-    ensures { IsFed session.old piece.now result session.new }
+fn feed(line: &mut Option<Session>, piece: &[u8]) -> Result<(), FrontError>
+    ensures { IsFed line.old piece.now result line.new }
 {
+    let Some(session) = line else {
+        return Err(FrontError::NoSuchConnection);
+    };
     if session.held_len().saturating_add(piece.len()) > MAX_HELD_BYTES {
         return Err(FrontError::Full);
     }
     session.feed(piece)?;
     Ok(())
+}
+
+/// What stands at the front of the session's stream.
+fn look(line: &mut Option<Session>) -> Result<Look, FrontError>
+    ensures look { IsLookedIn line.old result }
+    ensures same { line.new ≡ line.old }
+{
+    let Some(session) = line else {
+        return Err(FrontError::NoSuchConnection);
+    };
+    Ok(session.look()?)
 }

@@ -1,5 +1,5 @@
 //! What a server shares among all domains: the shelf of policies, the views that are kept ready, the decisions that are held, the gates that are remembered, and
-//! the limit of work for a message.
+//! what the decision on a message may cost.
 ghost use Rattle.std.specs.Prelude.{◌≡◌, ◌⊎◌, [], min, IfOk, IsSome, None, bytes_eq};
 ghost use Rattle.std.specs.Map.{lookup};
 ghost use Rattle.xa_server.specs.Gates.{opened_in};
@@ -7,6 +7,7 @@ ghost use Rattle.xa_server.specs.Stock.{empty_stock, forgetting, remembering, us
 
 use crate::decisions::Decisions;
 use crate::gates::Gates;
+use crate::limits::Limits;
 use crate::opened::Opened;
 use crate::views::Views;
 use std::alloc::{AllocError, Global};
@@ -22,9 +23,8 @@ pub(crate) struct Resources {
     pub(crate) views: Views,
     pub(crate) decisions: Decisions,
     gates: Gates,
-    /// The work that a message may ask for, in units. It is a number: what a message spends is taken from a budget of its own, so that no message finds less for
-    /// another's use.
-    pub(crate) limit: u64,
+    /// What the decision on a message may cost.
+    pub(crate) limits: Limits,
 }
 
 impl Model for Resources {
@@ -42,7 +42,7 @@ impl Model for Resources {
 }
 
 impl Resources {
-    /// Nothing is held yet, and work has no limit.
+    /// Nothing is held yet, and a decision may cost anything.
     pub(crate) fn new(alloc: Global, operator: Digest) -> Result<Resources, AllocError>
         ensures { IfOk result (λ r. r ≡ empty_stock) }
     {
@@ -51,7 +51,7 @@ impl Resources {
             views: Views::new(alloc)?,
             decisions: Decisions::new(alloc, operator)?,
             gates: Gates::new(alloc)?,
-            limit: u64::MAX,
+            limits: Limits::none(),
         })
     }
 
@@ -64,19 +64,19 @@ impl Resources {
             views,
             decisions,
             gates,
-            limit,
+            limits,
         } = self;
         Resources {
             shelf,
             views: views.with_room_for(most),
             decisions,
             gates,
-            limit,
+            limits,
         }
     }
 
-    /// With this limit of work for a message. The views that were kept had another; none is kept yet.
-    pub(crate) fn with_limit(self, units: u64) -> Resources
+    /// With these limits. The views that were kept had others; none is kept yet.
+    pub(crate) fn with_limits(self, limits: Limits) -> Resources
         ensures { result ≡ record { tally = self.tally; room = record { views = []; most = min self.room.most 128 }; gates = self.gates } }
     {
         let Resources {
@@ -84,7 +84,7 @@ impl Resources {
             views,
             decisions,
             gates,
-            limit: _,
+            limits: _,
         } = self;
         let most = views.most();
         Resources {
@@ -92,7 +92,7 @@ impl Resources {
             views: views.with_room_for(most),
             decisions,
             gates,
-            limit: units,
+            limits,
         }
     }
 

@@ -4,6 +4,7 @@ ghost use Rattle.xa_server.specs.Isolation.{TwoWorldsAgree};
 ghost use Rattle.xa_server.specs.Handling.{IsReplyOf};
 
 use crate::answer::answer;
+use crate::limits::Limits;
 use crate::replies::Reply;
 use crate::resources::Resources;
 use crate::stop::Stop;
@@ -88,6 +89,31 @@ impl<R: Records> Server<R> {
     pub fn with_limit(self, units: u64) -> Server<R>
         ensures { result ≡ self }
     {
+        let limits = Limits {
+            work: units,
+            reply: self.resources.limits.reply,
+        };
+        self.with_limits(limits)
+    }
+
+    /// The same server, which from now on refuses each message whose decision has a response of more than so many bytes. These are the bytes of the body, with
+    /// the escapes of its JSON; they are counted before they are written. The body follows from the domain's state, the message's body and the moment, and so does
+    /// the refusal, whatever is held and whatever other domains ask; it is that of `with_limit`. Documents and lists are shown whatever this is: how large they are
+    /// is bounded by what a domain may be given. A server that is new has no limit.
+    pub fn with_reply_limit(self, bytes: u64) -> Server<R>
+        ensures { result ≡ self }
+    {
+        let limits = Limits {
+            work: self.resources.limits.work,
+            reply: bytes,
+        };
+        self.with_limits(limits)
+    }
+
+    /// The same server, whose decisions may cost so much from now on.
+    fn with_limits(self, limits: Limits) -> Server<R>
+        ensures { result ≡ self }
+    {
         let Server {
             alloc,
             routes,
@@ -100,7 +126,7 @@ impl<R: Records> Server<R> {
             routes,
             operator,
             records,
-            resources: resources.with_limit(units),
+            resources: resources.with_limits(limits),
         }
     }
 

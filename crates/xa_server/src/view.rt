@@ -2,12 +2,14 @@
 ghost use Rattle.std.specs.Prelude.{◌≡◌, IfOk};
 ghost use Rattle.std.specs.List.{filter_map};
 ghost use Rattle.xa_notation.specs.Document.{document_of};
+ghost use Rattle.xa_decide.specs.Decision.{view_by};
 ghost use Rattle.xa_server.specs.View.{active_document, active_if, viewed};
 
 use std::alloc::{AllocError, Global};
-use xa_decide::View;
+use xa_decide::{SourceRow, View};
 use xa_link::Active;
 use xa_notation::Parsed;
+use xa_policy::Reference;
 use xa_records::KeptView;
 use xa_shelf::Shelf;
 use xa_value::{Items, OrMemory, Shared};
@@ -53,7 +55,21 @@ fn active_documents(
     Ok(documents)
 }
 
-/// What decides: each text is looked up on the shelf, or read as it was when it was uploaded. What this costs grows with the texts.
+/// What decides by these texts: each is looked up on the shelf, or read as it was when it was uploaded. What this costs grows with the texts.
+fn view_of_texts(
+    alloc: Global,
+    shelf: &mut Shelf,
+    texts: &[Items<u8>],
+    root: &Option<Reference>,
+    source: Items<SourceRow>,
+) -> Result<View, AllocError>
+    ensures { IfOk result (λ view. view ≡ view_by (filter_map (λ text. active_if (document_of text)) texts.now) root.now source) }
+{
+    let active = active_documents(alloc, shelf, texts)?;
+    View::new(alloc, active.as_slice(), root, source)
+}
+
+/// What decides. Without a root no text is looked at.
 pub(crate) fn view_of_kept(
     alloc: Global,
     shelf: &mut Shelf,
@@ -66,6 +82,8 @@ pub(crate) fn view_of_kept(
         root,
         source,
     } = kept;
-    let active = active_documents(alloc, shelf, texts.as_slice())?;
-    View::new(alloc, active, root, source)
+    match &root {
+        Some(_) => view_of_texts(alloc, shelf, texts.as_slice(), &root, source),
+        None => View::new(alloc, &[], &None, source),
+    }
 }

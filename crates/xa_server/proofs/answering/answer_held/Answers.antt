@@ -1,10 +1,12 @@
-use Rattle.std.proofs.Common.{sym, ◌∙◌, arith, Some}
+use Rattle.std.proofs.Common.{refl, sym, ◌∙◌, arith, Some}
 use Rattle.xa_server.specs.declared.driven.Driven.TheVariants.{Memory}
 use Rattle.xa_server.proofs.CourseLemmas.{no_turn, turn_ends, turn_more, turn_waits, turns_over, unopened}
+use Rattle.xa_server.proofs.OpenLemmas.{open_kept, open_trans}
 use Rattle.xa_server.proofs.answering.answer_held.Goals as goal
 
 pub loop-turn-init : goal.loop-turn-init
 loop-turn-init g c = record {
+  stays_open = open_kept c.args.conn _ _ refl;
   sound = λ sound. sound;
   shrinks = λ sound left reads. no_turn c.args.conn _ _ c.in-Some.held (sym c.held.ensures ∙ c.in-Some.is);
 }
@@ -21,6 +23,7 @@ returns-in-Ends-clause-held g c = λ sound left reads.
 
 pub loop-turn-preserved : goal.loop-turn-preserved
 loop-turn-preserved g c = record {
+  stays_open = open_trans c.args.conn _ _ _ c.loop-turn.invariant.stays_open c.answer_next.ensures.stays_open;
   sound = λ sound. c.loop-turn.invariant.sound (c.answer_next.ensures.sound sound);
   shrinks = λ sound left reads.
       turn_more _ c.args.conn _ _ _ _ _ _ (c.loop-turn.invariant.shrinks (c.answer_next.ensures.sound sound) left reads)

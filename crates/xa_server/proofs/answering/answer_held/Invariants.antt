@@ -1,5 +1,5 @@
 use Rattle.std.proofs.Common.{ℕ, List, Option}
-use Rattle.xa_server.specs.Driven.{known}
+use Rattle.xa_server.specs.Driven.{KeepsOpen, known}
 use Rattle.xa_server.specs.Transfers.{ReadEnd}
 use Rattle.xa_server.proofs.CourseLemmas.{Shrinks}
 use Rattle.xa_server.proofs.answering.answer_held.Given as goal
@@ -7,6 +7,7 @@ use Rattle.xa_server.proofs.answering.answer_held.Given as goal
 -- each turn has answered a message, and the connection holds less
 abbrev pub invariant-loop-turn : goal.invariant-loop-turn
 invariant-loop-turn g l = record {
+  stays_open : KeepsOpen l.conn (g.F.Multiplexer.state l.fn.front).lines (g.F.Multiplexer.state l.front).lines;
   sound : g.F.Multiplexer.is_sound l.front → g.F.Multiplexer.is_sound l.fn.front;
   shrinks : g.F.Multiplexer.is_sound l.front → (left : Option (List ℕ)) (reads : Option (List ReadEnd)) →
       Shrinks l._turn l.conn (g.F.Multiplexer.state l.fn.front) (g.F.Multiplexer.state l.front)

@@ -1,5 +1,6 @@
 use Rattle.std.proofs.Common.{refl, arith}
 use Rattle.xa_server.proofs.CourseLemmas.{begun, held_ends, read_ends, read_more, read_out}
+use Rattle.xa_server.proofs.OpenLemmas.{open_trans}
 use Rattle.xa_server.proofs.course.drive.Goals as goal
 
 pub returns-in-Some-clause-connection : goal.returns-in-Some-clause-connection
@@ -7,6 +8,7 @@ returns-in-Some-clause-connection g c = λ sound. held_ends c.in-Some.driven _ c
 
 pub loop-read-init : goal.loop-read-init
 loop-read-init g c = record {
+  stays_open = c.answer_held.ensures.stays_open;
   sound = c.answer_held.ensures.sound;
   read = λ sound. begun _ c.args.conn _ _ _ _ refl (c.in_default.ensures.held sound _ _);
 }
@@ -18,6 +20,7 @@ returns-in-Some-read_on-clause-connection g c = λ sound.
 
 pub loop-read-preserved : goal.loop-read-preserved
 loop-read-preserved g c = record {
+  stays_open = open_trans c.args.conn _ _ _ c.loop-read.invariant.stays_open c.read_on.ensures.stays_open;
   sound = λ sound. c.loop-read.invariant.sound (c.read_on.ensures.sound sound);
   read = λ sound.
       read_more _ c.args.conn _ _ _ _ _ _ (c.loop-read.invariant.read (c.read_on.ensures.sound sound)) (c.in_default-read_on.ensures.read sound);

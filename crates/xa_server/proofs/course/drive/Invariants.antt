@@ -1,10 +1,11 @@
-use Rattle.xa_server.specs.Driven.{known}
+use Rattle.xa_server.specs.Driven.{KeepsOpen, known}
 use Rattle.xa_server.specs.Driving.{HasRead}
 use Rattle.xa_server.proofs.course.drive.Given as goal
 
 -- all that was held and read so far was answered, and more bytes are wanted
 abbrev pub invariant-loop-read : goal.invariant-loop-read
 invariant-loop-read g l = record {
+  stays_open : KeepsOpen l.conn (g.F.Multiplexer.state l.fn.front).lines (g.F.Multiplexer.state l.front).lines;
   sound : g.F.Multiplexer.is_sound l.front → g.F.Multiplexer.is_sound l.fn.front;
   read : g.F.Multiplexer.is_sound l.front →
       HasRead l._read l.conn (g.F.Multiplexer.state l.fn.front) (g.F.Multiplexer.state l.front)
