@@ -8,12 +8,18 @@ use Rattle.xa_server.specs.declared.event.Event.TheVariants as event
 use Rattle.xa_server.specs.declared.event.Outcome.{Outcome}
 use Rattle.xa_server.specs.declared.event.Outcome.TheVariants as outcome
 use Rattle.xa_server.specs.declared.lines.Conn.{Conn}
+use Rattle.xa_server.specs.declared.front_error.FrontError.{FrontError}
+use Rattle.xa_server.specs.declared.front_error.FrontError.TheVariants.{Memory, NoSuchConnection, TooManyConnections, Full}
 use Rattle.xa_server.specs.Front.{Does, FrontState, IsPlayed, Plays}
-use Rattle.xa_server.specs.Fronting.{DoesEvent}
+use Rattle.xa_server.specs.Fronting.{DoesEvent, DoesLines, PlaysLines}
 use Rattle.xa_server.specs.Lines.{IsOpen, Lines, empty_stream, first_free, line_at, none_open, with_line}
+use Rattle.xa_server.proofs.OpenLemmas.{lines_of_one}
 use Rattle.pdpd.specs.declared.connection.Connection.{Connection}
 use Rattle.pdpd.specs.Replay.{all_open}
-use Rattle.pdpd.specs.Replaying.{AllBegun, AreOf, IsBegun, IsFinished, IsLine, connections_from}
+use Rattle.pdpd.specs.Replaying.{AreOf, HasFree, IsBegun, IsLine, IsOneOpen, connections_from}
+
+pub none_some : (X : Type 0) (x : X) → None ≡ Some x → ⊥
+none_some X x same = cc
 
 -- ---- one call
 
@@ -47,17 +53,70 @@ one_outcome event outcomes front outcome old new played last =
     one_played event outcomes outcome played.nexts old new played.plays
     (last ∙ only_one event front outcome played.nexts old new plays)
 
--- a connection was opened
-pub begun : (connection : Connection) (conn : Conn) (old new : FrontState) → DoesEvent event.Begin old (outcome.Begun (Ok conn)) new
-    → connection ≡ record { conn = conn; has_ended = false } → IsBegun connection old new
-begun connection conn old new (None, does) same =
-    subst (λ (c : Connection). IsBegun c old new) (sym same) (record { least = does.0.0; lines = does.0.1; server = does.1; goes_on = refl })
-begun connection conn old new (Some given, none) same = absurd none
+pub one_line : (event : Event) (outcomes front : List Outcome) (outcome : Outcome) (old new : Lines)
+    → PlaysLines (event ∷ []) outcomes old new → outcomes ≡ front ++ outcome ∷ [] → DoesLines event old outcome new
+one_line event outcomes front outcome old new plays last = lines_of_one event outcomes front outcome old new last plays
 
--- or closed
-pub finished : (conn : Conn) (u : Unit {0}) (old new : FrontState) → DoesEvent (event.Finish conn) old (outcome.Finished (Ok u)) new → IsFinished conn old new
-finished conn u old new (None, does) = record { lines = does.0.2; server = does.1 }
-finished conn u old new (Some given, none) = absurd none
+-- a connection is opened, where one is free
+pub begins : (o : Outcome) (old new : Lines) → HasFree old → DoesLines event.Begin old o new → (conn : Conn) × (o ≡ outcome.Begun (Ok conn))
+unfolding HasFree
+begins (outcome.Begun (Ok conn)) old new free does = (conn, refl)
+begins (outcome.Begun (Err TooManyConnections)) old new (number, free) (none, same) = absurd (none_some ℕ number (sym none ∙ free))
+begins (outcome.Begun (Err Memory)) old new free none = absurd none
+begins (outcome.Begun (Err NoSuchConnection)) old new free none = absurd none
+begins (outcome.Begun (Err Full)) old new free none = absurd none
+begins (outcome.Held result) old new free none = absurd none
+begins (outcome.Answered result) old new free none = absurd none
+begins (outcome.Finished result) old new free none = absurd none
+
+begun_so : (o : Outcome) (conn : Conn) (refused : FrontError) → o ≡ outcome.Begun (Ok conn) → o ≡ outcome.Begun (Err refused) → ⊥
+begun_so o conn refused is other = cc
+
+-- so that isn't refused
+pub begins_unrefused : (o : Outcome) (result : Result Conn FrontError) (refused : FrontError) (old new : Lines) → HasFree old → DoesLines event.Begin old o new
+    → o ≡ outcome.Begun result → result ≡ Err refused → ⊥
+begins_unrefused o result refused old new free does is error =
+    let found = begins o old new free does in
+    begun_so o found.0 refused found.1 (is ∙ ap outcome.Begun error)
+
+pub begun : (connection : Connection) (conn : Conn) (old new : Lines) → DoesLines event.Begin old (outcome.Begun (Ok conn)) new
+    → connection ≡ record { conn = conn; has_ended = false } → IsBegun connection old new
+begun connection conn old new does same =
+    subst (λ (c : Connection). IsBegun c old new) (sym same) (record { least = does.0; lines = does.1; goes_on = refl })
+
+pub begun_server : (result : Result Conn FrontError) (old new : FrontState) → DoesEvent event.Begin old (outcome.Begun result) new → new.server ≡ old.server
+begun_server result old new (None, does) = does.1
+begun_server result old new (Some given, none) = absurd none
+
+-- an open one is closed
+pub finishes : (conn : Conn) (o : Outcome) (old new : Lines) → IsOneOpen conn old → DoesLines (event.Finish conn) old o new
+    → (done : Unit {0}) × (o ≡ outcome.Finished (Ok done))
+unfolding IsOneOpen
+finishes conn (outcome.Finished (Ok done)) old new open_before does = (done, refl)
+finishes conn (outcome.Finished (Err NoSuchConnection)) old new (stream, line) (none, same) = absurd (none_some Stream stream (sym none ∙ line))
+finishes conn (outcome.Finished (Err Memory)) old new open_before none = absurd none
+finishes conn (outcome.Finished (Err TooManyConnections)) old new open_before none = absurd none
+finishes conn (outcome.Finished (Err Full)) old new open_before none = absurd none
+finishes conn (outcome.Begun result) old new open_before none = absurd none
+finishes conn (outcome.Held result) old new open_before none = absurd none
+finishes conn (outcome.Answered result) old new open_before none = absurd none
+
+finished_so : (o : Outcome) (done : Unit {0}) (refused : FrontError) → o ≡ outcome.Finished (Ok done) → o ≡ outcome.Finished (Err refused) → ⊥
+finished_so o done refused is other = cc
+
+pub finishes_unrefused : (conn : Conn) (o : Outcome) (result : Result (Unit {0}) FrontError) (refused : FrontError) (old new : Lines) → IsOneOpen conn old
+    → DoesLines (event.Finish conn) old o new → o ≡ outcome.Finished result → result ≡ Err refused → ⊥
+finishes_unrefused conn o result refused old new open_before does is error =
+    let found = finishes conn o old new open_before does in
+    finished_so o found.0 refused found.1 (is ∙ ap outcome.Finished error)
+
+pub finished : (conn : Conn) (done : Unit {0}) (old new : Lines) → DoesLines (event.Finish conn) old (outcome.Finished (Ok done)) new → new ≡ with_line conn None old
+finished conn done old new does = does.2
+
+pub finished_server : (conn : Conn) (result : Result (Unit {0}) FrontError) (old new : FrontState) → DoesEvent (event.Finish conn) old (outcome.Finished result) new
+    → new.server ≡ old.server
+finished_server conn result old new (None, does) = does.1
+finished_server conn result old new (Some given, none) = absurd none
 
 -- ---- all of them
 
@@ -97,13 +156,22 @@ held_behind number (suc count) others =
     ++ record { conn = record { number = n }; has_ended = false } ∷ []) same)
 
 -- so many connections were opened, where none was before
-unfoldable pub BegunTo : ℕ → List Connection → FrontState → FrontState → Type 0
-BegunTo count connections old new =
-    old.lines ≡ none_open → (new ≡ record old { lines = opened_to count (64 - count) }) × (connections ≡ connections_from 0 (opened_to count (64 - count)))
+unfoldable pub BegunTo : ℕ → List Connection → Lines → Type 0
+BegunTo count connections lines = (lines ≡ opened_to count (64 - count)) × (connections ≡ connections_from 0 (opened_to count (64 - count)))
 
-pub none_begun : (old : FrontState) → BegunTo 0 [] old old
+pub none_begun : (lines : Lines) → lines ≡ none_open → BegunTo 0 [] lines
 unfolding BegunTo
-none_begun old = λ closed. ((λ i. record { server = old.server; lines = closed i }), refl)
+none_begun lines closed = (closed, refl)
+
+-- before all are, one is free
+pub free_to : (count : ℕ) (connections : List Connection) (lines : Lines) → count < 64 → BegunTo count connections lines → HasFree lines
+unfolding BegunTo HasFree
+free_to count connections lines within begun_before =
+    let others = 64 - (count + 1) in
+    let more : 64 - count ≡ suc others = omega (arith, within) in (
+      count,
+      ap first_free (begun_before.0 ∙ ap (λ (n : ℕ). opened_to count n) more) ∙ first_after count (replicate others None),
+    )
 
 -- a connection of that number, whose session goes on
 by_number : (connection : Connection) (number : ℕ) → connection.conn.number ≡ number → connection.has_ended ≡ false
@@ -113,31 +181,28 @@ by_number connection number same goes_on = λ i. record { conn = record { number
 pub some_number : (m n : ℕ) → Some m ≡ Some n → m ≡ n
 some_number m n same = cc
 
-pub one_more_begun : (count : ℕ) (connections : List Connection) (connection : Connection) (old mid new : FrontState) → count < 64
-    → BegunTo count connections old mid → IsBegun connection mid new → BegunTo (count + 1) (connections ++ connection ∷ []) old new
+pub one_more_begun : (count : ℕ) (connections : List Connection) (connection : Connection) (mid new : Lines) → count < 64
+    → BegunTo count connections mid → IsBegun connection mid new → BegunTo (count + 1) (connections ++ connection ∷ []) new
 unfolding BegunTo
-one_more_begun count connections connection old mid new within before is = λ closed.
+one_more_begun count connections connection mid new within was is =
     let others = 64 - (count + 1) in
     let more : 64 - count ≡ suc others = omega (arith, within) in
     let one_more : suc count ≡ count + 1 = omega arith in
     let none_more : count ≡ 0 + count = omega arith in
-    let was = before closed in
-    let lines : mid.lines ≡ replicate count (Some empty_stream) ++ None ∷ replicate others None
-    = ap (λ (s : FrontState). s.lines) was.0 ∙ ap (λ (n : ℕ). opened_to count n) more in
+    let lines : mid ≡ replicate count (Some empty_stream) ++ None ∷ replicate others None = was.0 ∙ ap (λ (n : ℕ). opened_to count n) more in
     let least : connection.conn.number ≡ count =
     some_number connection.conn.number count (sym is.least ∙ ap first_free lines ∙ first_after count (replicate others None)) in
     let opened : replicate count (Some empty_stream) ++ Some empty_stream ∷ replicate others None ≡ opened_to (count + 1) others
     = one_behind count (replicate others None) ∙ ap (λ (n : ℕ). opened_to n others) one_more in
-    let set : new.lines ≡ opened_to (count + 1) others
+    let set : new ≡ opened_to (count + 1) others
     = is.lines
     ∙ ap (λ (ls : Lines). slice_set ls connection.conn.number (Some empty_stream)) lines
     ∙ ap (λ (n : ℕ). slice_set (replicate count (Some empty_stream) ++ None ∷ replicate others None) n (Some empty_stream)) least
     ∙ set_after count (Some empty_stream) (replicate others None)
     ∙ opened in
-    let server : new.server ≡ old.server = is.server ∙ ap (λ (s : FrontState). s.server) was.0 in
     let held : connections ≡ connections_from 0 (replicate count (Some empty_stream) ++ None ∷ replicate others None)
     = was.1 ∙ ap (λ (n : ℕ). connections_from 0 (opened_to count n)) more in (
-      (λ i. record { server = server i; lines = set i }),
+      set,
       ap (λ (cs : List Connection). cs ++ connection ∷ []) held
           ∙ ap (λ (c : Connection). connections_from 0 (replicate count (Some empty_stream) ++ None ∷ replicate others None) ++ c ∷ [])
           (by_number connection (0 + count) (least ∙ none_more) is.goes_on)
@@ -145,14 +210,11 @@ one_more_begun count connections connection old mid new within before is = λ cl
           ∙ ap (connections_from 0) opened,
     )
 
-pub all_begun : (connections : List Connection) (old new : FrontState) → BegunTo 64 connections old new → AllBegun connections old new
-unfolding BegunTo AllBegun
-all_begun connections old new begun_all = λ closed.
-    let was = begun_all closed in
-    let whole : opened_to 64 0 ≡ all_open = append-nil all_open in (
-      was.0 ∙ ap (λ (ls : Lines). record old { lines = ls }) whole,
-      was.1 ∙ ap (connections_from 0) whole,
-    )
+pub all_begun : (connections : List Connection) (lines : Lines) → BegunTo 64 connections lines → (lines ≡ all_open) × AreOf connections all_open
+unfolding BegunTo
+all_begun connections lines was =
+    let whole : opened_to 64 0 ≡ all_open = append-nil all_open in
+    (was.0 ∙ whole, was.1 ∙ ap (connections_from 0) whole)
 
 -- ---- one of them
 
@@ -161,9 +223,6 @@ some_stream s t same = cc
 
 some_connection : (c d : Connection) → Some c ≡ Some d → c ≡ d
 some_connection c d same = cc
-
-none_some : (X : Type 0) (x : X) → None ≡ Some x → ⊥
-none_some X x same = cc
 
 -- what is put at the place of an open connection stands there
 pub line_set : (lines : Lines) (number : ℕ) (was is : Stream) → slice_index_or lines number None ≡ Some was

@@ -1,7 +1,10 @@
 pub mod ConnectionLemmas
+pub mod HeadingLemmas
+pub mod LineLemmas
 pub mod PartLemmas
 pub mod PieceLemmas
 pub mod ReadingLemmas
+pub mod ReadyLemmas
 pub mod ReplayLemmas
 pub mod ServingLemmas
 pub mod StoreLemmas

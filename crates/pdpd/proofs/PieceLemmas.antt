@@ -113,7 +113,7 @@ no_outcomes : (outcomes : List Outcome) → None ≡ Some outcomes → ⊥
 no_outcomes outcomes same = cc
 
 -- a piece was taken, and these are the outcomes behind it
-behind : (outcomes answers : List Outcome) → answers_behind outcomes ≡ Some answers → (u : Unit {0}) × (outcomes ≡ Held (Ok u) ∷ answers)
+pub behind : (outcomes answers : List Outcome) → answers_behind outcomes ≡ Some answers → (u : Unit {0}) × (outcomes ≡ Held (Ok u) ∷ answers)
 behind [] answers same = absurd (no_outcomes answers same)
 behind (Held (Ok u) ∷ outcomes) answers same = (u, ap (λ (os : List Outcome). Held (Ok u) ∷ os) (some_outcomes outcomes answers same))
 behind (Held (Err error) ∷ outcomes) answers same = absurd (no_outcomes answers same)
@@ -141,7 +141,7 @@ wrote_on : (connection : ℕ) (first later : List (List ℕ)) (x y z : Option (L
 wrote_on connection first later x y z before here =
     subst (λ (bs : List ℕ). Appends x z bs) (sym (entries_trans connection first later)) (appends_trans x y z _ _ before here)
 
-lines_on : (conn : Conn) (first mid new : Lines) (was is : Stream) → mid ≡ with_line conn (Some was) first → new ≡ with_line conn (Some is) mid
+pub lines_on : (conn : Conn) (first mid new : Lines) (was is : Stream) → mid ≡ with_line conn (Some was) first → new ≡ with_line conn (Some is) mid
     → new ≡ with_line conn (Some is) first
 lines_on conn first mid new was is before here =
     here ∙ ap (λ (ls : Lines). with_line conn (Some is) ls) before ∙ set-set first conn.number (Some was) (Some is)

@@ -1,15 +1,17 @@
 -- The entries of a transcript, read and answered one after another.
 use Rattle.std.proofs.Common.{◌≡◌, ◌≢◌, ℕ, ◌+◌, Bool, true, false, List, [], ◌∷◌, ◌++◌, length, Option, Some, None, Ok, Err, refl, sym, ap, subst, ◌∙◌, append_assoc, append-nil, length-append, set-set, arith, ◌⊎◌, inl, inr}
-use Rattle.std.specs.Prelude.{⊤, IfOk, IsTrue, Result, slice_get, slice_set}
+use Rattle.std.specs.Prelude.{⊤, ◌<◌, IfOk, IsFalse, IsTrue, OnOk, Result, slice_get, slice_set}
 use Rattle.std.specs.Io.KnownBytes.{Appends, Consumes, Keeps, append_known}
 use Rattle.std.proofs.lemmas.Bool.{false≢true}
 use Rattle.xa_http.specs.Stream.{Stream}
 use Rattle.xa_server.specs.declared.lines.Conn.{Conn}
 use Rattle.xa_server.specs.declared.replies.Reply.{Reply}
 use Rattle.xa_server.specs.Alone.{Event}
-use Rattle.xa_server.specs.Front.{FrontState, ServerState}
-use Rattle.xa_server.specs.Lines.{IsOpen, Lines, empty_stream, first_free, none_open, with_line}
+use Rattle.xa_records.specs.Keeper.{Custody}
+use Rattle.xa_server.specs.Front.{Fronted, FrontState, ServerState, front_state, server_state}
+use Rattle.xa_server.specs.Lines.{IsOpen, Lines, empty_stream, first_free, with_line}
 use Rattle.xa_server.specs.Served.{IsRun}
+use Rattle.xa_server.specs.Tally.{nothing_held}
 use Rattle.xa_server.specs.World.{World}
 use Rattle.xa_server.proofs.ConnectionLemmas.{appends_none, appends_trans, consumes_none, consumes_trans, run_trans}
 use Rattle.xa_server.proofs.IsolationLemmas.{isolated}
@@ -20,9 +22,9 @@ use Rattle.pdpd.specs.declared.heading.Heading.{Heading}
 use Rattle.pdpd.specs.declared.transcript.ReadFault.{ReadFault}
 use Rattle.pdpd.specs.declared.transcript.ReadFault.TheVariants as read
 use Rattle.pdpd.specs.declared.transcript_fault.TranscriptFault.{TranscriptFault}
-use Rattle.pdpd.specs.Exit.{breaks_off, exit_of_read}
-use Rattle.pdpd.specs.Replay.{AreEntries, AreReplied, ConnectionTakes, Entry, Exchange, Gave, IsEntryReplied, IsReplayed, IsTranscriptRead, OpenTakes, Replays, StreamTakes, all_open, followed, no_exchange}
-use Rattle.pdpd.specs.Replaying.{AllBegun, AreOf, IsBegun, IsFinished, Takes, TakesAsHeld, TakesOpen, Writes, connections_from}
+use Rattle.pdpd.specs.Exit.{breaks_off, exit_of_read, tells_of_entries}
+use Rattle.pdpd.specs.Replay.{AreEntries, AreReplied, ConnectionTakes, Entry, Exchange, Gave, IsEntryReplied, IsReplayed, IsTranscriptRead, OpenTakes, Replays, StreamTakes, all_open, beginning, followed, no_exchange}
+use Rattle.pdpd.specs.Replaying.{AreOf, AreReady, IsBegun, Takes, TakesAsHeld, TakesOpen, Writes, connections_from}
 use Rattle.pdpd.specs.Transcript.{IsEntry, IsNoEntry, Rejects, TakesEntry, TakesOrRejects}
 use Rattle.pdpd.proofs.ConnectionLemmas.{line_found, line_put, some_number}
 use Rattle.pdpd.proofs.PieceLemmas.{set_same}
@@ -30,14 +32,15 @@ use Rattle.pdpd.proofs.PieceLemmas.{set_same}
 -- ---- what a connection takes
 
 -- no bytes close it, and the next begins in its place
-pub closed : (heading : Heading) (bytes : List ℕ) (was is : Connection) (old mid new : FrontState) (before : Option (List ℕ)) → bytes ≡ [] → IsFinished was.conn old mid
-    → IsBegun is mid new → Takes heading bytes was is old new before before
+pub closed : (heading : Heading) (bytes : List ℕ) (was is : Connection) (old mid new : FrontState) (before : Option (List ℕ)) → bytes ≡ []
+    → mid.lines ≡ with_line was.conn None old.lines → mid.server ≡ old.server → IsBegun is mid.lines new.lines → new.server ≡ mid.server
+    → Takes heading bytes was is old new before before
 unfolding Takes
-closed heading bytes was is old mid new before none finished begun = λ stream line.
+closed heading bytes was is old mid new before none finished first begun later = λ stream line.
     let least : is.conn.number ≡ was.conn.number
-    = some_number is.conn.number was.conn.number (sym begun.least ∙ ap first_free finished.lines ∙ line.free) in
+    = some_number is.conn.number was.conn.number (sym begun.least ∙ ap first_free finished ∙ line.free) in
     let same : is.conn ≡ was.conn = λ i. record { number = least i } in
-    let server : new.server ≡ old.server = begun.server ∙ finished.server in
+    let server : new.server ≡ old.server = later ∙ first in
     record {
       after = empty_stream;
       takes = (
@@ -48,17 +51,18 @@ closed heading bytes was is old mid new before none finished begun = λ stream l
       lines =
           begun.lines
           ∙ ap (λ (c : Conn). with_line c (Some empty_stream) mid.lines) same
-          ∙ ap (λ (ls : Lines). with_line was.conn (Some empty_stream) ls) finished.lines
+          ∙ ap (λ (ls : Lines). with_line was.conn (Some empty_stream) ls) finished
           ∙ set-set old.lines was.conn.number None (Some empty_stream);
       same = same;
       ended = begun.goes_on;
     }
 
 pub closed_as : (sound : Type 0) (heading : Heading) (bytes : List ℕ) (was : Connection) (old mid new : FrontState) (before : Option (List ℕ)) (result : Result Connection Exit) → bytes ≡ []
-    → (sound → IsFinished was.conn old mid) → IfOk result (λ is. sound → IsBegun is mid new)
-    → IfOk result (λ is. sound → Takes heading bytes was is old new before before)
-closed_as sound heading bytes was old mid new before (Ok is) none finished begun = λ kept. closed heading bytes was is old mid new before none (finished kept) (begun kept)
-closed_as sound heading bytes was old mid new before (Err exit) none finished begun = tt
+    → mid.lines ≡ with_line was.conn None old.lines → (sound → mid.server ≡ old.server) → IfOk result (λ is. IsBegun is mid.lines new.lines)
+    → OnOk result (sound → new.server ≡ mid.server) → IfOk result (λ is. sound → Takes heading bytes was is old new before before)
+closed_as sound heading bytes was old mid new before (Ok is) none finished first begun later = λ kept.
+    closed heading bytes was is old mid new before none finished (first kept) begun (later kept)
+closed_as sound heading bytes was old mid new before (Err exit) none finished first begun later = tt
 
 -- bytes are passed over where its session has ended
 pub passed_over : (heading : Heading) (bytes : List ℕ) (was : Connection) (front : FrontState) (before : Option (List ℕ)) → bytes ≢ [] → was.has_ended ≡ true
@@ -269,7 +273,12 @@ broken_off done left rest exit.Store breaks = tt
 broken_off done left rest exit.Socket breaks = tt
 broken_off done left rest exit.Memory breaks = tt
 
--- nor where the store or memory did, before anything was read
+-- nor is anything of entries, where the store or memory did before anything was read
+pub untold : (end : Exit) → (end ≡ exit.Memory) ⊎ (end ≡ exit.Store) → IsFalse (tells_of_entries end)
+untold end (inl memory) = ap tells_of_entries memory
+untold end (inr store) = ap tells_of_entries store
+
+-- nor of what was read
 pub unopened : (done : List Entry → Type 0) (left : Option (List ℕ)) (end : Exit) → (end ≡ exit.Memory) ⊎ (end ≡ exit.Store)
     → (rest : Option (List ℕ)) × IsTranscriptRead done left rest end
 unopened done left end (inl memory) = (left, subst (λ (e : Exit). IsTranscriptRead done left left e) (sym memory) tt)
@@ -361,16 +370,34 @@ replays_flushed old new before written now entries keeps r = record {
   wrote = flushed before written now r.exchange.written r.wrote keeps;
 }
 
-pub replayed_all : (connections : List Connection) (old mid new : FrontState) (left rest before written now : Option (List ℕ)) (exit : Exit) → old.lines ≡ none_open
-    → AllBegun connections old mid
+pub replayed_all : (connections : List Connection) (old mid new : FrontState) (left rest before written now : Option (List ℕ)) (exit : Exit) → mid.lines ≡ all_open
+    → mid.server ≡ old.server → AreReady connections mid.lines
     → (AreOf connections mid.lines → IsTranscriptRead (Replays mid new before written) left rest exit)
     → Keeps written (append_known now [])
     → IsReplayed old new left rest before now exit
-unfolding AllBegun
-replayed_all connections old mid new left rest before written now exit none begun answered keeps =
-    let all = begun none in
-    let known : AreOf connections mid.lines = subst (λ (ls : Lines). AreOf connections ls) (sym (ap (λ (f : FrontState). f.lines) all.0)) all.1 in
+unfolding AreReady
+replayed_all connections old mid new left rest before written now exit opened server ready answered keeps =
+    let begun : mid ≡ record old { lines = all_open } = λ i. record { server = server i; lines = opened i } in
     let read : IsTranscriptRead (Replays (record old { lines = all_open }) new before written) left rest exit
-    = subst (λ (f : FrontState). IsTranscriptRead (Replays f new before written) left rest exit) all.0 (answered known) in
+    = subst (λ (f : FrontState). IsTranscriptRead (Replays f new before written) left rest exit) begun (answered ready.0) in
     read_as_well (Replays (record old { lines = all_open }) new before written) (Replays (record old { lines = all_open }) new before now) left rest exit
     (λ entries r. replays_flushed (record old { lines = all_open }) new before written now entries keeps r) read
+
+-- nothing is held for a writer yet
+unbuffered : (known : Option (List ℕ)) (bytes : List ℕ) → bytes ≡ [] → append_known known bytes ≡ known
+unbuffered None bytes none = refl
+unbuffered (Some xs) bytes none = ap (λ (bs : List ℕ). Some (xs ++ bs)) none ∙ ap Some (append-nil xs)
+
+-- from where a replay begins
+pub replayed_from : {R : Type 0} (custody : R → Custody) (front : Fronted R) (records : R) (operator : List ℕ) (new : FrontState)
+    (left given rest before inner now : Option (List ℕ)) (buffer : List ℕ) (exit : Exit) → front.server.operator ≡ operator → front.server.records ≡ records
+    → front.server.tally ≡ nothing_held → given ≡ left → inner ≡ before → buffer ≡ []
+    → IsReplayed (front_state custody front) new given rest (append_known inner buffer) now exit
+    → IsReplayed (beginning operator (custody records).kept) new left rest before now exit
+replayed_from custody front records operator new left given rest before inner now buffer exit operates keeps holds gives writes none is =
+    let server : server_state custody front.server ≡ (beginning operator (custody records).kept).server
+    = λ i. record { world = record { operator = operates i; kept = (custody (keeps i)).kept }; tally = holds i } in
+    let written : append_known inner buffer ≡ before = unbuffered inner buffer none ∙ writes in
+    subst (λ (s : ServerState). IsTranscriptRead (Replays (record { server = s; lines = all_open }) new before now) left rest exit) server
+    (subst (λ (b : Option (List ℕ)). IsTranscriptRead (Replays (record { server = server_state custody front.server; lines = all_open }) new b now) left rest exit) written
+    (subst (λ (l : Option (List ℕ)). IsTranscriptRead (Replays (record { server = server_state custody front.server; lines = all_open }) new (append_known inner buffer) now) l rest exit) gives is))

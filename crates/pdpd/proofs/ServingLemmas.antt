@@ -8,23 +8,28 @@ use Rattle.xa_http.specs.Stream.{Stream}
 use Rattle.xa_records.specs.Keeper.{Custody}
 use Rattle.xa_server.specs.declared.driven.Driven.{Driven}
 use Rattle.xa_server.specs.declared.front_error.FrontError.{FrontError}
+use Rattle.xa_server.specs.declared.front_error.FrontError.TheVariants as error
+use Rattle.xa_server.specs.declared.front_error.FrontError.TheVariants.{Full, NoSuchConnection, TooManyConnections}
 use Rattle.xa_server.specs.declared.lines.Conn.{Conn}
 use Rattle.xa_server.specs.declared.replies.Reply.{Reply}
 use Rattle.xa_server.specs.Alone.{Event}
-use Rattle.xa_server.specs.Driven.{IsConnection, IsDrivenWithin, Known}
+use Rattle.xa_server.specs.Driven.{IsConnection, IsDrivenWithin, KeepsOpen, Known}
 use Rattle.xa_server.specs.Front.{Fronted, FrontState, ServerState, front_state, server_state}
 use Rattle.xa_server.specs.Lines.{IsClosed, IsOpened, Lines, empty_stream, first_free, line_at, none_open, with_line}
 use Rattle.xa_server.specs.Served.{IsRun}
+use Rattle.xa_server.specs.Tally.{nothing_held}
 use Rattle.xa_server.specs.Work.{IsWorkOfRun}
 use Rattle.xa_server.specs.World.{Serving}
 use Rattle.xa_server.proofs.ConnectionLemmas.{run_trans, work_trans}
 use Rattle.xa_server.proofs.IsolationLemmas.{isolated}
 use Rattle.pdpd.specs.Connections.{AreIsolated, IsConnectionServed}
 use Rattle.pdpd.specs.declared.fault.Fault.{Fault}
+use Rattle.pdpd.specs.declared.fault.Fault.TheVariants as variant
 use Rattle.pdpd.specs.declared.fault.Fault.TheVariants.{Address, Work, Idle, TokenUnread, TokenBad, Store, Socket, Connection, Clock, Output, Memory}
-use Rattle.pdpd.specs.Fault.{IsNoAddress, IsOfFiles, IsOfServing, IsOfSetting, IsOfStore, IsOfToken, fault_of_end}
+use Rattle.pdpd.specs.Fault.{IsNoAddress, IsOfConnections, IsOfFiles, IsOfServing, IsOfSetting, IsOfStore, IsOfToken, fault_of_end}
 use Rattle.pdpd.specs.Serving.{Serves, ServesOne}
-use Rattle.pdpd.proofs.ConnectionLemmas.{some_number}
+use Rattle.pdpd.specs.Token.{IsOperator}
+use Rattle.pdpd.proofs.ConnectionLemmas.{none_some, some_number}
 
 -- ---- a connection
 
@@ -35,84 +40,120 @@ line_of_first number first = subst (λ (n : ℕ). slice_index_or (slice_set none
 none_without_first : (number : ℕ) → number ≡ 0 → slice_set none_open number None ≡ none_open
 none_without_first number first = subst (λ (n : ℕ). slice_set none_open n None ≡ none_open) (sym first) refl
 
-driven_one : (driven : Driven) (conn : Conn) (old opened left new : FrontState) (before now : Known) (u : Unit {0}) → old.lines ≡ none_open → IsOpened old.lines (Ok conn) opened.lines
-    → opened.server ≡ old.server → IsConnection driven (line_at conn opened.lines) conn opened left before now → IsClosed conn left.lines (Ok u) new.lines
-    → new.server ≡ left.server → fault_of_end driven ≡ None → IsConnectionServed old new × (new.lines ≡ none_open)
-driven_one driven conn old opened left new before now u none (least, lines) server is (stream, line, without) same goes_on =
-    let first : conn.number ≡ 0 = some_number conn.number 0 (sym least ∙ ap first_free none) in
-    let all : opened.lines ≡ with_line conn (Some empty_stream) none_open = lines ∙ ap (λ (ls : Lines). with_line conn (Some empty_stream) ls) none in
-    let begun : opened ≡ record old { lines = with_line conn (Some empty_stream) none_open } = λ i. record { server = server i; lines = all i } in
-    let there : line_at conn opened.lines ≡ Some empty_stream = ap (λ (ls : Lines). slice_index_or ls conn.number None) all ∙ line_of_first conn.number first in
-    let driven_here : IsDrivenWithin 1_000_000 driven conn opened left empty_stream before now
-    = subst (λ (l : Option Stream). IsConnection driven l conn opened left before now) there is in
-    let after = driven_here.0.after in
-    let closed : new.lines ≡ none_open =
-    without
-    ∙ ap (λ (ls : Lines). with_line conn None ls) (driven_here.0.lines ∙ ap (λ (ls : Lines). with_line conn (Some after) ls) all)
-    ∙ ap (λ (ls : Lines). with_line conn None ls) (set-set none_open conn.number (Some empty_stream) (Some after))
-    ∙ set-set none_open conn.number (Some after) None
-    ∙ none_without_first conn.number first in (
-      record {
-        conn = conn;
-        driven = driven;
-        left = left;
-        before = before;
-        now = now;
-        is_driven = subst (λ (f : FrontState). IsDrivenWithin 1_000_000 driven conn f left empty_stream before now) begun driven_here;
-        goes_on = goes_on;
-        closed = λ i. record { server = same i; lines = closed i };
-      },
-      closed,
+-- it is the first
+pub opened_first : (conn : Conn) (old opened : Lines) → old ≡ none_open → IsOpened old (Ok conn) opened
+    → (conn.number ≡ 0) × (opened ≡ with_line conn (Some empty_stream) none_open)
+opened_first conn old opened none (least, lines) = (
+  some_number conn.number 0 (sym least ∙ ap first_free none),
+  lines ∙ ap (λ (ls : Lines). with_line conn (Some empty_stream) ls) none,
+)
+
+-- one can be opened where none is open
+pub opens : (result : Result Conn FrontError) (old opened : Lines) → old ≡ none_open → IsOpened old result opened → (conn : Conn) × (result ≡ Ok conn)
+opens (Ok conn) old opened none is = (conn, refl)
+opens (Err TooManyConnections) old opened none is = absurd (none_some ℕ 0 (sym is.0 ∙ ap first_free none))
+opens (Err error.Memory) old opened none is = absurd is
+opens (Err NoSuchConnection) old opened none is = absurd is
+opens (Err Full) old opened none is = absurd is
+
+-- it is open, and no other, after it was driven
+driven_alone : (conn : Conn) (opened left : Lines) → conn.number ≡ 0 → opened ≡ with_line conn (Some empty_stream) none_open → KeepsOpen conn opened left
+    → (after : Stream) × (left ≡ with_line conn (Some after) none_open)
+unfolding KeepsOpen
+driven_alone conn opened left first all keeps =
+    let is = keeps empty_stream (ap (λ (ls : Lines). slice_index_or ls conn.number None) all ∙ line_of_first conn.number first) in (
+      is.0,
+      is.1 ∙ ap (λ (ls : Lines). with_line conn (Some is.0) ls) all ∙ set-set none_open conn.number (Some empty_stream) (Some is.0),
     )
 
-pub served_one : (driven : Driven) (conn : Conn) (old opened left new : FrontState) (before now : Known) (u : Unit {0}) → IsOpened old.lines (Ok conn) opened.lines
-    → opened.server ≡ old.server → IsConnection driven (line_at conn opened.lines) conn opened left before now → IsClosed conn left.lines (Ok u) new.lines
-    → new.server ≡ left.server → fault_of_end driven ≡ None → ServesOne old new
-unfolding ServesOne
-served_one driven conn old opened left new before now u open_now server is closed same goes_on = λ none.
-    driven_one driven conn old opened left new before now u none open_now server is closed same goes_on
+line_driven : (number : ℕ) (after : Stream) → number ≡ 0 → slice_index_or (slice_set none_open number (Some after)) number None ≡ Some after
+line_driven number after first = subst (λ (n : ℕ). slice_index_or (slice_set none_open n (Some after)) n None ≡ Some after) (sym first) refl
+
+-- so it can be closed
+pub closes : (conn : Conn) (result : Result (Unit {0}) FrontError) (old opened left new : Lines) → old ≡ none_open → IsOpened old (Ok conn) opened
+    → KeepsOpen conn opened left → IsClosed conn left result new → (done : Unit {0}) × (result ≡ Ok done)
+closes conn (Ok done) old opened left new none is keeps closed = (done, refl)
+closes conn (Err NoSuchConnection) old opened left new none is keeps closed =
+    let begun = opened_first conn old opened none is in
+    let alone = driven_alone conn opened left begun.0 begun.1 keeps in
+    absurd (none_some Stream alone.0
+    (sym closed.0 ∙ ap (λ (ls : Lines). slice_index_or ls conn.number None) alone.1 ∙ line_driven conn.number alone.0 begun.0))
+closes conn (Err error.Memory) old opened left new none is keeps closed = absurd closed
+closes conn (Err TooManyConnections) old opened left new none is keeps closed = absurd closed
+closes conn (Err Full) old opened left new none is keeps closed = absurd closed
+
+-- and none is open then
+pub closed_again : (conn : Conn) (done : Unit {0}) (old opened left new : Lines) → old ≡ none_open → IsOpened old (Ok conn) opened → KeepsOpen conn opened left
+    → IsClosed conn left (Ok done) new → new ≡ none_open
+closed_again conn done old opened left new none is keeps (stream, line, without) =
+    let begun = opened_first conn old opened none is in
+    let alone = driven_alone conn opened left begun.0 begun.1 keeps in
+    without
+    ∙ ap (λ (ls : Lines). with_line conn None ls) alone.1
+    ∙ set-set none_open conn.number (Some alone.0) None
+    ∙ none_without_first conn.number begun.0
+
+driven_one : (driven : Driven) (conn : Conn) (done : Unit {0}) (old opened left new : FrontState) (before now : Known) → old.lines ≡ none_open
+    → IsOpened old.lines (Ok conn) opened.lines → opened.server ≡ old.server → IsConnection driven (line_at conn opened.lines) conn opened left before now
+    → KeepsOpen conn opened.lines left.lines → IsClosed conn left.lines (Ok done) new.lines → new.server ≡ left.server → fault_of_end driven ≡ None
+    → IsConnectionServed old new before now
+driven_one driven conn done old opened left new before now none is server drives keeps closed same goes_on =
+    let first = opened_first conn old.lines opened.lines none is in
+    let begun : opened ≡ record old { lines = with_line conn (Some empty_stream) none_open } = λ i. record { server = server i; lines = first.1 i } in
+    let there : line_at conn opened.lines ≡ Some empty_stream
+    = ap (λ (ls : Lines). slice_index_or ls conn.number None) first.1 ∙ line_of_first conn.number first.0 in
+    let driven_here : IsDrivenWithin 1_000_000 driven conn opened left empty_stream before now
+    = subst (λ (l : Option Stream). IsConnection driven l conn opened left before now) there drives in
+    let lines : new.lines ≡ none_open = closed_again conn done old.lines opened.lines left.lines new.lines none is keeps closed in
+    record {
+      conn = conn;
+      driven = driven;
+      left = left;
+      is_driven = subst (λ (f : FrontState). IsDrivenWithin 1_000_000 driven conn f left empty_stream before now) begun driven_here;
+      goes_on = goes_on;
+      closed = λ i. record { server = same i; lines = lines i };
+    }
 
 -- whatever the last step of serving it gave
-pub served_as : {R : Type 0} (custody : R → Custody) (old opened left new : Fronted R) (driven : Driven) (conn : Conn) (before now : Known) (u : Unit {0})
-    (begun : Result Conn FrontError) (ended : Result (Unit {0}) FrontError) (result : Result (Unit {0}) Fault)
-    → begun ≡ Ok conn → IsOpened old.lines begun opened.lines → opened.server ≡ old.server
+pub served_as : {R : Type 0} (custody : R → Custody) (old opened left new : Fronted R) (driven : Driven) (conn : Conn) (done : Unit {0}) (before now : Known)
+    (result : Result (Unit {0}) Fault) → old.lines ≡ none_open → IsOpened old.lines (Ok conn) opened.lines → opened.server ≡ old.server
     → ((custody left.server.records).sound → IsConnection driven (line_at conn opened.lines) conn (front_state custody opened) (front_state custody left) before now)
-    → ended ≡ Ok u → IsClosed conn left.lines ended new.lines → new.server ≡ left.server
+    → KeepsOpen conn opened.lines left.lines → IsClosed conn left.lines (Ok done) new.lines → new.server ≡ left.server
     → MatchResult result (λ _. fault_of_end driven ≡ None) (λ fault. fault_of_end driven ≡ Some fault)
-    → OnOk result ((custody new.server.records).sound → ServesOne (front_state custody old) (front_state custody new))
-served_as {R = R} custody old opened left new driven conn before now u begun ended (Ok done) begins open_now server is ends closed same goes_on = λ sound.
-    served_one driven conn (front_state custody old) (front_state custody opened) (front_state custody left) (front_state custody new) before now u
-    (subst (λ (r : Result Conn FrontError). IsOpened old.lines r opened.lines) begins open_now)
+    → OnOk result ((custody new.server.records).sound → IsConnectionServed (front_state custody old) (front_state custody new) before now)
+served_as {R = R} custody old opened left new driven conn done before now (Ok end) none is server drives keeps closed same goes_on = λ sound.
+    driven_one driven conn done (front_state custody old) (front_state custody opened) (front_state custody left) (front_state custody new) before now none is
     (ap (λ (s : Serving R). server_state custody s) server)
-    (is (subst (λ (s : Serving R). (custody s.records).sound) same sound))
-    (subst (λ (r : Result (Unit {0}) FrontError). IsClosed conn left.lines r new.lines) ends closed)
+    (drives (subst (λ (s : Serving R). (custody s.records).sound) same sound)) keeps closed
     (ap (λ (s : Serving R). server_state custody s) same)
     goes_on
-served_as custody old opened left new driven conn before now u begun ended (Err fault) begins open_now server is ends closed same goes_on = tt
+served_as custody old opened left new driven conn done before now (Err fault) none is server drives keeps closed same goes_on = tt
+
+pub served_one : (old new : FrontState) (before now : Known) → IsConnectionServed old new before now → ServesOne old new
+unfolding ServesOne
+served_one old new before now is = (before, now, is)
 
 -- ---- one after another
 
 pub served_none : (front : FrontState) → Serves 0 front front
 unfolding Serves
-served_none front = λ none. (
-  record {
-    events = [];
-    replies = [];
-    served = (refl, refl, refl);
-    is_run = refl;
-    work = (refl, refl);
-    isolated = λ domain. isolated domain front.server.world front.server.world [] [] refl;
-  },
-  none,
-)
+served_none front = record {
+  events = [];
+  replies = [];
+  served = (refl, refl, refl);
+  is_run = refl;
+  work = (refl, refl);
+  isolated = λ domain. isolated domain front.server.world front.server.world [] [] refl;
+}
 
 pub served_nobody : (count : ℕ) (front : FrontState) → count < 1 → Serves count front front
 served_nobody count front less =
     let none : count ≡ 0 = omega arith in
     subst (λ (n : ℕ). Serves n front front) (sym none) (served_none front)
 
-more_isolated : (count : ℕ) (old mid new : FrontState) → AreIsolated count old mid → IsConnectionServed mid new → AreIsolated (count + 1) old new
-more_isolated count old mid new before is =
+more_isolated : (count : ℕ) (old mid new : FrontState) (known_before known_now : Known) → AreIsolated count old mid
+    → IsConnectionServed mid new known_before known_now → AreIsolated (count + 1) old new
+more_isolated count old mid new known_before known_now before is =
     let here = is.is_driven.0 in
     let events : List Event = before.events ++ here.events in
     let replies : List Reply = before.replies ++ here.run in
@@ -126,7 +167,7 @@ more_isolated count old mid new before is =
     record {
       events = events;
       replies = replies;
-      served = rw add-one (mid, before.events, before.replies, before.served, is, refl, refl);
+      served = rw add-one (mid, before.events, before.replies, before.served, known_before, known_now, is, refl, refl);
       is_run = run;
       work =
           work_trans old.server.world mid.server.world new.server.world old.server.tally mid.server.tally new.server.tally before.events here.events before.replies here.run
@@ -136,10 +177,15 @@ more_isolated count old mid new before is =
 
 pub served_more : (count : ℕ) (old mid new : FrontState) → Serves count old mid → ServesOne mid new → Serves (count + 1) old new
 unfolding Serves ServesOne
-served_more count old mid new before is = λ none.
-    let was = before none in
-    let now = is was.1 in
-    (more_isolated count old mid new was.0 now.0, now.1)
+served_more count old mid new before (known_before, known_now, is) = more_isolated count old mid new known_before known_now before is
+
+-- from the front of the files
+pub served_from : {R : Type 0} (custody : R → Custody) (count : ℕ) (old new : Fronted R) → IsOperator old.server.operator → old.server.tally ≡ nothing_held
+    → old.lines ≡ none_open → Serves count (front_state custody old) (front_state custody new)
+    → (from : FrontState) × IsOperator from.server.world.operator × (from.server.tally ≡ nothing_held) × (from.lines ≡ none_open)
+    × AreIsolated count from (front_state custody new)
+unfolding Serves
+served_from custody count old new operator tally none is = (front_state custody old, operator, tally, none, is)
 
 -- the last of them
 pub served_last : (count others : ℕ) (old mid new : FrontState) → count ≡ others + 1 → Serves others old mid → ServesOne mid new → Serves count old new
@@ -160,6 +206,7 @@ token_not_address TokenUnread is = λ same. cc
 token_not_address TokenBad is = λ same. cc
 token_not_address Memory is = λ same. cc
 token_not_address Work none = absurd none
+token_not_address variant.Reply none = absurd none
 token_not_address Idle none = absurd none
 token_not_address (Store fault) none = absurd none
 token_not_address Socket none = absurd none
@@ -174,6 +221,7 @@ store_not_address Memory is = λ same. cc
 store_not_address TokenUnread none = absurd none
 store_not_address TokenBad none = absurd none
 store_not_address Work none = absurd none
+store_not_address variant.Reply none = absurd none
 store_not_address Idle none = absurd none
 store_not_address Socket none = absurd none
 store_not_address Connection none = absurd none
@@ -183,6 +231,21 @@ store_not_address Output none = absurd none
 pub files_not_address : (fault : Fault) → IsOfFiles fault → fault ≢ Address
 files_not_address fault (inl is) = token_not_address fault is
 files_not_address fault (inr is) = store_not_address fault is
+
+pub connections_are_served : (result : Result (Unit {0}) Fault) → IfErr result IsOfConnections → IfErr result IsOfServing
+connections_are_served (Ok done) is = tt
+connections_are_served (Err Connection) is = tt
+connections_are_served (Err Clock) is = tt
+connections_are_served (Err Memory) is = tt
+connections_are_served (Err Address) none = absurd none
+connections_are_served (Err Work) none = absurd none
+connections_are_served (Err variant.Reply) none = absurd none
+connections_are_served (Err Idle) none = absurd none
+connections_are_served (Err TokenUnread) none = absurd none
+connections_are_served (Err TokenBad) none = absurd none
+connections_are_served (Err (Store fault)) none = absurd none
+connections_are_served (Err Socket) none = absurd none
+connections_are_served (Err Output) none = absurd none
 
 pub serving_not_address : (fault : Fault) → IsOfServing fault → fault ≢ Address
 serving_not_address Address none = absurd none
@@ -195,9 +258,15 @@ serving_not_address (Store fault) none = absurd none
 serving_not_address TokenUnread none = absurd none
 serving_not_address TokenBad none = absurd none
 serving_not_address Work none = absurd none
+serving_not_address variant.Reply none = absurd none
 serving_not_address Idle none = absurd none
 
 -- where an address was found, its serving says that none was only if the text writes none
-pub address_found : (text : List ℕ) (address : SocketAddr) (result : Result (Unit {0}) Fault) → IsSocketText text address → IfErr result IsOfServing
+pub address_found : {X : Type 0} (text : List ℕ) (address : SocketAddr) (result : Result X Fault) → IsSocketText text address → IfErr result IsOfServing
     → (result ≡ Err Address) ↔ IsNoAddress text
 address_found text address result is serving = (λ same. absurd (IfErr-at_err IsOfServing same serving), λ none. absurd (none address is))
+
+pub address_unfound : {X : Type 0} (text : List ℕ) (address : SocketAddr) (result : Result X Fault) (fault : Fault) → IsSocketText text address → result ≡ Err fault
+    → IsOfServing fault → (result ≡ Err Address) ↔ IsNoAddress text
+address_unfound text address result fault is failed serving =
+    address_found text address result is (subst (λ r. IfErr r IsOfServing) (sym failed) serving)

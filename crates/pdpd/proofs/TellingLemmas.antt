@@ -164,16 +164,16 @@ one_fault moment a b s t fault is same = record {
 
 -- ---- one answer more
 
-stands_after : (last : Bool) (stream : Stream) → last ≡ stream.ended → Stands (after_answer last) stream
+pub stands_after : (last : Bool) (stream : Stream) → last ≡ stream.ended → Stands (after_answer last) stream
 stands_after true stream same = sym same
 stands_after false stream same = sym same
 
-stands_waiting : (was : Progress) (stream after : Stream) → Stands was stream → IsNext stream next.More after → Stands (after_none was) after
+pub stands_waiting : (was : Progress) (stream after : Stream) → Stands was stream → IsNext stream next.More after → Stands (after_none was) after
 stands_waiting progress.Answered stream after stands is = subst (λ (s : Stream). IsNext s next.More s) (sym is.2) (is.0, is.1, refl)
 stands_waiting progress.Waits stream after stands is = subst (λ (s : Stream). IsNext s next.More s) (sym is.2) (is.0, is.1, refl)
 stands_waiting progress.Ended stream after stands is = absurd (false≢true (sym is.0 ∙ stands))
 
-stands_ended : (was : Progress) (stream after : Stream) → Stands was stream → IsNext stream next.Ended after → Stands (after_none was) after
+pub stands_ended : (was : Progress) (stream after : Stream) → Stands was stream → IsNext stream next.Ended after → Stands (after_none was) after
 stands_ended progress.Answered stream after stands is = absurd (false≢true (sym stands ∙ is.0))
 stands_ended progress.Waits stream after stands is = absurd (false≢true (sym stands.0 ∙ is.0))
 stands_ended progress.Ended stream after stands is = ap (λ (s : Stream). s.ended) is.1 ∙ is.0

@@ -34,6 +34,12 @@ breaks_off Failed = true
 breaks_off Memory = true
 breaks_off _ = false
 
+-- the exits that tell of a transcript: all of it was read, or all up to an entry that is malformed
+abbrev pub tells_of_entries : Exit → Bool
+tells_of_entries Done = true
+tells_of_entries (Malformed _ _) = true
+tells_of_entries _ = false
+
 -- the exits of connections that are served: no transcript is read
 abbrev pub ends_serving : Exit → Bool
 ends_serving (Malformed _ _) = false

@@ -4,6 +4,7 @@ pub mod Ending
 pub mod Entry
 pub mod Exit
 pub mod Fault
+pub mod Halves
 pub mod Heading
 pub mod Reading
 pub mod Replay

@@ -2,12 +2,14 @@
 use Rattle.std.specs.Prelude.{◌≡◌, ◌⊎◌, ℕ, ◌+◌, ⊤, Bool, true, false, List, [], ◌∷◌, ◌++◌, length, replicate, Option, Some}
 use Rattle.std.specs.Io.KnownBytes.{Appends, Consumes, IsAtEnd}
 use Rattle.xa_http.specs.Stream.{Stream, fed}
+use Rattle.xa_records.specs.Kept.{Kept}
 use Rattle.xa_server.specs.declared.replies.Reply.{Reply}
 use Rattle.xa_server.specs.Alone.{Event}
 use Rattle.xa_server.specs.Front.{FrontState}
 use Rattle.xa_server.specs.Isolation.{IsIsolatedBesideRefusals}
-use Rattle.xa_server.specs.Lines.{IsOpen, Lines, empty_stream, with_line}
+use Rattle.xa_server.specs.Lines.{IsOpen, Lines, empty_stream, none_open, with_line}
 use Rattle.xa_server.specs.Served.{IsRun}
+use Rattle.xa_server.specs.Tally.{nothing_held}
 use Rattle.xa_server.specs.World.{World}
 use Rattle.pdpd.specs.declared.exit.Exit.{Exit}
 use Rattle.pdpd.specs.declared.exit.Exit.TheVariants.{Done, Malformed}
@@ -112,3 +114,7 @@ IsTranscriptRead done left rest _ = ⊤
 -- how it was replayed: so it was read, and all those entries were answered, one after another, from connections of which nothing has come
 abbrev pub IsReplayed : FrontState → FrontState → Option (List ℕ) → Option (List ℕ) → Option (List ℕ) → Option (List ℕ) → Exit → Type 0
 IsReplayed old new left rest before now exit = IsTranscriptRead (Replays (record old { lines = all_open }) new before now) left rest exit
+
+-- a front as it begins: for the operator of that digest, over what is kept; nothing is held of decisions, and no connection is open
+abbrev pub beginning : List ℕ → Kept → FrontState
+beginning operator kept = record { server = record { world = record { operator = operator; kept = kept }; tally = nothing_held }; lines = none_open }

@@ -1,6 +1,7 @@
 -- What the program holds and writes while a transcript is replayed: words that only contracts of private functions cite.
-use Rattle.std.specs.Prelude.{◌≡◌, ℕ, suc, Bool, false, List, [], ◌∷◌, Option, Some, None, Result, Ok, Err}
+use Rattle.std.specs.Prelude.{◌≡◌, ℕ, suc, Bool, false, List, [], ◌∷◌, length, Option, Some, None, Result, Ok, Err}
 use Rattle.std.specs.Io.KnownBytes.{Appends}
+use Rattle.std.specs.List.{All}
 use Rattle.xa_http.specs.Stream.{Stream}
 use Rattle.xa_server.specs.Front.{FrontState}
 use Rattle.xa_server.specs.declared.lines.Conn.{Conn}
@@ -10,6 +11,7 @@ use Rattle.pdpd.specs.declared.exit.Exit.{Exit}
 use Rattle.pdpd.specs.declared.exit.Exit.TheVariants.{Done}
 use Rattle.pdpd.specs.declared.heading.Heading.{Heading}
 use Rattle.pdpd.specs.Replay.{ConnectionTakes, Exchange, IsEntryReplied, StreamTakes, all_open}
+use Rattle.pdpd.specs.Telling.{HasRoom}
 
 -- how the program ends by a result
 abbrev pub end_of : Result (Unit {0}) Exit → Exit
@@ -38,16 +40,18 @@ pub record IsLine (connection : Connection) (lines : Lines) (stream : Stream) : 
   pub free : first_free (with_line connection.conn None lines) ≡ Some connection.conn.number
 
 -- the connection was opened: it is the least that was free, and holds nothing
-pub record IsBegun (connection : Connection) (old new : FrontState) : Type 0 where
-  pub least : first_free old.lines ≡ Some connection.conn.number
-  pub lines : new.lines ≡ with_line connection.conn (Some empty_stream) old.lines
-  pub server : new.server ≡ old.server
+pub record IsBegun (connection : Connection) (old new : Lines) : Type 0 where
+  pub least : first_free old ≡ Some connection.conn.number
+  pub lines : new ≡ with_line connection.conn (Some empty_stream) old
   pub goes_on : connection.has_ended ≡ false
 
--- the connection was closed
-pub record IsFinished (conn : Conn) (old new : FrontState) : Type 0 where
-  pub lines : new.lines ≡ with_line conn None old.lines
-  pub server : new.server ≡ old.server
+-- a connection is free
+unfoldable pub HasFree : Lines → Type 0
+HasFree lines = (number : ℕ) × (first_free lines ≡ Some number)
+
+-- a connection is open
+unfoldable pub IsOneOpen : Conn → Lines → Type 0
+IsOneOpen conn lines = (stream : Stream) × IsOpen conn lines stream
 
 -- a connection that goes on took the bytes of an entry, and the replies were written; whether its session has ended then
 pub record HasStreamTaken (conn : Conn) (heading : Heading) (bytes : List ℕ) (old new : FrontState) (stream : Stream) (has_ended : Bool) (before now : Option (List ℕ)) : Type 0 where
@@ -77,6 +81,17 @@ unfoldable pub TakesAsHeld : Heading → List ℕ → List Connection → List C
 TakesAsHeld heading bytes was are old new before now =
     AreOf was old.lines → Writes before now (IsEntryReplied heading bytes old new) × AreOf are new.lines
 
--- all connections were opened, where none was before
-unfoldable pub AllBegun : List Connection → FrontState → FrontState → Type 0
-AllBegun connections old new = old.lines ≡ none_open → (new ≡ record old { lines = all_open }) × AreOf connections all_open
+-- ---- between entries, whatever the keeper does
+
+-- what is held of the connections is right, all 64 are held, and each whose session goes on has room for a piece
+unfoldable pub AreReady : List Connection → Lines → Type 0
+AreReady connections lines = AreOf connections lines × (length connections ≡ 64) × All HasRoom lines
+
+-- so it is with one of them
+unfoldable pub IsReady : Connection → Lines → Type 0
+IsReady connection lines = (stream : Stream) × IsLine connection lines stream × HasRoom (Some stream)
+
+-- and stays, after what was done with it; no other has changed
+unfoldable pub StaysReady : Connection → Connection → Lines → Lines → Type 0
+StaysReady was is old new =
+    (after : Stream) × (new ≡ with_line was.conn (Some after) old) × (is.conn ≡ was.conn) × (is.has_ended ≡ after.ended) × HasRoom (Some after)

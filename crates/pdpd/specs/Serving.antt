@@ -1,13 +1,13 @@
--- What is served, where no connection is open before: words that only contracts of private functions cite.
-use Rattle.std.specs.Prelude.{◌≡◌, ℕ}
+-- What is served: words that only contracts of private functions cite.
+use Rattle.std.specs.Prelude.{ℕ}
+use Rattle.xa_server.specs.Driven.{Known}
 use Rattle.xa_server.specs.Front.{FrontState}
-use Rattle.xa_server.specs.Lines.{none_open}
 use Rattle.pdpd.specs.Connections.{AreIsolated, IsConnectionServed}
 
--- a connection was served, and none is open afterwards
+-- a connection was served, whatever is known of it
 unfoldable pub ServesOne : FrontState → FrontState → Type 0
-ServesOne old new = old.lines ≡ none_open → IsConnectionServed old new × (new.lines ≡ none_open)
+ServesOne old new = (before : Known) × (now : Known) × IsConnectionServed old new before now
 
 -- so many were
 unfoldable pub Serves : ℕ → FrontState → FrontState → Type 0
-Serves count old new = old.lines ≡ none_open → AreIsolated count old new × (new.lines ≡ none_open)
+Serves count old new = AreIsolated count old new

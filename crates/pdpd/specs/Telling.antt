@@ -1,6 +1,7 @@
 -- What a connection is told by one answer after another: words that only contracts of private functions cite.
-use Rattle.std.specs.Prelude.{◌≡◌, ℕ, ℤ, Bool, true, false, List, [], ◌∷◌, ◌++◌, Option, Some, None, Ok, Err}
+use Rattle.std.specs.Prelude.{◌≡◌, ℕ, ℤ, ◌+◌, ◌≤◌, suc, ⊤, Bool, true, false, List, [], ◌∷◌, ◌++◌, length, Option, Some, None, Ok, Err}
 use Rattle.std.specs.Io.KnownBytes.{Appends}
+use Rattle.std.specs.List.{All}
 use Rattle.xa_http.specs.declared.fault.SessionFault.{SessionFault}
 use Rattle.xa_http.specs.declared.message.Message.{Message}
 use Rattle.xa_http.specs.declared.session.Next.TheVariants as next
@@ -8,11 +9,12 @@ use Rattle.xa_http.specs.Messages.{Cuts, IsNext}
 use Rattle.xa_http.specs.Stream.{Stream}
 use Rattle.xa_server.specs.declared.event.Outcome.{Outcome}
 use Rattle.xa_server.specs.declared.event.Outcome.TheVariants.{Answered, Held}
+use Rattle.xa_server.specs.declared.front_error.FrontError.TheVariants.{Memory}
 use Rattle.xa_server.specs.declared.lines.Conn.{Conn}
 use Rattle.xa_server.specs.declared.replies.Reply.{Reply}
 use Rattle.xa_server.specs.Connection.{all_replies}
 use Rattle.xa_server.specs.Front.{FrontState}
-use Rattle.xa_server.specs.Lines.{IsOpen, with_line}
+use Rattle.xa_server.specs.Lines.{IsOpen, Lines, line_at, with_line}
 use Rattle.xa_server.specs.Replies.{bytes_of}
 use Rattle.xa_server.specs.Served.{IsRun}
 use Rattle.xa_server.specs.World.{World}
@@ -105,3 +107,54 @@ HasTold conn heading with_piece old new is before now =
 abbrev pub progress_at : Bool → Progress
 progress_at true = progress.Ended
 progress_at false = progress.Waits
+
+-- ---- what becomes of the connection, whatever the keeper does
+
+-- a connection was asked, and there was memory
+abbrev pub HasAnswered : Outcome → Type 0
+HasAnswered (Answered (Ok _)) = ⊤
+HasAnswered _ = ⊥
+
+-- it was asked, and there was memory, or not
+abbrev pub IsAnswer : Outcome → Type 0
+IsAnswer (Answered (Ok _)) = ⊤
+IsAnswer (Answered (Err error)) = error ≡ Memory
+IsAnswer _ = ⊥
+
+-- it took a piece, and was asked; or there was no memory for the piece
+abbrev pub ArePieceAndAnswers : List Outcome → Type 0
+ArePieceAndAnswers (Held (Ok _) ∷ outcomes) = All IsAnswer outcomes
+ArePieceAndAnswers (Held (Err error) ∷ outcomes) = error ≡ Memory
+ArePieceAndAnswers _ = ⊥
+
+-- where a session goes on, a piece of 65,536 bytes finds room
+abbrev pub HasRoom : Option Stream → Type 0
+HasRoom None = ⊤
+HasRoom (Some stream) = stream.ended ≡ false → length stream.held + 65_536 ≤ 1_048_576
+
+-- the connection is open, and its session goes on
+unfoldable pub GoesOn : Conn → Lines → Type 0
+GoesOn conn lines = (stream : Stream) × IsOpen conn lines stream × (stream.ended ≡ false)
+
+-- and has room for a piece
+unfoldable pub TakesPieces : Conn → Lines → Type 0
+TakesPieces conn lines = (stream : Stream) × IsOpen conn lines stream × (stream.ended ≡ false) × HasRoom (Some stream)
+
+-- calls have left it open, and its stream stands so; no other connection has changed
+unfoldable pub LeavesAt : Conn → Lines → Lines → Progress → Type 0
+LeavesAt conn old new is = (after : Stream) × IsOpen conn new after × Stands is after × (new ≡ with_line conn (Some after) old)
+
+-- calls have left it open, with room for a piece
+unfoldable pub LeavesRoom : Conn → Lines → Lines → Type 0
+LeavesRoom conn old new =
+    (after : Stream) × IsOpen conn new after × (after.ended ≡ false) × HasRoom (Some after) × (new ≡ with_line conn (Some after) old)
+
+-- how many bytes a connection holds
+abbrev pub bytes_in : Option Stream → ℕ
+bytes_in None = 0
+bytes_in (Some stream) = length stream.held
+
+-- how much is left to answer: nothing, or at most one more than the connection holds
+abbrev pub left_to_answer : Progress → Conn → Lines → ℕ
+left_to_answer progress.Answered conn lines = suc (bytes_in (line_at conn lines))
+left_to_answer _ conn lines = 0

@@ -1,4 +1,4 @@
-//! The command line, and the variables PDPD_WORK and PDPD_IDLE of the environment.
+//! The command line, and the variables PDPD_WORK, PDPD_REPLY and PDPD_IDLE of the environment.
 ghost use Rattle.std.specs.Prelude.{◌≡◌, map, option_map, string_bytes};
 ghost use Rattle.pdpd.specs.CommandLine as spec;
 
@@ -10,6 +10,9 @@ const MAX_CONNECTIONS: usize = 1_000_000;
 
 /// The limit of work for one message where PDPD_WORK isn't set: some 0.3 seconds, in which everybody else waits. The dearest honest ask measured takes 3,000,000.
 const WORK: usize = 150_000_000;
+
+/// How many bytes the body of a response may have where PDPD_REPLY isn't set: 16 MiB.
+const REPLY: usize = 16_777_216;
 
 /// For how many seconds a connection may give nothing, or take nothing, where PDPD_IDLE isn't set.
 const IDLE: usize = 30;
@@ -115,6 +118,16 @@ pub fn work_of(set: Option<&str>) -> Option<usize>
 {
     match set {
         None => Some(WORK),
+        Some(text) => number_up_to(usize::MAX, text.as_bytes()),
+    }
+}
+
+/// How many bytes the body of a response may have, by what PDPD_REPLY is set to; 0 for any number.
+pub fn reply_of(set: Option<&str>) -> Option<usize>
+    ensures { result ≡ spec.reply_of (option_map (λ text. text.now) set.entry) }
+{
+    match set {
+        None => Some(REPLY),
         Some(text) => number_up_to(usize::MAX, text.as_bytes()),
     }
 }

@@ -1,9 +1,11 @@
 //! A connection of a transcript.
-ghost use Rattle.std.specs.Prelude.{◌≡◌, IfErr, IfOk, IsTrue, OnOk};
-ghost use Rattle.xa_server.specs.Front.{front_state};
-ghost use Rattle.xa_server.specs.Fronting.{DoesEvent};
+ghost use Rattle.std.specs.Prelude.{◌≡◌, IfErr, IfOk, IsTrue, None, OnOk};
+ghost use Rattle.xa_server.specs.Front.{front_state, server_state};
+ghost use Rattle.xa_server.specs.Fronting.{DoesEvent, DoesLines};
+ghost use Rattle.xa_server.specs.Lines.{none_open, with_line};
 ghost use Rattle.pdpd.specs.Exit.{breaks_off};
-ghost use Rattle.pdpd.specs.Replaying.{AllBegun, IsBegun, IsFinished};
+ghost use Rattle.pdpd.specs.Replay.{all_open};
+ghost use Rattle.pdpd.specs.Replaying.{AreOf, HasFree, IsBegun, IsOneOpen};
 
 use crate::exit::Exit;
 use crate::heading::CONNECTIONS;
@@ -21,54 +23,66 @@ pub struct Connection {
     pub has_ended: bool,
 }
 
-/// Makes one call, and gives its outcome.
-#[tactic(auto, using(crate::proofs::ConnectionLemmas::one_outcome))]
+/// Makes one call, and gives its outcome. The one error is want of memory.
+#[tactic(auto, using(crate::proofs::ConnectionLemmas::one_outcome, crate::proofs::ConnectionLemmas::one_line))]
 fn outcome_of<R: Records>(front: &mut Front<R>, event: &Event<'_>) -> Result<Outcome, Exit>
     ensures does { IfOk result (λ outcome. (R.custody front.new.server.records).sound → DoesEvent event.now (front_state R.custody front.old) outcome (front_state R.custody front.new)) }
+    ensures lines { IfOk result (λ outcome. DoesLines event.now front.old.lines outcome front.new.lines) }
     ensures sound { (R.custody front.new.server.records).sound → (R.custody front.old.server.records).sound }
     ensures err { IfErr result (λ exit. IsTrue (breaks_off exit)) }
 {
     let mut outcomes = front.play(slice::from_ref(event))?;
     match outcomes.pop() {
         Some(outcome) => Ok(outcome),
-        None => Err(Exit::Memory),
+        None => unreachable!(),
     }
 }
 
 /// Opens the connection of the least number that is free.
-#[tactic(auto, using(crate::proofs::ConnectionLemmas::begun))]
+#[tactic(auto, using(crate::proofs::ConnectionLemmas::begun, crate::proofs::ConnectionLemmas::begun_server))]
 pub fn begin<R: Records>(front: &mut Front<R>) -> Result<Connection, Exit>
-    ensures begun { IfOk result (λ connection. (R.custody front.new.server.records).sound → IsBegun connection (front_state R.custody front.old) (front_state R.custody front.new)) }
+    requires { HasFree front.old.lines }
+    ensures begun { IfOk result (λ connection. IsBegun connection front.old.lines front.new.lines) }
+    ensures server { OnOk result ((R.custody front.new.server.records).sound → server_state R.custody front.new.server ≡ server_state R.custody front.old.server) }
     ensures sound { (R.custody front.new.server.records).sound → (R.custody front.old.server.records).sound }
     ensures err { IfErr result (λ exit. IsTrue (breaks_off exit)) }
 {
-    match outcome_of(front, &Event::Begin)? {
-        Outcome::Begun(Ok(conn)) => Ok(Connection {
+    let Outcome::Begun(begun) = outcome_of(front, &Event::Begin)? else {
+        unreachable!()
+    };
+    match begun {
+        Ok(conn) => Ok(Connection {
             conn,
             has_ended: false,
         }),
-        _ => Err(Exit::Memory),
+        Err(_) => unreachable!(),
     }
 }
 
-/// Closes a connection.
-#[tactic(auto, using(crate::proofs::ConnectionLemmas::finished))]
+/// Closes an open connection.
+#[tactic(auto, using(crate::proofs::ConnectionLemmas::finished, crate::proofs::ConnectionLemmas::finished_server))]
 pub fn finish<R: Records>(front: &mut Front<R>, conn: Conn) -> Result<(), Exit>
-    ensures finished { OnOk result ((R.custody front.new.server.records).sound → IsFinished conn (front_state R.custody front.old) (front_state R.custody front.new)) }
+    requires { IsOneOpen conn front.old.lines }
+    ensures finished { OnOk result (front.new.lines ≡ with_line conn None front.old.lines) }
+    ensures server { OnOk result ((R.custody front.new.server.records).sound → server_state R.custody front.new.server ≡ server_state R.custody front.old.server) }
     ensures sound { (R.custody front.new.server.records).sound → (R.custody front.old.server.records).sound }
     ensures err { IfErr result (λ exit. IsTrue (breaks_off exit)) }
 {
-    match outcome_of(front, &Event::Finish(conn))? {
-        Outcome::Finished(Ok(())) => Ok(()),
-        _ => Err(Exit::Memory),
+    let Outcome::Finished(finished) = outcome_of(front, &Event::Finish(conn))? else {
+        unreachable!()
+    };
+    match finished {
+        Ok(()) => Ok(()),
+        Err(_) => unreachable!(),
     }
 }
 
-/// Opens all connections, in the order of their numbers.
-#[tactic(auto, using(crate::proofs::ConnectionLemmas::none_begun, crate::proofs::ConnectionLemmas::one_more_begun, crate::proofs::ConnectionLemmas::all_begun))]
+/// Opens all connections, in the order of their numbers, where none is open.
+#[tactic(auto, using(crate::proofs::ConnectionLemmas::none_begun, crate::proofs::ConnectionLemmas::free_to, crate::proofs::ConnectionLemmas::one_more_begun, crate::proofs::ConnectionLemmas::all_begun))]
 pub fn open_all<R: Records>(alloc: Global, front: &mut Front<R>) -> Result<Vec<Connection>, Exit>
-    ensures opened { IfOk result (λ connections. (R.custody front.new.server.records).sound →
-        AllBegun connections.items (front_state R.custody front.old) (front_state R.custody front.new)) }
+    requires { front.old.lines ≡ none_open }
+    ensures opened { IfOk result (λ connections. (front.new.lines ≡ all_open) × AreOf connections.items all_open) }
+    ensures server { OnOk result ((R.custody front.new.server.records).sound → server_state R.custody front.new.server ≡ server_state R.custody front.old.server) }
     ensures sound { (R.custody front.new.server.records).sound → (R.custody front.old.server.records).sound }
     ensures err { IfErr result (λ exit. IsTrue (breaks_off exit)) }
 {

@@ -5,7 +5,7 @@ ghost use Rattle.pdpd.specs.Fault.{exit_of_fault};
 
 use crate::command_line::Serving;
 use crate::exit::Exit;
-use std::alloc::AllocFailed;
+use std::alloc::{AllocError, AllocFailed};
 use std::fmt;
 
 /// Why a store can't be opened.
@@ -29,6 +29,12 @@ pub enum StoreFault {
     Full,
     /// The disk failed.
     Disk,
+    /// The file isn't there, or is empty, and a log of another is.
+    LogAlone,
+    /// The file has no tables, and its log isn't there.
+    FileAlone,
+    /// Its log can't be written back into it.
+    Unclosed,
 }
 
 impl StoreFault {
@@ -45,6 +51,12 @@ impl StoreFault {
             StoreFault::Row => "a row of the store is damaged; put back a backup",
             StoreFault::Full => "the disk is full; make room on it",
             StoreFault::Disk => "the disk failed; look after it, or put back a backup",
+            StoreFault::LogAlone =>
+                "the file isn't there, or is empty, and a store's log is (-wal); put the file back, or move the log away to begin a new store",
+            StoreFault::FileAlone =>
+                "the file has no tables, and its log isn't there (-wal); put the log back, or move the file away to begin a new store",
+            StoreFault::Unclosed =>
+                "its log (-wal) can't be written back into the file; nothing is lost, keep both",
         }
     }
 }
@@ -56,6 +68,8 @@ pub enum Fault {
     Address,
     /// PDPD_WORK is no number.
     Work,
+    /// PDPD_REPLY is no number.
+    Reply,
     /// PDPD_IDLE is no number.
     Idle,
     /// The token file can't be read.
@@ -83,8 +97,12 @@ impl Fault {
         ensures serving { IsTrue (ends_serving result) }
     {
         match self {
-            Fault::Address | Fault::Work | Fault::Idle | Fault::TokenUnread | Fault::TokenBad =>
-                Exit::Usage,
+            Fault::Address
+            | Fault::Work
+            | Fault::Reply
+            | Fault::Idle
+            | Fault::TokenUnread
+            | Fault::TokenBad => Exit::Usage,
             Fault::Store(_) => Exit::Store,
             Fault::Socket | Fault::Connection | Fault::Clock => Exit::Socket,
             Fault::Output => Exit::Failed,
@@ -97,6 +115,7 @@ impl Fault {
         match self {
             Fault::Address => "not an IP address, `:` and a port, such as 127.0.0.1:8080",
             Fault::Work => "PDPD_WORK is to be a number of units of work, or 0 for no limit",
+            Fault::Reply => "PDPD_REPLY is to be a number of bytes, or 0 for no limit",
             Fault::Idle => "PDPD_IDLE is to be a number of seconds, or 0 for no limit",
             Fault::TokenUnread =>
                 "can't be read; its first line is to be the operator's token (8 to 64 visible ASCII characters)",
@@ -117,7 +136,12 @@ impl Fault {
             Fault::TokenUnread | Fault::TokenBad => Some(serving.token_file.as_str()),
             Fault::Store(_) => Some(serving.database.as_str()),
             Fault::Address | Fault::Socket | Fault::Connection => Some(serving.address.as_str()),
-            Fault::Work | Fault::Idle | Fault::Clock | Fault::Output | Fault::Memory => None,
+            Fault::Work
+            | Fault::Reply
+            | Fault::Idle
+            | Fault::Clock
+            | Fault::Output
+            | Fault::Memory => None,
         }
     }
 }
@@ -155,6 +179,17 @@ impl fmt::Display for FaultLine<'_> {
             Some(text) => write!(f, "pdpd serve: {}: {advice}", OneLine { text }),
             None => write!(f, "pdpd serve: {advice}"),
         }
+    }
+}
+
+impl From<AllocError> for Fault {
+    ghost use Rattle.std.specs.Prelude.{◌≡◌};
+    ghost use Rattle.pdpd.specs.declared.fault.Fault.TheVariants.{Memory};
+
+    ghost from_gives = { λ _ fault. fault ≡ Memory };
+
+    fn from(_: AllocError) -> Fault {
+        Fault::Memory
     }
 }
 

@@ -2,9 +2,10 @@
 //! `pdpd replay OPERATOR-TOKEN`: answers those of a transcript.
 #![tactic(auto)]
 
-ghost use Rattle.std.specs.Prelude.{◌≡◌, ◌⊎◌, ◌↔◌, IsFalse, IsTrue, map, string_bytes};
+ghost use Rattle.std.specs.Prelude.{◌≡◌, ◌⊎◌, ◌↔◌, Err, IsFalse, IsTrue, map, string_bytes};
 ghost use Rattle.xa_notation.specs.Tokens.{is_token};
 ghost use Rattle.pdpd.specs.declared.exit.Exit.TheVariants.{Done, Failed, Usage};
+ghost use Rattle.pdpd.specs.declared.fault.Fault.TheVariants.{Address};
 ghost use Rattle.pdpd.specs.CommandLine.{command_of};
 ghost use Rattle.pdpd.specs.Ending.{MayEnd};
 ghost use Rattle.pdpd.specs.Exit.{ends_serving};
@@ -14,11 +15,13 @@ mod command_line;
 mod connection;
 mod exit;
 mod fault;
+mod halves;
 mod heading;
 mod help;
 mod piece;
 mod replay;
 mod serve;
+mod stack;
 mod store;
 mod telling;
 mod token;
@@ -29,10 +32,11 @@ mod writing;
 
 use command_line::{Command, Serving, command_of};
 use exit::Exit;
-use fault::FaultLine;
+use fault::{Fault, FaultLine};
 use std::env;
 use std::io::ErrorKind;
 use std::process::ExitCode;
+use store::close_records;
 
 /// The words of the command line, the program's name first.
 fn words(rt: &HostRuntime) -> Result<Vec<String>, Exit> {
@@ -63,12 +67,20 @@ fn tell(rt: &HostRuntime, text: &str) -> Exit
     }
 }
 
+/// Serves connections, and then closes the file.
+fn serve_and_close(rt: &HostRuntime, serving: &Serving<'_>) -> Result<(), Fault>
+    ensures { IsNoAddress serving.now.address → result ≡ Err Address }
+{
+    let front = serve::serve(rt, serving)?;
+    close_records(front.into_server().into_records())
+}
+
 /// Serves connections, and gives the exit. A line on standard error tells of a fault.
 fn exit_of_serving(rt: &HostRuntime, serving: &Serving<'_>) -> Exit
     ensures serving { IsTrue (ends_serving result) }
     ensures address { IsNoAddress serving.now.address → result ≡ Usage }
 {
-    match serve::serve(rt, serving) {
+    match serve_and_close(rt, serving) {
         Ok(()) => Exit::Done,
         Err(fault) => {
             let _ = rt.eprintln(FaultLine { serving, fault });
@@ -83,7 +95,7 @@ fn exit_of_replaying(rt: &HostRuntime, token: &str) -> Exit
 {
     report(
         rt,
-        replay::replay(rt.alloc(), rt.stdin(), rt.stdout(), token),
+        replay::replay(rt.alloc(), rt.stdin(), rt.stdout(), token).exit,
     )
 }
 
@@ -102,7 +114,10 @@ fn exit_of_words(rt: &HostRuntime, words: &[String]) -> Exit
 
 fn main(rt: HostRuntime) -> ExitCode {
     match words(&rt) {
-        Ok(words) => exit_of_words(&rt, &words).status(),
+        Ok(words) => {
+            let _touched = stack::touch(words.len());
+            exit_of_words(&rt, &words).status()
+        }
         Err(exit) => report(&rt, exit).status(),
     }
 }

@@ -1,14 +1,19 @@
 //! `pdpd serve`: connections, one after another.
 ghost use Rattle.std.specs.Prelude.{◌≡◌, ◌↔◌, IfErr, IfOk, MatchResult, OnOk, Err, None, Some, IsFalse, IsTrue};
 ghost use Rattle.std.specs.Net.Grammar.{IsSocketText, Parses};
-ghost use Rattle.xa_server.specs.Front.{front_state};
+ghost use Rattle.sqlite.specs.Files.{over_files};
+ghost use Rattle.xa_server.specs.Driven.{known};
+ghost use Rattle.xa_server.specs.Front.{FrontState, front_state};
 ghost use Rattle.xa_server.specs.Lines.{none_open};
-ghost use Rattle.pdpd.specs.declared.fault.Fault.TheVariants.{Address, Connection, Idle, Memory, Work};
-ghost use Rattle.pdpd.specs.Fault.{IsNoAddress, IsOfFiles, IsOfServing, IsOfSetting, fault_of_end, goes_on_after, is_of_network, is_passing, is_want_of_room};
+ghost use Rattle.xa_server.specs.Tally.{nothing_held};
+ghost use Rattle.xa_store.specs.KeeperReading.{custody_by};
+ghost use Rattle.pdpd.specs.declared.fault.Fault.TheVariants.{Address, Connection, Idle, Memory, Reply, Work};
+ghost use Rattle.pdpd.specs.Connections.{AreIsolated, IsConnectionServed};
+ghost use Rattle.pdpd.specs.Fault.{IsNoAddress, IsOfConnections, IsOfFiles, IsOfServing, IsOfSetting, fault_of_end, goes_on_after, is_of_network, is_passing, is_want_of_room};
 ghost use Rattle.pdpd.specs.Serving.{Serves, ServesOne};
 ghost use Rattle.pdpd.specs.Token.{IsOperator};
 
-use crate::command_line::{Serving, idle_of, work_of};
+use crate::command_line::{Serving, idle_of, reply_of, work_of};
 use crate::fault::Fault;
 use crate::store::{FileRecords, records_in_file};
 use crate::token::operator_of_file;
@@ -20,7 +25,7 @@ use std::net::{SocketAddr, TcpListener, TcpStream};
 use std::thread;
 use std::time::Duration;
 use xa_records::{Digest, Records};
-use xa_server::{Clock, Driven, Front, Server, drive};
+use xa_server::{Clock, Driven, Front, Reader, Server, Writer, drive};
 
 /// How often in a row a connection may fail as it is taken: a peer that closed it first doesn't end the program.
 const MAX_FAILURES: u32 = 1_000;
@@ -96,7 +101,7 @@ fn next_connection(rt: &HostRuntime, listener: &TcpListener) -> Result<TcpStream
 /// Whether the next connection is served after one that ended so.
 fn after(driven: Driven) -> Result<(), Fault>
     ensures after { MatchResult result (λ _. fault_of_end driven ≡ None) (λ fault. fault_of_end driven ≡ Some fault) }
-    ensures err { IfErr result IsOfServing }
+    ensures err { IfErr result IsOfConnections }
 {
     match driven {
         Driven::NoClock => Err(Fault::Clock),
@@ -105,8 +110,10 @@ fn after(driven: Driven) -> Result<(), Fault>
     }
 }
 
-/// Sets how long a connection may give nothing, or take nothing, in seconds; 0 for ever. Such a read or write fails.
-fn set_idle(stream: &TcpStream, idle: usize) {
+/// Lets replies go out at once, and sets how long a connection may give nothing, or take nothing, in seconds; 0 for ever. Such a read or write fails.
+fn prepare(stream: &TcpStream, idle: usize) {
+    // A reply that waits for the peer's acknowledgement comes later, and is no other.
+    let _ = stream.set_nodelay(true);
     if idle == 0 {
         return;
     }
@@ -116,28 +123,33 @@ fn set_idle(stream: &TcpStream, idle: usize) {
     let _ = stream.set_write_timeout(Some(wait));
 }
 
-/// Serves a connection, each message at the clock's moment, until it ends (`xa_server`, `drive`). No other is open then, and none is afterwards.
-#[tactic(auto, using(crate::proofs::ServingLemmas::served_one))]
-fn serve_connection<R: Records, C: Clock>(
+/// Serves a connection, each message at the clock's moment, until it ends (`xa_server`, `drive`). No other is open before, and none is afterwards.
+fn serve_connection<R: Records, I: Reader, W: Writer, C: Clock>(
     front: &mut Front<R>,
-    stream: &TcpStream,
+    reader: &mut I,
+    writer: &mut W,
     clock: &mut C,
 ) -> Result<(), Fault>
-    ensures served { OnOk result ((R.custody front.new.server.records).sound → ServesOne (front_state R.custody front.old) (front_state R.custody front.new)) }
+    requires { front.old.lines ≡ none_open }
+    ensures served { OnOk result ((R.custody front.new.server.records).sound → IsConnectionServed (front_state R.custody front.old) (front_state R.custody front.new)
+        (known None (I.remaining reader.old) (I.reads reader.old) (W.contents writer.old) (W.writes writer.old) (C.told clock.old))
+        (known None (I.remaining reader.new) (I.reads reader.new) (W.contents writer.new) (W.writes writer.new) (C.told clock.new))) }
+    ensures closed { front.new.lines ≡ none_open }
     ensures sound { (R.custody front.new.server.records).sound → (R.custody front.old.server.records).sound }
-    ensures err { IfErr result IsOfServing }
+    ensures err { IfErr result IsOfConnections }
 {
     let Ok(conn) = front.open() else {
-        return Err(Fault::Memory);
+        unreachable!()
     };
-    let driven = drive(front, conn, &mut &*stream, &mut &*stream, clock);
-    match front.close(conn) {
-        Ok(()) => after(driven),
-        Err(_) => Err(Fault::Memory),
-    }
+    let driven = drive(front, conn, reader, writer, clock);
+    let Ok(()) = front.close(conn) else {
+        unreachable!()
+    };
+    after(driven)
 }
 
 /// Takes a connection and serves it.
+#[tactic(auto, using(crate::proofs::ServingLemmas::served_one))]
 fn serve_next<R: Records, C: Clock>(
     rt: &HostRuntime,
     front: &mut Front<R>,
@@ -145,17 +157,19 @@ fn serve_next<R: Records, C: Clock>(
     clock: &mut C,
     idle: usize,
 ) -> Result<(), Fault>
+    requires { front.old.lines ≡ none_open }
     ensures served { OnOk result ((R.custody front.new.server.records).sound → ServesOne (front_state R.custody front.old) (front_state R.custody front.new)) }
+    ensures closed { front.new.lines ≡ none_open }
     ensures sound { (R.custody front.new.server.records).sound → (R.custody front.old.server.records).sound }
-    ensures err { IfErr result IsOfServing }
+    ensures err { IfErr result IsOfConnections }
 {
     let stream = next_connection(rt, listener)?;
-    set_idle(&stream, idle);
-    serve_connection(front, &stream, clock)
+    prepare(&stream, idle);
+    serve_connection(front, &mut &stream, &mut &stream, clock)
 }
 
 /// Serves that many connections, one after another. No more are taken once the last of them has come: who comes later is refused at once.
-#[tactic(auto, using(crate::proofs::ServingLemmas::served_none, crate::proofs::ServingLemmas::served_more, crate::proofs::ServingLemmas::served_last))]
+#[tactic(auto, using(crate::proofs::ServingLemmas::served_none, crate::proofs::ServingLemmas::served_one, crate::proofs::ServingLemmas::served_more, crate::proofs::ServingLemmas::served_last))]
 fn serve_connections<R: Records, C: Clock>(
     rt: &HostRuntime,
     front: &mut Front<R>,
@@ -164,9 +178,11 @@ fn serve_connections<R: Records, C: Clock>(
     connections: usize,
     idle: usize,
 ) -> Result<(), Fault>
+    requires { front.old.lines ≡ none_open }
     ensures served { OnOk result ((R.custody front.new.server.records).sound → Serves connections (front_state R.custody front.old) (front_state R.custody front.new)) }
+    ensures closed { front.new.lines ≡ none_open }
     ensures sound { (R.custody front.new.server.records).sound → (R.custody front.old.server.records).sound }
-    ensures err { IfErr result IsOfServing }
+    ensures err { IfErr result IsOfConnections }
 {
     let Some(others) = connections.checked_sub(1) else {
         return Ok(());
@@ -176,8 +192,8 @@ fn serve_connections<R: Records, C: Clock>(
     }
     let stream = next_connection(rt, &listener)?;
     drop(listener);
-    set_idle(&stream, idle);
-    serve_connection(front, &stream, clock)
+    prepare(&stream, idle);
+    serve_connection(front, &mut &stream, &mut &stream, clock)
 }
 
 /// The server with that limit of work for one message; 0 for none.
@@ -190,7 +206,18 @@ fn with_limit<R: Records>(server: Server<R>, work: usize) -> Server<R>
     server.with_limit(work as u64)
 }
 
+/// The server with that limit of bytes for the body of a response; 0 for none.
+fn with_reply_limit<R: Records>(server: Server<R>, bytes: usize) -> Server<R>
+    ensures { result ≡ server }
+{
+    if bytes == 0 {
+        return server;
+    }
+    server.with_reply_limit(bytes as u64)
+}
+
 /// Takes connections at the address, says so, and serves them.
+#[tactic(auto, using(crate::proofs::ServingLemmas::connections_are_served))]
 fn serve_at<R: Records>(
     rt: &HostRuntime,
     front: &mut Front<R>,
@@ -198,6 +225,7 @@ fn serve_at<R: Records>(
     serving: &Serving<'_>,
     idle: usize,
 ) -> Result<(), Fault>
+    requires { front.old.lines ≡ none_open }
     ensures served { OnOk result ((R.custody front.new.server.records).sound → Serves serving.now.connections (front_state R.custody front.old) (front_state R.custody front.new)) }
     ensures sound { (R.custody front.new.server.records).sound → (R.custody front.old.server.records).sound }
     ensures err { IfErr result IsOfServing }
@@ -242,6 +270,19 @@ fn work(rt: &HostRuntime) -> Result<usize, Fault>
     work.ok_or(Fault::Work)
 }
 
+/// How many bytes the body of a response may have, by the environment; 0 for any number.
+fn reply(rt: &HostRuntime) -> Result<usize, Fault>
+    ensures { IfErr result (IsOfSetting Reply) }
+{
+    let bytes = match env::var(rt, "PDPD_REPLY") {
+        Ok(set) => reply_of(Some(set.as_str())),
+        Err(VarError::NotPresent) => reply_of(None),
+        Err(VarError::NotUnicode) => None,
+        Err(VarError::OutOfMemory) => return Err(Fault::Memory),
+    };
+    bytes.ok_or(Fault::Reply)
+}
+
 /// For how many seconds a connection may give nothing, or take nothing, by the environment; 0 for ever.
 fn idle(rt: &HostRuntime) -> Result<usize, Fault>
     ensures { IfErr result (IsOfSetting Idle) }
@@ -255,20 +296,23 @@ fn idle(rt: &HostRuntime) -> Result<usize, Fault>
     idle.ok_or(Fault::Idle)
 }
 
-/// A server over the keeper, for that operator and with that limit of work, and its connections, none of which is open.
+/// A server over the keeper, for that operator and with these limits of work and of a response, and its connections, none of which is open.
 fn front_over<R: Records + Drop>(
     alloc: Global,
     records: R,
     operator: Digest,
     work: usize,
+    reply: usize,
 ) -> Result<Front<R>, Fault>
     ensures operator { IfOk result (λ front. front.server.operator ≡ operator) }
     ensures records { IfOk result (λ front. front.server.records ≡ records) }
+    ensures tally { IfOk result (λ front. front.server.tally ≡ nothing_held) }
     ensures closed { IfOk result (λ front. front.lines ≡ none_open) }
     ensures err { IfErr result (λ fault. fault ≡ Memory) }
 {
     let server = Server::new(alloc, records, operator)?;
-    Ok(Front::new(alloc, with_limit(server, work))?)
+    let server = with_reply_limit(with_limit(server, work), reply);
+    Ok(Front::new(alloc, server)?)
 }
 
 /// The front of a server over the store in the file, for the operator whose token is the first line of the token file.
@@ -276,24 +320,34 @@ fn front_of_files(
     rt: &HostRuntime,
     serving: &Serving<'_>,
     work: usize,
+    reply: usize,
 ) -> Result<Front<FileRecords>, Fault>
     ensures operator { IfOk result (λ front. IsOperator front.server.operator) }
+    ensures tally { IfOk result (λ front. front.server.tally ≡ nothing_held) }
     ensures closed { IfOk result (λ front. front.lines ≡ none_open) }
     ensures err { IfErr result IsOfFiles }
 {
     let operator = operator_of_file(rt, serving.token_file.as_str())?;
     let records = records_in_file(rt, serving.database.as_str())?;
-    front_over(rt.alloc(), records, operator, work)
+    front_over(rt.alloc(), records, operator, work, reply)
 }
 
-/// Serves connections over the store in the file. Faults are looked for in this order: the address, PDPD_WORK, PDPD_IDLE, the token file, the store, the socket.
+/// Serves connections over the store in the file, for the operator whose token is the first line of the token file, and gives back the front as they have left it.
+/// Faults are looked for in this order: the address, PDPD_WORK, PDPD_REPLY, PDPD_IDLE, the token file, the store,
+/// the socket.
 #[tactic(auto, using(crate::proofs::ServingLemmas::setting_not_address, crate::proofs::ServingLemmas::files_not_address, crate::proofs::ServingLemmas::serving_not_address, crate::proofs::ServingLemmas::address_found))]
-pub fn serve(rt: &HostRuntime, serving: &Serving<'_>) -> Result<(), Fault>
+pub fn serve(rt: &HostRuntime, serving: &Serving<'_>) -> Result<Front<FileRecords>, Fault>
+    ensures served { IfOk result (λ front. (custody_by over_files front.server.records).sound → (old : FrontState) × IsOperator old.server.world.operator
+        × (old.server.tally ≡ nothing_held) × (old.lines ≡ none_open) × AreIsolated serving.now.connections old (front_state (custody_by over_files) front)) }
     ensures address { (result ≡ Err Address) ↔ IsNoAddress serving.now.address }
 {
     let address = address_of(serving.address.as_str())?;
     let work = work(rt)?;
+    let reply = reply(rt)?;
     let idle = idle(rt)?;
-    let mut front = front_of_files(rt, serving, work)?;
-    serve_at(rt, &mut front, address, serving, idle)
+    let mut front = front_of_files(rt, serving, work, reply)?;
+    match serve_at(rt, &mut front, address, serving, idle) {
+        Ok(()) => Ok(front),
+        Err(fault) => Err(fault),
+    }
 }

@@ -7,13 +7,17 @@ ghost use Rattle.xa_records.specs.Kept.{nothing_kept};
 ghost use Rattle.xa_store.specs.Keeper.{IsSound};
 ghost use Rattle.xa_store.specs.KeeperReading.{kept_by};
 ghost use Rattle.pdpd.specs.declared.exit.Exit.TheVariants.{Memory, Store, Usage};
+ghost use Rattle.pdpd.specs.declared.fault.Fault.TheVariants as fault;
+ghost use Rattle.pdpd.specs.declared.fault.StoreFault.TheVariants.{Unclosed};
 ghost use Rattle.pdpd.specs.Fault.{IsOfStore};
 
 use crate::exit::Exit;
 use crate::fault::{Fault, OneLine, StoreFault};
+use crate::halves::{Halves, halves_at};
 use sqlite::{Connection, Error, ErrorCode, File, FileStore, MemStore};
 use std::alloc::Global;
-use std::fs;
+use std::fs::{self, OpenOptions};
+use std::os::unix::fs::{OpenOptionsExt, PermissionsExt};
 use xa_store::{OpenError, SqlRecords};
 
 /// Why the file can't be opened.
@@ -73,17 +77,71 @@ fn tell_of_tables(rt: &HostRuntime, path: &str, are_ours: bool) {
     }
 }
 
+/// Tells, by a line on standard error, of a file beside which its log isn't.
+fn tell_of_log(rt: &HostRuntime, path: &str) {
+    let _ = eprintln!(rt;
+        "pdpd serve: {}: its log isn't there (-wal); where the file wasn't closed, by `pdpd` or by SQLite, the last changes are missing",
+        OneLine { text: path }
+    );
+}
+
+/// Looks whether both halves of a store are there, its file and its log, or neither. None is begun over a half.
+fn look_at_halves(rt: &HostRuntime, path: &str) -> Result<(), Fault>
+    ensures { IfErr result IsOfStore }
+{
+    match halves_at(rt, path)? {
+        Halves::Whole => Ok(()),
+        Halves::LogAlone => Err(Fault::Store(StoreFault::LogAlone)),
+        Halves::FileAlone => Err(Fault::Store(StoreFault::FileAlone)),
+        Halves::NoLog => {
+            tell_of_log(rt, path);
+            Ok(())
+        }
+    }
+}
+
+/// The bits of a file's mode by which its group and all others can read it.
+const OTHERS_READ: u32 = 0o044;
+
+/// Tells, by a line on standard error, of a file that others can read.
+fn tell_of_readers(rt: &HostRuntime, path: &str) {
+    if matches!(fs::metadata(rt, path), Ok(found) if found.permissions().mode() & OTHERS_READ != 0)
+    {
+        let _ = eprintln!(rt;
+            "pdpd serve: {}: others than its owner can read what is kept; chmod 600, and its log too (-wal)",
+            OneLine { text: path }
+        );
+    }
+}
+
+/// Makes the file, which its owner alone can read, where it isn't there: SQLite gives its log the same mode. Where it can't be made, opening it says why.
+fn make_file(rt: &HostRuntime, path: &str) {
+    // As names these are refused below.
+    if path == ":memory:" || path.starts_with("file:") {
+        return;
+    }
+    let _ = OpenOptions::new()
+        .write(true)
+        .create_new(true)
+        .mode(0o600)
+        .open(rt, path);
+}
+
 /// What keeps domains in a file.
 pub type FileRecords = SqlRecords<FileStore<File>>;
 
 /// What keeps domains in memory.
 pub type MemoryRecords = SqlRecords<MemStore>;
 
-/// The keeper over the file, which is made where it isn't there. A line on standard error tells of tables of which nothing is proved.
+/// The keeper over the file, which is made where it isn't there. A line on standard error tells of tables of which nothing is proved, of a log that isn't
+/// there, and of a file that others can read.
 pub fn records_in_file(rt: &HostRuntime, path: &str) -> Result<FileRecords, Fault>
     ensures sound { IfOk result (λ records. IsTrue records.ours → IsTrue (file_state records.conn).is_open → IsSound over_files records) }
     ensures err { IfErr result IsOfStore }
 {
+    look_at_halves(rt, path)?;
+    make_file(rt, path);
+    tell_of_readers(rt, path);
     let conn = match Connection::open(rt, path) {
         Ok(conn) => conn,
         Err(error) => return Err(fault_at(rt, path, fault_of_file(error))),
@@ -94,6 +152,16 @@ pub fn records_in_file(rt: &HostRuntime, path: &str) -> Result<FileRecords, Faul
             Ok(records)
         }
         Err((error, _)) => Err(fault_of_tables(error)),
+    }
+}
+
+/// Closes the file of a keeper: its log is written back into it, so that the store is this one file, and a log that is empty.
+pub fn close_records(records: FileRecords) -> Result<(), Fault>
+    ensures { IfErr result (λ e. e ≡ fault.Store Unclosed) }
+{
+    match records.into_connection().close() {
+        Ok(()) => Ok(()),
+        Err(_) => Err(Fault::Store(StoreFault::Unclosed)),
     }
 }
 

@@ -1,15 +1,18 @@
 //! What a connection is told: the replies among the outcomes of answers, as they are written.
-ghost use Rattle.std.specs.Prelude.{◌≡◌, IfErr, IfOk, IsTrue, OnOk, option_map};
+ghost use Rattle.std.specs.Prelude.{◌≡◌, IfErr, IfOk, IsTrue, MatchResult, OnOk, Some};
 ghost use Rattle.std.specs.Io.KnownBytes.{Appends};
+ghost use Rattle.std.specs.List.{All};
+ghost use Rattle.xa_server.specs.declared.front_error.FrontError.TheVariants as front;
 ghost use Rattle.pdpd.specs.Entry.{reply_entries};
 ghost use Rattle.pdpd.specs.Exit.{breaks_off};
-ghost use Rattle.pdpd.specs.Telling.{after_answer, after_none, answers_behind, progress_after, progress_of, replies_told, reply_told};
+ghost use Rattle.pdpd.specs.Telling.{ArePieceAndAnswers, HasAnswered, IsAnswer, after_answer, after_none, answers_behind, progress_after, progress_of, replies_told, reply_told};
+ghost use Rattle.pdpd.specs.declared.exit.Exit.TheVariants.{Memory};
 ghost use Rattle.pdpd.specs.declared.telling.Progress.TheVariants.{Answered};
 
 use crate::exit::Exit;
 use crate::writing::write_reply;
 use std::io::Write;
-use xa_server::Outcome;
+use xa_server::{FrontError, Outcome};
 
 /// What becomes of a connection that is asked for answers.
 #[derive(Clone, Copy)]
@@ -45,13 +48,32 @@ impl Progress {
     }
 }
 
-/// The outcomes behind that of a piece that was taken.
-pub fn answers_behind(outcomes: &[Outcome]) -> Option<&[Outcome]>
-    ensures { option_map (λ answers. answers.now) result ≡ answers_behind outcomes.now }
+/// How the program ends where a call on a connection was refused: there was no memory for it.
+fn exit_of_want(error: FrontError) -> Exit
+    requires { error ≡ front.Memory }
+    ensures { result ≡ Memory }
 {
-    match outcomes {
-        [Outcome::Held(Ok(())), answers @ ..] => Some(answers),
-        _ => None,
+    match error {
+        FrontError::Memory => Exit::Memory,
+        _ => unreachable!(),
+    }
+}
+
+/// The outcomes behind that of a piece, where there was memory for it.
+pub fn answers_behind(outcomes: &[Outcome]) -> Result<&[Outcome], Exit>
+    requires { ArePieceAndAnswers outcomes.now }
+    ensures behind { MatchResult result (λ answers. answers_behind outcomes.now ≡ Some answers.now) (λ exit. exit ≡ Memory) }
+    ensures answers { IfOk result (λ answers. All IsAnswer answers.now) }
+{
+    let Some((piece, answers)) = outcomes.split_first() else {
+        unreachable!()
+    };
+    let Outcome::Held(held) = piece else {
+        unreachable!()
+    };
+    match held {
+        Ok(()) => Ok(answers),
+        Err(error) => Err(exit_of_want(*error)),
     }
 }
 
@@ -62,17 +84,22 @@ fn write_outcome<W: Write>(
     was: Progress,
     outcome: &Outcome,
 ) -> Result<Progress, Exit>
+    requires { IsAnswer outcome.now }
     ensures written { OnOk result (Appends (W.contents writer.old) (W.contents writer.new) (reply_entries connection (reply_told outcome.now))) }
     ensures progress { IfOk result (λ is. is ≡ progress_after was outcome.now) }
+    ensures answered { OnOk result (HasAnswered outcome.now) }
     ensures err { IfErr result (λ exit. IsTrue (breaks_off exit)) }
 {
-    match outcome {
-        Outcome::Answered(Ok(Some(answer))) => {
+    let Outcome::Answered(answered) = outcome else {
+        unreachable!()
+    };
+    match answered {
+        Ok(Some(answer)) => {
             write_reply(writer, connection, answer.reply.bytes())?;
             Ok(Progress::after_answer(answer.last))
         }
-        Outcome::Answered(Ok(None)) => Ok(was.after_none()),
-        _ => Err(Exit::Memory),
+        Ok(None) => Ok(was.after_none()),
+        Err(error) => Err(exit_of_want(*error)),
     }
 }
 
@@ -83,8 +110,10 @@ pub fn write_outcomes<W: Write>(
     connection: usize,
     outcomes: &[Outcome],
 ) -> Result<Progress, Exit>
+    requires { All IsAnswer outcomes.now }
     ensures written { OnOk result (Appends (W.contents writer.old) (W.contents writer.new) (reply_entries connection (replies_told outcomes.now))) }
     ensures progress { IfOk result (λ is. is ≡ progress_of Answered outcomes.now) }
+    ensures answered { OnOk result (All HasAnswered outcomes.now) }
     ensures err { IfErr result (λ exit. IsTrue (breaks_off exit)) }
 {
     let mut progress = Progress::Answered;

@@ -1,4 +1,5 @@
-use Rattle.xa_server.specs.Front.{front_state}
+use Rattle.std.proofs.Common.{◌≡◌}
+use Rattle.xa_server.specs.Front.{server_state}
 use Rattle.pdpd.proofs.ConnectionLemmas.{BegunTo}
 use Rattle.pdpd.proofs.connection.open_all.Given as goal
 
@@ -6,6 +7,7 @@ use Rattle.pdpd.proofs.connection.open_all.Given as goal
 abbrev pub invariant-loop : goal.invariant-loop
 invariant-loop g l = record {
   sound : (g.R.Records.custody l.front.server.records).sound → (g.R.Records.custody l.fn.front.server.records).sound;
-  begun : (g.R.Records.custody l.front.server.records).sound →
-      BegunTo l.counter l.connections.items (front_state g.R.Records.custody l.fn.front) (front_state g.R.Records.custody l.front);
+  begun : BegunTo l.counter l.connections.items l.front.lines;
+  server : (g.R.Records.custody l.front.server.records).sound →
+      server_state g.R.Records.custody l.front.server ≡ server_state g.R.Records.custody l.fn.front.server;
 }

@@ -7,6 +7,7 @@ use Rattle.pdpd.specs.Reading.{remaining_of}
 use Rattle.pdpd.specs.Replay.{IsTranscriptRead, Replays}
 use Rattle.pdpd.specs.Replaying.{TakesAsHeld}
 use Rattle.pdpd.specs.Transcript.{TakesEntry}
+use Rattle.pdpd.proofs.HeadingLemmas.{entry_within}
 use Rattle.pdpd.proofs.ReplayLemmas.{answered_all, answered_badly, answered_more, given_all, given_badly, given_more}
 use Rattle.pdpd.proofs.replay.answer_entries.Goals as goal
 
@@ -70,9 +71,17 @@ loop-number-preserved g c =
     let takes : TakesEntry between rest bytes (Some c.in-Some.heading) = rw c.in-Some.is at c.in-Ok.ensures in
     record {
       sound = λ sound. c.loop-number.invariant.sound (c.in_ok-entry.ensures.sound sound);
+      ready = c.in_ok-entry.ensures.ready;
       read = given_more left between rest c.loop-number.number c.in-Some.heading bytes c.loop-number.invariant.read takes;
       answered = λ sound.
           answered_more held were are old mid new left between rest before written now c.loop-number.number c.in-Some.heading bytes
           (c.loop-number.invariant.answered (c.in_ok-entry.ensures.sound sound)) takes
           (subst (λ (bs : List ℕ). TakesAsHeld c.in-Some.heading bs were are mid new written now) c.deref.ensures.value (c.in_ok-entry.ensures.replied sound));
     }
+
+pub entry-requires-in-loop-number-clause-within : goal.entry-requires-in-loop-number-clause-within
+entry-requires-in-loop-number-clause-within g c =
+    let between = remaining_of g.I.Read.remaining c.loop-number.transcript in
+    let rest = remaining_of g.I.Read.remaining c.entry.new.self in
+    let takes : TakesEntry between rest c.entry.new.bytes.items (Some c.in-Some.heading) = rw c.in-Some.is at c.in-Ok.ensures in
+    entry_within between rest c.entry.new.bytes.items c.in-Some.heading takes

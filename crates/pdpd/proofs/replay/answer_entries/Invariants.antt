@@ -1,6 +1,7 @@
 use Rattle.std.specs.Io.Buffered.{writer_contents}
 use Rattle.xa_server.specs.Front.{front_state}
 use Rattle.pdpd.specs.Reading.{remaining_of}
+use Rattle.pdpd.specs.Replaying.{AreReady}
 use Rattle.pdpd.proofs.ReplayLemmas.{AnsweredTo, ReadTo}
 use Rattle.pdpd.proofs.replay.answer_entries.Given as goal
 
@@ -8,6 +9,7 @@ use Rattle.pdpd.proofs.replay.answer_entries.Given as goal
 abbrev pub invariant-loop-number : goal.invariant-loop-number
 invariant-loop-number g l = record {
   sound : (g.R.Records.custody l.replayer.front.server.records).sound → (g.R.Records.custody l.fn.replayer.front.server.records).sound;
+  ready : AreReady l.replayer.connections.items l.replayer.front.lines;
   read : ReadTo (remaining_of g.I.Read.remaining l.fn.transcript) (remaining_of g.I.Read.remaining l.transcript) l.number;
   answered : (g.R.Records.custody l.replayer.front.server.records).sound →
       AnsweredTo l.fn.replayer.connections.items l.replayer.connections.items

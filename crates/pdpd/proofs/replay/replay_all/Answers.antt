@@ -33,6 +33,6 @@ returns-in-Ok-flush-clause-replayed g c = λ sound.
     subst (λ (e : Exit). IsTranscriptRead (Replays mid new before written) left rest e) same
     (subst (λ (b : Option (List ℕ)). IsTranscriptRead (Replays mid new b written) left rest (end_of c.answer_entries.result)) wrote
     (c.answer_entries.ensures.replayed sound known)) in
-    replayed_all c.open_all.new.self.connections.items old mid new left rest before written now exit c.requires
-    (c.in_default.ensures.opened (c.answer_entries.ensures.sound sound)) answered
+    replayed_all c.open_all.new.self.connections.items old mid new left rest before written now exit c.in_default.ensures.opened
+    (c.in_default.ensures.server (c.answer_entries.ensures.sound sound)) c.in_default.ensures.ready answered
     (subst (λ (bytes : List ℕ). Keeps written (append_known now bytes)) c.in-Ok-flush.ensures.ok c.in-Ok-flush.ensures.bytes)

@@ -10,4 +10,4 @@ returns-then-is_empty-clause-taken g c =
     closed_as (g.R.Records.custody c.begin.new.front.server.records).sound c.args.heading.now c.args.bytes.now c.args.was
     (front_state g.R.Records.custody c.args.self.now.front) (front_state g.R.Records.custody c.finish.new.front) (front_state g.R.Records.custody c.begin.new.front)
     (writer_contents g.W.Write.contents c.args.self.now.writer) c.begin.result (nil_from_length c.args.bytes.now (search rules))
-    (λ sound. c.in_ok-finish.ensures.finished (c.begin.ensures.sound sound)) c.begin.ensures.begun
+    c.in_ok-finish.ensures.finished (λ sound. c.in_ok-finish.ensures.server (c.begin.ensures.sound sound)) c.begin.ensures.begun c.begin.ensures.server
