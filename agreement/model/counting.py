@@ -1,5 +1,5 @@
 """How often a server reads a text and works out a response, by what it keeps of those before: a shelf of texts, views of domains that are ready, and a cache of
-responses.
+responses; and which asks it refuses, by its limits of work and of a response.
 
 None of them changes a reply. A view is kept for the domain's number and its epoch, one for each number. A response is kept where it is the same at every moment, for the domain's number, which no other domain ever has, for its epoch,
 which rises with each change of what decides, and for the very bytes of the request.
@@ -8,12 +8,15 @@ import collections
 
 from contexts import CLOCK, ENVIRONMENT
 from expressions import Designator
+from json_texts import NotJson
 from linking import TooLarge, linked
 from machines import Server, view
 from policies import LEAF
+from replies import error_reply
 from requests import NotProfile, individuals_of, request_of
 from route_bodies import reference_shown, rows_shown
 from routes import owner, route_of
+from work import Refused, spent
 
 MOST_TEXTS, MOST_VIEWS, MOST_RESPONSES, MOST_BYTES = 128, 128, 512, 16_384
 ROOM_FOR_VIEWS = 268_435_456
@@ -59,6 +62,10 @@ class Views:
             self.held.popitem(last=False)
 
 
+def body_of(reply):
+    return reply.partition(b"\r\n\r\n")[2]
+
+
 def places_of(tree):
     """The policies, sets and references of a tree that have no document."""
     return 1 if tree == LEAF else 1 + sum(map(places_of, tree.children))
@@ -94,13 +101,18 @@ def names_the_clock(designator):
     return designator.category == ENVIRONMENT and designator.attribute_id in CLOCK_IDS
 
 
-def is_still(deciders, held):
-    """Whether the bytes of a request are answered alike at every moment."""
+def asks_policies(held):
+    """Whether the bytes of a request ask the policies: what is no request doesn't, nor one for all of whose individual requests one result stands."""
     try:
         (combined, _), found, named = request_of(held)
-    except NotProfile:
-        return True
-    if combined or individuals_of(found, named) is None or deciders.root is None:
+    except (NotJson, NotProfile):
+        return False
+    return not combined and individuals_of(found, named) is not None
+
+
+def is_still(deciders, held):
+    """Whether the bytes of a request are answered alike at every moment."""
+    if not asks_policies(held) or deciders.root is None:
         return True
     try:
         tree = linked(deciders.active, deciders.root)
@@ -122,6 +134,8 @@ class CountingServer(Server):
         self.restart()
         # the next domain's number, and of each domain that is there its number and its epoch
         self.number, self.gates = 1, {}
+        # the work that a message may ask for, and the bytes that the body of a response may have
+        self.most_units, self.most_bytes = None, None
 
     def restart(self):
         """Keeps nothing of what it has read and worked out, as a server that is begun over the same records."""
@@ -134,8 +148,22 @@ class CountingServer(Server):
         made = super().answer(message, moment)
         self.move(name, before, self.states.get(name))
         if made.startswith((b"HTTP/1.1 200 ", b"HTTP/1.1 400 ")) and name and route_of(message).command == "decide":
+            if made.startswith(b"HTTP/1.1 200 ") and self.is_refused(self.states[name], message.body, moment, made):
+                made = error_reply("Unavailable")
             self.count(name, message.body, made)
         return made
+
+    def is_refused(self, state, held, moment, made):
+        """Whether the response is too long, or took too much work."""
+        if self.most_bytes is not None and len(body_of(made)) > self.most_bytes:
+            return True
+        if self.most_units is None:
+            return False
+        try:
+            spent(view(state), held, moment, self.most_units)
+        except Refused:
+            return True
+        return False
 
     def move(self, name, before, after):
         """What the change of a domain makes of its number and its epoch."""
@@ -150,21 +178,22 @@ class CountingServer(Server):
         key, is_short, state = (self.gates[name], held), len(held) <= MOST_BYTES, self.states[name]
         if is_short and self.cache.has(key):
             return
-        self.see(*self.gates[name], state, made.startswith(b"HTTP/1.1 200 "))
-        if made.startswith(b"HTTP/1.1 200 "):
+        succeeds = made.startswith(b"HTTP/1.1 200 ")
+        self.see(*self.gates[name], state, held, succeeds)
+        if succeeds:
             self.evaluations += 1
-            if is_short and len(made.partition(b"\r\n\r\n")[2]) <= MOST_BYTES and is_still(view(state), held):
+            if is_short and len(body_of(made)) <= MOST_BYTES and is_still(view(state), held):
                 self.cache.put(key)
 
-    def see(self, number, epoch, state, succeeds):
-        """Takes the view that is kept ready, or makes it of the texts; with success it is kept, and this is a use of it."""
-        if not self.views.has(number, epoch):
-            for document in sorted(state.documents):
-                self.read(state.documents[document])
+    def see(self, number, epoch, state, held, succeeds):
+        """Takes the view that is kept ready, of which this is a use, with success; where there is none and the policies are asked, it is made and kept, of the texts where a root is set."""
+        if self.views.has(number, epoch):
             if succeeds:
-                self.views.put(number, epoch, size_of_view(state))
-        elif succeeds:
-            self.views.use(number)
+                self.views.use(number)
+        elif asks_policies(held):
+            for document in sorted(state.documents) if state.root is not None else ():
+                self.read(state.documents[document])
+            self.views.put(number, epoch, size_of_view(state))
 
     def read(self, stored):
         """Takes an active text from the shelf, or reads it."""

@@ -26,6 +26,9 @@ class Messages(Setup):
     def views(self, text):
         self.before.append("views:" + text)
 
+    def reply(self, text):
+        self.before.append("reply:" + text)
+
     def limit(self, text):
         self.after.append("limit:" + text)
 
@@ -45,9 +48,9 @@ class Messages(Setup):
 def events(fields):
     """The events of a row of a server, whose domains are made by messages."""
     setup, place = Messages(), 0
-    while place < len(fields) and fields[place].split(":")[0] in (*SETUP, "limit"):
+    while place < len(fields) and fields[place].split(":")[0] in SETUP:
         word, _, text = fields[place].partition(":")
-        if setup.name is None and word not in ("views", "domain", "limit"):
+        if setup.name is None and word not in ("views", "limit", "reply", "domain"):
             break
         getattr(setup, word)(text)
         place += 1

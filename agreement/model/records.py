@@ -177,6 +177,8 @@ class Keeper:
             return sorted(self.domains) + ["."]
         if word == "faults":
             return [str(self.faults)]
+        if word == "open":
+            return ["true"]
         if word in READINGS:
             return READINGS[word](self.domains[name], text) if name in self.domains else ["!None"]
         if word in ("create", "remove"):

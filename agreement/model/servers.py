@@ -9,7 +9,7 @@ from replies import error_reply
 from rows import decoded, encoded
 
 OPERATOR_TOKEN, SETUP_TOKEN = b"operator-token-1", b"setup-token-0"
-SETUP = ("views", "domain", "ask", "admin", "document", "inactive", "root", "row")
+SETUP = ("views", "limit", "reply", "domain", "ask", "admin", "document", "inactive", "root", "row")
 COUNTS = ("readings", "evaluations", "unkept")
 ROOTS = {"policy": "PolicyIdReference", "set": "PolicySetIdReference"}
 
@@ -79,6 +79,14 @@ class Setup:
     def views(self, text):
         """Room for so many views at the most."""
         self.server.views.most = min(int(text), self.server.views.most)
+
+    def limit(self, text):
+        """The most work that a message may ask for, in units."""
+        self.server.most_units = int(text)
+
+    def reply(self, text):
+        """The most bytes that the body of a response may have."""
+        self.server.most_bytes = int(text)
 
     def domain(self, text):
         self.end()
@@ -170,9 +178,7 @@ def connection(server, moment, held):
 
 
 def loopback(*fields):
-    """The answer to a row of connections; None as for a row of a server."""
-    if any(field.startswith("limit:") for field in fields):
-        return None
+    """The answer to a row of connections."""
     try:
         made = set_up(fields)
     except TurnedAway as reply:
@@ -191,9 +197,7 @@ def loopback(*fields):
 
 
 def server(*fields, beginning=CountingServer):
-    """The answer to a row; None where its messages have a limit of work, of which the model knows nothing."""
-    if any(field.startswith("limit:") for field in fields):
-        return None
+    """The answer to a row."""
     try:
         made = set_up(fields, beginning)
     except TurnedAway as reply:

@@ -2,11 +2,11 @@
 
 The operator's message makes one call, unless its body isn't one. Any other message to a domain asks for its gate, and once it is let in makes one call more for what it asks,
 unless its body isn't one or its path names no document. An ask alone may do with less: without the gate, where that is remembered from an ask by another token or its own,
-and no other message was let in since; and without the view, where the response is held or the view is kept ready.
+and no other message was let in since; and without the view, where the response is held, the view is kept ready or the body doesn't ask the policies.
 """
 import collections
 
-from counting import CountingServer
+from counting import CountingServer, asks_policies
 from documents import document_of
 from machines import KINDS, check_token, digest, in_body
 from messages import Message, Stream, token_shown
@@ -58,10 +58,10 @@ class CallingServer(CountingServer):
             pass
         return super().answer(message, moment)
 
-    def see(self, number, epoch, state, succeeds):
-        if not self.views.has(number, epoch):
+    def see(self, number, epoch, state, held, succeeds):
+        if not self.views.has(number, epoch) and asks_policies(held):
             self.calls.append("View")
-        super().see(number, epoch, state, succeeds)
+        super().see(number, epoch, state, held, succeeds)
 
     def note(self, message, name, route):
         """Notes the calls that a message makes, but for the view of an ask."""

@@ -1,14 +1,16 @@
 """Changes of the deployment itself while it is asked: domains that move, and more shards."""
 import os
 import pathlib
+import signal
 import sqlite3
+import subprocess
 import sys
 import time
 import zlib
 
 from . import clients
 from .clients import Deciders, Makers, decision, many, message, once, read, status
-from .machine import LIBRARY, pid, sh, shards
+from .machine import LIBRARY, pid, sh, shards, wait_until
 
 
 def shown_of(name):
@@ -68,12 +70,45 @@ def cut_moves(machine, checks, before):
     checks.expect("the second one goes", status(once(removes, port)), 200)
 
 
+def killed(machine, checks):
+    """A move that is ended at some moment, by a kill or since the terminal is closed: given again it is made whole.
+    By a closed terminal no shard stays away."""
+    operator = machine.operator
+    operator.clear()
+    operator.makes("mover", "Deny")
+    before, place = shown_of("mover"), int(shards("where", "mover"))
+    sys.path.insert(0, str(LIBRARY))
+    from operating import settings, talk
+    talk.settle(settings.read())
+    ends = [(how, delay) for how in (signal.SIGKILL, signal.SIGHUP) for delay in (0, 0.03, 0.08, 0.15)]
+    is_begun = lambda: "mover moving" in pathlib.Path("/etc/haproxy/domains.map").read_text()
+    found = []
+    for turn, (how, delay) in enumerate(ends):
+        one, other = (place + turn) % 4, (place + turn + 1) % 4
+        begun = subprocess.Popen(["pdpd-shards", "move", "mover", str(one), str(other)],
+                                 stdout=subprocess.DEVNULL, stderr=subprocess.DEVNULL)
+        wait_until(is_begun, "a move doesn't begin")
+        time.sleep(delay)
+        begun.send_signal(how)
+        found.append(begun.wait())
+        if how == signal.SIGHUP:
+            is_there = lambda: pid(one) and pid(other)
+            wait_until(is_there, "a shard stays away behind a move whose terminal was closed", 10)
+        shards("move", "mover", one, other)
+        checks.expect(f"behind {how.name} after {delay} s", shown_of("mover"), before)
+        checks.expect("it is listed once", operator.names(), ["mover"])
+    some = -signal.SIGKILL in found, 128 + signal.SIGHUP in found
+    checks.expect(f"some were ended on their way: {found}", some, (True, True))
+    checks.say(f"moves that were ended: {found.count(0)} of {len(found)} had been done by then")
+
+
 def copied(source, target):
     """Copies the domain as a move that is cut behind its copy leaves it."""
     sys.path.insert(0, str(LIBRARY))
     from operating import moving
     one, other = (sqlite3.connect(path, isolation_level=None) for path in (source, target))
     moving.put_rows(one, other, "mover")
+    other.execute("COMMIT")
     one.close()
     other.close()
     for path in (source, target):

@@ -194,10 +194,10 @@ class Makers:
         self.load.__exit__(*what)
 
 
-def wrk(script, connections, seconds, port=PLAIN):
+def wrk(script, connections, seconds, at=f"http://127.0.0.1:{PLAIN}"):
     """What wrk says of so many connections that ask for so long."""
     words = ["wrk", "-t1", f"-c{connections}", f"-d{seconds}s", "--latency", "--timeout", "20s"]
-    words += ["-s", script, f"http://127.0.0.1:{port}/"]
+    words += ["-s", script, f"{at}/"]
     said = subprocess.run(words, capture_output=True, text=True, check=True).stdout
     bad = re.search(r"Non-2xx or 3xx responses: (\d+)", said)
     errors = re.search(r"Socket errors: .*", said)

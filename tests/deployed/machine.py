@@ -21,7 +21,7 @@ OWN = ("/etc", "/usr/local", "/var", "/tmp")
 WANTED = {
     "haproxy": "haproxy", "runsvdir": "runit", "sv": "runit", "chpst": "runit", "svlogd": "runit",
     "curl": "curl", "wrk": "wrk", "openssl": "openssl", "unshare": "util-linux", "ip": "iproute2",
-    "systemd-analyze": "systemd", "useradd": "passwd",
+    "systemd-analyze": "systemd", "useradd": "passwd", "strace": "strace",
 }
 INSIDE = "DEPLOY_TEST_FOLDER"
 PLAIN = 8080
@@ -79,6 +79,8 @@ class Machine:
 
     def __init__(self, folder):
         self.folder = pathlib.Path(folder)
+        # as root has it, and not as tests/serving.py
+        os.umask(0o022)
         sh("mount --make-rprivate / && mount -o remount,ro,bind /sys && ip link set lo up")
         for own in OWN:
             self.own(own)
@@ -168,4 +170,8 @@ def admin(command):
 
 def logs():
     """What HAProxy has under way, and the ends of all logs."""
-    return admin("show sess") + sh("tail -n 15 /var/log/pdpd/*/current 2>&1 || true")
+    try:
+        sessions = admin("show sess")
+    except OSError as fault:
+        sessions = f"HAProxy isn't there: {fault}\n"
+    return sessions + sh("tail -n 15 /var/log/pdpd/*/current 2>&1 || true")

@@ -2,6 +2,9 @@
 import importlib.machinery
 import importlib.util
 import json
+import os
+import shutil
+import subprocess
 import sys
 import time
 
@@ -60,6 +63,27 @@ def without_moment(found):
     text = json.dumps(value)
     kept = {name: value for name, value in found[1].items() if name != "content-length"}
     return found[0], kept, clients.re.sub(r"\d{4}-\d\d-\d\dT\d\d:\d\d:\d\dZ", "MOMENT", text)
+
+
+def desk(machine, checks):
+    """The policy author's desk deploys a folder through the proxy, over TLS; again there is nothing to do."""
+    operator, folder = machine.operator, machine.folder / "ward"
+    operator.clear()
+    token = operator.message("POST", "/ward/tokens", '{"Role":"admin","Token":"ward-admin-1"}')
+    checks.expect("the domain", [status(once(data)) for data in (operator.creates("ward"), token)], [201, 200])
+    shutil.copytree(TOP / "examples" / "ward", folder)
+    place = json.loads((folder / "domain.json").read_text())
+    (folder / "domain.json").write_text(json.dumps({**place, "Server": "https://localhost", "Domain": "ward"}))
+    trusts = {"DALVEZOUR_TOKEN": "ward-admin-1", "SSL_CERT_FILE": "/etc/haproxy/pdpd.crt"}
+    for word, *more, wanted in (("deploy", "--yes", "Deployed: number 1."), ("status", "--strict", "is what runs there"),
+                                ("deploy", "--yes", "Nothing is to be done.")):
+        words = [TOP / "author" / "policy", word, "--program", "none", *more, folder]
+        ran = subprocess.run(words, env={**os.environ, **trusts}, capture_output=True, text=True, check=False)
+        checks.expect(f"policy {word}: {ran.stdout}{ran.stderr}", (ran.returncode, wanted in ran.stdout), (0, True))
+    trusts.pop("SSL_CERT_FILE")
+    ran = subprocess.run(words, env={**os.environ, **trusts}, capture_output=True, text=True, check=False)
+    found = ran.returncode, "certificate verify failed" in " ".join(ran.stderr.split())
+    checks.expect(f"a certificate that isn't trusted: {ran.stderr}", found, (4, True))
 
 
 # ---- odd requests

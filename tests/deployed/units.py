@@ -2,14 +2,20 @@
 import os
 import pathlib
 import re
+import shutil
+import sqlite3
 import subprocess
 
+from .clients import Deciders, Makers, Operator, many, once, policy_text
+from .clients import status as status_of
 from .machine import LIBRARY, SETTINGS, TOP, pid, sh, shards
 
 SWITCHES = ("KEEP=1", "RETRY=1", "THREADS=4", "MAXCONN=4", "RATE=100", "PLAIN_BIND=127.0.0.1:8081",
-            "TLS_BIND=", "HAPROXY_USER=", "LOG=/dev/log local0", "RETRY=1 THREADS=4 RATE=5")
+            "TLS_BIND=", "TLS_BIND=[::]:443 v4v6", "HAPROXY_USER=", "LOG=/dev/log local0", "RETRY=1;THREADS=4;RATE=5")
 CURL = "curl --silent --show-error --cacert /etc/haproxy/pdpd.crt"
 DOMAINS = "https://localhost/operator/domains"
+TRACED = 7198
+C_LIBRARY = {"linux-vdso.so.1", "libc.so.6", "ld-linux-x86-64.so.2"}
 WRONG = ("SHARDS=0", "SHARDS=65", "SHARDS=four", "KEEP=2", "NO_SUCH=1", "a line", "SUPERVISOR=cron")
 
 
@@ -28,6 +34,19 @@ def walk(machine, checks):
     files = pathlib.Path("/var/lib/pdpd").glob("[0-3]/*")
     checks.expect("who may read the files", {mode(path) for path in files}, {"600"})
     machine.set(PLAIN_BIND="127.0.0.1:8080")
+
+
+def decision(machine, checks):
+    """The messages of docs/API.md up to a first decision, over TLS, as the page says."""
+    page = (TOP / "docs" / "API.md").read_text()
+    block = re.search(r"(?ms)^## From nothing to a decision\n(.*?)^[A-Z]", page)[1]
+    lines = [line.strip().removeprefix("$ ") for line in block.splitlines() if line.strip().startswith("$ curl ")]
+    settings = re.findall(r"(?m)^    # (operator=.*|at=.*); alias|^    # (operator=.*)", (TOP / "docs" / "OPERATING.md").read_text())
+    first = "\n".join(one or other for one, other in settings)
+    trusting = 'curl() { command curl --silent --cacert /etc/haproxy/pdpd.crt "$@"; echo; }'
+    said = sh("\n".join([first, trusting, "cd /usr/local/share/doc/pdpd", *lines])).splitlines()
+    checks.expect("messages", (len(lines), [line for line in said if line][:7]), (8, ["{}"] * 7))
+    checks.expect(f"a decision: {said[-1]}", re.search(r'"Decision":"(Permit|Deny)"', said[-1]) is not None, True)
 
 
 def owner(process):
@@ -54,8 +73,7 @@ def made_with(folder, text):
 def configurations(machine, checks):
     """HAProxy takes the configuration for 1, 2 and 4 shards and each switch; wrong settings are told."""
     for count, switch in [(1, ""), (2, ""), *((4, switch) for switch in ("", *SWITCHES))]:
-        words = [switch] if "log" in switch else switch.split()
-        lines = "\n".join(re.sub("=(.*)", r'="\1"', word) for word in words)
+        lines = "\n".join(re.sub("=(.*)", r'="\1"', word) for word in switch.split(";"))
         found, said = made_with(machine.folder, f"SHARDS={count}\n{lines}")
         checks.expect(f"{count} shards, {switch}: {said}", found, 0)
     for line in WRONG:
@@ -82,6 +100,11 @@ def installed(machine, checks):
         checks.expect(f"the place in {file}", found, (True, False))
     said = sh(f"{there}/opt/pdpd/lib/pdpd/pdpd-shards 2>&1 || true")
     checks.expect("it runs", said.startswith("pdpd-shards:"), True)
+    lost = lost_links(folder / "docs" / "OPERATING.md")
+    checks.expect("links of the page that lead nowhere in the archive", lost, [])
+    needed = sh(f"ldd {folder}/pdpd").split("\n")
+    libraries = {line.split()[0].rpartition("/")[2] for line in needed if line.strip()}
+    checks.expect("what the program needs: the C library", libraries, C_LIBRARY)
     sh(f"echo >> {folder}/pdpd")
     said = sh(f"{folder}/deploy/install {there}/x 2>&1 || true")
     checks.expect("a program that is another", "FAILED" in said, True)
@@ -90,6 +113,106 @@ def installed(machine, checks):
     checks.expect("the archive", archive.stat().st_size > 10_000, True)
     drawn = sh(f"{TOP}/deploy/draw --show")
     checks.expect("the drawing is that of its text", drawn, (TOP / "docs" / "deployment.svg").read_text())
+
+
+def calls(machine, checks):
+    """The system calls of a shard, from the shell on, are those that its unit allows."""
+    at, unit = machine.folder / "calls", pathlib.Path("/etc/systemd/system/pdpd@.service").read_text()
+    (at / "0").mkdir(parents=True)
+    (at / "shards.conf").write_text(f"DATA={at}\nFIRST_PORT={TRACED}\n")
+    surroundings = {**os.environ, "PDPD_SETTINGS": str(at / "shards.conf"), "LC_ALL": "C"}
+    words = ["strace", "-f", "-o", at / "trace", LIBRARY / "pdpd-run", "0"]
+    messages = Operator(pathlib.Path("/etc/pdpd/token").read_text().strip()).making("acme", "acme-token-1", policy_text())
+    with subprocess.Popen(words, env=surroundings, stdout=subprocess.PIPE) as traced:
+        traced.stdout.readline()
+        try:
+            answers = [status_of(once(data, TRACED)) for data in messages]
+        finally:
+            sh(f"kill $(cat /proc/{traced.pid}/task/{traced.pid}/children)")
+    checks.expect("its answers", answers, [201, 200, 201, 200, 200])
+    made = set(re.findall(r"(?m)^\d+ +(\w+)\(", (at / "trace").read_text()))
+    checks.expect("it makes system calls", {"execve", "fdatasync", "accept4"} <= made, True)
+    checks.expect("and none that the unit forbids", sorted(made - allowed_by(unit)), [])
+
+
+def allowed_by(unit):
+    """The system calls that the lines SystemCallFilter of a unit leave (systemd.exec(5))."""
+    sets, name = {}, ""
+    for line in sh("systemd-analyze syscall-filter --no-pager").splitlines():
+        word = line.strip()
+        if line.startswith("@"):
+            name = word
+        elif word and not word.startswith("#"):
+            sets.setdefault(name, []).append(word)
+    members = lambda word: set().union(*map(members, sets[word])) if word in sets else {word}
+    allowed = set()
+    for line in re.findall(r"(?m)^SystemCallFilter=(.*)", unit):
+        named = set().union(*map(members, line.lstrip("~").split()))
+        allowed = allowed - named if line.startswith("~") else allowed | named
+    return allowed
+
+
+def lost_links(page):
+    """The files to which a page leads, and that aren't there."""
+    targets = re.findall(r"\]\(([^)#:]+)[^):]*\)", page.read_text())
+    return sorted({target for target in targets if not (page.parent / target).exists()})
+
+
+def certificate(machine, checks):
+    """A new certificate, by the page's words: who trusts it alone is answered, who trusts the old one alone isn't."""
+    sh(f"""cp /etc/haproxy/pdpd.crt {machine.folder}/old.crt; umask 077; cd /etc/haproxy
+    openssl req -x509 -newkey ec -pkeyopt ec_paramgen_curve:P-256 -nodes -days 30 -subj /CN=localhost \
+        -addext subjectAltName=DNS:localhost -keyout pdpd.key -out pdpd.crt 2>&1; cat pdpd.crt pdpd.key > pdpd.pem""")
+    shards("reload")
+    code = lambda trusted: sh(f'curl --silent --cacert {trusted} -o /dev/null -w "%{{http_code}}" {DOMAINS} || true')
+    found = code("/etc/haproxy/pdpd.crt"), code(machine.folder / "old.crt")
+    checks.expect("the new certificate, and the old one", found, ("401", "000"))
+
+
+def upgrade(machine, checks):
+    """The archive is installed again under load, as a newer one would be: all runs what is installed then, and
+    nothing is lost. A file of another schema is refused, and stays as it was."""
+    machine.operator.clear()
+    asks = many(machine, 8)
+    (archive,) = machine.folder.glob("pdpd-*.tar.gz")
+    names = (*(f"pdpd-{shard}" for shard in range(4)), "pdpd-watchdog", "pdpd-backups")
+    before = {name: service(name) for name in names}
+    with Deciders(asks, 6) as deciders, Makers(machine.operator, "u") as makers:
+        sh(f"mkdir {machine.folder}/again && tar xf {archive} -C {machine.folder}/again")
+        sh(f"{machine.folder}/again/pdpd-*/deploy/install /usr/local")
+        told = shards("upgrade")
+    checks.expect("no decision is lost, or another's", deciders.wrong, [])
+    checks.expect("no change is lost, or made twice", makers.wrong + makers.unanswered, [])
+    made = set(makers.acknowledged)
+    checks.expect("each change is there", made - set(machine.operator.names()), set())
+    checks.expect("what still runs as before", [name for name in names if service(name) == before[name]], [])
+    runs = {os.path.samefile(f"/proc/{pid(shard)}/exe", LIBRARY / "pdpd") for shard in range(4)}
+    checks.expect("all shards run what is installed", runs, {True})
+    checks.expect("each is told", told.count("is restarted"), 4)
+    checks.say(f"an upgrade: {deciders.answered} decisions, the longest after {deciders.longest:.2f} s, and "
+               f"{len(made)} changes")
+    another_schema(machine, checks)
+
+
+def service(name):
+    """The process of a service."""
+    return pathlib.Path(f"/etc/service/{name}/supervise/pid").read_text().strip()
+
+
+def another_schema(machine, checks):
+    """A file whose tables are of another schema."""
+    name = re.search(r"/0/([^,]+), ", shards("backup", 0))[1]
+    folder = machine.folder / "schema"
+    shutil.copytree(f"/var/lib/pdpd-backups/0/{name}", folder)
+    with sqlite3.connect(folder / "pdpd.db") as base:
+        base.execute("UPDATE meta SET schema_no = schema_no + 1")
+    base.close()
+    before = (folder / "pdpd.db").read_bytes()
+    words = ["pdpd", "serve", folder / "pdpd.db", "127.0.0.1:7199", "/etc/pdpd/token", "1"]
+    ran = subprocess.run(words, capture_output=True, text=True, check=False, timeout=20)
+    found = ran.returncode, "not a store of this program (schema)" in ran.stderr
+    checks.expect(f"another schema: {ran.stderr}", found, (4, True))
+    checks.expect("and the file stays", (folder / "pdpd.db").read_bytes() == before, True)
 
 
 def status(machine, checks):
@@ -102,6 +225,14 @@ def status(machine, checks):
     said = shards("status", status=1)
     found = re.search(r"(?m)^1 +down ", said) is not None, "WRONG: shard 1 answers 503" in said
     checks.expect("one is away", found, (True, True))
+    checks.expect("it has no backup", "shard 1 doesn't run" in shards("backup", 1, status=1), True)
+    token = pathlib.Path("/etc/pdpd/token")
+    held = token.read_text()
+    token.write_text("another-token-1\n")
+    said = shards("status", status=1)
+    found = re.search(r"(?m)^0 +up +- ", said) is not None, "shard 0 was started with another operator's token" in said
+    checks.expect("with a token that has changed", found, (True, True))
+    token.write_text(held)
     sh("sv up /etc/service/pdpd-1")
     shards("restart", 1)
 

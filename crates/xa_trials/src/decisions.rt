@@ -63,9 +63,14 @@ pub fn decision(answer: &mut Answer, fields: &[&str]) -> Result<(), NoAnswer> {
         return Err(NoAnswer::Malformed);
     };
     let alloc = answer.alloc();
-    let case = case_of(alloc, fields)?;
-    let view = View::new(alloc, case.active, case.root, case.source)?;
-    match xa_decide::answer(alloc, &view, &bytes_of(alloc, body)?, case.moment)? {
+    let Case {
+        active,
+        root,
+        source,
+        moment,
+    } = case_of(alloc, fields)?;
+    let view = View::new(alloc, active.as_slice(), &root, source)?;
+    match xa_decide::answer(alloc, &view, &bytes_of(alloc, body)?, moment)? {
         Some(body) => answer.field("", &body),
         None => answer.word("!NotJson"),
     }

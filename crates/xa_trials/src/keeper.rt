@@ -93,6 +93,7 @@ fn read<R: Records>(
 ) -> Result<(), NoAnswer> {
     match word {
         "faults" => answer.name("", &records.faults()),
+        "open" => answer.name("", &records.is_open()),
         "domains" => domains(answer, records),
         "gate" | "role" => return gate(answer, records, name, text),
         "view" => return view(answer, records, name),

@@ -10,6 +10,7 @@ mod decisions;
 mod documents;
 mod driven;
 mod field;
+mod files;
 mod fronts;
 mod functions;
 mod keeper;

@@ -1,19 +1,32 @@
 //! Rows of stores that are opened as a keeper's. The first field behind the kind says how the store begins: `empty`, or `keeper`, with the tables of a
-//! keeper without domains. Statements of SQL follow, which are run. The answer says
-//! whether the keeper is opened and the store has a keeper's tables and no others, and of a store that is refused whether it holds something else than before.
+//! keeper without domains. Statements of SQL follow, which are run. Then a crash is taken of its files, in memory, and what it leaves is opened at both of its
+//! ends, which have to be answered alike. The answer says whether the keeper is opened and the store has a keeper's tables and no others, and of a store that is
+//! refused whether it holds something else than before.
 use crate::answer::Answer;
 use crate::field::kept_text;
-use crate::keepers::{connection, tables};
+use crate::files::{File, Store, after_crash, connection_to, files_under, keeper_of, new_files};
 use crate::no_answer::NoAnswer;
-use sqlite::{Connection, MemStore, Row};
+use sqlite::{Connection, Files, Row};
 use std::alloc::Global;
 use xa_store::{OpenError, SqlRecords};
 
-/// A store in memory that begins so.
-fn new_store(alloc: Global, word: &str) -> Result<Connection<MemStore>, NoAnswer> {
+/// A connection to the store in the files.
+fn opened(alloc: Global, files: Files<File>) -> Result<Connection<Store>, NoAnswer> {
+    match connection_to(alloc, files) {
+        Ok(conn) => Ok(conn),
+        Err(_) => Err(NoAnswer::Memory),
+    }
+}
+
+/// A store in files that begins so.
+fn new_store(alloc: Global, word: &str) -> Result<Connection<Store>, NoAnswer> {
+    let files = new_files(alloc, u64::MAX, u64::MAX);
     match word {
-        "empty" => connection(alloc),
-        "keeper" => Ok(tables(alloc)?.into_connection()),
+        "empty" => opened(alloc, files),
+        "keeper" => match keeper_of(alloc, files) {
+            Ok(records) => Ok(records.into_connection()),
+            Err(_) => Err(NoAnswer::Memory),
+        },
         _ => Err(NoAnswer::Malformed),
     }
 }
@@ -23,7 +36,7 @@ fn store_after_statements(
     alloc: Global,
     word: &str,
     statements: &[&str],
-) -> Result<Connection<MemStore>, NoAnswer> {
+) -> Result<Connection<Store>, NoAnswer> {
     let mut conn = new_store(alloc, word)?;
     for field in statements {
         if conn
@@ -37,7 +50,7 @@ fn store_after_statements(
 }
 
 /// The rows that the query shows.
-fn rows_of(conn: &mut Connection<MemStore>, sql: &str) -> Result<Vec<Row>, NoAnswer> {
+fn rows_of(conn: &mut Connection<Store>, sql: &str) -> Result<Vec<Row>, NoAnswer> {
     match conn.query_all(sql, &[]) {
         Ok(rows) => Ok(rows),
         Err(_) => Err(NoAnswer::Malformed),
@@ -45,7 +58,7 @@ fn rows_of(conn: &mut Connection<MemStore>, sql: &str) -> Result<Vec<Row>, NoAns
 }
 
 /// What the store holds: each table by the statement that made it, and its rows.
-fn contents(alloc: Global, conn: &mut Connection<MemStore>) -> Result<String, NoAnswer> {
+fn contents(alloc: Global, conn: &mut Connection<Store>) -> Result<String, NoAnswer> {
     let made = rows_of(
         conn,
         "SELECT name, sql FROM sqlite_schema WHERE type = 'table' ORDER BY name",
@@ -64,8 +77,8 @@ fn contents(alloc: Global, conn: &mut Connection<MemStore>) -> Result<String, No
 /// Whether the store that is opened has a keeper's tables and no others, or why it isn't opened; and its connection.
 fn judgement_of(
     alloc: Global,
-    conn: Connection<MemStore>,
-) -> (Result<bool, OpenError>, Connection<MemStore>) {
+    conn: Connection<Store>,
+) -> (Result<bool, OpenError>, Connection<Store>) {
     match SqlRecords::open(alloc, conn) {
         Ok(keeper) => {
             let is_ours = keeper.is_ours();
@@ -83,10 +96,10 @@ fn push_opened(answer: &mut Answer, is_ours: bool) {
     }
 }
 
-/// What opening the store answers: whether it has a keeper's tables and no others; or why it isn't opened, and whether it holds something else then.
-pub fn opening(answer: &mut Answer, word: &str, statements: &[&str]) -> Result<(), NoAnswer> {
+/// Opens the store in the files as a keeper's: whether it has a keeper's tables and no others; or why it isn't opened, and whether it holds something else then.
+fn judge(answer: &mut Answer, files: Files<File>) -> Result<(), NoAnswer> {
     let alloc = answer.alloc();
-    let mut conn = store_after_statements(alloc, word, statements)?;
+    let mut conn = opened(alloc, files)?;
     let before = contents(alloc, &mut conn)?;
     let (judgement, mut conn) = judgement_of(alloc, conn);
     match judgement {
@@ -98,5 +111,17 @@ pub fn opening(answer: &mut Answer, word: &str, statements: &[&str]) -> Result<(
             }
         }
     }
+    Ok(())
+}
+
+/// What opening the store answers after a crash: one that leaves what was synced alone, and one that leaves all that was written, which has to be answered the same.
+pub fn opening(answer: &mut Answer, word: &str, statements: &[&str]) -> Result<(), NoAnswer> {
+    let alloc = answer.alloc();
+    let conn = store_after_statements(alloc, word, statements)?;
+    let (synced, written) = after_crash(alloc, files_under(conn))?;
+    judge(answer, synced)?;
+    let mut other = Answer::new(alloc);
+    judge(&mut other, written)?;
+    answer.compare(&other);
     Ok(())
 }

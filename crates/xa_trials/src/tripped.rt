@@ -47,7 +47,7 @@ enum Run {
 }
 
 /// The messages of the script, each with its moment.
-fn messages_of(alloc: Global, events: &[&str]) -> Result<Vec<(Moment, Message)>, NoAnswer> {
+pub fn messages_of(alloc: Global, events: &[&str]) -> Result<Vec<(Moment, Message)>, NoAnswer> {
     let mut session = Session::new(alloc);
     let mut moment = moment_of("0")?;
     let mut messages = Vec::new(alloc);

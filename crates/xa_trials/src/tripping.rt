@@ -118,10 +118,14 @@ fn count_reading<X>(faults: &mut u64, done: &Result<X, Failure>)
 }
 
 impl<R: Records> Records for Tripping<R> {
-    ghost custody = { λ t. record { kept = (R.custody t.inner).kept; sound = (R.custody t.inner).sound; clean = (R.custody t.inner).clean; may_leave = (R.custody t.inner).may_leave; faults = t.faults } };
+    ghost custody = { λ t. record { kept = (R.custody t.inner).kept; sound = (R.custody t.inner).sound; clean = (R.custody t.inner).clean; may_leave = (R.custody t.inner).may_leave; faults = t.faults; is_open = (R.custody t.inner).is_open } };
 
     fn faults(&self) -> u64 {
         self.faults
+    }
+
+    fn is_open(&self) -> bool {
+        self.inner.is_open()
     }
 
     fn gate(&mut self, alloc: Global, name: &Text) -> Result<Option<Gate>, Failure> {

@@ -1,0 +1,74 @@
+//! Stores over two files in memory, the database's and its log, and what a crash leaves of these.
+use crate::no_answer::NoAnswer;
+use sqlite::{Connection, FileStore, Files, Options};
+use sqlite_disk::{Crash, Disk, Fuse, Memory};
+use std::alloc::Global;
+use xa_store::SqlRecords;
+
+/// A file in memory, which passes on so many calls, and then is frozen.
+pub type File = Fuse<Memory>;
+
+/// A store over two of them.
+pub type Store = FileStore<File>;
+
+/// So few pages that both files are written and read again and again.
+const OPTIONS: Options = Options {
+    cache_pages: 4,
+    spill_pages: 4,
+    checkpoint_frames: 4,
+    seed: 1,
+};
+
+/// An empty log and an empty file, of which each passes on so many calls.
+pub fn new_files(alloc: Global, log: u64, db: u64) -> Files<File> {
+    Files {
+        log: Fuse::new(Memory::new(alloc), log),
+        db: Fuse::new(Memory::new(alloc), db),
+    }
+}
+
+/// A connection to the store in the files; the files, where it can't be opened.
+pub fn connection_to(alloc: Global, files: Files<File>) -> Result<Connection<Store>, Files<File>> {
+    if !files.may_be_used() {
+        return Err(files);
+    }
+    match Connection::open_files(alloc, files, OPTIONS) {
+        Ok(conn) => Ok(conn),
+        Err((_, left)) => Err(left.into_files()),
+    }
+}
+
+/// The files under the connection. Nothing is written to them.
+pub fn files_under(conn: Connection<Store>) -> Files<File> {
+    conn.into_store().close()
+}
+
+/// A keeper of the store in the files; the files, where it can't be opened.
+pub fn keeper_of(alloc: Global, files: Files<File>) -> Result<SqlRecords<Store>, Files<File>> {
+    match SqlRecords::open(alloc, connection_to(alloc, files)?) {
+        Ok(records) => Ok(records),
+        Err((_, conn)) => Err(files_under(conn)),
+    }
+}
+
+/// A file that never freezes, with all that was written to this one.
+fn as_written(alloc: Global, file: &File) -> Result<File, NoAnswer> {
+    let mut copy = Memory::new(alloc);
+    copy.write_at(0, file.inner().bytes())?;
+    copy.sync()?;
+    Ok(Fuse::new(copy, u64::MAX))
+}
+
+/// What a crash leaves at its two ends: what was synced alone, and all that was written.
+pub fn after_crash(
+    alloc: Global,
+    mut files: Files<File>,
+) -> Result<(Files<File>, Files<File>), NoAnswer> {
+    let written = Files {
+        log: as_written(alloc, &files.log)?,
+        db: as_written(alloc, &files.db)?,
+    };
+    files.log.crash();
+    files.db.crash();
+    Ok((files, written))
+}
