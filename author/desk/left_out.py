@@ -72,7 +72,7 @@ FUNCTIONS = [
     (r"access-permitted", "No request is asked within another. Where the other decision is one of the same "
                           "policies, refer to them by a "
                           "PolicyIdReference and combine them."),
-    (r"url-string-concatenate", "It is anyURI-from-string of string-concatenate of the texts, the first of "
+    (r"ur[il]-string-concatenate", "It is anyURI-from-string of string-concatenate of the texts, the first of "
                                 "them by string-from-anyURI."),
     (r"xpath-.*|xpathExpression-.*", "XPath is left out: the server takes no XML. Give what it would find "
                                      "as an attribute."),

@@ -6,10 +6,15 @@ import os
 import pathlib
 import shutil
 import subprocess
+import sys
 import tempfile
 from dataclasses import dataclass
 
 from .model import TOP, inputs, rows
+
+sys.path.insert(1, str(TOP / "tests"))
+
+import programs  # noqa: E402
 
 CRATE = TOP / "crates" / "xa_trials"
 PLACES = (CRATE / "out" / "xa_trials", TOP / "build" / "xa_trials")
@@ -100,19 +105,27 @@ def found(named: str = "") -> Program | None:
     return None
 
 
-def warning_of(path: pathlib.Path) -> str:
-    """What isn't sure about the program there: whether it is proved, of the sources as they are now."""
+def is_of_these(path: pathlib.Path) -> bool:
+    """Whether the program there is known to be proved, of the sources as they are now: by what `policy build`
+    notes, or by what `make prove` does (tests/programs.py)."""
     stamp = stamp_of(path)
-    if stamp.is_file():
-        is_of_these = stamp.read_text(encoding="ascii").strip() == fingerprint()
-    else:
-        is_of_these = path == PLACES[0] and path.stat().st_mtime >= max(source.stat().st_mtime for source in sources())
-    return "" if is_of_these else f"whether {path.relative_to(TOP)} is proved, and of these sources, isn't known: `author/policy build` proves and builds it."
+    if stamp.is_file() and stamp.read_text(encoding="ascii").strip() == fingerprint():
+        return True
+    try:
+        return path == PLACES[0] and programs.proved(CRATE.name) is not None
+    except programs.NotBuilt:  # there is no toolchain to compare with
+        return False
+
+
+def warning_of(path: pathlib.Path) -> str:
+    """What isn't sure about the program there."""
+    return "" if is_of_these(path) else (f"whether {path.relative_to(TOP)} is proved, and of these sources, isn't known: "
+                                         "`author/policy build` proves and builds it.")
 
 
 def is_built() -> bool:
     """Whether the program is there, built of the sources as they are now."""
-    return PLACES[0].is_file() and stamp_of(PLACES[0]).is_file() and not warning_of(PLACES[0])
+    return PLACES[0].is_file() and is_of_these(PLACES[0])
 
 
 def built() -> int:
@@ -125,6 +138,7 @@ def built() -> int:
         print("The toolchain's command rt isn't on the path: see CONTRIBUTING.md.")
         return 1
     print("Proving and building xa_trials; from nothing this takes long, after small changes a minute.", flush=True)
+    made_of = programs.begun([CRATE.name])
     with open(CRATE / "stdin", "rb") as stored:
         ran = subprocess.run(["rt", "run"], cwd=CRATE, stdin=stored, stdout=subprocess.PIPE, check=False)
     if ran.returncode != 0:
@@ -133,6 +147,7 @@ def built() -> int:
     if ran.stdout != (CRATE / "stdout").read_bytes():
         print(f"{name} is proved, but answers its stored rows otherwise.")
         return 1
+    programs.ended(made_of)
     stamp_of(PLACES[0]).write_text(fingerprint() + "\n", encoding="ascii")
     PLACES[1].parent.mkdir(exist_ok=True)
     for path in (PLACES[0], stamp_of(PLACES[0])):

@@ -7,7 +7,6 @@ and else the model's server in Python.
 from __future__ import annotations
 
 import contextlib
-import functools
 import http.server
 import io
 import itertools
@@ -32,6 +31,7 @@ sys.path.insert(1, str(TOP / "agreement" / "model"))
 
 import machines  # noqa: E402
 import messages  # noqa: E402
+import programs  # noqa: E402
 import serving  # noqa: E402
 from desk import wire  # noqa: E402
 
@@ -141,17 +141,21 @@ class ModelServed:
         self.server.server_close()
 
 
-@functools.cache
-def say_which() -> None:
-    """Says, one time, which server the tests speak with."""
-    print(f"Deployment is tested over {PDPD or 'the server of the model in Python, since pdpd is not built'}.")
+def server_shown() -> str:
+    """Which server the tests speak with."""
+    if PDPD is None:
+        return "the model's server in Python, since pdpd isn't built (`make pdpd`)"
+    try:
+        is_proved = pathlib.Path(PDPD) == programs.proved("pdpd")
+    except programs.NotBuilt:  # there is no toolchain to compare with
+        is_proved = False
+    return f"{PDPD}, " + ("proved of these sources" if is_proved else "taken as it is")
 
 
 class Running:
     """A server that can be killed, and started again over what it kept."""
 
     def __init__(self) -> None:
-        say_which()
         self.folder = pathlib.Path(tempfile.mkdtemp(prefix="deploy-"))
         (self.folder / "token").write_text(serving.OPERATOR + "\n", encoding="ascii")
         self.model = machines.Server(serving.OPERATOR.encode())

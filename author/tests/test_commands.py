@@ -11,8 +11,9 @@ import tempfile
 import time
 import unittest
 import xml.etree.ElementTree as xml
+from unittest import mock
 
-from .desk_tests import POLICY, PROGRAM, REQUEST, ROWS, TOP, DeskTest, cli, edited, executed, run
+from .desk_tests import POLICY, PROGRAM, REQUEST, ROWS, TOP, DeskTest, cli, edited, executed, program, run
 
 all_agree = cli.all_agree
 
@@ -82,6 +83,16 @@ class Commands(DeskTest):
     def test_a_program_that_doesnt_run(self) -> None:
         self.assertEqual(run("ask", *ASK, files=FILES, program="/bin/false")[0], 3)
         self.assertEqual(run("ask", *ASK, files=FILES, program="/no/such")[0], 3)
+
+    def test_which_program_is_known_to_be_proved(self) -> None:
+        """One of which `policy build` or `make prove` has noted that it is of these sources, and no other."""
+        built, no_note = program.CRATE / "out" / "no-such", program.programs.NotBuilt("no toolchain")
+        with mock.patch.object(program, "PLACES", (built, built)):
+            for found, is_known in ((mock.Mock(return_value=built), True), (mock.Mock(return_value=None), False),
+                                    (mock.Mock(side_effect=no_note), False)):
+                with mock.patch.object(program.programs, "proved", found):
+                    self.assertEqual(program.warning_of(built) == "", is_known)
+                    self.assertFalse(program.is_built())
 
     def test_ask(self) -> None:
         status, written, _ = run("ask", *ASK, files=FILES)

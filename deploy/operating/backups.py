@@ -18,7 +18,7 @@ import sys
 import time
 
 from . import moving, supervisor
-from .settings import Wrong, alone
+from .settings import Wrong, alone, unbroken
 
 FILES = ("pdpd.db", "pdpd.db-wal")
 PATIENCE = 60
@@ -53,6 +53,8 @@ def stopped(pid):
 
 def copied(source, target):
     """Copies the files that are there: just after its first start a shard may have no log yet."""
+    if not (source / FILES[0]).exists():
+        raise Wrong(f"{source / FILES[0]} isn't there: its program has hardly begun")
     for name in FILES:
         if (source / name).exists():
             subprocess.run(["cp", "--reflink=auto", str(source / name), str(target / name)], check=True)
@@ -116,11 +118,14 @@ def backup(settings, shard):
     kept = pathlib.Path(settings.backups) / str(shard)
     for folder in (kept.parent, kept):
         folder.mkdir(mode=0o700, exist_ok=True)
+    # what a backup that was killed has left; no other one is under way (`alone`)
+    for left in kept.glob(".[0-9]*"):
+        shutil.rmtree(left)
     made = kept / f".{name}"
     made.mkdir(mode=0o700)
     try:
         began = time.perf_counter()
-        with stopped(pid):
+        with unbroken(), stopped(pid):
             copied(settings.folder(shard), made)
         took = time.perf_counter() - began
         # where its domains are found, for a machine that begins anew
@@ -132,6 +137,7 @@ def backup(settings, shard):
         synced(made)
         domains = opened(settings, made)
         made.rename(kept / name)
+        synced(kept / name)
     finally:
         shutil.rmtree(made, ignore_errors=True)
     for old in backups_of(settings, shard)[:-settings.keep_backups]:

@@ -4,6 +4,7 @@
   pdpd-shards services                 has the supervisor run all of it, now and after each start
   pdpd-shards reload                   has HAProxy read its files: its configuration, the certificate
   pdpd-shards restart [SHARD]          restarts the shards one after another, or one
+  pdpd-shards upgrade                  has all of it run what a new archive has brought
   pdpd-shards status                   how they are; ends with 1 where something is wrong
   pdpd-shards where DOMAIN             which shard a domain is in
   pdpd-shards backup [SHARD]           copies shards' files as they are at one instant, and opens each copy
@@ -17,12 +18,14 @@
 Settings are in /etc/pdpd/shards.conf, or where PDPD_SETTINGS says. OPERATING.md is the page on all of it.
 Exit status: 0 done, 1 something is wrong, 2 usage.
 """
+import signal
+import sqlite3
 import subprocess
 import sys
 import zlib
 
 from . import backups, moving, proxy, status, supervisor, talk, watchdog
-from .settings import DOMAIN, Wrong, alone, read
+from .settings import DOMAIN, ENDS, Wrong, alone, read
 
 
 def told(what):
@@ -66,6 +69,16 @@ def restart(settings, words):
         with alone(settings), moving.away(settings, shard):
             pass
         told(f"shard {shard} is restarted")
+
+
+def upgrade(settings, words):
+    by = supervisor.of(settings)
+    talk.write_configuration(settings)
+    with alone(settings):
+        by.renew()
+        talk.reload(settings, by)
+    told("HAProxy, the watchdog and the backups run what is installed")
+    restart(settings, [])
 
 
 def show_status(settings, words):
@@ -131,6 +144,7 @@ WORDS = {
     "services": (services, (0,)),
     "reload": (reload, (0,)),
     "restart": (restart, (0, 1)),
+    "upgrade": (upgrade, (0,)),
     "status": (show_status, (0,)),
     "where": (where, (1,)),
     "backup": (backup, (0, 1)),
@@ -143,13 +157,21 @@ WORDS = {
 }
 
 
+def end_in_order():
+    """Has a signal to end run what is to be done at the end: messages that are held back go on."""
+    for number in ENDS:
+        if signal.getsignal(number) is not signal.SIG_IGN:
+            signal.signal(number, lambda number, _: sys.exit(128 + number))
+
+
 def main(words):
     call, counts = WORDS.get(words[0] if words else "", (None, ()))
     if len(words) - 1 not in counts or (words[0] == "config" and words[1:] not in ([], ["--write"])):
         print(__doc__, file=sys.stderr)
         return 2
+    end_in_order()
     try:
         return call(read(), words[1:]) or 0
-    except (Wrong, OSError, subprocess.SubprocessError) as fault:
+    except (Wrong, OSError, sqlite3.Error, subprocess.SubprocessError) as fault:
         print(f"pdpd-shards: {fault}", file=sys.stderr)
         return 1

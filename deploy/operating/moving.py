@@ -10,7 +10,7 @@ import sqlite3
 import time
 
 from . import supervisor, talk
-from .settings import DOMAIN, Wrong, set_in_file
+from .settings import DOMAIN, Wrong, set_in_file, unbroken
 
 SCHEMA = 1
 # the tables of a domain's rows, beside `number`, which each file gives itself (crates/xa_store/README.md)
@@ -26,14 +26,29 @@ class NotBegun(Wrong):
     """Why a move isn't made: nothing was changed."""
 
 
+@contextlib.contextmanager
+def unchanged(what):
+    """Where SQLite refuses something here, nothing was changed."""
+    try:
+        yield
+    except sqlite3.Error as fault:
+        raise NotBegun(f"{what}: {fault}") from None
+
+
+@contextlib.contextmanager
 def opened(settings, shard):
     """A shard's file, which no pdpd may have open."""
-    base = sqlite3.connect(f"file:{settings.folder(shard)}/pdpd.db?mode=rw", uri=True, isolation_level=None)
-    base.execute("PRAGMA foreign_keys = ON")
-    base.execute("PRAGMA synchronous = FULL")
-    if base.execute("SELECT schema_no FROM meta").fetchone() != (SCHEMA,):
-        raise NotBegun(f"the schema of shard {shard}'s file isn't number {SCHEMA}: this tool isn't of that pdpd")
-    return base
+    path = settings.folder(shard) / "pdpd.db"
+    with unchanged(f"{path} can't be opened"):
+        base = sqlite3.connect(f"file:{path}?mode=rw", uri=True, isolation_level=None)
+    with contextlib.closing(base):
+        with unchanged(f"{path} can't be read"):
+            base.execute("PRAGMA foreign_keys = ON")
+            base.execute("PRAGMA synchronous = FULL")
+            schema = base.execute("SELECT schema_no FROM meta").fetchone()
+        if schema != (SCHEMA,):
+            raise NotBegun(f"the schema of {path} isn't number {SCHEMA}: this tool isn't of that pdpd")
+        yield base
 
 
 def number_of(base, domain):
@@ -52,7 +67,8 @@ def rows_of(base, domain):
 
 
 def put_rows(one, other, domain):
-    """Puts all rows of the domain into the other file, under a number that it has never had."""
+    """Puts all rows of the domain into the other file, under a number that it has never had: the COMMIT is
+    still to come."""
     epoch, rows = rows_of(one, domain)
     other.execute("BEGIN IMMEDIATE")
     (new,) = other.execute("SELECT next_number FROM meta").fetchone()
@@ -62,7 +78,6 @@ def put_rows(one, other, domain):
         marks = ", ".join("?" * (columns.count(",") + 2))
         insert = f"INSERT INTO {table} (number, {columns}) VALUES ({marks})"
         other.executemany(insert, ((new, *row) for row in rows[table]))
-    other.execute("COMMIT")
 
 
 def same(one, other, domain):
@@ -76,13 +91,17 @@ def same(one, other, domain):
 def ended(settings, *shards):
     """The shards' programs are ended meanwhile; they answer again behind it."""
     by = supervisor.of(settings)
-    try:
-        for shard in shards:
-            by.stop(shard)
-        yield
-    finally:
-        for shard in shards:
-            by.start(shard)
+    with unbroken():
+        try:
+            for shard in shards:
+                try:
+                    by.stop(shard)
+                except Wrong as fault:
+                    raise NotBegun(str(fault)) from None
+            yield
+        finally:
+            for shard in shards:
+                by.start(shard)
     for shard in shards:
         talk.wait_until_up(settings, shard)
 
@@ -96,15 +115,18 @@ def away(settings, shard):
 
 def carried(settings, domain, one, other):
     """Carries the domain over between the two files; a move that was cut is gone on with."""
-    closing = contextlib.closing
-    with closing(opened(settings, one)) as source, closing(opened(settings, other)) as target:
-        has_source, has_target = number_of(source, domain) is not None, number_of(target, domain) is not None
-        if not has_source and not has_target:
-            raise NotBegun(f"neither shard {one} nor {other} has {domain}")
-        if has_source and has_target and not same(source, target, domain):
-            raise NotBegun(f"both shards have a domain {domain}, and not the same of it: look which is right")
-        if has_source and not has_target:
-            put_rows(source, target, domain)
+    with opened(settings, one) as source, opened(settings, other) as target:
+        with unchanged(f"{domain} can't be copied"):
+            has_source, has_target = number_of(source, domain) is not None, number_of(target, domain) is not None
+            if not has_source and not has_target:
+                raise NotBegun(f"neither shard {one} nor {other} has {domain}. If it is moving and no shard has it, "
+                               f"take its line out of {settings.map}, and give pdpd-shards reload")
+            if has_source and has_target and not same(source, target, domain):
+                raise NotBegun(f"both shards have a domain {domain}, and not the same of it: look which is right")
+            if has_source and not has_target:
+                put_rows(source, target, domain)
+        if target.in_transaction:
+            target.execute("COMMIT")
         talk.set_in_map(settings, {domain: other})
         source.execute("DELETE FROM domains WHERE name = ?", (domain,))
 

@@ -5,6 +5,7 @@ import os
 import pathlib
 import re
 import shlex
+import signal
 import tempfile
 
 LIBRARY = pathlib.Path(__file__).resolve().parent.parent
@@ -15,6 +16,8 @@ NUMBERS = {
     "WORK": (0, 2 ** 63), "IDLE": (0, 86_400), "THREADS": (1, 64), "KEEP": (0, 1), "RETRY": (0, 1),
     "MAXCONN": (1, 128), "RATE": (0, 1_000_000),
 }
+# the signals to end, as of a terminal that is closed
+ENDS = (signal.SIGINT, signal.SIGTERM, signal.SIGHUP)
 DOMAIN = re.compile(r"[a-z0-9][a-z0-9-]{0,31}")
 
 
@@ -98,6 +101,16 @@ def alone(settings):
     with open(pathlib.Path(settings.data) / ".lock", "w", encoding="ascii") as lock:
         fcntl.flock(lock, fcntl.LOCK_EX)
         yield
+
+
+@contextlib.contextmanager
+def unbroken():
+    """A signal to end waits meanwhile."""
+    before = signal.pthread_sigmask(signal.SIG_BLOCK, ENDS)
+    try:
+        yield
+    finally:
+        signal.pthread_sigmask(signal.SIG_SETMASK, before)
 
 
 def written(path, text, mode=0o644):

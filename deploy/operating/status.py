@@ -20,11 +20,11 @@ def age(settings, shard):
 
 def of_shard(settings, shard):
     """A line on a shard, and what is wrong with it."""
-    wrong = []
+    wrong, state, count = [], "up", "-"
     try:
         count = str(len(talk.domains_of(settings, shard)))
     except backups.Wrong as fault:
-        count = "-"
+        state = "up" if isinstance(fault, talk.OtherToken) else "down"
         wrong.append(str(fault))
     old = age(settings, shard)
     if old is None or old > OLD:
@@ -32,7 +32,7 @@ def of_shard(settings, shard):
     folder = settings.folder(shard)
     last = "none" if old is None else f"{old / 60:.0f} min ago"
     sizes = [f"{size(folder / name):.1f}" for name in backups.FILES]
-    return [str(shard), "down" if count == "-" else "up", count, *sizes, last], wrong
+    return [str(shard), state, count, *sizes, last], wrong
 
 
 def shown(settings):
@@ -54,4 +54,4 @@ def shown(settings):
     moving = [name for name, value in talk.map_in_file(settings).items() if value == "moving"]
     wrong += ["no domain can be made: a growth was cut; give pdpd-shards grow again" if name == "NEW" else
               f"{name} is moving: if nobody moves it now, give pdpd-shards move again" for name in moving]
-    return lines, wrong
+    return lines, list(dict.fromkeys(wrong))

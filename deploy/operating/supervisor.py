@@ -1,6 +1,7 @@
 """What starts, stops and kills a shard's pdpd: systemd or runit."""
 import os
 import pathlib
+import shutil
 import subprocess
 import time
 
@@ -8,6 +9,10 @@ from .settings import LIBRARY, Wrong
 
 # how long a process that is told to end may take
 PATIENCE = 7
+# after how long runit has seen a new service: runsvdir looks each five seconds
+SEEN = 10
+# the script that Debian's package brings for machines without systemd
+SCRIPT = "/etc/init.d/haproxy"
 
 
 def run(*words):
@@ -49,9 +54,15 @@ class Systemd:
         run("systemctl", "enable", "haproxy")
         run("systemctl", "restart", "haproxy")
 
+    def renew(self):
+        """Has services run what is installed now, but for the shards and HAProxy."""
+        run("systemctl", "daemon-reload")
+        run("systemctl", "restart", "pdpd-watchdog")
+
 
 class Runit:
     """Services pdpd-N, pdpd-backups, pdpd-watchdog and haproxy."""
+    BESIDE = ("pdpd-watchdog", "pdpd-backups")
 
     def __init__(self, settings):
         self.services = pathlib.Path(settings.services)
@@ -95,13 +106,32 @@ class Runit:
             link.symlink_to(folder)
 
     def set_up(self, shards):
-        for shard in shards:
-            self.add(f"pdpd-{shard}", "pdpd")
-        self.add("pdpd-watchdog", "pdpd-watchdog")
-        self.add("pdpd-backups", "pdpd-backups")
+        if not (shutil.which("sv") and self.services.is_dir()):
+            raise Wrong(f"there is neither systemd nor runit with its folder {self.services}: install runit")
+        for name, kind in (*((f"pdpd-{shard}", "pdpd") for shard in shards), *((each, each) for each in self.BESIDE)):
+            self.add(name, kind)
+        end = time.time() + SEEN
+        while not self.is_seen(self.BESIDE[-1]):
+            if time.time() > end:
+                raise Wrong(f"runit doesn't look after {self.services}: start it, `runsvdir -P {self.services}`")
+            time.sleep(0.1)
+
+    def is_seen(self, name):
+        """Whether runit has the service."""
+        words = ["sv", "status", str(self.services / name)]
+        return subprocess.run(words, capture_output=True, check=False).returncode == 0
 
     def start_proxy(self):
+        if os.path.exists(SCRIPT) and not (self.services / "haproxy").is_symlink():
+            # It would start a second one with the same configuration, now or at the machine's next start. (Once
+            # the service is there Debian's runit has the script stop that one.)
+            run(SCRIPT, "stop")
+            run("update-rc.d", "haproxy", "disable")
         self.add("haproxy", "haproxy")
+
+    def renew(self):
+        for name in self.BESIDE:
+            self.sv("restart", name)
 
 
 def of(settings):

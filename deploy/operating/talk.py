@@ -18,6 +18,10 @@ LONGEST = QUEUE + SERVER
 HARD_STOP = 15
 
 
+class OtherToken(Wrong):
+    """A shard answers, and knows another operator's token than the file has."""
+
+
 def told(settings, command):
     """What HAProxy says to a command."""
     with socket.socket(socket.AF_UNIX) as admin:
@@ -100,7 +104,10 @@ def domains_of(settings, shard):
     try:
         status, body = asked(settings, shard, "GET", "/operator/domains", settings.operator())
     except OSError as fault:
-        raise Wrong(f"HAProxy can't be asked for shard {shard}: {fault}") from None
+        raise Wrong(f"HAProxy doesn't answer at {settings.haproxy_run}/inner.sock ({fault.strerror or fault}): it "
+                    "doesn't run, or its log says why") from None
+    if status == 401:
+        raise OtherToken(f"shard {shard} was started with another operator's token: pdpd-shards restart {shard}")
     if status != 200:
         raise Wrong(f"shard {shard} answers {status} to the operator's list of domains")
     return json.loads(body)["Domain"]
