@@ -17,11 +17,41 @@ from responses import body, result
 from values import Fault
 
 STEP, LOOK, VALUE = 32, 8, 16
+# a call of an inner function; a policy, a set or a rule that is looked at; an assignment that is made
+CALL, CHILD, ASSIGNMENT = 64, 64, 64
 # beside its texts and values: an attribute, a Category object, an obligation and a result
 MEMBERS = 128
+# what is printed takes so much beside its value, by its type
+PRINTING = {"dateTime": 192, "dayTimeDuration": 192, "time": 128, "date": 96, "yearMonthDuration": 64, "hexBinary": 64, "base64Binary": 64, "boolean": 32, "integer": 32,
+            "string": 0, "anyURI": 0}
+# how many items are looked at one after another where one is searched for; more are in order, and each halving of them is a step
+FEW = 8
 # with how many others a value is compared at most that is searched for; and in a large bag that is put in order
 COMPARISONS, LARGE, SCANS, ORDERED = 32, 256, 16, 18
 ONE_SIZE = ("boolean", "integer", "date", "time", "dateTime", "dayTimeDuration", "yearMonthDuration")
+
+
+def rate(function):
+    """What a call of a function of values takes beside a step: for itself, and how often its arguments."""
+    name = function.rsplit(":", 1)[1]
+    if name == "string-substring":
+        return 0, 3
+    if name.endswith("-contains"):
+        return 128, 3
+    if name.startswith("string-from-"):
+        return PRINTING[name.removeprefix("string-from-")], 1
+    return (64, 1) if name.startswith(("dateTime-add-", "dateTime-subtract-", "date-add-", "date-subtract-")) else (0, 1)
+
+
+def of_calls(function, count, arguments):
+    """The units of so many calls, whose arguments take so much together."""
+    call, times = rate(function)
+    return call * count + times * arguments
+
+
+def of_search(count):
+    """The units of a search among so many items."""
+    return STEP * count.bit_length() if count > FEW else 0
 
 
 class Refused(Exception):
@@ -64,7 +94,7 @@ def written(value):
     if data_type in ("string", "anyURI"):
         return VALUE + escaped(held)
     more = {"hexBinary": lambda: len(held), "base64Binary": lambda: len(held) // 3}.get(data_type, lambda: 0)()
-    return units_of(value) + more
+    return units_of(value) + PRINTING[data_type] + more
 
 
 class Work:
@@ -91,6 +121,7 @@ class Asked(Context):
     def __init__(self, objects, source, moment, work):
         super().__init__(objects, source, moment)
         self.work, self.spend = work, work.spend
+        self.search = of_search(len(objects)) + max((of_search(len(held.attributes)) for held in objects), default=0)
 
     def named(self, designator):
         """The attributes of the request that the designator names."""
@@ -107,12 +138,12 @@ class Asked(Context):
         if not self.source:
             return []
         entity = self.entity(designator.category)
-        self.spend(STEP + length(entity) + length(designator.attribute_id))
+        self.spend(STEP + length(entity) + length(designator.attribute_id) + self.search + of_search(len(self.source)))
         place = designator.category, entity, designator.attribute_id
         return [row.value for row in self.source if row[:3] == place and row.value[0] == designator.data_type]
 
     def look_up(self, designator):
-        self.spend(STEP + length(designator.category) + length(designator.attribute_id))
+        self.spend(STEP + length(designator.category) + length(designator.attribute_id) + self.search)
 
     def bag(self, designator):
         """The values that the designator names, which are copied."""
@@ -230,7 +261,7 @@ class Charged:
             return self.n_of(*arguments)
         given = [self.value(argument) for argument in arguments]
         if name in FUNCTIONS:
-            self.spend(units(given))
+            self.spend(of_calls(name, 1, units(given)))
             return FUNCTIONS[name][2](*given)
         verb, data_type = bag_function_named(name)
         self.spend(sum(units(listed(argument)) for argument in given) * comparisons(verb, given))
@@ -269,7 +300,7 @@ class Charged:
             call = meaning
         else:
             def call(*values):
-                self.spend(STEP + units(values))
+                self.spend(CALL + of_calls(inner, 1, units(values)))
                 return meaning(*values)
         if verb == "map":
             return gives, [call(*choice) for choice in itertools.product(*lists)]
@@ -307,7 +338,8 @@ class Charged:
                 found = self.bag(designator)[1]
             except Fault as fault:
                 return Matching("Indeterminate", status(fault))
-            self.spend(STEP + (len(found) + 1) * (STEP + units_of(literal)) + units(found))
+            arguments = len(found) * units_of(literal) + units(found)
+            self.spend(STEP + (len(found) + 1) * STEP + units_of(literal) + of_calls(name, len(found), arguments))
         return first_of([TRUE if FUNCTIONS[name][2](literal, value)[1] else FALSE for value in found], TRUE, FALSE)
 
     def all_in_turn(self, parts, settles, otherwise):
@@ -335,7 +367,7 @@ class Charged:
         found = self.value_with_variables(assignment.expression)
         values = listed(found)
         texts = length(assignment.attribute_id) + length(assignment.category) + length(assignment.issuer)
-        self.spend(len(values) * (STEP + texts) + units(values))
+        self.spend(len(values) * (ASSIGNMENT + texts) + units(values))
         return [Assigned(assignment.attribute_id, assignment.category, assignment.issuer, value) for value in values]
 
     def duty(self, duty):
@@ -413,13 +445,13 @@ class Deciding:
         self.context, self.spend = context, context.spend
 
     def target(self, tree):
-        self.spend(STEP)
+        self.spend(CHILD)
         if tree == LEAF:
             return Matching("Indeterminate", PROCESSING_ERROR)
         return Charged(self.context).target(tree.document.target)
 
     def rule_target(self, charged, rule):
-        self.spend(STEP)
+        self.spend(CHILD)
         return charged.target(rule.target)
 
     def rules(self, charged, rules):
@@ -474,7 +506,7 @@ def result_written(evaluated, objects):
 
 
 def of_individual(view, objects, moment, work):
-    work.spend(STEP * len(objects))
+    work.spend(len(objects) * (STEP + of_search(len(objects)) // 2))
     if view.root is None:
         evaluated = without_duties("NotApplicable")
     else:

@@ -62,6 +62,20 @@ impl<'a> IndividualContext<'a> {
         })
     }
 
+    /// The units of asking the request for an attribute.
+    fn units_of_asking(&self, designator: &Designator) -> u64 {
+        let category = designator.category.as_str();
+        let id = designator.attribute_id.as_str();
+        units_of_look_up(category, id).saturating_add(self.objects.units_of_search())
+    }
+
+    /// The units of asking the source for an attribute of the entity, which is looked for among the objects before.
+    fn units_of_asking_source(&self, entity: &str, id: &str) -> u64 {
+        units_of_look_up(entity, id)
+            .saturating_add(self.objects.units_of_search())
+            .saturating_add(self.source.units_of_search())
+    }
+
     /// The bag of the values that the source has.
     #[tactic(auto, unfolding(crate::specs::Context::source_values))]
     fn source_bag(&self, alloc: Global, designator: &Designator) -> Result<Bag, AllocError>
@@ -72,7 +86,7 @@ impl<'a> IndividualContext<'a> {
         }
         let entity = self.objects.entity(designator.category.as_str());
         let id = designator.attribute_id.as_str();
-        self.work.spend(units_of_look_up(entity, id))?;
+        self.work.spend(self.units_of_asking_source(entity, id))?;
         self.source
             .bag(alloc, self.work.budget(), entity, designator)
     }
@@ -98,7 +112,7 @@ impl<'a> IndividualContext<'a> {
         }
         let entity = self.objects.entity(look.designator.category.as_str());
         let id = look.designator.attribute_id.as_str();
-        self.work.spend(units_of_look_up(entity, id))?;
+        self.work.spend(self.units_of_asking_source(entity, id))?;
         look.at_source(self.source, entity)
     }
 
@@ -119,9 +133,7 @@ impl<'a> Context for IndividualContext<'a> {
 
     #[tactic(auto, unfolding(crate::specs::Context::values_of))]
     fn bag(&self, alloc: Global, designator: &Designator) -> Result<Bag, AllocError> {
-        let category = designator.category.as_str();
-        let id = designator.attribute_id.as_str();
-        self.work.spend(units_of_look_up(category, id))?;
+        self.work.spend(self.units_of_asking(designator))?;
         let own = self.objects.bag(alloc, self.work.budget(), designator)?;
         if own.is_empty() && designator.issuer.is_none() {
             self.outside_bag(alloc, designator)
@@ -142,9 +154,7 @@ impl<'a> Context for IndividualContext<'a> {
         designator: &Designator,
         sought: &Value,
     ) -> Result<Looked, AllocError> {
-        let category = designator.category.as_str();
-        let id = designator.attribute_id.as_str();
-        self.work.spend(units_of_look_up(category, id))?;
+        self.work.spend(self.units_of_asking(designator))?;
         let look = Look {
             work: self.work,
             designator,

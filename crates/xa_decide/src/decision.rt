@@ -9,6 +9,7 @@ ghost use Rattle.xa_decide.specs.Timeless.{is_timeless_answer, is_timeless_reque
 
 use crate::context::IndividualContext;
 use crate::indexed_object::IndexedObject;
+use crate::order::units_of_order;
 use crate::response_work::writing_of_result;
 use crate::view::View;
 use crate::work::Work;
@@ -112,7 +113,11 @@ impl<'a> Deciding<'a> {
     ) -> Result<IndividualContext<'a>, AllocError>
         ensures { IfOk result (λ context. context ≡ record { objects = objects_at self.now.objects.now places.now; source = self.now.view.now.source; moment = self.now.moment }) }
     {
-        self.work.spend(STEP.saturating_mul(places.len() as u64))?;
+        let count = places.len();
+        self.work.spend(
+            STEP.saturating_mul(count as u64)
+                .saturating_add(units_of_order(count)),
+        )?;
         let source = self.view.source();
         IndividualContext::new(alloc, self.objects, places, source, self.moment, self.work)
     }

@@ -9,7 +9,7 @@ ghost use Rattle.xa_decide.specs.indexing.Types.{IsOfType, IsOfTypes};
 use crate::attribute::push_attribute;
 use crate::keys::{ByIssuer, ByName, issuer_key};
 use crate::naming::{Naming, naming_of};
-use crate::order::{item_at, order_of, places_among};
+use crate::order::{item_at, order_of, places_among, units_of_search};
 use crate::response_work::writing_of_object;
 use crate::work::Work;
 use crate::writing::Writing;
@@ -97,6 +97,11 @@ impl<'a> IndexedObject<'a> {
     /// What it is to write what stands of the object in a result.
     pub(crate) fn writing(&self) -> Writing {
         self.writing
+    }
+
+    /// The units of a search among the object's attributes.
+    pub(crate) fn units_of_search(&self) -> u64 {
+        units_of_search(self.object.attributes.len())
     }
 
     /// The object's category.

@@ -11,7 +11,7 @@ use crate::indexed_object::{IndexedObject, push_object};
 use crate::key::Key;
 use crate::keys::category_key;
 use crate::naming::Naming;
-use crate::order::{Keying, item_at, order_of, places_among};
+use crate::order::{Keying, item_at, order_of, places_among, units_of_search};
 use std::alloc::{AllocError, Global};
 use std::marker::{Model, PhantomData};
 use xa_bag::Bag;
@@ -34,11 +34,12 @@ impl<'a> Keying for ByCategory<'a> {
     }
 }
 
-/// The Category objects of an individual request, to be found by their categories.
+/// The Category objects of an individual request, to be found by their categories; and how much it is to find an attribute of one of them.
 #[derive(Drop)]
 pub(crate) struct IndividualObjects<'a> {
     objects: Vec<&'a IndexedObject<'a>>,
     order: Vec<usize>,
+    search: u64,
 }
 
 impl<'a> Model for IndividualObjects<'a> {
@@ -82,6 +83,15 @@ fn are_of_types(objects: &[&IndexedObject<'_>])
     }
 }
 
+/// The units of a search among the objects, and then among the attributes of that which has most.
+fn units_of_longest_search(objects: &[&IndexedObject<'_>]) -> u64 {
+    let mut longest = 0u64;
+    for object in objects {
+        longest = longest.max(object.units_of_search());
+    }
+    units_of_search(objects.len()).saturating_add(longest)
+}
+
 impl<'a> IndividualObjects<'a> {
     /// The objects that have these places, put in order.
     pub(crate) fn new(
@@ -94,7 +104,17 @@ impl<'a> IndividualObjects<'a> {
         let objects = objects_at(alloc, objects, places)?;
         are_of_types(objects.as_slice());
         let order = order_of::<ByCategory<'a>>(alloc, objects.as_slice())?;
-        Ok(IndividualObjects { objects, order })
+        let search = units_of_longest_search(objects.as_slice());
+        Ok(IndividualObjects {
+            objects,
+            order,
+            search,
+        })
+    }
+
+    /// The units of finding an attribute: of the longest search that there may be.
+    pub(crate) fn units_of_search(&self) -> u64 {
+        self.search
     }
 
     /// The values of each attribute of the objects are of its type: a law.

@@ -6,12 +6,31 @@ ghost use Rattle.xa_decide.specs.indexing.Index.{Sought, IsInOrder, IsOrder, ord
 use crate::key::Key;
 use std::alloc::{AllocError, Global};
 use std::cmp::Ordering;
+use xa_expr::STEP;
 
 /// How many items are looked at one after another, since a search among so few would take longer.
 const FEW: usize = 8;
 
 /// The places of that many items.
 const PLACES: &[usize] = &[0, 1, 2, 3, 4, 5, 6, 7];
+
+/// How often a number of items is halved until there is none.
+fn halvings(count: usize) -> u64 {
+    u64::from(64u32.saturating_sub(count.leading_zeros()))
+}
+
+/// The units of a search among so many items in order: a step each time that they are halved. A look at a few is a part of the look-up.
+pub(crate) fn units_of_search(count: usize) -> u64 {
+    if count <= FEW {
+        return 0;
+    }
+    STEP.saturating_mul(halvings(count))
+}
+
+/// The units of putting so many items in order: for each as much as half a search.
+pub(crate) fn units_of_order(count: usize) -> u64 {
+    (count as u64).saturating_mul(units_of_search(count) / 2)
+}
 
 /// By what items are found.
 pub(crate) trait Keying {

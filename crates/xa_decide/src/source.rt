@@ -7,7 +7,7 @@ ghost use Rattle.xa_decide.specs.Context.{is_row, source_values};
 
 use crate::bag::push_value;
 use crate::keys::{ByRow, row_key};
-use crate::order::{item_at, order_of, places_among};
+use crate::order::{item_at, order_of, places_among, units_of_search};
 use crate::source_row::SourceRow;
 use std::alloc::{AllocError, Global};
 use std::marker::Model;
@@ -49,6 +49,11 @@ impl Source {
         ensures { IsTrue result ↔ (self.now ≡ []) }
     {
         self.rows.is_empty()
+    }
+
+    /// The units of a search among the rows.
+    pub(crate) fn units_of_search(&self) -> u64 {
+        units_of_search(self.rows.len())
     }
 
     /// The rows.

@@ -2,8 +2,8 @@
 //! given room where there is too little left. A text counts by the bytes that JSON has for it: a quotation mark, a backslash and a control character
 //! take two or six (RFC 8259, section 7).
 use xa_bag::Bag;
-use xa_expr::units_of;
-use xa_value::{DataType, Text, Value};
+use xa_expr::{is_of_one_size, units_of, units_of_printing};
+use xa_value::{Text, Value};
 
 /// What it is to write a part of a response.
 #[derive(Clone, Copy)]
@@ -52,11 +52,13 @@ impl Writing {
         }
     }
 
-    /// A value.
+    /// A value. What has no text of its own is printed first.
     pub(crate) fn of_value(value: &Value) -> Writing {
         let widening = widening(value);
         Writing {
-            units: units_of(value).saturating_add(widening),
+            units: units_of(value)
+                .saturating_add(units_of_printing(value.data_type()))
+                .saturating_add(widening),
             bytes: length_of(value).saturating_add(widening),
         }
     }
@@ -79,14 +81,6 @@ impl Writing {
         }
         all
     }
-}
-
-/// Whether every value of the type is of one size.
-fn is_of_one_size(data_type: DataType) -> bool {
-    !matches!(
-        data_type,
-        DataType::String | DataType::AnyUri | DataType::HexBinary | DataType::Base64Binary
-    )
 }
 
 /// Whether JSON has an escape for the byte.

@@ -4,14 +4,15 @@ ghost use Rattle.xa_func.specs.Application.{applied};
 ghost use Rattle.xa_func.specs.Signature.{TakesKinds, signature_of, result_type_of};
 
 use crate::context::Context;
-use crate::work::{STEP, units_of_values};
+use crate::rates::units_of_calls;
+use crate::work::{CALL, units_of_values};
 use std::alloc::Global;
 use std::marker::Model;
 use xa_bag::{BagFault, Inner, ValueOrBag};
 use xa_func::{FuncFault, FuncId, HasKind, HigherOrder};
 use xa_value::{DataType, OrMemory, Value};
 
-/// A function of values, each of whose calls takes a step and the units of its arguments from the work that the message may ask for.
+/// A function of values, each of whose calls takes what it costs from the work that the message may ask for.
 #[derive(Drop)]
 pub(crate) struct Charged<'a, C: Context> {
     pub(crate) function: FuncId,
@@ -52,8 +53,8 @@ impl<'a, C: Context> Inner for Charged<'a, C> {
     }
 
     fn call(&self, alloc: Global, arguments: &[Value]) -> Result<Value, OrMemory<FuncFault>> {
-        self.context
-            .spend(STEP.saturating_add(units_of_values(arguments)))?;
+        let units = units_of_calls(self.function, 1, units_of_values(arguments));
+        self.context.spend(CALL.saturating_add(units))?;
         self.function.apply(alloc, arguments)
     }
 }

@@ -12,6 +12,7 @@ ghost use Rattle.xa_expr.specs.Typed.{result_kind};
 use crate::charged::Charged;
 use crate::context::Context;
 use crate::fault::Fault;
+use crate::rates::units_of_calls;
 use crate::work::{units_of_bag_function, units_of_higher_order, units_of_values};
 use std::alloc::Global;
 use xa_bag::{ValueOrBag, apply_bag_function, apply_higher_order};
@@ -30,7 +31,7 @@ pub(crate) fn of_values<C: Context>(
     ensures value { Gives result (as_argument (of_function (func.applied function arguments.now))) }
     ensures typed { IfOk result (λ given. kind_of_argument given ≡ result_kind (signature_of function)) }
 {
-    context.spend(units_of_values(arguments))?;
+    context.spend(units_of_calls(function, 1, units_of_values(arguments)))?;
     match function.apply(alloc, arguments) {
         Ok(value) => Ok(ValueOrBag::Value(value)),
         Err(OrMemory::Memory) => Err(OrMemory::Memory),

@@ -15,6 +15,7 @@ mod function;
 mod looked;
 mod match_;
 mod matching;
+mod rates;
 mod scope;
 mod target;
 mod timeless;
@@ -33,8 +34,11 @@ pub use fault::Fault;
 pub use looked::Looked;
 pub use match_::Match;
 pub use matching::Matching;
+pub use rates::units_of_printing;
 pub use target::{AllOf, AnyOf, Target};
 pub use timeless::{HasDesignators, all_timeless, is_clock_id};
 pub use typed::Typed;
 pub use variables::{Definition, Variables};
-pub use work::{Budget, LOOK, STEP, units_of, units_of_bag, units_of_given, units_of_values};
+pub use work::{
+    Budget, LOOK, STEP, is_of_one_size, units_of, units_of_bag, units_of_given, units_of_values,
+};

@@ -9,6 +9,7 @@ use crate::context::Context;
 use crate::designator::Designator;
 use crate::looked::Looked;
 use crate::matching::Matching;
+use crate::rates::units_of_calls;
 use crate::scope::attribute;
 use crate::work::{STEP, units_of, units_of_values};
 use std::alloc::{AllocError, Global};
@@ -123,10 +124,13 @@ impl Match {
     /// The units of a call for a copy of each of the values, beside one of the literal.
     fn units_of_calls(&self, values: &[Value]) -> u64 {
         let count = values.len() as u64;
-        count
-            .saturating_add(1)
-            .saturating_mul(STEP.saturating_add(units_of(&self.literal)))
-            .saturating_add(units_of_values(values))
+        let literal = units_of(&self.literal);
+        let arguments = literal
+            .saturating_mul(count)
+            .saturating_add(units_of_values(values));
+        STEP.saturating_mul(count.saturating_add(1))
+            .saturating_add(literal)
+            .saturating_add(units_of_calls(self.function, count, arguments))
     }
 
     /// Whether the function is true of one of the values. The first of which it is settles it.

@@ -7,8 +7,11 @@ use xa_bag::{Bag, ValueOrBag};
 use xa_func::{BagFunction, FuncId, HigherOrder};
 use xa_value::{DataType, Value};
 
-/// The units of one step: an expression evaluated, a call of a function, a match, a rule, a policy or a set that is looked at.
+/// The units of one step: an expression evaluated, a match, a call of its function, an obligation.
 pub const STEP: u64 = 32;
+
+/// The units of a call of an inner function, for which a list of copies of its arguments is made.
+pub(crate) const CALL: u64 = 2 * STEP;
 
 /// The units of a look at something that costs less than a step: a value that is compared where it is, or a part of a target or of an
 /// expression that is passed on the way to others.
@@ -82,7 +85,7 @@ pub fn units_of_values(values: &[Value]) -> u64 {
 }
 
 /// Whether every value of the type is of one size.
-fn is_of_one_size(data_type: DataType) -> bool {
+pub fn is_of_one_size(data_type: DataType) -> bool {
     !matches!(
         data_type,
         DataType::String | DataType::AnyUri | DataType::HexBinary | DataType::Base64Binary

@@ -37,8 +37,11 @@ pub fn evaluate<C: Context>(
     evaluate_linked(alloc, linked, target, context)
 }
 
+/// The units of a policy, a set or a rule that is looked at, and of what becomes of it behind its target.
+const CHILD: u64 = 2 * STEP;
+
 /// What the target of the tree's root comes to; that of a reference that leads to nothing is Indeterminate. Each root that is looked at
-/// takes a step.
+/// is counted.
 fn target_of<C: Context>(
     alloc: Global,
     linked: &Linked,
@@ -46,7 +49,7 @@ fn target_of<C: Context>(
 ) -> Result<Matching, AllocError>
     ensures { IfOk result (λ m. m ≡ (evaluated (C.values_of context.now) linked.now).target) }
 {
-    context.spend(STEP)?;
+    context.spend(CHILD)?;
     match linked {
         Linked::Unresolved => Ok(Matching::Indeterminate(Fault::ProcessingError)),
         Linked::Policy(policy) => policy.get().target().matching(alloc, context),
@@ -101,7 +104,7 @@ fn evaluate_policy<C: Context>(
     with_own(alloc, &mut evaluator, policy.duties(), evaluated)
 }
 
-/// What the target of the rule comes to. Each rule that is looked at takes a step.
+/// What the target of the rule comes to. Each rule that is looked at is counted.
 fn target_of_rule<C: Context>(
     alloc: Global,
     rule: &Rule<Typed>,
@@ -109,7 +112,7 @@ fn target_of_rule<C: Context>(
 ) -> Result<Matching, AllocError>
     ensures { IfOk result (λ m. m ≡ target_value (C.values_of context.now) rule.now.target) }
 {
-    context.spend(STEP)?;
+    context.spend(CHILD)?;
     rule.target.matching(alloc, context)
 }
 

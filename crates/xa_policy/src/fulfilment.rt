@@ -44,7 +44,10 @@ fn units_of_text(text: &Option<Text>) -> u64 {
     }
 }
 
-/// The units of the assignments of what the expression gives: a step for each, its texts and its value.
+/// The units of an assignment beside its texts and its value, which are copied.
+const ASSIGNMENT: u64 = 2 * STEP;
+
+/// The units of the assignments of what the expression gives: of each itself, its texts and its value.
 fn units_of_assignments(
     expression: &AttributeAssignmentExpression<Typed>,
     given: &ValueOrBag,
@@ -53,7 +56,7 @@ fn units_of_assignments(
         .saturating_add(units_of_text(&expression.category))
         .saturating_add(units_of_text(&expression.issuer));
     (given.values().len() as u64)
-        .saturating_mul(STEP.saturating_add(texts))
+        .saturating_mul(ASSIGNMENT.saturating_add(texts))
         .saturating_add(units_of_given(given))
 }
 

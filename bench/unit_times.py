@@ -1,0 +1,66 @@
+"""What a unit of the limit of work takes where a form is asked (unit_forms.py), by the program xa_trials."""
+import os
+import subprocess
+import tempfile
+
+from inputs import as_read
+from rows import encoded, line
+from unit_forms import padded, written
+
+NO_LIMIT, ASKS, RUNS = 2**64 - 1, 4, 5
+
+
+def asking(body):
+    held = written(body).encode()
+    head = f"POST /domains/acme/pdp HTTP/1.1\r\nAuthorization: Bearer acme-token-1\r\nContent-Length: {len(held)}\r\n\r\n"
+    return encoded(head.encode() + held)
+
+
+def row(form, limit, asks):
+    """The row of a server under the limit, asked that so often."""
+    root = "root:set|s|||" if "PolicySet" in form.documents[0] else "root:policy|p|||"
+    documents = ["document:" + encoded(written(draft).encode()) for draft in form.documents]
+    sources = ["row:" + held for held in form.rows]
+    return line(as_read(["server_in_memory", f"limit:{limit}", "domain:acme", "ask:acme-token-1", *documents, root, *sources, "piece:" + asking(padded(form.request)) * asks]))
+
+
+def ran(program, text):
+    """Processor seconds for the row, and its answer."""
+    with tempfile.TemporaryFile() as rows:
+        rows.write(text.encode())
+        rows.seek(0)
+        child = subprocess.Popen([program], stdin=rows, stdout=subprocess.PIPE)
+        answer = child.stdout.read()
+        _, child.returncode, used = os.wait4(child.pid, 0)
+    assert child.returncode == 0, child.returncode
+    return used.ru_utime + used.ru_stime, answer
+
+
+def seconds(program, form, limit):
+    """Processor seconds of the asks under the limit, at best."""
+    text = row(form, limit, ASKS)
+    return min(ran(program, text)[0] for _ in range(RUNS))
+
+
+def is_answered(program, form, limit):
+    _, answer = ran(program, row(form, limit, 1))
+    assert answer.startswith((b"HTTP/1.1 200 ", b"HTTP/1.1 503 ")), (form.name, answer[:300])
+    return answer.startswith(b"HTTP/1.1 200 ")
+
+
+def units(program, form, part=None):
+    """The least limit under which the form is answered, or one that is more by no more than one part in so many."""
+    high = 1 << 16
+    while not is_answered(program, form, high):
+        high *= 4
+    low = -1 if high == 1 << 16 else high // 4
+    while high - low > (max(1, high // part) if part else 1):
+        middle = (low + high) // 2
+        low, high = (low, middle) if is_answered(program, form, middle) else (middle, high)
+    return high
+
+
+def each(program, form, part=None):
+    """The form's seconds and its units for one ask. What is read and linked is taken off: under a limit of nothing it is done as well."""
+    took = seconds(program, form, NO_LIMIT) - seconds(program, form, 0)
+    return took / ASKS, units(program, form, part)

@@ -1,0 +1,52 @@
+//! What a call of a function of values costs more than a step and its arguments. A unit is to take no more than some nanosecond and a half wherever it
+//! is spent: what was measured to take longer is charged more (`bench/units` measures all of it).
+use crate::work::STEP;
+use xa_func::{FuncId, TextFunction, TextPart};
+use xa_value::DataType;
+
+/// What a call costs: units for itself, and how often its arguments' units are taken.
+#[derive(Clone, Copy)]
+struct Rate {
+    call: u64,
+    times: u64,
+}
+
+/// What a call of the function costs. A substring is made of a list of characters. A search of a text in a text begins with tables of the first.
+fn rate_of(function: FuncId) -> Rate {
+    match function {
+        FuncId::Text(TextFunction::Substring) => Rate { call: 0, times: 3 },
+        FuncId::Part(TextPart::Contains, _) => Rate {
+            call: 4 * STEP,
+            times: 3,
+        },
+        FuncId::StringFrom(printed) => Rate {
+            call: units_of_printing(printed.data_type()),
+            times: 1,
+        },
+        FuncId::Move(..) => Rate {
+            call: 2 * STEP,
+            times: 1,
+        },
+        _ => Rate { call: 0, times: 1 },
+    }
+}
+
+/// The units of printing a value of the type, beside those of the value itself.
+pub fn units_of_printing(data_type: DataType) -> u64 {
+    match data_type {
+        DataType::DateTime | DataType::DayTimeDuration => 6 * STEP,
+        DataType::Time => 4 * STEP,
+        DataType::Date => 3 * STEP,
+        DataType::YearMonthDuration | DataType::HexBinary | DataType::Base64Binary => 2 * STEP,
+        DataType::Boolean | DataType::Integer => STEP,
+        DataType::String | DataType::AnyUri => 0,
+    }
+}
+
+/// The units of so many calls of the function, beside a step for each, whose arguments have these units together.
+pub(crate) fn units_of_calls(function: FuncId, count: u64, arguments: u64) -> u64 {
+    let rate = rate_of(function);
+    rate.call
+        .saturating_mul(count)
+        .saturating_add(rate.times.saturating_mul(arguments))
+}
