@@ -38,7 +38,7 @@ def decider(view, moment):
 def results(view, held, moment):
     """The results to the bytes of a request; NotJson where they are no JSON."""
     try:
-        (combined, _), found, named = request_of(held)
+        (combined, identified), found, named = request_of(held)
     except NotProfile:
         return [result(indeterminate(SYNTAX_ERROR))]
     individuals = individuals_of(found, named)
@@ -47,7 +47,8 @@ def results(view, held, moment):
     decide, made = decider(view, moment), []
     for places in individuals:
         objects = [] if places is None else [found[place] for place in places]
-        made.append(result(indeterminate(SYNTAX_ERROR) if places is None else decide(objects), objects))
+        evaluated = indeterminate(SYNTAX_ERROR) if places is None else decide(objects)
+        made.append(result(evaluated if identified else evaluated._replace(ids=()), objects))
     return made
 
 

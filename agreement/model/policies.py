@@ -1,5 +1,7 @@
 """Rules, policies and policy sets (XACML 3.0, core, sections 7.11 to 7.15 and 7.18): decision, status, obligations and advice.
 
+What decides Permit or Deny tells of itself, and a set then of what its evaluated children tell of: by these a response names policies.
+
 A decision is Permit, Deny, NotApplicable, or Indeterminate as {P}, {D} or {DP}. A tree is a policy, or a set with the trees of its
 children; LEAF stands for a reference for which there is no document.
 """
@@ -13,7 +15,9 @@ from values import Fault
 OK, PROCESSING_ERROR = STATUS + "ok", STATUS + "processing-error"
 INDETERMINATE = {"Permit": "{P}", "Deny": "{D}"}
 # what a rule, a policy or a set comes to, and for the sets above also what its target does
-Evaluated = collections.namedtuple("Evaluated", "decision status obligations advice target", defaults=[None])
+Evaluated = collections.namedtuple("Evaluated", "decision status obligations advice ids target", defaults=[(), None])
+# a policy or a set as it is told of
+Told = collections.namedtuple("Told", "form id version")
 Returned = collections.namedtuple("Returned", "id assignments")
 Assigned = collections.namedtuple("Assigned", "attribute_id category issuer value")
 Tree = collections.namedtuple("Tree", "document children")
@@ -99,7 +103,7 @@ def combined(algorithm, children):
 def tree_value(values_of, tree):
     """What the tree comes to where `values_of` gives the values that a designator names (7.12 to 7.15)."""
     if tree == LEAF:
-        return Evaluated("{DP}", PROCESSING_ERROR, [], [], Matching("Indeterminate", PROCESSING_ERROR))
+        return Evaluated("{DP}", PROCESSING_ERROR, [], [], target=Matching("Indeterminate", PROCESSING_ERROR))
     document = tree.document
     evaluation = Evaluation(values_of, dict(document.variables))
     target = target_value(evaluation, document.target)
@@ -128,5 +132,13 @@ def applied(evaluation, document, target, children):
     if target.word == "Indeterminate":
         decision, code = INDETERMINATE.get(decision, decision), target.status
     if decision in INDETERMINATE:
-        return with_duties(evaluation, decision, evaluated, document.duties)
+        return with_ids(with_duties(evaluation, decision, evaluated, document.duties), document, evaluated)
     return without_duties(decision, code if is_indeterminate(decision) else OK)
+
+
+def with_ids(found, document, children):
+    """Permit or Deny with the document itself and then what those evaluated children tell of, whatever they decide; of Indeterminate nothing."""
+    if found.decision not in INDETERMINATE:
+        return found
+    itself = Told(document.form, document.id, ".".join(document.version))
+    return found._replace(ids=[itself] + [one for child in children for one in child.ids])

@@ -36,10 +36,18 @@ def categories_shown(objects):
     return [held for held in found if held["Attribute"]]
 
 
+def identifiers_shown(ids):
+    """The policies and the sets that are told of; nothing of a kind of which there are none."""
+    found = {name: [{"Id": one.id, "Version": one.version} for one in ids if one.form == form]
+             for name, form in (("PolicyIdReference", "Policy"), ("PolicySetIdReference", "PolicySet"))}
+    return {name: held for name, held in found.items() if held}
+
+
 def result(evaluated, objects=()):
     """The result of what a tree comes to, where the individual request has these Category objects."""
     decision = "Indeterminate" if evaluated.decision.startswith("{") else evaluated.decision
-    lists = {"AssociatedAdvice": duties_shown(evaluated.advice), "Obligations": duties_shown(evaluated.obligations), "Category": categories_shown(objects)}
+    lists = {"AssociatedAdvice": duties_shown(evaluated.advice), "Obligations": duties_shown(evaluated.obligations), "Category": categories_shown(objects),
+             "PolicyIdentifierList": identifiers_shown(evaluated.ids)}
     return {"Decision": decision, "Status": {"StatusCode": {"Value": evaluated.status}}, **{name: held for name, held in lists.items() if held}}
 
 

@@ -11,7 +11,7 @@ from expressions import FALSE, TRUE, Matching, first_of, listed, status
 from functions import BAG_FUNCTIONS, FUNCTIONS, HIGHER_ORDER, bag_function_named, boolean
 from json_texts import NotJson
 from linking import TooLarge, linked
-from policies import LEAF, OK, PROCESSING_ERROR, SETTLING, Assigned, Evaluated, Returned, INDETERMINATE, is_indeterminate, without_duties
+from policies import LEAF, OK, PROCESSING_ERROR, SETTLING, Assigned, Evaluated, Returned, INDETERMINATE, is_indeterminate, with_ids, without_duties
 from requests import NotProfile, individuals_of, request_of
 from responses import body, result
 from values import Fault
@@ -26,6 +26,8 @@ PRINTING = {"dateTime": 192, "dayTimeDuration": 192, "time": 128, "date": 96, "y
             "string": 0, "anyURI": 0}
 # how many items are looked at one after another where one is searched for; more are in order, and each halving of them is a step
 FEW = 8
+# a policy or a set that is named, beside its id and version, and each number of its version
+NAME, NUMBER = 32, 10
 # with how many others a value is compared at most that is searched for; and in a large bag that is put in order
 COMPARISONS, LARGE, SCANS, ORDERED = 32, 256, 16, 18
 ONE_SIZE = ("boolean", "integer", "date", "time", "dateTime", "dayTimeDuration", "yearMonthDuration")
@@ -423,7 +425,8 @@ def combined(algorithm, children, spend):
         first = next((child.status for child in found if is_indeterminate(child.decision)), OK)
         return without_duties(decision, first if is_indeterminate(decision) else OK)
     alike = [child for child in found if child.decision == decision]
-    return Evaluated(decision, OK, [one for child in alike for one in child.obligations], [one for child in alike for one in child.advice])
+    return Evaluated(decision, OK, [one for child in alike for one in child.obligations], [one for child in alike for one in child.advice],
+                     [one for child in found for one in child.ids])
 
 
 def only_one(children):
@@ -475,7 +478,7 @@ class Deciding:
         found = combined(document.algorithm, children, self.spend)
         if target.word == "Indeterminate" and found.decision != "NotApplicable":
             found = without_duties(INDETERMINATE.get(found.decision, found.decision), target.status)
-        return charged.with_duties(found, document.duties)
+        return with_ids(charged.with_duties(found, document.duties), document, [found])
 
 
 # ---- what is written
@@ -498,14 +501,18 @@ def duties_written(duties):
         MEMBERS + escaped(one.attribute_id) + escaped(one.category) + escaped(one.issuer) + written(one.value) for one in duty.assignments) for duty in duties)
 
 
+def names_written(ids):
+    return sum(NAME + escaped(one.id) + NUMBER * len(one.version.split(".")) for one in ids)
+
+
 def result_written(evaluated, objects):
-    return MEMBERS + objects_written(objects) + duties_written(evaluated.obligations) + duties_written(evaluated.advice)
+    return MEMBERS + objects_written(objects) + duties_written(evaluated.obligations) + duties_written(evaluated.advice) + names_written(evaluated.ids)
 
 
 # ---- a request
 
 
-def of_individual(view, objects, moment, work):
+def of_individual(view, is_identified, objects, moment, work):
     work.spend(len(objects) * (STEP + of_search(len(objects)) // 2))
     if view.root is None:
         evaluated = without_duties("NotApplicable")
@@ -516,11 +523,13 @@ def of_individual(view, objects, moment, work):
             evaluated = deciding.value(tree, deciding.target(tree))
         except TooLarge:
             evaluated = without_duties("{DP}", PROCESSING_ERROR)
+    if not is_identified:
+        evaluated = evaluated._replace(ids=())
     work.spend(result_written(evaluated, objects))
     return result(evaluated, objects)
 
 
-def results(view, found, individuals, moment, work):
+def results(view, is_identified, found, individuals, moment, work):
     if work.is_ordered:
         for held in found:
             for attribute in held.attributes:
@@ -532,14 +541,14 @@ def results(view, found, individuals, moment, work):
         if places is None:
             made.append(None)
         else:
-            made.append(of_individual(view, [found[place] for place in places], moment, work))
+            made.append(of_individual(view, is_identified, [found[place] for place in places], moment, work))
     return made
 
 
 def spent(view, held, moment, limit):
     """The units of the work on the bytes of a request; Refused where they are more than the limit."""
     try:
-        (is_combined, _), found, named = request_of(held)
+        (is_combined, is_identified), found, named = request_of(held)
     except (NotProfile, NotJson):
         return 0
     individuals = individuals_of(found, named)
@@ -548,8 +557,8 @@ def spent(view, held, moment, limit):
     large = sum(len(attribute.values) for one in found for attribute in one.attributes if len(attribute.values) >= LARGE)
     work = Work(limit, large)
     try:
-        results(view, found, individuals, moment, work)
+        results(view, is_identified, found, individuals, moment, work)
     except WantsOrder:
         work.is_ordered = True
-        results(view, found, individuals, moment, work)
+        results(view, is_identified, found, individuals, moment, work)
     return limit - work.left

@@ -90,8 +90,8 @@ class Bodies:
             found["Category"] = self.objects(True, used)
         if self.seldom(0.35):
             found["MultiRequests"] = self.references(used)
-        for name in ("CombinedDecision", "ReturnPolicyIdList"):
-            if self.seldom(0.1):
+        for name, chance in (("CombinedDecision", 0.1), ("ReturnPolicyIdList", 0.3)):
+            if self.seldom(chance):
                 found[name] = self.or_wrong(self.seldom(0.5))
         return found
 

@@ -9,11 +9,16 @@ PLAIN_MATCHES = [(V1 + "boolean-equal", [f"boolean:{held}", "any:boolean|d|e"]) 
 
 
 class Combinations(Drafts):
-    """Documents whose targets and conditions are true, false or at fault, and whose obligations and advice are told apart by their ids."""
+    """Documents whose targets and conditions are true, false or at fault. They are told apart by their versions, mostly, and their obligations and advice by
+    their ids."""
 
     def __init__(self, rows):
         super().__init__(rows)
         self.count, self.referring = 0, 0.2
+
+    def key(self, name):
+        self.count += 1
+        return super().key(name) if self.seldom(0.2) else {name: self.one_of(self.ids), "Version": f"1.{self.count}"}
 
     def algorithm(self, known):
         return self.one_of([*known, *(uri for uri in known if not uri.endswith(("unless-permit", "unless-deny")))])

@@ -67,4 +67,5 @@ class Marks:
     def request(self):
         """A request of one of the people, or of nobody."""
         attribute = {"AttributeId": SUBJECT_ID, "Value": self.one_of(PEOPLE)}
-        return {"Request": {"AccessSubject": {"Attribute": [attribute]}} if self.seldom(0.6) else {}}
+        identified = {"ReturnPolicyIdList": self.seldom(0.9)} if self.seldom(0.4) else {}
+        return {"Request": {**({"AccessSubject": {"Attribute": [attribute]}} if self.seldom(0.6) else {}), **identified}}

@@ -184,6 +184,8 @@ class Decisions:
             found["MultiRequests"] = {"RequestReference": [{"ReferenceId": held} for held in named]}
         if self.seldom(0.02):
             found["CombinedDecision"] = self.seldom(0.5)
+        if self.seldom(0.5):
+            found["ReturnPolicyIdList"] = self.seldom(0.9)
         return json.dumps({"Request": found}, ensure_ascii=self.seldom(0.5))
 
     def body(self):

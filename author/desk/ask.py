@@ -60,10 +60,24 @@ def plain_decision(result: dict) -> tuple[str, str]:
     return result["decision"].partition("{")[0], result["status"]
 
 
+def named(result: dict) -> list[str]:
+    """The policies and then the sets that a result names, each in their order, as an explanation has them."""
+    found = result.get("PolicyIdentifierList", {})
+    return [f"{word} {held['Id']} {held['Version']}" for word, name in (("policy", "PolicyIdReference"), ("policy set", "PolicySetIdReference"))
+            for held in found.get(name, [])]
+
+
+def in_kinds(names: list[str]) -> list[str]:
+    """The policies of an explanation, and then its sets."""
+    return sorted(names, key=lambda name: name.startswith("policy set "))
+
+
 def is_explained(results: list[dict], shown: list[dict] | None) -> bool:
-    """Whether an explanation comes to the decisions and statuses of the response; none belongs to a request that isn't decided at all."""
+    """Whether an explanation comes to the decisions and statuses of the response, and to the policies where it names some; none belongs to a request
+    that isn't decided at all."""
     given = [(result["Decision"], result["Status"]["StatusCode"]["Value"].rsplit(":", 1)[1]) for result in results]
     if shown is None:
         return len(given) < 2 and all(one in (("Indeterminate", "syntax-error"), ("Indeterminate", "processing-error"))
                                       for one in given)
-    return given == [plain_decision(result) for result in shown]
+    return given == [plain_decision(result) for result in shown] and all(
+        named(result) in ([], in_kinds(other.get("names", []))) for result, other in zip(results, shown))

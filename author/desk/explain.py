@@ -11,6 +11,7 @@ from .setting import KIND_NAMES, Setting, no_document, reference_shown
 from .tracing import Origins, Tracing, fault_shown, target_traced, traced, value_shown
 
 LETTERS = {"{P}": "Indeterminate{P}", "{D}": "Indeterminate{D}", "{DP}": "Indeterminate{DP}"}
+NAMES_OF_FORMS = {"Policy": KIND_NAMES["policy"], "PolicySet": KIND_NAMES["set"]}
 SETTLES = {
     "deny-overrides": "a Deny decides whatever else there is", "permit-overrides": "a Permit decides whatever else there is",
     "deny-unless-permit": "what isn't permitted is denied", "permit-unless-deny": "what isn't denied is permitted",
@@ -177,6 +178,12 @@ class Explainer:
         return {name: held for name, held in found.items() if held}
 
 
+def named(evaluated: policies.Evaluated) -> dict[str, object]:
+    """The policies and sets that the response names where the request asks for them (ReturnPolicyIdList)."""
+    found = [f"{NAMES_OF_FORMS[one.form]} {one.id} {one.version}" for one in evaluated.ids]
+    return {"names": found} if found else {}
+
+
 def assignments_shown(assignments: list) -> list[str]:
     """Assignments in a few words."""
     return [f"{one.attribute_id} = {value_shown(one.value)}" for one in assignments]
@@ -264,6 +271,6 @@ def explained(setting: Setting, held: bytes, moment: int) -> list[dict[str, obje
                           because=f"the tree has more than {linking.MOST_IN_A_TREE} policies and sets")
         else:
             shown, evaluated = Explainer(setting, objects, moment).tree(tree)
-            result.update(verdict(evaluated), tree=shown)
+            result.update(verdict(evaluated), tree=shown, **named(evaluated))
         found.append(result)
     return found

@@ -121,6 +121,7 @@ def shown(results: list[dict]) -> str:
             lines += ["", painted(f"Result {number} of {len(results)}{name}", "bold")]
         if "tree" in result:
             lines += part_shown(result["tree"])
+            lines += [line(0, f"named, where ReturnPolicyIdList asks for it: {', '.join(result['names'])}")] if "names" in result else []
         else:
             lines += [f"{decided(result['decision'])}, {result['status']}", labelled("because", result["because"])]
     return "\n".join(lines).strip("\n")

@@ -18,11 +18,20 @@ MOST_BYTES = 262_144
 XML_ID = f"{{{xml_reading.XML_NAMESPACE}}}id"
 COMBINED = ("The server doesn't combine decisions: it answers this request as a whole with Indeterminate, "
             "processing-error.")
-POLICY_IDS = "The server doesn't name the policies that applied: its response has no PolicyIdentifierList."
+POLICY_IDS = ("The server names policies by a rule of its own: those that decide Permit or Deny, up to the one that ends "
+              "their set.")
 
 
 def is_true(held: Element, name: str) -> bool:
     return (held.value(name) or "").strip() in ("true", "1")
+
+
+def remark_on(remarks: Remarks, name: str, place: Node | Spot) -> None:
+    """Says what the server makes of a flag of a request that is true."""
+    if name == "CombinedDecision":
+        remarks.warning("not-answered", place, COMBINED)
+    elif name == "ReturnPolicyIdList":
+        remarks.note("own-rule", place, POLICY_IDS)
 
 
 class ImportingRequests(Importing):
@@ -71,10 +80,10 @@ class ImportingRequests(Importing):
         members = {}
         for child in held.named("RequestDefaults"):
             self.remarks.note("not-kept", child.spot(), left_out.NO_XPATH)
-        for name, sentence in (("ReturnPolicyIdList", POLICY_IDS), ("CombinedDecision", COMBINED)):
+        for name in ("ReturnPolicyIdList", "CombinedDecision"):
             if is_true(held, name):
                 members[name] = Draft(True, held.spot(name))
-                self.remarks.warning("not-answered", held.spot(name), sentence)
+                remark_on(self.remarks, name, held.spot(name))
         members |= self.several("Category", held, ("Attributes",), self.attributes)
         group = held.one("MultiRequests")
         if group is not None:
@@ -189,9 +198,8 @@ class FromProfile:
             else:
                 is_category = name == "Category" or name in identifiers.SHORTHANDS
                 found[name] = self.objects(held, self.category) if is_category else self.copied(held)
-            if held.value is True and name in ("ReturnPolicyIdList", "CombinedDecision"):
-                sentence = POLICY_IDS if name == "ReturnPolicyIdList" else COMBINED
-                self.remarks.warning("not-answered", held, sentence)
+            if held.value is True:
+                remark_on(self.remarks, name, held)
         return Draft(found, self.spot(node))
 
     def body(self, node: Node) -> Draft:

@@ -29,12 +29,19 @@ def duties_lines(word: str, duties: list[dict]) -> list[str]:
     return lines
 
 
+def identifiers_lines(found: dict) -> list[str]:
+    """The policies and sets that the result names."""
+    return [wrapped(f"{word} {held['Id']} {held['Version']}", "    ", "        ")
+            for word, name in (("policy", "PolicyIdReference"), ("policy set", "PolicySetIdReference")) for held in found.get(name, [])]
+
+
 def result_shown(result: dict) -> str:
-    """A result: its decision, obligations, advice, and the attributes that the request wants to see again."""
+    """A result: its decision, obligations, advice, the policies that it names, and the attributes that the request wants to see again."""
     status = names.short(result["Status"]["StatusCode"]["Value"])
     lines = [decided(result["Decision"]) + (f"  status {status}" if status != "ok" else "")]
     lines += duties_lines("obligation",
                           result.get("Obligations", [])) + duties_lines("advice", result.get("AssociatedAdvice", []))
+    lines += identifiers_lines(result.get("PolicyIdentifierList", {}))
     for category in result.get("Category", []):
         lines.append(f"    of {names.category_shown(category['CategoryId'])}")
         lines += [attribute_line(one) for one in category["Attribute"]]

@@ -77,6 +77,7 @@ BREAKS: list[tuple[object, str, object, Callable[[], bool]]] = [
     (explain.Explainer, "children", lambda self, tree, *_: ([], []), unexplained),
     (explain, "individuals", lambda held: [], unexplained),
     (explain, "individuals", nothing, unexplained),
+    (explain, "named", lambda evaluated: {}, unexplained),
     (names, "nearest", lambda name, known: "", fails(test_slips.Slips, "test_each_slip")),
     (names, "nearest_by_end", lambda name, known: "", fails(test_slips.Slips, "test_each_slip")),
     (kinds, "way_from", lambda found, wanted: "", fails(test_slips.Slips, "test_a_forgotten_one_and_only")),

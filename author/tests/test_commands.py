@@ -147,6 +147,17 @@ class Commands(DeskTest):
                       "found nowhere; the attribute is missing, and must be present"):
             self.assertIn(words, " ".join(written.split()))
 
+    def test_policies_that_are_named(self) -> None:
+        written = " ".join(ask(REQUEST, word="explain")[1].split())
+        self.assertIn("named, where ReturnPolicyIdList asks for it: policy urn:test:shop 1.0", written)
+        self.assertEqual(json.loads(ask(REQUEST, "2026-11-23T10:00:00Z", "--json", word="explain")[1])["results"][0]["names"],
+                         ["policy urn:test:shop 1.0"])
+        self.assertNotIn("named", ask(REQUEST, "2026-11-23T20:00:00Z", word="explain")[1])
+        asked = edited(REQUEST, ('{"Request": {', '{"Request": {"ReturnPolicyIdList": true, '))
+        self.assertIn("\n    policy urn:test:shop 1.0\n", ask(asked)[1])
+        self.assertIn("named, where", ask(asked, word="explain")[1])
+        self.assertNotIn("policy urn:test:shop", ask(REQUEST)[1])
+
     def test_what_is_nearly_found(self) -> None:
         for old, new, words in (('"Value": "staff"', '"Value": "staff", "DataType": "anyURI"',
                                  "nearly: the request has it as an anyURI"),

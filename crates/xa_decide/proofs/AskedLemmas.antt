@@ -20,8 +20,8 @@ decided_alike : (request : Request) → request_asks request ≡ false → (one 
 unfolding decided
 decided_alike request none one other first second = by_combined request.combined_decision (individuals request) none where
   by_combined : (b : Bool) (them : Result (List Individual) TooMany) → cond b false (is_ok them) ≡ false
-      → cond b (result_without_objects ProcessingError ∷ []) (results_of one request.objects first them)
-      ≡ cond b (result_without_objects ProcessingError ∷ []) (results_of other request.objects second them)
+      → cond b (result_without_objects ProcessingError ∷ []) (results_of one request.return_policy_id_list request.objects first them)
+      ≡ cond b (result_without_objects ProcessingError ∷ []) (results_of other request.return_policy_id_list request.objects second them)
   by_combined true them e = refl
   by_combined false (Ok them) e = absurd (true≢false e)
   by_combined false (Err x) e = refl

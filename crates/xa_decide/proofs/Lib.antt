@@ -2,6 +2,7 @@ pub mod AskedLemmas
 mod IndexLemmas
 mod KeyLemmas
 mod LookLemmas
+mod NamedLemmas
 mod NamingLemmas
 pub mod PlacesLemmas
 pub mod TimelessLemmas

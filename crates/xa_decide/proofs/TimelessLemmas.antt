@@ -13,6 +13,7 @@ use Rattle.xa_expr.specs.declared.fault.Fault.TheVariants.{ProcessingError}
 use Rattle.xa_expr.specs.Evaluation.{Attributes}
 use Rattle.xa_expr.specs.Timeless.{SameButForTheClock, is_clock_id, is_some_clock_id, names_the_clock}
 use Rattle.xa_policy.specs.declared.linked.Linked.{Linked}
+use Rattle.xa_policy.specs.Evaluation.{as_asked}
 use Rattle.xa_policy.proofs.DesignatorLemmas.{steady}
 use Rattle.xa_link.specs.declared.link_error.LinkError.{LinkError}
 use Rattle.xa_profile.specs.declared.category_object.CategoryObject.{CategoryObject}
@@ -94,32 +95,32 @@ decision_same view timeless objects first second =
 
 -- ---- a request
 
-result_same : (view : Viewed) → is_timeless_tree view.tree ≡ true → (objects : List CategoryObject) (first second : ℤ) (individual : Individual)
-    → result_of view objects first individual ≡ result_of view objects second individual
-result_same view timeless objects first second (Places places) =
-    ap (λ e. record { evaluated = e; places = places }) (decision_same view timeless (objects_at objects places) first second)
-result_same view timeless objects first second BadReference = refl
+result_same : (view : Viewed) → is_timeless_tree view.tree ≡ true → (asked : Bool) (objects : List CategoryObject) (first second : ℤ) (individual : Individual)
+    → result_of view asked objects first individual ≡ result_of view asked objects second individual
+result_same view timeless asked objects first second (Places places) =
+    ap (λ e. record { evaluated = as_asked asked e; places = places }) (decision_same view timeless (objects_at objects places) first second)
+result_same view timeless asked objects first second BadReference = refl
 
-each_same : (view : Viewed) → is_timeless_tree view.tree ≡ true → (objects : List CategoryObject) (first second : ℤ) (them : List Individual)
-    → map (result_of view objects first) them ≡ map (result_of view objects second) them
-each_same view timeless objects first second [] = refl
-each_same view timeless objects first second (x ∷ them) =
-    ap (λ r. r ∷ map (result_of view objects first) them) (result_same view timeless objects first second x)
-    ∙ ap (λ rs. result_of view objects second x ∷ rs) (each_same view timeless objects first second them)
+each_same : (view : Viewed) → is_timeless_tree view.tree ≡ true → (asked : Bool) (objects : List CategoryObject) (first second : ℤ) (them : List Individual)
+    → map (result_of view asked objects first) them ≡ map (result_of view asked objects second) them
+each_same view timeless asked objects first second [] = refl
+each_same view timeless asked objects first second (x ∷ them) =
+    ap (λ r. r ∷ map (result_of view asked objects first) them) (result_same view timeless asked objects first second x)
+    ∙ ap (λ rs. result_of view asked objects second x ∷ rs) (each_same view timeless asked objects first second them)
 
-results_same : (view : Viewed) (them : Result (List Individual) TooMany) → are_timeless view them ≡ true → (objects : List CategoryObject) (first second : ℤ)
-    → results_of view objects first them ≡ results_of view objects second them
-results_same view (Ok them) timeless objects first second = each_same view timeless objects first second them
-results_same view (Err e) timeless objects first second = refl
+results_same : (view : Viewed) (them : Result (List Individual) TooMany) → are_timeless view them ≡ true → (asked : Bool) (objects : List CategoryObject) (first second : ℤ)
+    → results_of view asked objects first them ≡ results_of view asked objects second them
+results_same view (Ok them) timeless asked objects first second = each_same view timeless asked objects first second them
+results_same view (Err e) timeless asked objects first second = refl
 
 pub decided_same : TimelessRequestsStay
 unfolding decided is_timeless_request
 decided_same view request timeless first second = by_combined request.combined_decision timeless where
   by_combined : (b : Bool) → cond b true (are_timeless view (individuals request)) ≡ true
-      → cond b (result_without_objects ProcessingError ∷ []) (results_of view request.objects first (individuals request))
-      ≡ cond b (result_without_objects ProcessingError ∷ []) (results_of view request.objects second (individuals request))
+      → cond b (result_without_objects ProcessingError ∷ []) (results_of view request.return_policy_id_list request.objects first (individuals request))
+      ≡ cond b (result_without_objects ProcessingError ∷ []) (results_of view request.return_policy_id_list request.objects second (individuals request))
   by_combined true e = refl
-  by_combined false e = results_same view (individuals request) e request.objects first second
+  by_combined false e = results_same view (individuals request) e request.return_policy_id_list request.objects first second
 
 -- ---- a body
 

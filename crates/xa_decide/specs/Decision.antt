@@ -1,5 +1,5 @@
 -- The decision on a request (XACML 3.0, core, sections 7.17 and 7.19; Multiple Decision Profile of XACML 3.0).
-use Rattle.std.specs.Prelude.{ℕ, List, [], ◌∷◌, map, Option, Some, None, Result, Ok, Err, ℤ, if◌then◌else◌}
+use Rattle.std.specs.Prelude.{ℕ, Bool, List, [], ◌∷◌, map, Option, Some, None, Result, Ok, Err, ℤ, if◌then◌else◌}
 use Rattle.std.specs.List.{filter_map, slice_get}
 use Rattle.xa_expr.specs.declared.fault.Fault.{Fault}
 use Rattle.xa_expr.specs.declared.fault.Fault.TheVariants.{SyntaxError, ProcessingError}
@@ -7,7 +7,7 @@ use Rattle.xa_expr.specs.Evaluation.{Attributes}
 use Rattle.xa_policy.specs.declared.evaluated.Evaluated.{Evaluated}
 use Rattle.xa_policy.specs.declared.linked.Linked.{Linked}
 use Rattle.xa_policy.specs.declared.reference.Reference.{Reference}
-use Rattle.xa_policy.specs.Evaluation.{evaluation}
+use Rattle.xa_policy.specs.Evaluation.{as_asked, evaluation, without_ids}
 use Rattle.xa_policy.specs.Rule.{not_applicable, undecided}
 use Rattle.xa_link.specs.declared.active.Active.{Active}
 use Rattle.xa_link.specs.declared.link_error.LinkError.{LinkError}
@@ -44,11 +44,11 @@ view_by active root source = record { tree = tree_of active root; source = sourc
 
 -- what is decided by the tree: NotApplicable without one, and Indeterminate where it is too large
 abbrev pub by_tree : Attributes → Option (Result Linked LinkError) → Evaluated
-by_tree values_of None = not_applicable
+by_tree values_of None = without_ids not_applicable
 by_tree values_of (Some (Ok tree)) = evaluation values_of tree
-by_tree values_of (Some (Err e)) = undecided ProcessingError
+by_tree values_of (Some (Err e)) = without_ids (undecided ProcessingError)
 
--- what is decided of an individual request that has these Category objects
+-- what is decided of an individual request that has these Category objects, and the policies and policy sets that are named with it
 unfoldable pub decision : Viewed → List CategoryObject → ℤ → Evaluated
 decision view objects moment =
     by_tree (values_of (record { objects = objects; source = view.source; moment = moment })) view.tree
@@ -57,26 +57,28 @@ decision view objects moment =
 
 -- the one result of a request whose individual requests aren't decided, and that of a bad reference
 abbrev pub result_without_objects : Fault → ResultObject
-result_without_objects fault = record { evaluated = undecided fault; places = [] }
+result_without_objects fault = record { evaluated = without_ids (undecided fault); places = [] }
 
 -- the objects that have these places
 abbrev pub objects_at : List CategoryObject → List ℕ → List CategoryObject
 objects_at objects places = filter_map (slice_get objects) places
 
--- the result of an individual request
-abbrev pub result_of : Viewed → List CategoryObject → ℤ → Individual → ResultObject
-result_of view objects moment (Places places) = record { evaluated = decision view (objects_at objects places) moment; places = places }
-result_of view objects moment BadReference = result_without_objects SyntaxError
+-- the result of an individual request; policies and policy sets are named in it where they are asked for
+abbrev pub result_of : Viewed → Bool → List CategoryObject → ℤ → Individual → ResultObject
+result_of view asked objects moment (Places places) =
+    record { evaluated = as_asked asked (decision view (objects_at objects places) moment); places = places }
+result_of view asked objects moment BadReference = result_without_objects SyntaxError
 
 -- the results of all, and the one result where there are too many
-abbrev pub results_of : Viewed → List CategoryObject → ℤ → Result (List Individual) TooMany → List ResultObject
-results_of view objects moment (Ok individuals) = map (result_of view objects moment) individuals
-results_of view objects moment (Err e) = result_without_objects ProcessingError ∷ []
+abbrev pub results_of : Viewed → Bool → List CategoryObject → ℤ → Result (List Individual) TooMany → List ResultObject
+results_of view asked objects moment (Ok individuals) = map (result_of view asked objects moment) individuals
+results_of view asked objects moment (Err e) = result_without_objects ProcessingError ∷ []
 
 -- the results of a request. One decision for all individual requests (CombinedDecision, core, section 5.42; Multiple Decision Profile) isn't given
 unfoldable pub decided : Viewed → Request → ℤ → List ResultObject
 decided view request moment =
-    if request.combined_decision then result_without_objects ProcessingError ∷ [] else results_of view request.objects moment (individuals request)
+    if request.combined_decision then result_without_objects ProcessingError ∷ []
+    else results_of view request.return_policy_id_list request.objects moment (individuals request)
 
 -- ---- a body
 

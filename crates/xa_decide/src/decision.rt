@@ -1,7 +1,7 @@
 //! The decision on a request.
 ghost use Rattle.std.specs.Prelude.{◌≡◌, true, [], ◌∷◌, map, option_map, IfOk, IfSome};
 ghost use Rattle.xa_expr.specs.declared.fault.Fault.TheVariants.{SyntaxError};
-ghost use Rattle.xa_policy.specs.Rule.{undecided};
+ghost use Rattle.xa_policy.specs.Evaluation.{as_asked};
 ghost use Rattle.xa_profile.specs.declared.individuals.Individual.TheVariants.{Places};
 ghost use Rattle.xa_profile.specs.Response.{response_body};
 ghost use Rattle.xa_decide.specs.Decision.{objects_at, by_tree, result_without_objects, result_of, decided, body_of, answer};
@@ -15,9 +15,8 @@ use crate::view::View;
 use crate::work::Work;
 use std::alloc::{AllocError, Global};
 use xa_expr::{Context, Fault, STEP};
-use xa_func::Status;
 use xa_link::LinkError;
-use xa_policy::{Decision, Evaluated, Linked, evaluate, undecided_result};
+use xa_policy::{Evaluated, Linked, evaluate};
 use xa_profile::{CategoryObject, Individual, Request, RequestError, Response, ResultObject};
 use xa_value::{Items, Moment, OrMemory};
 
@@ -46,21 +45,21 @@ struct Outcome {
     timeless: bool,
 }
 
-/// What is decided by the tree: NotApplicable without one, and Indeterminate where it is too large.
+/// What is decided by the tree: NotApplicable without one, and Indeterminate where it is too large. Policies and policy sets are named where
+/// they are asked for.
+#[tactic(auto, using(crate::proofs::NamedLemmas::nothing_asked))]
 fn by_tree<C: Context>(
     alloc: Global,
     tree: &Option<Result<Linked, LinkError>>,
     context: &C,
+    asked: bool,
 ) -> Result<Evaluated, AllocError>
-    ensures { IfOk result (λ e. e ≡ by_tree (C.values_of context.now) tree.now) }
+    ensures { IfOk result (λ e. e ≡ as_asked asked (by_tree (C.values_of context.now) tree.now)) }
 {
     match tree {
-        Some(Ok(linked)) => evaluate(alloc, linked, context),
-        Some(Err(_)) => Ok(undecided_result(alloc, Fault::ProcessingError)),
-        None => {
-            let decision = Decision::NotApplicable;
-            Ok(Evaluated::without_duties(alloc, decision, Status::Ok))
-        },
+        Some(Ok(linked)) => evaluate(alloc, linked, context, asked),
+        Some(Err(_)) => Ok(Evaluated::undecided(alloc, Fault::ProcessingError)),
+        None => Ok(Evaluated::not_applicable(alloc)),
     }
 }
 
@@ -69,7 +68,7 @@ fn result_without_objects(alloc: Global, fault: Fault) -> ResultObject
     ensures { result ≡ result_without_objects fault }
 {
     ResultObject {
-        evaluated: undecided_result(alloc, fault),
+        evaluated: Evaluated::undecided(alloc, fault),
         places: Items::new(alloc),
     }
 }
@@ -94,11 +93,12 @@ fn one_outcome(alloc: Global, fault: Fault) -> Result<Outcome, AllocError>
     })
 }
 
-/// What the individual requests of a request are decided by: a view, the Category objects of the request, and a moment; and the work that all of them
-/// together may ask for.
+/// What the individual requests of a request are decided by: a view, whether policies and policy sets are to be named, the Category objects of the
+/// request, and a moment; and the work that all of them together may ask for.
 #[derive(Drop)]
 struct Deciding<'a> {
     view: &'a View,
+    asks_for_policies: bool,
     objects: &'a [IndexedObject<'a>],
     moment: Moment,
     work: &'a Work,
@@ -125,11 +125,11 @@ impl<'a> Deciding<'a> {
     /// The result of the individual request that has the objects at these places, which is paid for before it is written.
     #[tactic(auto, unfolding(crate::specs::Decision::decision))]
     fn result_at(&self, alloc: Global, places: Items<usize>) -> Result<ResultObject, AllocError>
-        ensures { IfOk result (λ r. r ≡ result_of self.now.view.now self.now.objects.now self.now.moment (Places places)) }
+        ensures { IfOk result (λ r. r ≡ result_of self.now.view.now self.now.asks_for_policies self.now.objects.now self.now.moment (Places places)) }
     {
         let chosen = places.as_slice();
         let context = self.context_at(alloc, chosen)?;
-        let evaluated = by_tree(alloc, self.view.tree(), &context)?;
+        let evaluated = by_tree(alloc, self.view.tree(), &context, self.asks_for_policies)?;
         self.work
             .spend_on_result(writing_of_result(self.objects, chosen, &evaluated))?;
         Ok(ResultObject { evaluated, places })
@@ -137,7 +137,7 @@ impl<'a> Deciding<'a> {
 
     /// The result of an individual request.
     fn result_of(&self, alloc: Global, individual: Individual) -> Result<ResultObject, AllocError>
-        ensures { IfOk result (λ r. r ≡ result_of self.now.view.now self.now.objects.now self.now.moment individual) }
+        ensures { IfOk result (λ r. r ≡ result_of self.now.view.now self.now.asks_for_policies self.now.objects.now self.now.moment individual) }
     {
         self.work.spend(STEP)?;
         match individual {
@@ -152,7 +152,7 @@ impl<'a> Deciding<'a> {
         alloc: Global,
         individuals: Items<Individual>,
     ) -> Result<Items<ResultObject>, AllocError>
-        ensures { IfOk result (λ results. results ≡ map (result_of self.now.view.now self.now.objects.now self.now.moment) individuals) }
+        ensures { IfOk result (λ results. results ≡ map (result_of self.now.view.now self.now.asks_for_policies self.now.objects.now self.now.moment) individuals) }
     {
         let mut results = Items::new(alloc);
         for individual in individuals.into_vec() {
@@ -177,21 +177,22 @@ fn indexed_objects<'a>(
     Ok(indexed)
 }
 
-/// What comes of the individual requests. Each object is put in order once for all of them.
+/// What comes of the individual requests of the request. Each object is put in order once for all of them.
 fn outcome_of_individuals<'x>(
     alloc: Global,
     view: &'x View,
-    objects: &[CategoryObject],
+    request: &Request,
     moment: Moment,
     work: &'x Work,
     individuals: Items<Individual>,
 ) -> Result<Outcome, AllocError>
-    ensures results { IfOk result (λ outcome. outcome.results ≡ map (result_of view.now objects.now moment) individuals) }
+    ensures results { IfOk result (λ outcome. outcome.results ≡ map (result_of view.now request.now.return_policy_id_list request.now.objects moment) individuals) }
     ensures timeless { IfOk result (λ outcome. outcome.timeless ≡ is_timeless_tree view.now.tree) }
 {
-    let indexed = indexed_objects(alloc, work, objects)?;
+    let indexed = indexed_objects(alloc, work, request.objects.as_slice())?;
     let deciding = Deciding {
         view,
+        asks_for_policies: request.return_policy_id_list,
         objects: indexed.as_slice(),
         moment,
         work,
@@ -219,10 +220,7 @@ fn outcome_by(
         return one_outcome(alloc, Fault::ProcessingError);
     }
     match request.individuals(alloc) {
-        Ok(individuals) => {
-            let objects = request.objects.as_slice();
-            outcome_of_individuals(alloc, view, objects, moment, work, individuals)
-        },
+        Ok(individuals) => outcome_of_individuals(alloc, view, request, moment, work, individuals),
         Err(OrMemory::Memory) => Err(AllocError),
         Err(OrMemory::Error(_)) => one_outcome(alloc, Fault::ProcessingError),
     }

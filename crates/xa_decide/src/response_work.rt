@@ -1,8 +1,9 @@
 //! What it is to write a result. It is asked before anything is written, so that a small request for a large response is refused early.
 use crate::indexed_object::IndexedObject;
 use crate::writing::Writing;
-use xa_policy::{AttributeAssignment, Duties, Duty, Evaluated};
+use xa_policy::{AttributeAssignment, DocumentKey, Duties, Duty, Evaluated};
 use xa_profile::{Attribute, CategoryObject};
+use xa_value::Shared;
 
 /// An attribute beside its texts and values: names of members, marks and the URI of a data type, which are at most so many bytes, and at least half as
 /// many.
@@ -27,6 +28,18 @@ const DUTY: Writing = Writing {
 const RESULT: Writing = Writing {
     units: 128,
     bytes: 64,
+};
+
+/// A policy or a policy set that is named, beside its id and its version.
+const NAME: Writing = Writing {
+    units: 32,
+    bytes: 16,
+};
+
+/// A number of a version, with a dot.
+const NUMBER: Writing = Writing {
+    units: 10,
+    bytes: 1,
 };
 
 /// An attribute of the request.
@@ -102,6 +115,21 @@ fn writing_of_duties(duties: &Duties) -> Writing {
     writing_of_each(duties.obligations()).and(writing_of_each(duties.advice()))
 }
 
+/// A policy or a policy set that is named.
+fn writing_of_key(key: &DocumentKey) -> Writing {
+    NAME.and(Writing::of_text(&key.id))
+        .and(NUMBER.times(key.version.numbers().len()))
+}
+
+/// The policies and policy sets that are named.
+fn writing_of_keys(keys: &[Shared<DocumentKey>]) -> Writing {
+    let mut all = Writing::NOTHING;
+    for key in keys {
+        all = all.and(writing_of_key(key.get()));
+    }
+    all
+}
+
 /// The result of the individual request that has the objects at these places.
 pub(crate) fn writing_of_result(
     objects: &[IndexedObject<'_>],
@@ -111,4 +139,5 @@ pub(crate) fn writing_of_result(
     RESULT
         .and(writing_at(objects, places))
         .and(writing_of_duties(&evaluated.duties))
+        .and(writing_of_keys(evaluated.ids.as_slice()))
 }

@@ -27,7 +27,7 @@ impl Writing {
     }
 
     /// So many of these.
-    fn times(self, count: usize) -> Writing {
+    pub(crate) fn times(self, count: usize) -> Writing {
         Writing {
             units: self.units.saturating_mul(count as u64),
             bytes: self.bytes.saturating_mul(count as u64),

@@ -3,9 +3,8 @@ use Rattle.std.specs.Prelude.{◌≡◌, ℕ, Bool, true, false, not, ◌&&◌, 
 use Rattle.std.specs.List.{list_all, position}
 use Rattle.xa_policy.specs.declared.pattern.PatternPart.{PatternPart}
 use Rattle.xa_policy.specs.declared.pattern.PatternPart.TheVariants.{Number, AnyNumber, AnyNumbers}
-use Rattle.xa_policy.specs.declared.reference.DocumentKind.{DocumentKind}
-use Rattle.xa_policy.specs.declared.reference.DocumentKind.TheVariants.{Policy, PolicySet}
 use Rattle.xa_policy.specs.declared.reference.Reference.{Reference}
+use Rattle.xa_policy.specs.DocumentKey.{same_kind}
 use Rattle.xa_policy.specs.Version.{is_before}
 use Rattle.xa_link.specs.declared.active.Active.{Active}
 
@@ -17,12 +16,6 @@ matches (part ∷ parts) [] = false
 matches (Number m ∷ parts) (n ∷ ns) = (m == n) && matches parts ns
 matches (AnyNumber ∷ parts) (n ∷ ns) = matches parts ns
 matches (AnyNumbers ∷ parts) (n ∷ ns) = true
-
-abbrev pub same_kind : DocumentKind → DocumentKind → Bool
-same_kind Policy Policy = true
-same_kind Policy PolicySet = false
-same_kind PolicySet Policy = false
-same_kind PolicySet PolicySet = true
 
 -- the version matches the pattern, where there is one
 abbrev pub fits_pattern : Option (List PatternPart) → List ℕ → Bool

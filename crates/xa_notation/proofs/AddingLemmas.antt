@@ -37,11 +37,11 @@ variable_first before v vs = by_cases (is_defined before v.name) (checked before
 
 -- without rules it stays
 pub rules_end : (p : PolicyParts) → with_typed_rules p [] ≡ Ok p
-rules_end p = ap (λ rules. Ok (record { algorithm = p.algorithm; target = p.target; variables = p.variables; rules = rules; duties = p.duties })) (append-nil p.rules)
+rules_end p = ap (λ rules. Ok (record { key = p.key; algorithm = p.algorithm; target = p.target; variables = p.variables; rules = rules; duties = p.duties })) (append-nil p.rules)
 
 with_first_rule : (p : PolicyParts) (r : Rule Typed) (rest : Result (List (Rule Typed)) CheckError)
     → (with_first r rest >>= (λ rs. Ok (with_rules p rs))) ≡ (rest >>= (λ rs. Ok (with_rules (with_rules p (r ∷ [])) rs)))
-with_first_rule p r (Ok rs) = ap (λ rules. Ok (record { algorithm = p.algorithm; target = p.target; variables = p.variables; rules = rules; duties = p.duties })) (sym (append_assoc p.rules (r ∷ []) rs))
+with_first_rule p r (Ok rs) = ap (λ rules. Ok (record { key = p.key; algorithm = p.algorithm; target = p.target; variables = p.variables; rules = rules; duties = p.duties })) (sym (append_assoc p.rules (r ∷ []) rs))
 with_first_rule p r (Err e) = refl
 
 -- a rule is put behind the others, and then those that are left
@@ -56,10 +56,10 @@ rule_first p w ws = by_first (typed_rule p.variables w) where
 
 -- a policy of these parts, and a policy set
 abbrev policy_of : WrittenPolicy → Target → List Definition → List (Rule Typed) → DutyExpressions Typed → PolicyParts
-policy_of p target variables rules duties = record { algorithm = p.algorithm; target = target; variables = variables; rules = rules; duties = duties }
+policy_of p target variables rules duties = record { key = p.key; algorithm = p.algorithm; target = target; variables = variables; rules = rules; duties = duties }
 
 abbrev set_of : WrittenSet → Target → DutyExpressions Typed → SetParts
-set_of s target duties = record { algorithm = s.algorithm; target = target; duties = duties }
+set_of s target duties = record { key = s.key; algorithm = s.algorithm; target = target; duties = duties }
 
 -- a policy: its target and its variables, without rules; then its rules, and then its obligations and its advice
 pub policy_built : (p : WrittenPolicy)

@@ -39,7 +39,9 @@ use Rattle.xa_notation.specs.declared.written.WrittenAllOf.{WrittenAllOf}
 use Rattle.xa_notation.specs.declared.written.WrittenAnyOf.{WrittenAnyOf}
 use Rattle.xa_notation.specs.declared.written.WrittenDocument.{WrittenDocument}
 use Rattle.xa_notation.specs.declared.written.WrittenMatch.{WrittenMatch}
+use Rattle.xa_notation.specs.declared.written.WrittenPolicy.{WrittenPolicy}
 use Rattle.xa_notation.specs.declared.written.WrittenRule.{WrittenRule}
+use Rattle.xa_notation.specs.declared.written.WrittenSetWithChildren.{WrittenSetWithChildren}
 use Rattle.xa_notation.specs.declared.written.WrittenTarget.{WrittenTarget}
 use Rattle.xa_notation.specs.declared.written.WrittenTree.{WrittenTree}
 use Rattle.xa_notation.specs.declared.written.WrittenTree.TheVariants as tree
@@ -293,7 +295,7 @@ written_rule d = do
   Ok (record { effect = effect; target = target; condition = condition; duties = duties })
 
 -- a policy (5.14)
-unfoldable pub written_policy : Data → Result WrittenDocument NotationError
+unfoldable pub written_policy : Data → Result WrittenPolicy NotationError
 written_policy d = do
   _ ← fits table.Policy d
   id ← needed_member member.PolicyId d >>= id
@@ -304,7 +306,7 @@ written_policy d = do
   variables ← items_if_any (at member.VariableDefinition d) >>= written_variables []
   rules ← items_if_any (at member.Rule d) >>= each written_rule
   duties ← written_duties d
-  Ok (record { kind = kind.Policy; id = id; version = version; tree = tree.Policy (record { algorithm = algorithm; target = target; variables = variables; rules = rules; duties = duties }) })
+  Ok (record { key = record { kind = kind.Policy; id = id; version = version }; algorithm = algorithm; target = target; variables = variables; rules = rules; duties = duties })
 
 -- a reference (5.10, 5.11)
 unfoldable pub reference : DocumentKind → Data → Result Reference NotationError
@@ -317,7 +319,7 @@ reference kind d = do
   Ok (record { kind = kind; id = id; version = pattern; earliest = earliest; latest = latest })
 
 -- a policy set (5.1), by its children
-unfoldable pub written_set_of : (Data → Result WrittenTree NotationError) → Data → Result WrittenDocument NotationError
+unfoldable pub written_set_of : (Data → Result WrittenTree NotationError) → Data → Result WrittenSetWithChildren NotationError
 written_set_of child d = do
   _ ← fits table.PolicySet d
   id ← needed_member member.PolicySetId d >>= id
@@ -327,36 +329,47 @@ written_set_of child d = do
   target ← written_target (at member.Target d)
   children ← items_if_any (at member.Children d) >>= each child
   duties ← written_duties d
-  Ok (record { kind = kind.PolicySet; id = id; version = version; tree = tree.PolicySet (record { algorithm = algorithm; target = target; duties = duties }) children })
+  Ok (record { set = record { key = record { kind = kind.PolicySet; id = id; version = version }; algorithm = algorithm; target = target; duties = duties }; children = children })
+
+-- a policy set as a part of a document
+abbrev pub tree_of_set : WrittenSetWithChildren → WrittenTree
+tree_of_set s = tree.PolicySet s.set s.children
 
 -- the child of a policy set that stands under the member's name
-abbrev pub child_named : (Data → Result WrittenDocument NotationError) → Member → Data → Result WrittenTree NotationError
-child_named set member.Policy d = written_policy d >>= (λ p. Ok p.tree)
-child_named set member.PolicySet d = set d >>= (λ s. Ok s.tree)
+abbrev pub child_named : (Data → Result WrittenSetWithChildren NotationError) → Member → Data → Result WrittenTree NotationError
+child_named set member.Policy d = written_policy d >>= (λ p. Ok (tree.Policy p))
+child_named set member.PolicySet d = set d >>= (λ s. Ok (tree_of_set s))
 child_named set member.PolicyIdReference d = reference kind.Policy d >>= (λ r. Ok (tree.Reference r))
 child_named set member.PolicySetIdReference d = reference kind.PolicySet d >>= (λ r. Ok (tree.Reference r))
 child_named set _ d = Err UnknownMember
 
 -- a child of a policy set
-unfoldable pub written_child : (Data → Result WrittenDocument NotationError) → Data → Result WrittenTree NotationError
+unfoldable pub written_child : (Data → Result WrittenSetWithChildren NotationError) → Data → Result WrittenTree NotationError
 written_child set d = do
   name ← chosen_member choice.Child d
   inner ← needed_member name d
   child_named set name inner
 
 -- a policy set inside too many others is too large as soon as its object is met
-abbrev pub too_deep : Data → Result WrittenDocument NotationError
+abbrev pub too_deep : Data → Result WrittenSetWithChildren NotationError
 too_deep d = if is_some (as_object d) then Err TooLarge else Err BadValue
 
 -- a policy set in which at most this many stand inside one another, it being one of them
-unfoldable pub written_set_within : ℕ → Data → Result WrittenDocument NotationError
+unfoldable pub written_set_within : ℕ → Data → Result WrittenSetWithChildren NotationError
 written_set_within zero d = too_deep d
 written_set_within (suc depth) d = written_set_of (written_child (written_set_within depth)) d
 
+-- a policy, and a policy set, as a whole document, with its key
+abbrev pub document_of_policy : WrittenPolicy → WrittenDocument
+document_of_policy p = record { key = p.key; tree = tree.Policy p }
+
+abbrev pub document_of_set : WrittenSetWithChildren → WrittenDocument
+document_of_set s = record { key = s.set.key; tree = tree_of_set s }
+
 -- the document that stands under the member's name
 abbrev pub document_named : Member → Data → Result WrittenDocument NotationError
-document_named member.Policy d = written_policy d
-document_named member.PolicySet d = written_set_within 8 d
+document_named member.Policy d = written_policy d >>= (λ p. Ok (document_of_policy p))
+document_named member.PolicySet d = written_set_within 8 d >>= (λ s. Ok (document_of_set s))
 document_named _ d = Err UnknownMember
 
 -- the whole document

@@ -63,7 +63,7 @@ typed_policy p = do
   variables ← typed_variables [] p.variables
   rules ← collected (map (typed_rule variables) p.rules)
   duties ← checked_duties variables p.duties
-  Ok (record { algorithm = p.algorithm; target = target; variables = variables; rules = rules; duties = duties })
+  Ok (record { key = p.key; algorithm = p.algorithm; target = target; variables = variables; rules = rules; duties = duties })
 
 -- a policy set (5.1), by what its children come to: its target, its children, its obligations and its advice
 unfoldable pub typed_set : WrittenSet → List (Result Document CheckError) → Result Document CheckError
@@ -71,7 +71,7 @@ typed_set s children = do
   target ← typed_target s.target
   typed ← collected children
   duties ← checked_duties [] s.duties
-  Ok (document.PolicySet (record { algorithm = s.algorithm; target = target; duties = duties }) typed)
+  Ok (document.PolicySet (record { key = s.key; algorithm = s.algorithm; target = target; duties = duties }) typed)
 
 -- each part of a document, by what those in it come to
 abbrev pub typed_step : WrittenTree-F (Result Document CheckError) → Result Document CheckError

@@ -10,7 +10,7 @@ use crate::policy_set::written_document;
 use crate::typing::typed_tree;
 use crate::written::{WrittenDocument, WrittenTree};
 use std::alloc::Global;
-use xa_policy::{DocumentKind, Policy, PolicySet, Reference, Version};
+use xa_policy::{DocumentKey, DocumentKind, Policy, PolicySet, Reference, Version};
 use xa_value::{Items, OrMemory, Shared, Text};
 
 /// The most bytes of a document: a bound of this project's own.
@@ -105,13 +105,9 @@ fn typed_document(
 ) -> Result<Parsed, OrMemory<NotationError>>
     ensures { Gives result (typed_document written) }
 {
-    let WrittenDocument {
-        kind,
-        id,
-        version,
-        tree,
-    } = written;
+    let WrittenDocument { key, tree } = written;
     let document = document_tree(alloc, tree)?;
+    let DocumentKey { kind, id, version } = key;
     Ok(Parsed {
         kind,
         id,

@@ -13,10 +13,10 @@ use crate::rule::RuleReader;
 use crate::tables::Object;
 use crate::target::written_target;
 use crate::variables::written_variables;
-use crate::written::{WrittenDocument, WrittenPolicy, WrittenTree};
+use crate::written::WrittenPolicy;
 use serde_json::Value as Json;
 use std::alloc::Global;
-use xa_policy::DocumentKind;
+use xa_policy::{DocumentKey, DocumentKind};
 use xa_value::OrMemory;
 
 /// A policy (XACML 3.0, core, section 5.14).
@@ -24,7 +24,7 @@ use xa_value::OrMemory;
 pub(crate) fn written_policy(
     alloc: Global,
     value: &Json,
-) -> Result<WrittenDocument, OrMemory<NotationError>>
+) -> Result<WrittenPolicy, OrMemory<NotationError>>
     ensures { Gives result (written_policy (view value.now)) }
 {
     check_members(value, Object::Policy)?;
@@ -38,16 +38,16 @@ pub(crate) fn written_policy(
     let rules = items_if_any(member_at(value, Member::Rule))?;
     let rules = each(alloc, &RuleReader, rules)?;
     let duties = written_duties(alloc, value)?;
-    Ok(WrittenDocument {
-        kind: DocumentKind::Policy,
-        id,
-        version,
-        tree: WrittenTree::Policy(WrittenPolicy {
-            algorithm,
-            target,
-            variables,
-            rules,
-            duties,
-        }),
+    Ok(WrittenPolicy {
+        key: DocumentKey {
+            kind: DocumentKind::Policy,
+            id,
+            version,
+        },
+        algorithm,
+        target,
+        variables,
+        rules,
+        duties,
     })
 }

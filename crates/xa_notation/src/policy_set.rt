@@ -17,10 +17,10 @@ use crate::plain_members::{
 use crate::policy::written_policy;
 use crate::tables::{Choice, Object};
 use crate::target::written_target;
-use crate::written::{WrittenDocument, WrittenSet, WrittenTree};
+use crate::written::{WrittenDocument, WrittenSet, WrittenSetWithChildren, WrittenTree};
 use serde_json::Value as Json;
 use std::alloc::Global;
-use xa_policy::{DocumentKind, Reference};
+use xa_policy::{DocumentKey, DocumentKind, Reference};
 use xa_value::{Items, OrMemory};
 
 /// How many policy sets may stand inside one another.
@@ -76,8 +76,8 @@ fn child_named(
     ensures { Gives result (child_named (written_set_within depth) name (view value.now)) }
 {
     match name {
-        Member::Policy => Ok(written_policy(alloc, value)?.tree),
-        Member::PolicySet => Ok(written_set_within(alloc, value, depth)?.tree),
+        Member::Policy => Ok(WrittenTree::Policy(written_policy(alloc, value)?)),
+        Member::PolicySet => Ok(written_set_within(alloc, value, depth)?.into_tree()),
         Member::PolicyIdReference => {
             let reference = reference(alloc, DocumentKind::Policy, value)?;
             Ok(WrittenTree::Reference(reference))
@@ -111,7 +111,7 @@ fn written_set_of(
     alloc: Global,
     value: &Json,
     depth: usize,
-) -> Result<WrittenDocument, OrMemory<NotationError>>
+) -> Result<WrittenSetWithChildren, OrMemory<NotationError>>
     ensures { Gives result (written_set_of (written_child (written_set_within depth)) (view value.now)) }
 {
     check_members(value, Object::PolicySet)?;
@@ -123,23 +123,23 @@ fn written_set_of(
     let children = items_if_any(member_at(value, Member::Children))?;
     let children = written_children(alloc, children, depth)?;
     let duties = written_duties(alloc, value)?;
-    Ok(WrittenDocument {
-        kind: DocumentKind::PolicySet,
-        id,
-        version,
-        tree: WrittenTree::PolicySet(
-            WrittenSet {
-                algorithm,
-                target,
-                duties,
+    Ok(WrittenSetWithChildren {
+        set: WrittenSet {
+            key: DocumentKey {
+                kind: DocumentKind::PolicySet,
+                id,
+                version,
             },
-            children,
-        ),
+            algorithm,
+            target,
+            duties,
+        },
+        children,
     })
 }
 
 /// The fault of a policy set that stands inside too many others.
-fn too_deep(value: &Json) -> Result<WrittenDocument, NotationError>
+fn too_deep(value: &Json) -> Result<WrittenSetWithChildren, NotationError>
     ensures { result ≡ too_deep (view value.now) }
 {
     if value.is_object() {
@@ -156,7 +156,7 @@ fn written_set_within(
     alloc: Global,
     value: &Json,
     depth: usize,
-) -> Result<WrittenDocument, OrMemory<NotationError>>
+) -> Result<WrittenSetWithChildren, OrMemory<NotationError>>
     ensures { Gives result (written_set_within depth (view value.now)) }
 {
     if depth == 0 {
@@ -174,8 +174,8 @@ fn document_named(
     ensures { Gives result (document_named name (view value.now)) }
 {
     match name {
-        Member::Policy => written_policy(alloc, value),
-        Member::PolicySet => written_set_within(alloc, value, MAX_SETS),
+        Member::Policy => Ok(written_policy(alloc, value)?.into_document()?),
+        Member::PolicySet => Ok(written_set_within(alloc, value, MAX_SETS)?.into_document()?),
         _ => Err(OrMemory::Error(NotationError::UnknownMember)),
     }
 }

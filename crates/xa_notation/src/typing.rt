@@ -142,6 +142,7 @@ fn typed_policy(alloc: Global, written: WrittenPolicy) -> Result<Policy, OrMemor
     ensures { Gives result (typed_policy written) }
 {
     let WrittenPolicy {
+        key,
         algorithm,
         target,
         variables,
@@ -150,7 +151,8 @@ fn typed_policy(alloc: Global, written: WrittenPolicy) -> Result<Policy, OrMemor
     } = written;
     let target = typed_target(alloc, target)?;
     let variables = typed_variables(alloc, variables)?;
-    let policy = Policy::new(alloc, algorithm, target, variables);
+    let key = Shared::new(alloc, key)?;
+    let policy = Policy::new(alloc, key, algorithm, target, variables);
     let mut policy = with_rules(alloc, policy, rules)?;
     policy.set_duties(alloc, &duties)?;
     Ok(policy)
@@ -181,13 +183,14 @@ fn typed_set(
     ensures { Gives result (typed_set written (map typed_tree children)) }
 {
     let WrittenSet {
+        key,
         algorithm,
         target,
         duties,
     } = written;
     let target = typed_target(alloc, target)?;
     let children = typed_children(alloc, children)?;
-    let mut set = PolicySet::new(alloc, algorithm, target);
+    let mut set = PolicySet::new(alloc, Shared::new(alloc, key)?, algorithm, target);
     set.set_duties(alloc, &duties)?;
     Ok(Document::PolicySet(Shared::new(alloc, set)?, children))
 }

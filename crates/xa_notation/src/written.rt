@@ -1,9 +1,10 @@
 //! A document as it is written: its shape is right, and its types are not looked at yet.
-ghost use Rattle.std.specs.Prelude.{◌≡◌, []};
+ghost use Rattle.std.specs.Prelude.{◌≡◌, [], IfOk};
+ghost use Rattle.xa_notation.specs.Shape.{document_of_policy, document_of_set, tree_of_set};
 
-use std::alloc::Global;
+use std::alloc::{AllocError, Global};
 use xa_expr::{Designator, Expr};
-use xa_policy::{Alg, DocumentKind, DutyExpressions, Effect, Reference, Version};
+use xa_policy::{Alg, DocumentKey, DutyExpressions, Effect, Reference};
 use xa_value::{Items, Text, Value};
 
 /// A match: its function by name, its literal and its designator.
@@ -51,6 +52,7 @@ pub(crate) struct WrittenRule {
 /// A policy.
 #[derive(Debug, Drop)]
 pub(crate) struct WrittenPolicy {
+    pub(crate) key: DocumentKey,
     pub(crate) algorithm: Alg,
     pub(crate) target: WrittenTarget,
     pub(crate) variables: Items<WrittenVariable>,
@@ -61,6 +63,7 @@ pub(crate) struct WrittenPolicy {
 /// A policy set without its children.
 #[derive(Debug, Drop)]
 pub(crate) struct WrittenSet {
+    pub(crate) key: DocumentKey,
     pub(crate) algorithm: Alg,
     pub(crate) target: WrittenTarget,
     pub(crate) duties: DutyExpressions<Expr>,
@@ -74,13 +77,52 @@ pub(crate) enum WrittenTree {
     Reference(Reference),
 }
 
-/// A policy or a policy set with its id and version.
+/// A policy set with its children.
+#[derive(Debug, Drop)]
+pub(crate) struct WrittenSetWithChildren {
+    pub(crate) set: WrittenSet,
+    pub(crate) children: Items<WrittenTree>,
+}
+
+/// A whole document: a policy or a policy set, with its key once more beside it.
 #[derive(Debug, Drop)]
 pub(crate) struct WrittenDocument {
-    pub(crate) kind: DocumentKind,
-    pub(crate) id: Text,
-    pub(crate) version: Version,
+    pub(crate) key: DocumentKey,
     pub(crate) tree: WrittenTree,
+}
+
+impl WrittenPolicy {
+    /// The policy as a whole document.
+    pub(crate) fn into_document(self) -> Result<WrittenDocument, AllocError>
+        ensures { IfOk result (λ d. d ≡ document_of_policy self) }
+    {
+        let key = self.key.clone()?;
+        Ok(WrittenDocument {
+            key,
+            tree: WrittenTree::Policy(self),
+        })
+    }
+}
+
+impl WrittenSetWithChildren {
+    /// The policy set as a part of a document.
+    pub(crate) fn into_tree(self) -> WrittenTree
+        ensures { result ≡ tree_of_set self }
+    {
+        let WrittenSetWithChildren { set, children } = self;
+        WrittenTree::PolicySet(set, children)
+    }
+
+    /// The policy set as a whole document.
+    pub(crate) fn into_document(self) -> Result<WrittenDocument, AllocError>
+        ensures { IfOk result (λ d. d ≡ document_of_set self) }
+    {
+        let key = self.set.key.clone()?;
+        Ok(WrittenDocument {
+            key,
+            tree: self.into_tree(),
+        })
+    }
 }
 
 impl WrittenTarget {

@@ -1,5 +1,5 @@
 -- What rules, policies and policy sets decide rests on the designators that stand in them alone.
-use Rattle.std.proofs.Common.{◌≡◌, refl, ap, sym, ◌∙◌, subst, Bool, true, false, cond, List, [], ◌∷◌, ◌++◌, map, filter}
+use Rattle.std.proofs.Common.{◌≡◌, refl, ap, ap₂, sym, ◌∙◌, subst, Bool, true, false, cond, List, [], ◌∷◌, ◌++◌, map, filter}
 use Rattle.std.specs.Prelude.{Option, Some, None, Ok}
 use Rattle.std.specs.List.{flat_map}
 use Rattle.xa_value.specs.Gives.{◌>>=◌}
@@ -18,17 +18,18 @@ use Rattle.xa_policy.specs.declared.decision.Effect.{Effect}
 use Rattle.xa_policy.specs.declared.duty.AttributeAssignmentExpression.{AttributeAssignmentExpression}
 use Rattle.xa_policy.specs.declared.duty.DutyExpression.{DutyExpression}
 use Rattle.xa_policy.specs.declared.duty.DutyExpressions.{DutyExpressions}
-use Rattle.xa_policy.specs.declared.evaluated.Evaluated.{Evaluated}
 use Rattle.xa_policy.specs.declared.linked.Linked.{Linked}
 use Rattle.xa_policy.specs.declared.linked.Linked.TheFolds.{fold-roll-Linked, map-Linked, ind-Linked}
 use Rattle.xa_policy.specs.declared.linked.Linked.TheOpen.{Linked-F}
 use Rattle.xa_policy.specs.declared.rule.Rule.{Rule}
+use Rattle.xa_policy.specs.declared.verdict.Verdict.{Verdict}
 use Rattle.xa_policy.specs.Designators.{IsSteady, designators_of_assignment, designators_of_duty, designators_of_duties, designators_of_condition, designators_of_rule, designators_of_policy, designators_of_set, designators_step, designators_of_linked}
 use Rattle.xa_policy.specs.Duties.{assigned, duties_with, duty, effect_of, own_duties, same_effect, with_value}
-use Rattle.xa_policy.specs.Evaluation.{by_target, combination, evaluated, evaluation, linked_step, policy_value, rule_child, set_value}
+use Rattle.xa_policy.specs.Evaluation.{Element, by_target, combination, element, element_of, element_step, evaluated, evaluation, linked_step, named_by_elements, policy_value, rule_child, set_value, with_ids}
 use Rattle.xa_policy.specs.Policy.{PolicyParts, SetParts}
 use Rattle.xa_policy.specs.Rule.{condition_value, outcome, rule_value, with_found, with_own, with_own_of}
 use Rattle.xa_policy.specs.Status.{EvaluatedChild}
+use Rattle.xa_policy.proofs.IdLemmas.{element_child}
 
 -- the two give the same of every expression on whose designators the sources agree
 abbrev SameWhereAgreed : Attributes → Attributes → (Typed → Outcome) → (Typed → Outcome) → Type 0
@@ -67,7 +68,7 @@ own_duties_same a b f g same effect own agree =
     let second = duties_with_same a b f g same effect own.advice (agree_second (flat_map designators_of_duty own.obligations) (flat_map designators_of_duty own.advice) a b agree) in
     rw (first, second) refl
 
-with_own_same : (a b : Attributes) (f g : Typed → Outcome) → SameWhereAgreed a b f g → (own : DutyExpressions Typed) (e : Evaluated)
+with_own_same : (a b : Attributes) (f g : Typed → Outcome) → SameWhereAgreed a b f g → (own : DutyExpressions Typed) (e : Verdict)
     → AgreeOn (designators_of_duties own) a b → with_own f own e ≡ with_own g own e
 with_own_same a b f g same own e agree = by_effect (effect_of e.decision) where
   by_effect : (o : Option Effect) → with_own_of f own e o ≡ with_own_of g own e o
@@ -137,38 +138,48 @@ set_child_same set a b before after agree same =
     ∙ duties in
     ap (λ e. record { value = e; target = target_value a set.target }) value ∙ ap (λ m. record { value = set_value b set after; target = m }) target
 
--- of trees
+-- of trees: what each element comes to, and what it names
 abbrev Rests : Linked → Type 0
-Rests t = RestsOn (designators_of_linked t) (λ a. evaluated a t)
+Rests t = RestsOn (designators_of_linked t) (λ a. element a t)
 
-children_rest : (ts : List ((t : Linked) × Rests t)) (a b : Attributes)
-    → AgreeOn (flat_map (λ ds. ds) (map designators_of_linked (map (λ e. e.0) ts))) a b → map (evaluated a) (map (λ e. e.0) ts) ≡ map (evaluated b) (map (λ e. e.0) ts)
-children_rest [] a b agree = refl
-children_rest (t ∷ ts) a b agree =
-    ap (λ r. r ∷ map (evaluated a) (map (λ e. e.0) ts)) (t.1 a b (agree_first (designators_of_linked t.0) (flat_map (λ ds. ds) (map designators_of_linked (map (λ e. e.0) ts))) a b agree))
-    ∙ ap (λ rs. evaluated b t.0 ∷ rs) (children_rest ts a b (agree_second (designators_of_linked t.0) (flat_map (λ ds. ds) (map designators_of_linked (map (λ e. e.0) ts))) a b agree))
+elements_rest : (ts : List ((t : Linked) × Rests t)) (a b : Attributes)
+    → AgreeOn (flat_map (λ ds. ds) (map designators_of_linked (map (λ e. e.0) ts))) a b → map (element a) (map (λ e. e.0) ts) ≡ map (element b) (map (λ e. e.0) ts)
+elements_rest [] a b agree = refl
+elements_rest (t ∷ ts) a b agree =
+    ap (λ r. r ∷ map (element a) (map (λ e. e.0) ts)) (t.1 a b (agree_first (designators_of_linked t.0) (flat_map (λ ds. ds) (map designators_of_linked (map (λ e. e.0) ts))) a b agree))
+    ∙ ap (λ rs. element b t.0 ∷ rs) (elements_rest ts a b (agree_second (designators_of_linked t.0) (flat_map (λ ds. ds) (map designators_of_linked (map (λ e. e.0) ts))) a b agree))
+
+set_same : (set : SetParts) (a b : Attributes) (before after : List Element) → AgreeOn (designators_of_set set) a b → before ≡ after
+    → element_step a (Linked-F.PolicySet set before) ≡ element_step b (Linked-F.PolicySet set after)
+set_same set a b before after agree same =
+    ap (λ (c : EvaluatedChild). element_of c set.key (named_by_elements set.algorithm before))
+    (set_child_same set a b (map (λ e. e.child) before) (map (λ e. e.child) after) agree (ap (map (λ (e : Element). e.child)) same))
+    ∙ ap (λ (es : List Element). element_of (linked_step b (Linked-F.PolicySet set (map (λ e. e.child) after))) set.key (named_by_elements set.algorithm es)) same
 
 layer_rests : (y : Linked-F ((t : Linked) × Rests t)) (a b : Attributes)
     → AgreeOn (designators_step (map-Linked Linked (List Designator) designators_of_linked (map-Linked ((t : Linked) × Rests t) Linked (λ e. e.0) y))) a b
-    → linked_step a (map-Linked Linked EvaluatedChild (evaluated a) (map-Linked ((t : Linked) × Rests t) Linked (λ e. e.0) y))
-    ≡ linked_step b (map-Linked Linked EvaluatedChild (evaluated b) (map-Linked ((t : Linked) × Rests t) Linked (λ e. e.0) y))
+    → element_step a (map-Linked Linked Element (element a) (map-Linked ((t : Linked) × Rests t) Linked (λ e. e.0) y))
+    ≡ element_step b (map-Linked Linked Element (element b) (map-Linked ((t : Linked) × Rests t) Linked (λ e. e.0) y))
 layer_rests Linked-F.Unresolved a b agree = refl
-layer_rests (Linked-F.Policy policy) a b agree = policy_child_same policy a b agree
+layer_rests (Linked-F.Policy policy) a b agree = ap (λ (c : EvaluatedChild). element_of c policy.key []) (policy_child_same policy a b agree)
 layer_rests (Linked-F.PolicySet set ts) a b agree =
-    set_child_same set a b (map (evaluated a) (map (λ e. e.0) ts)) (map (evaluated b) (map (λ e. e.0) ts))
+    set_same set a b (map (element a) (map (λ e. e.0) ts)) (map (element b) (map (λ e. e.0) ts))
     (agree_first (designators_of_set set) (flat_map (λ ds. ds) (map designators_of_linked (map (λ e. e.0) ts))) a b agree)
-    (children_rest ts a b (agree_second (designators_of_set set) (flat_map (λ ds. ds) (map designators_of_linked (map (λ e. e.0) ts))) a b agree))
+    (elements_rest ts a b (agree_second (designators_of_set set) (flat_map (λ ds. ds) (map designators_of_linked (map (λ e. e.0) ts))) a b agree))
 
-evaluated_rests : (t : Linked) → RestsOn (designators_of_linked t) (λ a. evaluated a t)
-evaluated_rests = ind-Linked Rests (λ x y is a b agree.
+element_rests : (t : Linked) → RestsOn (designators_of_linked t) (λ a. element a t)
+element_rests = ind-Linked Rests (λ x y is a b agree.
     let whole = subst (λ ds. AgreeOn ds a b) (fold-roll-Linked (List Designator) designators_step x) agree in
     let here = subst (λ z. AgreeOn (designators_step (map-Linked Linked (List Designator) designators_of_linked z)) a b
-    → linked_step a (map-Linked Linked EvaluatedChild (evaluated a) z) ≡ linked_step b (map-Linked Linked EvaluatedChild (evaluated b) z))
+    → element_step a (map-Linked Linked Element (element a) z) ≡ element_step b (map-Linked Linked Element (element b) z))
     is (layer_rests y a b) in
-    fold-roll-Linked EvaluatedChild (linked_step a) x ∙ here whole ∙ sym (fold-roll-Linked EvaluatedChild (linked_step b) x))
+    fold-roll-Linked Element (element_step a) x ∙ here whole ∙ sym (fold-roll-Linked Element (element_step b) x))
 
 pub evaluation_rests : (t : Linked) → RestsOn (designators_of_linked t) (λ a. evaluation a t)
-evaluation_rests t a b agree = ap (λ e. e.value) (evaluated_rests t a b agree)
+evaluation_rests t a b agree =
+    let same : element a t ≡ element b t = element_rests t a b agree in
+    let child : evaluated a t ≡ evaluated b t = sym (element_child a t) ∙ ap (λ e. e.child) same ∙ element_child b t in
+    ap₂ (λ (e : Element) (c : EvaluatedChild). with_ids e.ids c.value) same child
 
 -- where none of them names the clock it is the same whatever the clock says
 pub steady : (t : Linked) → is_timeless (designators_of_linked t) ≡ true → IsSteady t

@@ -6,6 +6,7 @@ pub mod EvaluationLemmas
 pub mod FirstApplicableLemmas
 pub mod FulfilmentLemmas
 pub mod GivesLemmas
+pub mod IdLemmas
 pub mod MirrorLemmas
 pub mod OnlyOneLemmas
 pub mod OverridingLemmas

@@ -12,7 +12,7 @@ use Rattle.xa_policy.specs.declared.combining.Child.{Child}
 use Rattle.xa_policy.specs.declared.decision.Decision.{Decision}
 use Rattle.xa_policy.specs.declared.decision.Decision.TheVariants.{NotApplicable, IndeterminateDenyPermit}
 use Rattle.xa_policy.specs.declared.decision.Effect.{Effect}
-use Rattle.xa_policy.specs.declared.evaluated.Evaluated.{Evaluated}
+use Rattle.xa_policy.specs.declared.verdict.Verdict.{Verdict}
 use Rattle.xa_policy.specs.Combining.{decision_of, applies, may_apply, the_only_one, only_one_applicable}
 use Rattle.xa_policy.specs.Duties.{effect_of, no_duties}
 use Rattle.xa_policy.specs.Evaluation.{child_of, combination, with_decision}
@@ -87,21 +87,21 @@ only_one_second d c cs h = second d c.decision c.target cs h
 pub ruleset only_one_steps = (common_steps, only_one_none, only_one_passed, only_one_open, only_one_taken, only_one_alone, only_one_behind, only_one_second, only_one_open_behind)
 
 -- only-one-applicable of evaluated children, with its status, obligations and advice
-abbrev pub evaluated : List EvaluatedChild → Evaluated
+abbrev pub evaluated : List EvaluatedChild → Verdict
 evaluated children = combination OnlyOneApplicable children
 
-abbrev of : Evaluated → Matching → EvaluatedChild
+abbrev of : Verdict → Matching → EvaluatedChild
 of value target = record { value = value; target = target }
 
 -- obligations and advice come with a Permit or a Deny alone
-abbrev pub IsTidy : Evaluated → Type 0
+abbrev pub IsTidy : Verdict → Type 0
 IsTidy e = effect_of e.decision ≡ None → e.duties ≡ no_duties
 
 pub evaluated_none : evaluated [] ≡ not_applicable
 unfolding combination only_one_applicable only_one_status
 evaluated_none = refl
 
-without : (v : Evaluated) (t : Matching) (cs : List EvaluatedChild) → t ≡ NoMatch → evaluated (of v t ∷ cs) ≡ evaluated cs
+without : (v : Verdict) (t : Matching) (cs : List EvaluatedChild) → t ≡ NoMatch → evaluated (of v t ∷ cs) ≡ evaluated cs
 unfolding combination only_one_applicable only_one_status
 without v Match cs h = cc
 without v NoMatch cs h = refl
@@ -114,7 +114,7 @@ pub evaluated_open : (c : EvaluatedChild) (cs : List EvaluatedChild) (fault : Fa
 unfolding combination only_one_applicable only_one_status
 evaluated_open c cs fault h = rw h refl
 
-alone : (v : Evaluated) → IsTidy v → (o : Option Effect) → effect_of v.decision ≡ o → evaluated (of v Match ∷ []) ≡ v
+alone : (v : Verdict) → IsTidy v → (o : Option Effect) → effect_of v.decision ≡ o → evaluated (of v Match ∷ []) ≡ v
 unfolding combination only_one_applicable only_one_status
 alone v tidy None h = rw (h, ← tidy h) refl
 alone v tidy (Some e) h = rw (h, is_itself v.decision, and_then_none v.duties) refl
@@ -122,7 +122,7 @@ alone v tidy (Some e) h = rw (h, is_itself v.decision, and_then_none v.duties) r
 pub evaluated_alone : (c : EvaluatedChild) → IsTidy c.value → c.target ≡ Match → evaluated (c ∷ []) ≡ c.value
 evaluated_alone c tidy h = ap (λ t. evaluated (of c.value t ∷ [])) h ∙ alone c.value tidy (effect_of c.value.decision) refl
 
-beside : (v w : Evaluated) (s t : Matching) (cs : List EvaluatedChild) → s ≡ Match → t ≡ NoMatch → evaluated (of v s ∷ of w t ∷ cs) ≡ evaluated (of v s ∷ cs)
+beside : (v w : Verdict) (s t : Matching) (cs : List EvaluatedChild) → s ≡ Match → t ≡ NoMatch → evaluated (of v s ∷ of w t ∷ cs) ≡ evaluated (of v s ∷ cs)
 unfolding combination only_one_applicable only_one_status
 beside v w Match NoMatch cs g h = refl
 beside v w Match Match cs g h = cc
@@ -133,7 +133,7 @@ beside v w (Indeterminate fault) t cs g h = cc
 pub evaluated_behind : (c d : EvaluatedChild) (cs : List EvaluatedChild) → c.target ≡ Match → d.target ≡ NoMatch → evaluated (c ∷ d ∷ cs) ≡ evaluated (c ∷ cs)
 evaluated_behind c d cs g h = beside c.value d.value c.target d.target cs g h
 
-both : (v w : Evaluated) (cs : List EvaluatedChild) → evaluated (of v Match ∷ of w Match ∷ cs) ≡ undecided ProcessingError
+both : (v w : Verdict) (cs : List EvaluatedChild) → evaluated (of v Match ∷ of w Match ∷ cs) ≡ undecided ProcessingError
 unfolding combination only_one_applicable only_one_status
 both v w cs =
     ap (with_decision OnlyOneApplicable (of v Match ∷ of w Match ∷ cs))

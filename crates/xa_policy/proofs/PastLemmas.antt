@@ -12,11 +12,11 @@ use Rattle.xa_policy.specs.declared.combining.Alg.{Alg}
 use Rattle.xa_policy.specs.declared.combining.Alg.TheVariants.{DenyOverrides, PermitOverrides, OrderedDenyOverrides, OrderedPermitOverrides, DenyUnlessPermit, PermitUnlessDeny, FirstApplicable, OnlyOneApplicable}
 use Rattle.xa_policy.specs.declared.decision.Decision.{Decision}
 use Rattle.xa_policy.specs.declared.decision.Decision.TheVariants.{Permit, Deny, NotApplicable, IndeterminatePermit, IndeterminateDeny, IndeterminateDenyPermit}
-use Rattle.xa_policy.specs.declared.evaluated.Evaluated.{Evaluated}
 use Rattle.xa_policy.specs.declared.linked.Linked.{Linked}
 use Rattle.xa_policy.specs.declared.linked.Linked.TheFolds.{fold-roll-Linked, map-Linked, ind-Linked}
 use Rattle.xa_policy.specs.declared.linked.Linked.TheOpen.{Linked-F}
 use Rattle.xa_policy.specs.declared.rule.Rule.{Rule}
+use Rattle.xa_policy.specs.declared.verdict.Verdict.{Verdict}
 use Rattle.xa_policy.specs.Combining.{deny_overrides, permit_overrides}
 use Rattle.xa_policy.specs.Evaluation.{ends, evaluated, linked_step, rule_child}
 use Rattle.xa_policy.specs.Mirror.{mirrored}
@@ -25,7 +25,7 @@ use Rattle.xa_policy.specs.Walk.{joined_decision, walked}
 use Rattle.xa_policy.proofs.MirrorLemmas.{mirrored_twice, permit_overrides_mirrors}
 
 -- it ends nothing
-goes_on : (a : Alg) → ends a NotApplicable ≡ false
+pub goes_on : (a : Alg) → ends a NotApplicable ≡ false
 goes_on DenyOverrides = refl
 goes_on PermitOverrides = refl
 goes_on OrderedDenyOverrides = refl
@@ -70,7 +70,7 @@ pub rule_past : (values_of : Attributes) (variables : List Definition) (rule : R
     (rule_child values_of variables rule).value.decision ≡ NotApplicable
 rule_past values_of variables rule h = rw h refl
 
-layer_past : (values_of : Attributes) (x : Linked-F EvaluatedChild) → (linked_step values_of x).target ≡ NoMatch → (linked_step values_of x).value.decision ≡ NotApplicable
+pub layer_past : (values_of : Attributes) (x : Linked-F EvaluatedChild) → (linked_step values_of x).target ≡ NoMatch → (linked_step values_of x).value.decision ≡ NotApplicable
 layer_past values_of Linked-F.Unresolved h = absurd cc
 layer_past values_of (Linked-F.Policy policy) h = rw h refl
 layer_past values_of (Linked-F.PolicySet set children) h = rw h refl
@@ -84,6 +84,6 @@ linked_past values_of = ind-Linked (λ linked. IsPast (evaluated values_of linke
     (layer_past values_of (map-Linked Linked EvaluatedChild (evaluated values_of) x)))
 
 -- the others behind it come to the same
-pub passed : {X : Type 0} (v : X → EvaluatedChild) (s : Combination) (xs rest : List X) (x : X) (whole : Evaluated)
+pub passed : {X : Type 0} (v : X → EvaluatedChild) (s : Combination) (xs rest : List X) (x : X) (whole : Verdict)
     → xs ≡ x ∷ rest → (v x).value.decision ≡ NotApplicable → walked s (map v xs) ≡ whole → walked s (map v rest) ≡ whole
 passed v s xs rest x whole at h so_far = sym (walked_past s (v x) (map v rest) h) ∙ ap (λ ys. walked s (map v ys)) (sym at) ∙ so_far

@@ -15,13 +15,13 @@ use Rattle.xa_policy.specs.declared.decision.Decision.{Decision}
 use Rattle.xa_policy.specs.declared.decision.Decision.TheVariants.{Permit, Deny, NotApplicable, IndeterminatePermit, IndeterminateDeny, IndeterminateDenyPermit}
 use Rattle.xa_policy.specs.declared.decision.Effect.{Effect}
 use Rattle.xa_policy.specs.declared.duty.DutyExpressions.{DutyExpressions}
-use Rattle.xa_policy.specs.declared.evaluated.Evaluated.{Evaluated}
 use Rattle.xa_policy.specs.declared.linked.Linked.{Linked}
 use Rattle.xa_policy.specs.declared.linked.Linked.TheFolds.{fold-roll-Linked, map-Linked, ind-Linked}
 use Rattle.xa_policy.specs.declared.linked.Linked.TheOpen.{Linked-F}
 use Rattle.xa_policy.specs.declared.rule.Rule.{Rule}
+use Rattle.xa_policy.specs.declared.verdict.Verdict.{Verdict}
 use Rattle.xa_policy.specs.Duties.{Found, effect_of, own_duties}
-use Rattle.xa_policy.specs.Evaluation.{by_target, combination, evaluated, evaluation, linked_step, policy_value, rule_child, set_value, under_indeterminate}
+use Rattle.xa_policy.specs.Evaluation.{by_target, combination, evaluated, linked_step, policy_value, rule_child, set_value, under_indeterminate, verdict}
 use Rattle.xa_policy.specs.Policy.{PolicyParts, SetParts}
 use Rattle.xa_policy.specs.Rule.{condition_value, outcome, rule_value, with_found, with_own, with_own_of}
 use Rattle.xa_policy.specs.Status.{EvaluatedChild}
@@ -43,7 +43,7 @@ left_tidy s IndeterminatePermit = λ h. refl
 left_tidy s IndeterminateDeny = λ h. refl
 left_tidy s IndeterminateDenyPermit = λ h. refl
 
-target_tidy : (target : Matching) (e : Evaluated) → IsTidy e → IsTidy (by_target target e)
+target_tidy : (target : Matching) (e : Verdict) → IsTidy e → IsTidy (by_target target e)
 target_tidy Match e tidy = tidy
 target_tidy NoMatch e tidy = λ h. refl
 target_tidy (Indeterminate fault) e tidy = left_tidy (expr.status_of fault) e.decision
@@ -53,16 +53,16 @@ unfolding combination
 combination_tidy a children = λ h. rw h refl
 
 -- with obligations and advice of its own
-found_tidy : (f : Effect) (e : Evaluated) (found : Result Found Fault) → effect_of e.decision ≡ Some f → IsTidy (with_found f e found)
+found_tidy : (f : Effect) (e : Verdict) (found : Result Found Fault) → effect_of e.decision ≡ Some f → IsTidy (with_found f e found)
 found_tidy f e (Ok found) g = λ h. cc
 found_tidy f e (Err fault) g = λ h. refl
 
-own_tidy_of : (value : Typed → Outcome) (own : DutyExpressions Typed) (e : Evaluated) → IsTidy e → (o : Option Effect) → effect_of e.decision ≡ o →
+own_tidy_of : (value : Typed → Outcome) (own : DutyExpressions Typed) (e : Verdict) → IsTidy e → (o : Option Effect) → effect_of e.decision ≡ o →
     IsTidy (with_own_of value own e o)
 own_tidy_of value own e tidy None h = tidy
 own_tidy_of value own e tidy (Some f) h = found_tidy f e (own_duties value f own) h
 
-own_tidy : (value : Typed → Outcome) (own : DutyExpressions Typed) (e : Evaluated) → IsTidy e → IsTidy (with_own value own e)
+own_tidy : (value : Typed → Outcome) (own : DutyExpressions Typed) (e : Verdict) → IsTidy e → IsTidy (with_own value own e)
 own_tidy value own e tidy = own_tidy_of value own e tidy (effect_of e.decision) refl
 
 pub rule_tidy : (values_of : Attributes) (variables : List Definition) (rule : Rule Typed) → IsTidy (rule_value values_of variables rule)
@@ -90,8 +90,8 @@ layer_tidy values_of Linked-F.Unresolved = λ h. refl
 layer_tidy values_of (Linked-F.Policy policy) = policy_tidy values_of policy
 layer_tidy values_of (Linked-F.PolicySet set children) = set_tidy values_of set children
 
-pub evaluation_tidy : (values_of : Attributes) (linked : Linked) → IsTidy (evaluation values_of linked)
-evaluation_tidy values_of = ind-Linked (λ linked. IsTidy (evaluation values_of linked)) (λ x y is.
+pub verdict_tidy : (values_of : Attributes) (linked : Linked) → IsTidy (verdict values_of linked)
+verdict_tidy values_of = ind-Linked (λ linked. IsTidy (verdict values_of linked)) (λ x y is.
     subst (λ child. IsTidy child.value) (sym (fold-roll-Linked EvaluatedChild (linked_step values_of) x))
     (layer_tidy values_of (map-Linked Linked EvaluatedChild (evaluated values_of) x)))
 
@@ -101,8 +101,8 @@ pub rule_alone : (values_of : Attributes) (variables : List Definition) (rule : 
 rule_alone values_of variables rule h = evaluated_alone (rule_child values_of variables rule) (rule_tidy values_of variables rule) h
 
 pub linked_alone : (values_of : Attributes) (linked : Linked) → (evaluated values_of linked).target ≡ Match →
-    combination OnlyOneApplicable (evaluated values_of linked ∷ []) ≡ evaluation values_of linked
-linked_alone values_of linked h = evaluated_alone (evaluated values_of linked) (evaluation_tidy values_of linked) h
+    combination OnlyOneApplicable (evaluated values_of linked ∷ []) ≡ verdict values_of linked
+linked_alone values_of linked h = evaluated_alone (evaluated values_of linked) (verdict_tidy values_of linked) h
 
 -- what only-one-applicable goes by
 pub ruleset applicable_steps = (evaluated_steps, rule_alone, linked_alone)

@@ -7,7 +7,7 @@ use Rattle.xa_policy.specs.declared.combination.Combination.{Combination}
 use Rattle.xa_policy.specs.declared.combining.Alg.{Alg}
 use Rattle.xa_policy.specs.declared.combining.Alg.TheVariants.{DenyOverrides, PermitOverrides, OrderedDenyOverrides, OrderedPermitOverrides, DenyUnlessPermit, PermitUnlessDeny, FirstApplicable, OnlyOneApplicable}
 use Rattle.xa_policy.specs.declared.decision.Decision.{Decision}
-use Rattle.xa_policy.specs.declared.evaluated.Evaluated.{Evaluated}
+use Rattle.xa_policy.specs.declared.verdict.Verdict.{Verdict}
 use Rattle.xa_policy.specs.Combining.{decision_of, deny_overrides, permit_overrides, is, is_indeterminate}
 use Rattle.xa_policy.specs.Duties.{Found, and_then, effect_of, no_duties}
 use Rattle.xa_policy.specs.Evaluation.{child_of, combination, duties_of_all, ends, up_to}
@@ -17,7 +17,7 @@ use Rattle.xa_policy.proofs.DutyLemmas.{and_then_none, and_then_assoc}
 use Rattle.xa_policy.proofs.WalkCases.{IsOpen, decision_with_ending, decision_with_more, decision_with_next, decision_with_no_more, ending_same, ending_status, first_fault_joined, is_itself, is_not_other, is_the_effect, next_open, none_open, open_not_ended}
 
 -- a decision with its status and its duties
-abbrev made : Decision → Status → Found → Evaluated
+abbrev made : Decision → Status → Found → Verdict
 made d s found = record { decision = d; status = s; duties = found }
 
 same_made : (d e : Decision) (s t : Status) (f g : Found) → d ≡ e → s ≡ t → f ≡ g → made d s f ≡ made e t g
@@ -36,10 +36,10 @@ duties_with_more a so_far d children =
     if is_some (effect_of d) then and_then (if ends a d then no_duties else so_far) (taken a d children) else no_duties
 
 -- what the children so far decide with those behind, by their decision
-abbrev by_decision : Combination → List EvaluatedChild → Decision → Evaluated
+abbrev by_decision : Combination → List EvaluatedChild → Decision → Verdict
 by_decision so_far children d = made d (status_of d (so_far.fault ∷ map fault_of children)) (duties_with_more so_far.algorithm so_far.duties d children)
 
-abbrev with_more : Combination → List EvaluatedChild → Evaluated
+abbrev with_more : Combination → List EvaluatedChild → Verdict
 with_more so_far children = by_decision so_far children (decision_with_more so_far.algorithm so_far.decision (decisions children))
 
 -- no more: the duties are those so far

@@ -15,7 +15,7 @@ no_expressions = record { obligations = []; advice = [] }
 
 -- the policy with these rules behind those that it has
 abbrev pub with_rules : PolicyParts → List (Rule Typed) → PolicyParts
-with_rules p rules = record { algorithm = p.algorithm; target = p.target; variables = p.variables; rules = p.rules ++ rules; duties = p.duties }
+with_rules p rules = record { key = p.key; algorithm = p.algorithm; target = p.target; variables = p.variables; rules = p.rules ++ rules; duties = p.duties }
 
 -- the policy with a rule behind those that it has, where the rule passes
 abbrev pub rule_added : PolicyParts → Rule Expr → Result PolicyParts CheckError
@@ -23,14 +23,14 @@ rule_added p rule = checked_rule p.variables rule >>= (λ r. Ok (with_rules p (r
 
 -- the policy with these obligations and this advice in place of its own, where they pass
 abbrev pub with_duties : PolicyParts → DutyExpressions Typed → PolicyParts
-with_duties p duties = record { algorithm = p.algorithm; target = p.target; variables = p.variables; rules = p.rules; duties = duties }
+with_duties p duties = record { key = p.key; algorithm = p.algorithm; target = p.target; variables = p.variables; rules = p.rules; duties = duties }
 
 abbrev pub duties_set : PolicyParts → DutyExpressions Expr → Result PolicyParts CheckError
 duties_set p duties = checked_duties p.variables duties >>= (λ ds. Ok (with_duties p ds))
 
 -- the same of a policy set, which has no variables
 abbrev pub set_with_duties : SetParts → DutyExpressions Typed → SetParts
-set_with_duties s duties = record { algorithm = s.algorithm; target = s.target; duties = duties }
+set_with_duties s duties = record { key = s.key; algorithm = s.algorithm; target = s.target; duties = duties }
 
 abbrev pub set_duties_set : SetParts → DutyExpressions Expr → Result SetParts CheckError
 set_duties_set s duties = checked_duties [] duties >>= (λ ds. Ok (set_with_duties s ds))

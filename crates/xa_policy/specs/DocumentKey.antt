@@ -1,5 +1,5 @@
 -- The keys of documents, and their order.
-use Rattle.std.specs.Prelude.{ℕ}
+use Rattle.std.specs.Prelude.{ℕ, Bool, true, false}
 use Rattle.std.specs.Cmp.Lexicographic.{slice_cmp}
 use Rattle.std.specs.Ordering.{nat_cmp, on, then_cmp}
 use Rattle.std.specs.declared.cmp.Ordering.{Ordering}
@@ -7,6 +7,13 @@ use Rattle.xa_policy.specs.declared.document_key.DocumentKey.{DocumentKey}
 use Rattle.xa_policy.specs.declared.reference.DocumentKind.{DocumentKind}
 use Rattle.xa_policy.specs.declared.reference.DocumentKind.TheVariants.{Policy, PolicySet}
 use Rattle.xa_policy.specs.Version.{compare_versions}
+
+-- whether two kinds are the same
+abbrev pub same_kind : DocumentKind → DocumentKind → Bool
+same_kind Policy Policy = true
+same_kind Policy PolicySet = false
+same_kind PolicySet Policy = false
+same_kind PolicySet PolicySet = true
 
 -- policies stand before policy sets
 abbrev pub place_of_kind : DocumentKind → ℕ

@@ -9,6 +9,7 @@ use Rattle.xa_expr.specs.declared.variables.Definition.{Definition}
 use Rattle.xa_expr.specs.Typed.{IsTyped, kind_of_typed}
 use Rattle.xa_expr.specs.Variables.{kinds}
 use Rattle.xa_policy.specs.declared.combining.Alg.{Alg}
+use Rattle.xa_policy.specs.declared.document_key.DocumentKey.{DocumentKey}
 use Rattle.xa_policy.specs.declared.duty.AttributeAssignmentExpression.{AttributeAssignmentExpression}
 use Rattle.xa_policy.specs.declared.duty.DutyExpression.{DutyExpression}
 use Rattle.xa_policy.specs.declared.duty.DutyExpressions.{DutyExpressions}
@@ -16,6 +17,7 @@ use Rattle.xa_policy.specs.declared.rule.Rule.{Rule}
 
 -- what a policy is made of
 pub record PolicyParts : Type 0 where
+  pub key : DocumentKey
   pub algorithm : Alg
   pub target : Target
   pub variables : List Definition
@@ -24,6 +26,7 @@ pub record PolicyParts : Type 0 where
 
 -- what a policy set is made of, beside its children
 pub record SetParts : Type 0 where
+  pub key : DocumentKey
   pub algorithm : Alg
   pub target : Target
   pub duties : DutyExpressions Typed

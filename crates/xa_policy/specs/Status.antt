@@ -7,12 +7,12 @@ use Rattle.xa_expr.specs.Fault as expr
 use Rattle.xa_func.specs.declared.status.Status.{Status}
 use Rattle.xa_func.specs.declared.status.Status.TheVariants.{Ok, ProcessingError}
 use Rattle.xa_policy.specs.declared.decision.Decision.{Decision}
-use Rattle.xa_policy.specs.declared.evaluated.Evaluated.{Evaluated}
+use Rattle.xa_policy.specs.declared.verdict.Verdict.{Verdict}
 use Rattle.xa_policy.specs.Combining.{is_indeterminate}
 
 -- a child that was evaluated: what it gives, and what its target comes to
 pub record EvaluatedChild : Type 0 where
-  pub value : Evaluated
+  pub value : Verdict
   pub target : Matching
 
 -- the status of an Indeterminate child

@@ -1,5 +1,6 @@
 -- What the children so far come to, as they are evaluated one after another (cited by contracts of private functions alone).
-use Rattle.std.specs.Prelude.{if◌then◌else◌, List, [], ◌∷◌, Option, Some, None, is_some, unwrap_or}
+use Rattle.std.specs.Prelude.{ℕ, Bool, if◌then◌else◌, List, [], ◌∷◌, ◌++◌, take, Option, Some, None, is_some, unwrap_or}
+use Rattle.std.specs.List.{flat_map}
 use Rattle.std.specs.Option.{option_or}
 use Rattle.xa_func.specs.declared.status.Status.{Status}
 use Rattle.xa_func.specs.declared.status.Status.TheVariants as status
@@ -8,10 +9,11 @@ use Rattle.xa_policy.specs.declared.combining.Alg.{Alg}
 use Rattle.xa_policy.specs.declared.combining.Alg.TheVariants.{DenyOverrides, PermitOverrides, OrderedDenyOverrides, OrderedPermitOverrides, DenyUnlessPermit, PermitUnlessDeny, FirstApplicable, OnlyOneApplicable}
 use Rattle.xa_policy.specs.declared.decision.Decision.{Decision}
 use Rattle.xa_policy.specs.declared.decision.Decision.TheVariants.{Permit, Deny, NotApplicable}
-use Rattle.xa_policy.specs.declared.evaluated.Evaluated.{Evaluated}
+use Rattle.xa_policy.specs.declared.document_key.DocumentKey.{DocumentKey}
+use Rattle.xa_policy.specs.declared.verdict.Verdict.{Verdict}
 use Rattle.xa_policy.specs.Combining.{deny_overrides, permit_overrides, first_applicable, is_indeterminate}
 use Rattle.xa_policy.specs.Duties.{and_then, effect_of, no_duties}
-use Rattle.xa_policy.specs.Evaluation.{ends}
+use Rattle.xa_policy.specs.Evaluation.{Element, ends, up_to}
 use Rattle.xa_policy.specs.Status.{EvaluatedChild}
 
 -- every algorithm goes by decisions but only-one-applicable
@@ -29,7 +31,7 @@ abbrev pub of_none : Alg → Combination
 of_none algorithm = record { algorithm = algorithm; decision = decision_of_none algorithm; fault = None; duties = no_duties }
 
 -- the status of what was decided, where it is Indeterminate
-abbrev pub fault_in : Evaluated → Option Status
+abbrev pub fault_in : Verdict → Option Status
 fault_in e = if is_indeterminate e.decision then Some e.status else None
 
 -- the decision so far with that of a child that doesn't end it
@@ -41,7 +43,7 @@ joined_decision OrderedPermitOverrides so_far d = permit_overrides (so_far ∷ d
 joined_decision _ so_far d = so_far
 
 -- the children so far with one that doesn't end it
-abbrev pub joined : Combination → Evaluated → Combination
+abbrev pub joined : Combination → Verdict → Combination
 joined so_far child = record {
   algorithm = so_far.algorithm;
   decision = joined_decision so_far.algorithm so_far.decision child.decision;
@@ -55,7 +57,7 @@ ending_decision FirstApplicable d = first_applicable (d ∷ [])
 ending_decision _ d = d
 
 -- the children with the one that ends it
-abbrev pub ended : Combination → Evaluated → Combination
+abbrev pub ended : Combination → Verdict → Combination
 ended so_far child = record {
   algorithm = so_far.algorithm;
   decision = ending_decision so_far.algorithm child.decision;
@@ -64,11 +66,11 @@ ended so_far child = record {
 }
 
 -- the children so far with the next
-abbrev pub with_next : Combination → Evaluated → Combination
+abbrev pub with_next : Combination → Verdict → Combination
 with_next so_far child = if ends so_far.algorithm child.decision then ended so_far child else joined so_far child
 
 -- what the children so far decide, if there is no other
-abbrev pub decided : Combination → Evaluated
+abbrev pub decided : Combination → Verdict
 decided so_far = record {
   decision = so_far.decision;
   status = if is_indeterminate so_far.decision then unwrap_or so_far.fault status.Ok else status.Ok;
@@ -76,8 +78,29 @@ decided so_far = record {
 }
 
 -- what the children so far decide with the others behind them
-abbrev pub walked : Combination → List EvaluatedChild → Evaluated
+abbrev pub walked : Combination → List EvaluatedChild → Verdict
 walked so_far [] = decided so_far
 walked so_far (child ∷ children) =
     if ends so_far.algorithm child.value.decision then decided (ended so_far child.value)
     else walked (joined so_far child.value) children
+
+-- the policies and policy sets that are named so far, and whether they are asked for
+pub record Named : Type 0 where
+  pub asked : Bool
+  pub ids : List DocumentKey
+
+-- with these behind them, where they are asked for
+abbrev pub with_named : Named → List DocumentKey → Named
+with_named so_far keys = record { asked = so_far.asked; ids = so_far.ids ++ (if so_far.asked then keys else []) }
+
+-- the first of them alone
+abbrev pub first_named : ℕ → Named → Named
+first_named count so_far = record { asked = so_far.asked; ids = take count so_far.ids }
+
+-- all of them where Permit or Deny is decided, and else the first alone
+abbrev pub kept_by : Decision → ℕ → Named → Named
+kept_by d count so_far = if is_some (effect_of d) then so_far else first_named count so_far
+
+-- what elements name, up to and with the one that ends an algorithm that goes by decisions
+abbrev pub named_up_to : Alg → List Element → List DocumentKey
+named_up_to algorithm elements = flat_map (λ e. e.ids) (up_to (λ e. ends algorithm e.child.value.decision) elements)

@@ -7,7 +7,7 @@ ghost use Rattle.xa_policy.specs.Walk.{of_none, decision_of_none, joined_decisio
 use crate::combining::{Alg, first_applicable_of_one, overrides_of_two};
 use crate::decision::{Decision, Effect};
 use crate::duty::Duties;
-use crate::evaluated::Evaluated;
+use crate::verdict::Verdict;
 use std::alloc::{AllocError, Global};
 use xa_func::Status;
 
@@ -75,7 +75,7 @@ impl Alg {
 }
 
 /// The status, where what was decided is Indeterminate.
-fn fault_in(child: &Evaluated) -> Option<Status>
+fn fault_in(child: &Verdict) -> Option<Status>
     ensures { result ≡ fault_in child.now }
 {
     if child.decision.is_indeterminate() {
@@ -99,7 +99,7 @@ impl Combination {
     }
 
     /// Takes the next child, and answers whether it ends the evaluation: whatever comes behind it changes nothing.
-    pub(crate) fn add(&mut self, child: Evaluated) -> Result<bool, AllocError>
+    pub(crate) fn add(&mut self, child: Verdict) -> Result<bool, AllocError>
         ensures ok { OnOk result (self.new ≡ with_next self.old child) }
         ensures ended { IfOk result (λ end. end ≡ ends self.old.algorithm child.decision) }
     {
@@ -120,17 +120,17 @@ impl Combination {
     }
 
     /// What the children decide, if there is no other.
-    pub(crate) fn result_so_far(self, alloc: Global) -> Evaluated
+    pub(crate) fn result_so_far(self, alloc: Global) -> Verdict
         ensures { result ≡ decided self }
     {
         if self.decision.is_indeterminate() {
             let status = self.fault.unwrap_or(Status::Ok);
-            return Evaluated::without_duties(alloc, self.decision, status);
+            return Verdict::without_duties(alloc, self.decision, status);
         }
         if self.decision.effect().is_none() {
-            return Evaluated::without_duties(alloc, self.decision, Status::Ok);
+            return Verdict::without_duties(alloc, self.decision, Status::Ok);
         }
-        Evaluated {
+        Verdict {
             decision: self.decision,
             status: Status::Ok,
             duties: self.duties,

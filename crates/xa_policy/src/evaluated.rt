@@ -1,15 +1,19 @@
-//! A decision, why, and what comes with it.
+//! What a tree decides, with the policies and policy sets that are named.
 ghost use Rattle.std.specs.Prelude.{◌≡◌};
-ghost use Rattle.xa_policy.specs.Evaluation.{by_target};
-ghost use Rattle.xa_policy.specs.Rule.{indeterminate, left_open, not_applicable};
+ghost use Rattle.xa_policy.specs.Evaluation.{with_ids, without_ids};
+ghost use Rattle.xa_policy.specs.Rule.{not_applicable, undecided};
 
-use crate::decision::{Decision, Effect};
+use crate::decision::Decision;
+use crate::document_key::DocumentKey;
 use crate::duty::Duties;
+use crate::verdict::Verdict;
 use std::alloc::Global;
-use xa_expr::{Fault, Matching};
+use xa_expr::Fault;
 use xa_func::Status;
+use xa_value::{Items, Shared};
 
-/// A decision with its status, its obligations and its advice (XACML 3.0, core, section 5.48).
+/// What a tree decides: a decision with its status, its obligations and its advice, and the policies and policy sets that are named with it
+/// (XACML 3.0, core, sections 5.48 and 5.49).
 #[derive(Debug, Drop)]
 pub struct Evaluated {
     /// The decision.
@@ -18,46 +22,39 @@ pub struct Evaluated {
     pub status: Status,
     /// What comes with a Permit or a Deny.
     pub duties: Duties,
+    /// The policies and policy sets that are named with a Permit or a Deny, in order; none where they weren't asked for.
+    pub ids: Items<Shared<DocumentKey>>,
 }
 
 impl Evaluated {
-    /// The decision, without obligations and advice. Nothing is allocated.
-    pub fn without_duties(alloc: Global, decision: Decision, status: Status) -> Evaluated
-        ensures { result ≡ indeterminate decision status }
+    /// What is decided, with these policies and policy sets.
+    pub(crate) fn new(verdict: Verdict, ids: Items<Shared<DocumentKey>>) -> Evaluated
+        ensures { result ≡ with_ids ids verdict }
     {
+        let Verdict {
+            decision,
+            status,
+            duties,
+        } = verdict;
         Evaluated {
             decision,
             status,
-            duties: Duties::new(alloc),
+            duties,
+            ids,
         }
     }
 
-    pub(crate) fn not_applicable(alloc: Global) -> Evaluated
-        ensures { result ≡ not_applicable }
+    /// NotApplicable, with no obligations, no advice and nothing named. Nothing is allocated.
+    pub fn not_applicable(alloc: Global) -> Evaluated
+        ensures { result ≡ without_ids not_applicable }
     {
-        Evaluated::without_duties(alloc, Decision::NotApplicable, Status::Ok)
+        Evaluated::new(Verdict::not_applicable(alloc), Items::new(alloc))
     }
 
-    /// The effect, left open by a fault.
-    pub(crate) fn left_open(alloc: Global, effect: Effect, fault: Fault) -> Evaluated
-        ensures { result ≡ left_open effect fault }
+    /// Indeterminate, whether Deny or Permit, for the fault's reason, with no obligations, no advice and nothing named. Nothing is allocated.
+    pub fn undecided(alloc: Global, fault: Fault) -> Evaluated
+        ensures { result ≡ without_ids (undecided fault) }
     {
-        Evaluated::without_duties(alloc, effect.left_open(), fault.status())
-    }
-
-    /// What a policy or a policy set decides whose children come to this, by the value of its target (core, section 7.14).
-    pub(crate) fn by_target(self, alloc: Global, target: Matching) -> Evaluated
-        ensures { result ≡ by_target target self }
-    {
-        match target {
-            Matching::Match => self,
-            Matching::NoMatch => Evaluated::not_applicable(alloc),
-            Matching::Indeterminate(fault) => match self.decision {
-                Decision::NotApplicable => Evaluated::not_applicable(alloc),
-                Decision::Permit => Evaluated::left_open(alloc, Effect::Permit, fault),
-                Decision::Deny => Evaluated::left_open(alloc, Effect::Deny, fault),
-                other => Evaluated::without_duties(alloc, other, fault.status()),
-            },
-        }
+        Evaluated::new(Verdict::undecided(alloc, fault), Items::new(alloc))
     }
 }

@@ -1,40 +1,44 @@
 //! What a tree of policies and policy sets decides.
-ghost use Rattle.std.specs.Prelude.{◌≡◌, [], ◌∷◌, map, IfOk};
+ghost use Rattle.std.specs.Prelude.{◌≡◌, [], ◌∷◌, map, IfOk, OnOk};
 ghost use Rattle.xa_expr.specs.declared.matching.Matching.TheVariants as matching;
 ghost use Rattle.xa_expr.specs.Evaluation.{value_of};
 ghost use Rattle.xa_expr.specs.Target.{target_value};
 ghost use Rattle.xa_expr.specs.Variables.{kinds};
 ghost use Rattle.xa_policy.specs.declared.combining.Alg.TheVariants.{OnlyOneApplicable};
-ghost use Rattle.xa_policy.specs.Evaluation.{by_target, combination, evaluated, evaluation, policy_value, rule_child, set_value};
+ghost use Rattle.xa_policy.specs.Evaluation.{as_asked, combination, element, evaluated, evaluation, named_by, named_by_elements, policy_value, rule_child, set_value, verdict};
 ghost use Rattle.xa_policy.specs.Policy.{AreTypedRules, IsTypedRule};
-ghost use Rattle.xa_policy.specs.Rule.{undecided};
-ghost use Rattle.xa_policy.specs.Walk.{of_none, walked};
+ghost use Rattle.xa_policy.specs.Walk.{named_up_to, of_none, walked, with_named};
 
 use crate::combination::Combination;
 use crate::combining::Alg;
-use crate::decision::Decision;
 use crate::evaluated::Evaluated;
 use crate::fulfilment::with_own;
+use crate::identifiers::Identifiers;
 use crate::linked::Linked;
 use crate::policy::Policy;
 use crate::policy_set::PolicySet;
 use crate::rule::{Rule, evaluate_rule};
+use crate::verdict::Verdict;
 use std::alloc::{AllocError, Global};
 use xa_expr::{Context, Evaluator, Fault, Matching, STEP, Typed, Variables};
 
-/// What the tree decides (XACML 3.0, core, sections 7.9 to 7.15 and 7.18), why where that is Indeterminate, and its obligations and advice. No
-/// child is evaluated after the one that settles its parent, and none where its parent's target is No match. Want of memory is the only
-/// error; it is also what comes where the context refuses more work. Each policy, set and rule that is looked at is counted, beside what
-/// expressions count: tenants nest and repeat them as they like.
+/// What the tree decides (XACML 3.0, core, sections 7.9 to 7.15 and 7.18), why where that is Indeterminate, its obligations and advice, and where
+/// `asked` says so the policies and policy sets that are named with it (5.49). No child is evaluated after the one that settles its parent,
+/// and none where its parent's target is No match. Want of memory is the only error; it is also what comes where the context refuses more
+/// work. Each policy, set and rule that is looked at is counted, beside what expressions count: tenants nest and repeat them as they like.
+#[tactic(auto, using(crate::proofs::IdLemmas::asked_from_none))]
 pub fn evaluate<C: Context>(
     alloc: Global,
     linked: &Linked,
     context: &C,
+    asked: bool,
 ) -> Result<Evaluated, AllocError>
-    ensures { IfOk result (λ e. e ≡ evaluation (C.values_of context.now) linked.now) }
+    ensures { IfOk result (λ e. e ≡ as_asked asked (evaluation (C.values_of context.now) linked.now)) }
 {
     let target = target_of(alloc, linked, context)?;
-    evaluate_linked(alloc, linked, target, context)
+    let mut ids = Identifiers::new(alloc, asked);
+    let verdict = evaluate_linked(alloc, linked, target, context, &mut ids)?;
+    Ok(Evaluated::new(verdict, ids.into_items()))
 }
 
 /// The units of a policy, a set or a rule that is looked at, and of what becomes of it behind its target.
@@ -64,24 +68,26 @@ fn evaluate_linked<C: Context>(
     linked: &Linked,
     target: Matching,
     context: &C,
-) -> Result<Evaluated, AllocError>
+    ids: &mut Identifiers,
+) -> Result<Verdict, AllocError>
     requires { target ≡ (evaluated (C.values_of context.now) linked.now).target }
-    ensures { IfOk result (λ e. e ≡ evaluation (C.values_of context.now) linked.now) }
+    ensures value { IfOk result (λ e. e ≡ verdict (C.values_of context.now) linked.now) }
+    ensures named { OnOk result (ids.new ≡ with_named ids.old (element (C.values_of context.now) linked.now).ids) }
 {
     match linked {
-        Linked::Unresolved => Ok(undecided_result(alloc, Fault::ProcessingError)),
-        Linked::Policy(policy) => evaluate_policy(alloc, policy.get(), target, context),
+        Linked::Unresolved => Ok(Verdict::undecided(alloc, Fault::ProcessingError)),
+        Linked::Policy(policy) => evaluate_policy(alloc, policy.get(), target, context, ids),
         Linked::PolicySet(set, children) => {
-            evaluate_set(alloc, set.get(), children.get().as_slice(), target, context)
+            evaluate_set(
+                alloc,
+                set.get(),
+                children.get().as_slice(),
+                target,
+                context,
+                ids,
+            )
         }
     }
-}
-
-/// Indeterminate, whether Deny or Permit, for the fault's reason, with no obligations and no advice.
-pub fn undecided_result(alloc: Global, fault: Fault) -> Evaluated
-    ensures { result ≡ undecided fault }
-{
-    Evaluated::without_duties(alloc, Decision::IndeterminateDenyPermit, fault.status())
 }
 
 /// What the policy decides, where its target comes to this.
@@ -90,18 +96,22 @@ fn evaluate_policy<C: Context>(
     policy: &Policy,
     target: Matching,
     context: &C,
-) -> Result<Evaluated, AllocError>
+    ids: &mut Identifiers,
+) -> Result<Verdict, AllocError>
     requires { target ≡ target_value (C.values_of context.now) policy.now.target }
-    ensures { IfOk result (λ e. e ≡ policy_value (C.values_of context.now) policy.now) }
+    ensures value { IfOk result (λ e. e ≡ policy_value (C.values_of context.now) policy.now) }
+    ensures named { OnOk result (ids.new ≡ with_named ids.old (named_by (policy_value (C.values_of context.now) policy.now).decision policy.now.key [])) }
 {
     if target == Matching::NoMatch {
-        return Ok(Evaluated::not_applicable(alloc));
+        return Ok(Verdict::not_applicable(alloc));
     }
     let mut evaluator = Evaluator::new(alloc, context, policy.variables());
     let rules = policy.rules();
     let combined = combine_rules(alloc, policy.algorithm(), context, &mut evaluator, rules)?;
-    let evaluated = combined.by_target(alloc, target);
-    with_own(alloc, &mut evaluator, policy.duties(), evaluated)
+    let by_target = combined.by_target(alloc, target);
+    let decided = with_own(alloc, &mut evaluator, policy.duties(), by_target)?;
+    ids.add_by(decided.decision, policy.key())?;
+    Ok(decided)
 }
 
 /// What the target of the rule comes to. Each rule that is looked at is counted.
@@ -124,7 +134,7 @@ fn combine_rules<'a, C: Context>(
     context: &C,
     evaluator: &mut Evaluator<'a, C>,
     rules: &[Rule<Typed>],
-) -> Result<Evaluated, AllocError>
+) -> Result<Verdict, AllocError>
     requires same { evaluator.old.0 ≡ context.now }
     requires typed { AreTypedRules (kinds evaluator.old.1) rules.now }
     ensures value { IfOk result (λ e. e ≡ combination algorithm (map (rule_child (C.values_of context.now) evaluator.old.1) rules.now)) }
@@ -143,7 +153,7 @@ fn walk_rules<'a, C: Context>(
     context: &C,
     evaluator: &mut Evaluator<'a, C>,
     rules: &[Rule<Typed>],
-) -> Result<Evaluated, AllocError>
+) -> Result<Verdict, AllocError>
     requires same { evaluator.old.0 ≡ context.now }
     requires typed { AreTypedRules (kinds evaluator.old.1) rules.now }
     ensures value { IfOk result (λ e. e ≡ walked (of_none algorithm) (map (rule_child (C.values_of context.now) evaluator.old.1) rules.now)) }
@@ -171,7 +181,7 @@ fn only_applicable_rule<'a, C: Context>(
     context: &C,
     evaluator: &mut Evaluator<'a, C>,
     rules: &[Rule<Typed>],
-) -> Result<Evaluated, AllocError>
+) -> Result<Verdict, AllocError>
     requires same { evaluator.old.0 ≡ context.now }
     requires typed { AreTypedRules (kinds evaluator.old.1) rules.now }
     ensures value { IfOk result (λ e. e ≡ combination OnlyOneApplicable (map (rule_child (C.values_of context.now) evaluator.old.1) rules.now)) }
@@ -180,14 +190,14 @@ fn only_applicable_rule<'a, C: Context>(
     for (place, rule) in rules.iter().enumerate() {
         match target_of_rule(alloc, rule, context)? {
             Matching::NoMatch => continue,
-            Matching::Indeterminate(fault) => return Ok(undecided_result(alloc, fault)),
+            Matching::Indeterminate(fault) => return Ok(Verdict::undecided(alloc, fault)),
             Matching::Match => {
                 let others = rules.split_at(place + 1).1;
                 return rule_unless_another(alloc, context, evaluator, rule, others);
             }
         }
     }
-    Ok(Evaluated::not_applicable(alloc))
+    Ok(Verdict::not_applicable(alloc))
 }
 
 /// What only-one-applicable makes of an applicable rule and the others behind it. The first target that isn't No match settles it.
@@ -198,7 +208,7 @@ fn rule_unless_another<'a, C: Context>(
     evaluator: &mut Evaluator<'a, C>,
     rule: &Rule<Typed>,
     others: &[Rule<Typed>],
-) -> Result<Evaluated, AllocError>
+) -> Result<Verdict, AllocError>
     requires same { evaluator.old.0 ≡ context.now }
     requires typed { IsTypedRule (kinds evaluator.old.1) rule.now }
     requires applies { target_value (C.values_of context.now) rule.now.target ≡ matching.Match }
@@ -208,8 +218,8 @@ fn rule_unless_another<'a, C: Context>(
     for other in others {
         match target_of_rule(alloc, other, context)? {
             Matching::NoMatch => continue,
-            Matching::Indeterminate(fault) => return Ok(undecided_result(alloc, fault)),
-            Matching::Match => return Ok(undecided_result(alloc, Fault::ProcessingError)),
+            Matching::Indeterminate(fault) => return Ok(Verdict::undecided(alloc, fault)),
+            Matching::Match => return Ok(Verdict::undecided(alloc, Fault::ProcessingError)),
         }
     }
     evaluate_rule(alloc, evaluator, rule, Matching::Match)
@@ -223,34 +233,42 @@ fn evaluate_set<C: Context>(
     children: &[Linked],
     target: Matching,
     context: &C,
-) -> Result<Evaluated, AllocError>
+    ids: &mut Identifiers,
+) -> Result<Verdict, AllocError>
     requires { target ≡ target_value (C.values_of context.now) set.now.target }
-    ensures { IfOk result (λ e. e ≡ set_value (C.values_of context.now) set.now (map (evaluated (C.values_of context.now)) children.now)) }
+    ensures value { IfOk result (λ e. e ≡ set_value (C.values_of context.now) set.now (map (evaluated (C.values_of context.now)) children.now)) }
+    ensures named { OnOk result (ids.new ≡ with_named ids.old (named_by (set_value (C.values_of context.now) set.now (map (evaluated (C.values_of context.now)) children.now)).decision set.now.key (named_by_elements set.now.algorithm (map (element (C.values_of context.now)) children.now)))) }
 {
     if target == Matching::NoMatch {
-        return Ok(Evaluated::not_applicable(alloc));
+        return Ok(Verdict::not_applicable(alloc));
     }
-    let combined = combine_children(alloc, set.algorithm(), context, children)?;
+    let before = ids.count();
+    ids.add(set.key())?;
+    let combined = combine_children(alloc, set.algorithm(), context, children, ids)?;
     let none = Variables::new(alloc);
     let mut evaluator = Evaluator::new(alloc, context, &none);
-    let evaluated = combined.by_target(alloc, target);
-    with_own(alloc, &mut evaluator, set.duties(), evaluated)
+    let by_target = combined.by_target(alloc, target);
+    let decided = with_own(alloc, &mut evaluator, set.duties(), by_target)?;
+    ids.keep_by(decided.decision, before);
+    Ok(decided)
 }
 
 /// What the algorithm makes of the children.
 #[cycle(evaluation)]
-#[tactic(auto, using(crate::proofs::WalkLemmas::walk_is_combination))]
+#[tactic(auto, using(crate::proofs::WalkLemmas::walk_is_combination, crate::proofs::IdLemmas::named_by_decisions))]
 fn combine_children<C: Context>(
     alloc: Global,
     algorithm: Alg,
     context: &C,
     children: &[Linked],
-) -> Result<Evaluated, AllocError>
-    ensures { IfOk result (λ e. e ≡ combination algorithm (map (evaluated (C.values_of context.now)) children.now)) }
+    ids: &mut Identifiers,
+) -> Result<Verdict, AllocError>
+    ensures value { IfOk result (λ e. e ≡ combination algorithm (map (evaluated (C.values_of context.now)) children.now)) }
+    ensures named { OnOk result (ids.new ≡ with_named ids.old (named_by_elements algorithm (map (element (C.values_of context.now)) children.now))) }
 {
     match algorithm {
-        Alg::OnlyOneApplicable => only_applicable_child(alloc, context, children),
-        _ => walk_children(alloc, algorithm, context, children),
+        Alg::OnlyOneApplicable => only_applicable_child(alloc, context, children, ids),
+        _ => walk_children(alloc, algorithm, context, children, ids),
     }
 }
 
@@ -261,8 +279,10 @@ fn walk_children<C: Context>(
     algorithm: Alg,
     context: &C,
     children: &[Linked],
-) -> Result<Evaluated, AllocError>
-    ensures { IfOk result (λ e. e ≡ walked (of_none algorithm) (map (evaluated (C.values_of context.now)) children.now)) }
+    ids: &mut Identifiers,
+) -> Result<Verdict, AllocError>
+    ensures value { IfOk result (λ e. e ≡ walked (of_none algorithm) (map (evaluated (C.values_of context.now)) children.now)) }
+    ensures named { OnOk result (ids.new ≡ with_named ids.old (named_up_to algorithm (map (element (C.values_of context.now)) children.now))) }
 {
     let mut so_far = Combination::new(alloc, algorithm);
     for child in children {
@@ -270,7 +290,7 @@ fn walk_children<C: Context>(
         if target == Matching::NoMatch {
             continue;
         }
-        let child = evaluate_linked(alloc, child, target, context)?;
+        let child = evaluate_linked(alloc, child, target, context, ids)?;
         context.spend(child.duties.units_of_moving())?;
         if so_far.add(child)? {
             return Ok(so_far.result_so_far(alloc));
@@ -286,20 +306,22 @@ fn only_applicable_child<C: Context>(
     alloc: Global,
     context: &C,
     children: &[Linked],
-) -> Result<Evaluated, AllocError>
-    ensures { IfOk result (λ e. e ≡ combination OnlyOneApplicable (map (evaluated (C.values_of context.now)) children.now)) }
+    ids: &mut Identifiers,
+) -> Result<Verdict, AllocError>
+    ensures value { IfOk result (λ e. e ≡ combination OnlyOneApplicable (map (evaluated (C.values_of context.now)) children.now)) }
+    ensures named { OnOk result (ids.new ≡ with_named ids.old (named_by_elements OnlyOneApplicable (map (element (C.values_of context.now)) children.now))) }
 {
     for (place, child) in children.iter().enumerate() {
         match target_of(alloc, child, context)? {
             Matching::NoMatch => continue,
-            Matching::Indeterminate(fault) => return Ok(undecided_result(alloc, fault)),
+            Matching::Indeterminate(fault) => return Ok(Verdict::undecided(alloc, fault)),
             Matching::Match => {
                 let others = children.split_at(place + 1).1;
-                return child_unless_another(alloc, context, child, others);
+                return child_unless_another(alloc, context, child, others, ids);
             }
         }
     }
-    Ok(Evaluated::not_applicable(alloc))
+    Ok(Verdict::not_applicable(alloc))
 }
 
 /// What only-one-applicable makes of an applicable child and the others behind it. The first target that isn't No match settles it.
@@ -310,16 +332,18 @@ fn child_unless_another<C: Context>(
     context: &C,
     child: &Linked,
     others: &[Linked],
-) -> Result<Evaluated, AllocError>
+    ids: &mut Identifiers,
+) -> Result<Verdict, AllocError>
     requires { (evaluated (C.values_of context.now) child.now).target ≡ matching.Match }
-    ensures { IfOk result (λ e. e ≡ combination OnlyOneApplicable (map (evaluated (C.values_of context.now)) (child.now ∷ others.now))) }
+    ensures value { IfOk result (λ e. e ≡ combination OnlyOneApplicable (map (evaluated (C.values_of context.now)) (child.now ∷ others.now))) }
+    ensures named { OnOk result (ids.new ≡ with_named ids.old (named_by_elements OnlyOneApplicable (map (element (C.values_of context.now)) (child.now ∷ others.now)))) }
 {
     for other in others {
         match target_of(alloc, other, context)? {
             Matching::NoMatch => continue,
-            Matching::Indeterminate(fault) => return Ok(undecided_result(alloc, fault)),
-            Matching::Match => return Ok(undecided_result(alloc, Fault::ProcessingError)),
+            Matching::Indeterminate(fault) => return Ok(Verdict::undecided(alloc, fault)),
+            Matching::Match => return Ok(Verdict::undecided(alloc, Fault::ProcessingError)),
         }
     }
-    evaluate_linked(alloc, child, Matching::Match, context)
+    evaluate_linked(alloc, child, Matching::Match, context, ids)
 }

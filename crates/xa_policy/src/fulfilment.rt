@@ -15,7 +15,7 @@ use crate::duty::{
     AttributeAssignment, AttributeAssignmentExpression, Duties, Duty, DutyExpression,
     DutyExpressions,
 };
-use crate::evaluated::Evaluated;
+use crate::verdict::Verdict;
 use std::alloc::{AllocError, Global};
 use xa_bag::ValueOrBag;
 use xa_expr::{Context, Evaluator, Fault, LOOK, STEP, Typed, units_of_given};
@@ -168,9 +168,9 @@ fn with_own_of<'a, C: Context>(
     alloc: Global,
     evaluator: &mut Evaluator<'a, C>,
     own: &DutyExpressions<Typed>,
-    mut evaluated: Evaluated,
+    mut evaluated: Verdict,
     effect: Effect,
-) -> Result<Evaluated, AllocError>
+) -> Result<Verdict, AllocError>
     requires { AreTypedDuties (kinds evaluator.old.1) own.now }
     ensures value { IfOk result (λ e. e ≡ with_found effect evaluated (own_duties (value_of (C.values_of evaluator.old.0) evaluator.old.1) effect own.now)) }
     ensures kept { evaluator.new ≡ evaluator.old }
@@ -181,7 +181,7 @@ fn with_own_of<'a, C: Context>(
             evaluated.duties.append(duties)?;
             Ok(evaluated)
         }
-        Err(OrMemory::Error(fault)) => Ok(Evaluated::left_open(alloc, effect, fault)),
+        Err(OrMemory::Error(fault)) => Ok(Verdict::left_open(alloc, effect, fault)),
         Err(OrMemory::Memory) => Err(AllocError),
     }
 }
@@ -191,8 +191,8 @@ pub(crate) fn with_own<'a, C: Context>(
     alloc: Global,
     evaluator: &mut Evaluator<'a, C>,
     own: &DutyExpressions<Typed>,
-    evaluated: Evaluated,
-) -> Result<Evaluated, AllocError>
+    evaluated: Verdict,
+) -> Result<Verdict, AllocError>
     requires { AreTypedDuties (kinds evaluator.old.1) own.now }
     ensures value { IfOk result (λ e. e ≡ with_own (value_of (C.values_of evaluator.old.0) evaluator.old.1) own.now evaluated) }
     ensures kept { evaluator.new ≡ evaluator.old }

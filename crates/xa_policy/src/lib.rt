@@ -11,6 +11,7 @@ mod duty;
 mod evaluated;
 mod evaluation;
 mod fulfilment;
+mod identifiers;
 mod linked;
 mod mirror;
 mod pattern;
@@ -18,6 +19,7 @@ mod policy;
 mod policy_set;
 mod reference;
 mod rule;
+mod verdict;
 mod version;
 mod version_error;
 
@@ -30,12 +32,13 @@ pub use duty::{
     DutyExpressions,
 };
 pub use evaluated::Evaluated;
-pub use evaluation::{evaluate, undecided_result};
+pub use evaluation::evaluate;
 pub use linked::Linked;
 pub use pattern::{Pattern, PatternPart};
 pub use policy::Policy;
 pub use policy_set::PolicySet;
 pub use reference::{DocumentKind, Reference};
 pub use rule::Rule;
+pub use verdict::Verdict;
 pub use version::Version;
 pub use version_error::VersionError;

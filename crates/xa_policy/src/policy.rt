@@ -8,16 +8,18 @@ ghost use Rattle.xa_policy.specs.Policy.{AreTypedDuties, AreTypedRules};
 
 use crate::checking::{check_duties, check_rule};
 use crate::combining::Alg;
+use crate::document_key::DocumentKey;
 use crate::duty::DutyExpressions;
 use crate::rule::Rule;
 use std::alloc::Global;
 use std::marker::Model;
 use xa_expr::{CheckError, Expr, Target, Typed, Variables};
-use xa_value::{Items, OrMemory};
+use xa_value::{Items, OrMemory, Shared};
 
 /// A policy (XACML 3.0, core, section 5.14). Its expressions are checked under its variables.
 #[derive(Debug, Drop)]
 pub struct Policy {
+    key: Shared<DocumentKey>,
     algorithm: Alg,
     target: Target,
     variables: Variables,
@@ -34,17 +36,24 @@ impl Model for Policy {
 
     ghost coded = { Prim.hlevel (codes, typed.the_row.coded) };
 
-    ghost view = { λ p. record { algorithm = p.algorithm; target = p.target; variables = p.variables; rules = p.rules; duties = p.duties } };
+    ghost view = { λ p. record { key = p.key; algorithm = p.algorithm; target = p.target; variables = p.variables; rules = p.rules; duties = p.duties } };
 
-    ghost invariant = { λ p. IsTypedPolicy (record { algorithm = p.algorithm; target = p.target; variables = p.variables; rules = p.rules; duties = p.duties }) };
+    ghost invariant = { λ p. IsTypedPolicy (record { key = p.key; algorithm = p.algorithm; target = p.target; variables = p.variables; rules = p.rules; duties = p.duties }) };
 }
 
 impl Policy {
     /// A policy without rules, obligations and advice. Nothing is allocated.
-    pub fn new(alloc: Global, algorithm: Alg, target: Target, variables: Variables) -> Policy
-        ensures { result ≡ record { algorithm = algorithm; target = target; variables = variables; rules = []; duties = no_expressions } }
+    pub fn new(
+        alloc: Global,
+        key: Shared<DocumentKey>,
+        algorithm: Alg,
+        target: Target,
+        variables: Variables,
+    ) -> Policy
+        ensures { result ≡ record { key = key; algorithm = algorithm; target = target; variables = variables; rules = []; duties = no_expressions } }
     {
         Policy {
+            key,
             algorithm,
             target,
             variables,
@@ -77,6 +86,13 @@ impl Policy {
     {
         self.duties = check_duties(alloc, duties, &self.variables)?;
         Ok(())
+    }
+
+    /// What tells it from others: its kind, its id and its version.
+    pub fn key(&self) -> &Shared<DocumentKey>
+        ensures { result.now ≡ self.now.key }
+    {
+        &self.key
     }
 
     /// How the rules' decisions are combined.

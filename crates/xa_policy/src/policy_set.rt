@@ -7,15 +7,17 @@ ghost use Rattle.xa_policy.specs.Policy.{AreTypedDuties};
 
 use crate::checking::check_duties;
 use crate::combining::Alg;
+use crate::document_key::DocumentKey;
 use crate::duty::DutyExpressions;
 use std::alloc::Global;
 use std::marker::Model;
 use xa_expr::{CheckError, Expr, Target, Typed, Variables};
-use xa_value::OrMemory;
+use xa_value::{OrMemory, Shared};
 
 /// A policy set without its children (XACML 3.0, core, section 5.1). It has no variables.
 #[derive(Debug, Drop)]
 pub struct PolicySet {
+    key: Shared<DocumentKey>,
     algorithm: Alg,
     target: Target,
     duties: DutyExpressions<Typed>,
@@ -30,17 +32,18 @@ impl Model for PolicySet {
 
     ghost coded = { Prim.hlevel (codes, typed.the_row.coded) };
 
-    ghost view = { λ s. record { algorithm = s.algorithm; target = s.target; duties = s.duties } };
+    ghost view = { λ s. record { key = s.key; algorithm = s.algorithm; target = s.target; duties = s.duties } };
 
-    ghost invariant = { λ s. IsTypedSet (record { algorithm = s.algorithm; target = s.target; duties = s.duties }) };
+    ghost invariant = { λ s. IsTypedSet (record { key = s.key; algorithm = s.algorithm; target = s.target; duties = s.duties }) };
 }
 
 impl PolicySet {
     /// A policy set without obligations and advice. Nothing is allocated.
-    pub fn new(alloc: Global, algorithm: Alg, target: Target) -> PolicySet
-        ensures { result ≡ record { algorithm = algorithm; target = target; duties = no_expressions } }
+    pub fn new(alloc: Global, key: Shared<DocumentKey>, algorithm: Alg, target: Target) -> PolicySet
+        ensures { result ≡ record { key = key; algorithm = algorithm; target = target; duties = no_expressions } }
     {
         PolicySet {
+            key,
             algorithm,
             target,
             duties: DutyExpressions::none(alloc),
@@ -60,6 +63,13 @@ impl PolicySet {
         let none = Variables::new(alloc);
         self.duties = check_duties(alloc, duties, &none)?;
         Ok(())
+    }
+
+    /// What tells it from others: its kind, its id and its version.
+    pub fn key(&self) -> &Shared<DocumentKey>
+        ensures { result.now ≡ self.now.key }
+    {
+        &self.key
     }
 
     /// How the children's decisions are combined.

@@ -9,8 +9,8 @@ ghost use Rattle.xa_policy.specs.Rule.{by_condition, condition_value, outcome, r
 
 use crate::decision::Effect;
 use crate::duty::DutyExpressions;
-use crate::evaluated::Evaluated;
 use crate::fulfilment::with_own;
+use crate::verdict::Verdict;
 use std::alloc::{AllocError, Global};
 use xa_bag::ValueOrBag;
 use xa_expr::{Context, Evaluator, Fault, Matching, Target, Typed};
@@ -55,7 +55,7 @@ fn by_condition<'a, C: Context>(
     evaluator: &mut Evaluator<'a, C>,
     effect: Effect,
     condition: &Option<Typed>,
-) -> Result<Evaluated, AllocError>
+) -> Result<Verdict, AllocError>
     requires { IsCondition (kinds evaluator.old.1) condition.now }
     ensures value { IfOk result (λ e. e ≡ by_condition effect (condition_value (value_of (C.values_of evaluator.old.0) evaluator.old.1) condition.now)) }
     ensures kept { evaluator.new ≡ evaluator.old }
@@ -63,10 +63,10 @@ fn by_condition<'a, C: Context>(
     match condition_value(alloc, evaluator, condition) {
         Ok(true) => {
             let decision = effect.decision();
-            Ok(Evaluated::without_duties(alloc, decision, Status::Ok))
+            Ok(Verdict::without_duties(alloc, decision, Status::Ok))
         }
-        Ok(false) => Ok(Evaluated::not_applicable(alloc)),
-        Err(OrMemory::Error(fault)) => Ok(Evaluated::left_open(alloc, effect, fault)),
+        Ok(false) => Ok(Verdict::not_applicable(alloc)),
+        Err(OrMemory::Error(fault)) => Ok(Verdict::left_open(alloc, effect, fault)),
         Err(OrMemory::Memory) => Err(AllocError),
     }
 }
@@ -77,15 +77,15 @@ pub(crate) fn evaluate_rule<'a, C: Context>(
     evaluator: &mut Evaluator<'a, C>,
     rule: &Rule<Typed>,
     target: Matching,
-) -> Result<Evaluated, AllocError>
+) -> Result<Verdict, AllocError>
     requires typed { IsTypedRule (kinds evaluator.old.1) rule.now }
     requires target { target ≡ target_value (C.values_of evaluator.old.0) rule.now.target }
     ensures value { IfOk result (λ e. e ≡ rule_value (C.values_of evaluator.old.0) evaluator.old.1 rule.now) }
     ensures kept { evaluator.new ≡ evaluator.old }
 {
     match target {
-        Matching::NoMatch => Ok(Evaluated::not_applicable(alloc)),
-        Matching::Indeterminate(fault) => Ok(Evaluated::left_open(alloc, rule.effect, fault)),
+        Matching::NoMatch => Ok(Verdict::not_applicable(alloc)),
+        Matching::Indeterminate(fault) => Ok(Verdict::left_open(alloc, rule.effect, fault)),
         Matching::Match => {
             let evaluated = by_condition(alloc, evaluator, rule.effect, &rule.condition)?;
             with_own(alloc, evaluator, &rule.duties, evaluated)

@@ -10,14 +10,15 @@ use Rattle.serde_json.specs.Data.{Data, Members}
 use Rattle.serde_json.specs.Find.{of_integer}
 use Rattle.serde_json.specs.Written.{members_outline, number_text, compact_text}
 use Rattle.serde_json.proofs.Texts.{print-outline}
+use Rattle.xa_policy.specs.declared.document_key.DocumentKey.{DocumentKey}
 use Rattle.xa_profile.specs.declared.category_object.CategoryObject.{CategoryObject}
 use Rattle.xa_profile.specs.declared.member.Member.{Member}
 use Rattle.xa_profile.specs.declared.member.Member.TheVariants as member
 use Rattle.xa_profile.specs.declared.response.ResultObject.{ResultObject}
 use Rattle.xa_value.specs.declared.value.Value.{Value}
 use Rattle.xa_profile.specs.Member.{name_of}
-use Rattle.xa_profile.specs.Response.{with_text_if_any, with_items_if_any, listing, value_data, values_data, category_data, included_objects, duty_data, decision_text, status_data, result_data}
-use Rattle.xa_profile.specs.writing.Tokens.{tokens, member_tokens, text_if_any_tokens, items_if_any_tokens}
+use Rattle.xa_profile.specs.Response.{with_text_if_any, with_identifiers_if_any, with_items_if_any, identifiers_data, listing, value_data, values_data, category_data, included_objects, duty_data, decision_text, status_data, result_data}
+use Rattle.xa_profile.specs.writing.Tokens.{tokens, member_tokens, text_if_any_tokens, identifiers_if_any_tokens, items_if_any_tokens}
 
 -- the tokens of a text that may be left out stand before the others
 pub text_if_any_first : (name : Member) (text : Option (List ℕ)) (others : Members)
@@ -31,6 +32,22 @@ pub items_if_any_first : (name : Member) (ds : List Data) (others : Members)
 items_if_any_first name [] others = refl
 items_if_any_first name (d ∷ ds) others = refl
 
+-- and those of what is named
+pub identifiers_if_any_first : (keys : List DocumentKey) (others : Members)
+    → members_tokens (members_outline (with_identifiers_if_any keys others)) ≡ identifiers_if_any_tokens keys ++ members_tokens (members_outline others)
+identifiers_if_any_first [] others = refl
+identifiers_if_any_first (k ∷ ks) others = refl
+
+-- nothing is named, or something
+pub no_identifiers : (keys : List DocumentKey) → (length keys == 0) ≡ true → identifiers_if_any_tokens keys ≡ []
+no_identifiers [] none = refl
+no_identifiers (k ∷ ks) none = let e = eqb-true (length (k ∷ ks)) 0 none in absurd (omega arith)
+
+pub some_identifiers : (keys : List DocumentKey) → (length keys == 0) ≡ false
+    → identifiers_if_any_tokens keys ≡ member_tokens member.PolicyIdentifierList (identifiers_data keys)
+some_identifiers [] some = absurd (cc)
+some_identifiers (k ∷ ks) some = refl
+
 -- the tokens of a result, member by member
 pub tokens_of_result : (objects : List CategoryObject) (r : ResultObject)
     → tokens (result_data objects r)
@@ -40,9 +57,10 @@ pub tokens_of_result : (objects : List CategoryObject) (r : ResultObject)
     ++ (key (name_of member.Decision)
     ∷ string (decision_text r.evaluated.decision)
     ∷ (items_if_any_tokens member.Obligations (map duty_data r.evaluated.duties.obligations)
-    ++ (key (name_of member.Status) ∷ (tokens (status_data r.evaluated.status) ++ end_object ∷ []))))))
+    ++ (identifiers_if_any_tokens r.evaluated.ids
+    ++ (key (name_of member.Status) ∷ (tokens (status_data r.evaluated.status) ++ end_object ∷ [])))))))
 unfolding result_data
-tokens_of_result objects r = simp items_if_any_first
+tokens_of_result objects r = simp (items_if_any_first, identifiers_if_any_first)
 
 -- a whole number's text
 pub integer_text : (z : ℤ) → number_text (of_integer z) ≡ signed_decimal z

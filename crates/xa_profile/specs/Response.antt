@@ -17,8 +17,13 @@ use Rattle.xa_func.specs.declared.status.Status.{Status}
 use Rattle.xa_func.specs.Status as status
 use Rattle.xa_policy.specs.declared.decision.Decision.{Decision}
 use Rattle.xa_policy.specs.declared.decision.Decision.TheVariants.{Permit, Deny, NotApplicable, IndeterminatePermit, IndeterminateDeny, IndeterminateDenyPermit}
+use Rattle.xa_policy.specs.declared.document_key.DocumentKey.{DocumentKey}
 use Rattle.xa_policy.specs.declared.duty.AttributeAssignment.{AttributeAssignment}
 use Rattle.xa_policy.specs.declared.duty.Duty.{Duty}
+use Rattle.xa_policy.specs.declared.reference.DocumentKind.{DocumentKind}
+use Rattle.xa_policy.specs.declared.reference.DocumentKind.TheVariants.{Policy, PolicySet}
+use Rattle.xa_policy.specs.DocumentKey.{same_kind}
+use Rattle.xa_policy.specs.Version.{version_text}
 use Rattle.xa_profile.specs.declared.attribute.Attribute.{Attribute}
 use Rattle.xa_profile.specs.declared.category_object.CategoryObject.{CategoryObject}
 use Rattle.xa_profile.specs.declared.member.Member.{Member}
@@ -110,6 +115,26 @@ assignment_data a =
 unfoldable pub duty_data : Duty → Data
 duty_data d = object (with_items_if_any member.AttributeAssignment (map assignment_data d.assignments) (with member.Id (string d.id) no_members))
 
+-- ---- policies and policy sets that are named
+
+-- one of them, by its id and its version
+unfoldable pub identifier_data : DocumentKey → Data
+identifier_data k = object (with member.Id (string k.id) (with member.Version (string (version_text k.version)) no_members))
+
+-- those of a kind
+abbrev pub of_kind : DocumentKind → List DocumentKey → List Data
+of_kind kind keys = map identifier_data (filter (λ k. same_kind kind k.kind) keys)
+
+-- the policies and then the policy sets, each left out where there are none
+unfoldable pub identifiers_data : List DocumentKey → Data
+identifiers_data keys =
+    object (with_items_if_any member.PolicyIdReference (of_kind Policy keys) (with_items_if_any member.PolicySetIdReference (of_kind PolicySet keys) no_members))
+
+-- both, left out where nothing is named
+abbrev pub with_identifiers_if_any : List DocumentKey → Members → Members
+with_identifiers_if_any [] others = others
+with_identifiers_if_any (k ∷ ks) others = with member.PolicyIdentifierList (identifiers_data (k ∷ ks)) others
+
 -- ---- results
 
 -- the four decisions that are shown (core, section 5.53)
@@ -131,7 +156,8 @@ result_data objects r =
     object (with_items_if_any member.AssociatedAdvice (map duty_data r.evaluated.duties.advice)
     (with_items_if_any member.Category (map category_data (included_objects objects r.places))
     (with member.Decision (string (decision_text r.evaluated.decision))
-    (with_items_if_any member.Obligations (map duty_data r.evaluated.duties.obligations) (with member.Status (status_data r.evaluated.status) no_members)))))
+    (with_items_if_any member.Obligations (map duty_data r.evaluated.duties.obligations)
+    (with_identifiers_if_any r.evaluated.ids (with member.Status (status_data r.evaluated.status) no_members))))))
 
 -- the response: its results, in order
 unfoldable pub response_data : List CategoryObject → List ResultObject → Data

@@ -6,6 +6,7 @@ mod category_object;
 mod combinations;
 mod distinct;
 mod grouping;
+mod identifiers;
 mod included;
 mod individuals;
 mod member;

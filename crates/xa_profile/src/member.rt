@@ -27,6 +27,10 @@ pub(crate) enum Member {
     Obligations,
     AssociatedAdvice,
     AttributeAssignment,
+    PolicyIdentifierList,
+    PolicyIdReference,
+    PolicySetIdReference,
+    Version,
 }
 
 impl Member {
@@ -58,6 +62,10 @@ impl Member {
             Member::Obligations => "Obligations",
             Member::AssociatedAdvice => "AssociatedAdvice",
             Member::AttributeAssignment => "AttributeAssignment",
+            Member::PolicyIdentifierList => "PolicyIdentifierList",
+            Member::PolicyIdReference => "PolicyIdReference",
+            Member::PolicySetIdReference => "PolicySetIdReference",
+            Member::Version => "Version",
         }
     }
 }

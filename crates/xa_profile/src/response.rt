@@ -4,6 +4,7 @@ ghost use Rattle.xa_profile.specs.Response.{assignment_data, category_data, duty
 ghost use Rattle.xa_profile.specs.writing.Tokens.{Appends, tokens, items_if_any_tokens};
 
 use crate::category_object::CategoryObject;
+use crate::identifiers::write_identifiers_if_any;
 use crate::included::included_objects;
 use crate::member::Member;
 use crate::writing::{ToJson, write_data_type, write_items_if_any, write_text, write_text_if_any};
@@ -16,7 +17,7 @@ use xa_value::Items;
 /// One of the results of a response (JSON Profile, section 5.2).
 #[derive(Debug, Drop)]
 pub struct ResultObject {
-    /// The decision, why, and what comes with it.
+    /// The decision, why, what comes with it, and the policies and policy sets that are named.
     pub evaluated: Evaluated,
     /// The places of its Category objects among those of the request; none where it stands for a request whose individual requests
     /// aren't decided, or for a bad reference.
@@ -115,11 +116,13 @@ fn write_result(
     let evaluated = &result_object.evaluated;
     let duties = &evaluated.duties;
     let places = result_object.places.as_slice();
+    let ids = evaluated.ids.as_slice();
     out.begin_object()?;
     write_items_if_any(alloc, out, Member::AssociatedAdvice, duties.advice())?;
     write_included_objects(alloc, out, objects, places)?;
     write_text(out, Member::Decision, decision_text(evaluated.decision))?;
     write_items_if_any(alloc, out, Member::Obligations, duties.obligations())?;
+    write_identifiers_if_any(alloc, out, ids)?;
     out.key(Member::Status.name())?;
     write_status(out, evaluated.status)?;
     out.end_object()

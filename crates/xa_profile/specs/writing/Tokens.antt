@@ -8,7 +8,9 @@ use Rattle.serde_json.specs.View.{items_of}
 use Rattle.serde_json.specs.Written.{outline, items_outline}
 use Rattle.xa_profile.specs.declared.member.Member.{Member}
 use Rattle.xa_profile.specs.Member.{name_of}
-use Rattle.xa_profile.specs.Response.{listing}
+use Rattle.xa_policy.specs.declared.document_key.DocumentKey.{DocumentKey}
+use Rattle.xa_profile.specs.declared.member.Member.TheVariants as member
+use Rattle.xa_profile.specs.Response.{identifiers_data, listing}
 
 -- the tokens of a value
 abbrev pub tokens : Data → List Token
@@ -31,6 +33,11 @@ text_if_any_tokens name (Some text) = key (name_of name) ∷ string text ∷ []
 abbrev pub items_if_any_tokens : Member → List Data → List Token
 items_if_any_tokens name [] = []
 items_if_any_tokens name (d ∷ ds) = member_tokens name (listing (d ∷ ds))
+
+-- those of the policies and policy sets that are named
+abbrev pub identifiers_if_any_tokens : List DocumentKey → List Token
+identifiers_if_any_tokens [] = []
+identifiers_if_any_tokens (k ∷ ks) = member_tokens member.PolicyIdentifierList (identifiers_data (k ∷ ks))
 
 -- where it was written, these tokens were, behind those that there were
 abbrev pub Appends : {E : Type 0} → Result (Unit {0}) E → Written → Written → List Token → Type 0
