@@ -130,7 +130,7 @@ class Transcripts:
             return self.send(connection, self.rebuilding(name))
         if kind < 0.75:
             return self.turns(connection)
-        many = self.commands.many_tokens(name) if kind < 0.85 else self.commands.many_documents(name, 12 if kind < 0.97 else self.one_of([255, 256, 257]))
+        many = self.commands.many_tokens(name) if kind < 0.85 else self.commands.many_documents(name, 12 if kind < 0.97 else self.one_of([1023, 1024, 1025]))
         return self.send(connection, map(self.exchanges.plain, many))
 
     def broken(self, entries):

@@ -215,9 +215,9 @@ def bodies_of_asks(it):
 def most_documents(it):
     it.make("acme")
     it.make("beta")
-    for place in range(257):
+    for place in range(1025):
         text = POLICY.replace(b'"1.0"', b'"1.%d"' % place)
-        it.say(CREATED if place < 256 else error_reply("Quota"), "POST /domains/acme/pap/policies", body=text)
+        it.say(CREATED if place < 1024 else error_reply("Quota"), "POST /domains/acme/pap/policies", body=text)
     it.say(CREATED, "POST /domains/beta/pap/policies", body=POLICY)
     it.say(DONE, "POST /domains/acme/pap/policies", body=POLICY)
 

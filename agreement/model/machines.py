@@ -15,7 +15,7 @@ from route_bodies import new_token_of, old_token_of, root_of, rows_of, rows_show
 from routes import OF_OPERATOR, owner, route_of
 from versions import NoVersion, numbered, numbers
 
-MOST_TOKENS, MOST_DOCUMENTS, MOST_ROWS = 32, 256, 1024
+MOST_TOKENS, MOST_DOCUMENTS, MOST_ROWS = 32, 1024, 4096
 KINDS = {b"policy": "policy", b"policyset": "set"}
 NAMES = {kind: name.decode() for name, kind in KINDS.items()}
 # a domain that is there: its tokens' digests with their roles, its documents by their keys, its root or None, and the rows of its source

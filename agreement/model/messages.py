@@ -6,7 +6,7 @@ import collections
 
 from rows import decoded, encoded
 
-MAX_HEAD, MAX_FIELDS, MAX_BODY = 16_384, 64, 262_144
+MAX_HEAD, MAX_FIELDS, MAX_BODY = 16_384, 64, 524_288
 TOKEN_BYTES = set(b"!#$%&'*+-.^_`|~0123456789abcdefghijklmnopqrstuvwxyzABCDEFGHIJKLMNOPQRSTUVWXYZ")
 Message = collections.namedtuple("Message", "method target fields body")
 

@@ -12,7 +12,7 @@ from routes import is_domain_name
 from rows import decoded, encoded, text_of
 from versions import NoVersion, numbers, reference_of
 
-MOST_TOKENS, MOST_DOCUMENTS, MOST_ROWS = 32, 256, 1024
+MOST_TOKENS, MOST_DOCUMENTS, MOST_ROWS = 32, 1024, 4096
 # no number and no epoch rises above it
 GREATEST = 2**63 - 1
 

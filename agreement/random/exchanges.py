@@ -33,7 +33,7 @@ MEDIA_LINES = [b"Content-Type: application/json\r\n", b"Content-Type: applicatio
                b"content-type:application/XACML+json\r\n", b"Content-Type: application/json ;x\r\n"]
 NO_MEDIA_LINES = [b"Content-Type: text/plain\r\n", b"Content-Type:\r\n", b"Content-Type: application/jsonx\r\n", b"Content-Type: application/xacml+xml\r\n"]
 FAULTY_LINES = [b"Content-Length: 3\r\n", b"Content-Length: \r\n", b"Content-Length: 1x\r\n", b"Content-Length: +1\r\n",
-                b"Content-Length: 1, 1\r\n", b"Content-Length: 262145\r\n", b"Content-Length: 000262145\r\n",
+                b"Content-Length: 1, 1\r\n", b"Content-Length: 524289\r\n", b"Content-Length: 000524289\r\n",
                 b"Content-Length: " + b"9" * 27 + b"\r\n", b"Transfer-Encoding: chunked\r\n", b"transfer-encoding:\r\n", b"a b: c\r\n",
                 b": x\r\n", b"a\r\n", b"a:\x00\r\n", b"a:\x7f\r\n", b" a: b\r\n", b"a: b\r\r\n", b"a: b\rc\r\n", b"X: y\r\n" * 62,
                 b"X: y\r\n" * 65]
@@ -76,7 +76,7 @@ class Exchanges:
     def lengths(self, length):
         """Fields with the length of the body, or nearly."""
         if self.seldom(0.01):
-            length = self.one_of([length - 1, length + 1, 262_145, 10**26])
+            length = self.one_of([length - 1, length + 1, 524_289, 10**26])
         line = self.one_of([b"Content-Length: %d\r\n"] * 8 + [b"content-length:\t%d \r\n", b"Content-Length: 00%d\r\n"])
         return [line % max(length, 0)] * self.one_of([1] * 20 + [2])
 

@@ -16,7 +16,7 @@ BOUNDS = ["", "", "1.0", "01.00", "2"]
 VALUES = [("integer", "7"), ("integer", "007"), ("integer", "8"), ("string", "7"), ("string", "007"), ("time", "12:00:00Z"), ("time", "13:00:00+01:00"),
           ("time", "12:00:00"), ("time", "12:00:00-00:00"), ("boolean", "true"), ("boolean", "1"), ("hexBinary", "ab"), ("hexBinary", "AB"),
           ("dayTimeDuration", "PT24H"), ("dayTimeDuration", "P1D"), ("anyURI", " u "), ("anyURI", "u")]
-MOST_ROWS = 1024
+MOST_ROWS = 4096
 
 
 class Keeping:
@@ -108,7 +108,7 @@ class Keeping:
             return [f"create {name}"] + [f"put {name} ask {number}" for number in range(self.one_of([30, 31, 32, 33]))]
         version = self.one_of(["3", "4.0"])
         draft = {"Policy": {"PolicyId": "urn:p", "RuleCombiningAlgId": RULE, "Version": version + "."}}
-        return [f"create {name}"] + [f"upload {name} " + encoded(written(draft)[:-3] + f'{number}"}}}}') for number in range(self.one_of([254, 255, 256, 257]))]
+        return [f"create {name}"] + [f"upload {name} " + encoded(written(draft)[:-3] + f'{number}"}}}}') for number in range(self.one_of([1022, 1023, 1024, 1025]))]
 
     def next(self):
         self.uploaded = []

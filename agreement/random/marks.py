@@ -61,7 +61,7 @@ class Marks:
     def source(self):
         """The rows of a source, now and then as many as there may be, or one more."""
         if self.seldom(0.04):
-            return {"Row": [self.row()] * self.one_of([1024, 1025])}
+            return {"Row": [self.row()] * self.one_of([4096, 4097])}
         return {"Row": [self.row() for _ in range(self.one_of([0, 1, 1, 2, 3]))]}
 
     def request(self):

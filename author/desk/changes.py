@@ -12,7 +12,7 @@ from .live import Key, Live, key_shown, path_of, row_lines, rows_body, version_s
 from .model import versions
 from .wire import ServerFault
 
-MOST_DOCUMENTS = 256
+MOST_DOCUMENTS = 1024
 
 
 @dataclass

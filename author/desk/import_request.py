@@ -14,7 +14,7 @@ from .shapes import name_node
 from .xml_reading import Element, Spot
 
 # the longest body that the server reads
-MOST_BYTES = 262_144
+MOST_BYTES = 524_288
 XML_ID = f"{{{xml_reading.XML_NAMESPACE}}}id"
 COMBINED = ("The server doesn't combine decisions: it answers this request as a whole with Indeterminate, "
             "processing-error.")

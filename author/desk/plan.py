@@ -21,7 +21,7 @@ from .model import contexts, versions
 Step = namedtuple("Step", "do held")
 Kind = Callable[[Step], bool]
 NOW, NEW, BETWEEN = "now", "new", "between"
-MOST_ROWS = 1024
+MOST_ROWS = 4096
 
 
 def step_shown(step: Step) -> str:

@@ -25,8 +25,8 @@ global
     # a second HAProxy that is started by mistake would share the ports, and the shards
     noreuseport
     maxconn 4000
-    # A whole message fits (16,384 + 262,144 bytes), so that pdpd gets none before its last byte is here.
-    tune.bufsize 327680
+    # A whole message fits (16,384 + 524,288 bytes), so that pdpd gets none before its last byte is here.
+    tune.bufsize 589824
     tune.maxrewrite 1024
     tune.http.maxhdr 128
     hard-stop-after 15s
@@ -100,7 +100,7 @@ def head_rules():
     return f"""\
     http-request {answers(405, "BadMethod")} if METH_HEAD
     http-request {answers(505, "Version")} unless {{ req.ver -m str 1.1 2.0 }}
-    http-request {answers(413, "BodyTooLarge")} if {{ req.hdr_val(content-length) gt 262144 }}
+    http-request {answers(413, "BodyTooLarge")} if {{ req.hdr_val(content-length) gt 524288 }}
     http-request set-var(txn.head) req.hdrs,length
     http-request set-var(txn.line) url,length
     http-request set-var(txn.head) var(txn.head),add(txn.line)
@@ -129,7 +129,7 @@ def body_rules():
     """The whole body first: a slow client holds no shard. One without a length (chunked, HTTP/2) gets one."""
     return f"""\
     http-request wait-for-body time 5s
-    http-request {answers(413, "BodyTooLarge")} if {{ req.body_size gt 262144 }}
+    http-request {answers(413, "BodyTooLarge")} if {{ req.body_size gt 524288 }}
     acl has_length req.hdr(content-length) -m found
     http-request del-header transfer-encoding if !has_length
     http-request set-header content-length %[req.body_len] if !has_length {{ req.body_len gt 0 }}

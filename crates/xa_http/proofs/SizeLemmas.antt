@@ -41,21 +41,21 @@ by_test false x y n most first other same = other same
 err_is_not : (fault : SessionFault) (n most : ℕ) → Err fault ≡ Ok n → n ≤ most
 err_is_not fault n most same = absurd cc
 
-limit_within : (m n : ℕ) (b : Bool) → nat_le m 262144 ≡ b → (if b then Ok m else Err BodyTooLarge) ≡ Ok n → n ≤ 262144
-limit_within m n true test same = let e : m ≡ n = cc in omega (arith, e, leb-true m 262144 test)
-limit_within m n false test same = err_is_not BodyTooLarge n 262144 same
+limit_within : (m n : ℕ) (b : Bool) → nat_le m 524_288 ≡ b → (if b then Ok m else Err BodyTooLarge) ≡ Ok n → n ≤ 524_288
+limit_within m n true test same = let e : m ≡ n = cc in omega (arith, e, leb-true m 524_288 test)
+limit_within m n false test same = err_is_not BodyTooLarge n 524_288 same
 
-agreed_within : (values : List (List ℕ)) (n : ℕ) → agreed_length values ≡ Ok n → n ≤ 262144
+agreed_within : (values : List (List ℕ)) (n : ℕ) → agreed_length values ≡ Ok n → n ≤ 524_288
 unfolding agreed_length
 agreed_within [] n same = let e : 0 ≡ n = cc in omega (arith, e)
 agreed_within (first ∷ others) n same =
-    by_test _ _ _ n 262144 (limit_within (digits_value 10 first) n (nat_le (digits_value 10 first) 262144) refl) (err_is_not BadHead n 262144) same
+    by_test _ _ _ n 524_288 (limit_within (digits_value 10 first) n (nat_le (digits_value 10 first) 524_288) refl) (err_is_not BadHead n 524_288) same
 
-body_within : (fields : List Field) (n : ℕ) → body_length fields ≡ Ok n → n ≤ 262144
+body_within : (fields : List Field) (n : ℕ) → body_length fields ≡ Ok n → n ≤ 524_288
 unfolding body_length
 body_within fields n same =
-    by_test _ _ _ n 262144 (err_is_not HeadTooLarge n 262144)
-    (by_test _ _ _ n 262144 (err_is_not TransferCoding n 262144) (agreed_within (values_of (codes "Content-Length") fields) n)) same
+    by_test _ _ _ n 524_288 (err_is_not HeadTooLarge n 524_288)
+    (by_test _ _ _ n 524_288 (err_is_not TransferCoding n 524_288) (agreed_within (values_of (codes "Content-Length") fields) n)) same
 
 -- what is no whole message yet is short
 pub waiting_short : (held : List ℕ) → IsUnfinished held → length held < 278_528

@@ -16,9 +16,9 @@ is_named name f = str_eq_ignore_ascii_case f.name name
 abbrev pub values_of : List ℕ → List Field → List (List ℕ)
 values_of name fields = map (λ f. f.value) (filter (is_named name) fields)
 
--- a body of that many bytes is taken, up to 262,144 bytes
+-- a body of that many bytes is taken, up to 524,288 bytes
 abbrev pub within_limit : ℕ → Result ℕ SessionFault
-within_limit n = if nat_le n 262144 then Ok n else Err BodyTooLarge
+within_limit n = if nat_le n 524_288 then Ok n else Err BodyTooLarge
 
 -- the text is digits alone, and writes the number that the digits do
 abbrev pub writes_same : List ℕ → List ℕ → Bool

@@ -7,4 +7,4 @@ pub const MAX_HEAD_BYTES: usize = 16_384;
 pub const MAX_FIELDS: usize = 64;
 
 /// A body has at most this many bytes: a message that announces more is refused by its head, and isn't waited for.
-pub const MAX_BODY_BYTES: usize = 262_144;
+pub const MAX_BODY_BYTES: usize = 524_288;

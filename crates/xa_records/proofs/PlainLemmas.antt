@@ -103,11 +103,11 @@ module _ {X : Type 0} (number epoch : ℕ) (tokens : FinMap compare_bytes Role) 
       → Alters (root_set given) domain (record { number = number; epoch = next; state = record { tokens = tokens; documents = documents; root = given; source = source } }) (Ok x)
   root_is_set given next up differs = rises (root_set given) domain next (record { tokens = tokens; documents = documents; root = given; source = source }) x up refl (λ alike. differs alike.root)
 
-  pub source_is_same : (rows : List SourceRow) → nat_le (length rows) 1_024 ≡ true → source ≡ rows → Alters (source_set rows) domain domain (Ok x)
+  pub source_is_same : (rows : List SourceRow) → nat_le (length rows) 4_096 ≡ true → source ≡ rows → Alters (source_set rows) domain domain (Ok x)
   source_is_same rows fits e = same (source_set rows) domain (record { tokens = tokens; documents = documents; root = root; source = rows }) x (put_made _ _ _ fits)
       (ap (λ r. record { tokens = tokens; documents = documents; root = root; source = r }) e)
 
-  pub source_is_set : (rows : List SourceRow) (next : ℕ) → IsRaised epoch next → nat_le (length rows) 1_024 ≡ true → (source ≡ rows → ⊥)
+  pub source_is_set : (rows : List SourceRow) (next : ℕ) → IsRaised epoch next → nat_le (length rows) 4_096 ≡ true → (source ≡ rows → ⊥)
       → Alters (source_set rows) domain (record { number = number; epoch = next; state = record { tokens = tokens; documents = documents; root = root; source = rows } }) (Ok x)
   source_is_set rows next up fits differs = rises (source_set rows) domain next (record { tokens = tokens; documents = documents; root = root; source = rows }) x up (put_made _ _ _ fits) (λ alike. differs alike.source)
 
@@ -116,7 +116,7 @@ module _ {X : Type 0} (number epoch : ℕ) (tokens : FinMap compare_bytes Role) 
       → Alters change domain (record { number = number; epoch = next; state = with_documents after state }) (Ok x)
   documents_change change next after up made differs = rises change domain next (with_documents after state) x up made (λ alike. differs alike.documents)
 
-  pub document_is_put : (key : DocumentKey) (text : List ℕ) (next : ℕ) (after : FinMap compare_keys StoredDocument) → IsRaised epoch next → get documents key ≡ None → nat_lt (len documents) 256 ≡ true
+  pub document_is_put : (key : DocumentKey) (text : List ℕ) (next : ℕ) (after : FinMap compare_keys StoredDocument) → IsRaised epoch next → get documents key ≡ None → nat_lt (len documents) 1_024 ≡ true
       → after ≡ insert documents key (record { text = text; active = false }) → Alters (uploaded key text) domain (record { number = number; epoch = next; state = with_documents after state }) (Ok x)
   document_is_put key text next after up none room e = documents_change (uploaded key text) next after up
       (ap (uploaded_over key text state) none ∙ put_made _ _ _ room ∙ ap (λ d. Ok (with_documents d state)) (sym e))

@@ -1,4 +1,4 @@
--- What each change makes of a domain, or why it is refused; the first reason counts. A domain may keep 32 tokens, 256 documents and 1,024 source rows:
+-- What each change makes of a domain, or why it is refused; the first reason counts. A domain may keep 32 tokens, 1,024 documents and 4,096 source rows:
 -- bounds of this project's own.
 use Rattle.std.specs.Prelude.{ℕ, Bool, false, ◌||◌, nat_le, nat_lt, bytes_eq, if◌then◌else◌, List, length, Option, Some, None, Result, Ok, Err}
 use Rattle.std.specs.FinMap.{FinMap, get, insert, remove, contains_key, len}
@@ -58,7 +58,7 @@ with_document key text active state = with_documents (insert state.documents key
 -- over a document of the same key: its very text again changes nothing
 abbrev pub uploaded_over : DocumentKey → List ℕ → DomainState → Option StoredDocument → Result DomainState Refusal
 uploaded_over key text state (Some document) = if bytes_eq document.text text then Ok state else Err SameVersionOtherText
-uploaded_over key text state None = if nat_lt (len state.documents) 256 then Ok (with_document key text false state) else Err Quota
+uploaded_over key text state None = if nat_lt (len state.documents) 1_024 then Ok (with_document key text false state) else Err Quota
 
 -- a document is uploaded; it is not active yet
 abbrev pub uploaded : DocumentKey → List ℕ → DomainState → Result DomainState Refusal
@@ -92,4 +92,4 @@ root_set root state = Ok (record { tokens = state.tokens; documents = state.docu
 -- the rows of the source are these, and no others
 abbrev pub source_set : List SourceRow → DomainState → Result DomainState Refusal
 source_set rows state =
-    if nat_le (length rows) 1_024 then Ok (record { tokens = state.tokens; documents = state.documents; root = state.root; source = rows }) else Err Quota
+    if nat_le (length rows) 4_096 then Ok (record { tokens = state.tokens; documents = state.documents; root = state.root; source = rows }) else Err Quota

@@ -8,14 +8,14 @@ use xa_value::Items;
 pub const MAX_TOKENS: usize = 32;
 
 /// A domain keeps at most this many documents, for the same reason; the size of each is bounded, too.
-pub const MAX_DOCUMENTS: usize = 256;
+pub const MAX_DOCUMENTS: usize = 1_024;
 
 /// The source of attributes of a domain has at most this many rows, for the same reason.
-pub const MAX_SOURCE_ROWS: usize = 1_024;
+pub const MAX_SOURCE_ROWS: usize = 4_096;
 
 /// Whether a domain may keep so many rows.
 pub fn may_be_kept(rows: &Items<SourceRow>) -> bool
-    ensures { result ≡ nat_le (length rows.now) 1_024 }
+    ensures { result ≡ nat_le (length rows.now) 4_096 }
 {
     rows.len() <= MAX_SOURCE_ROWS
 }

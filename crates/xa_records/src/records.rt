@@ -87,7 +87,7 @@ pub trait Records {
         ensures { Changing (custody self.old) (custody self.new) result name.now (within (token_dropped digest)) };
 
     /// Adds a document, which isn't active at first. The very text again changes nothing. Refused with `Absent`, with `SameVersionOtherText`, and
-    /// with `Quota` where the domain has 256 others.
+    /// with `Quota` where the domain has 1,024 others.
     fn upload(
         &mut self,
         alloc: Global,
@@ -122,7 +122,7 @@ pub trait Records {
     ) -> Result<(), ChangeError>
         ensures { Changing (custody self.old) (custody self.new) result name.now (within (root_set root)) };
 
-    /// Puts these rows into the source of attributes, in place of all that were there. Refused with `Absent`, and with `Quota` where there are more than 1,024.
+    /// Puts these rows into the source of attributes, in place of all that were there. Refused with `Absent`, and with `Quota` where there are more than 4,096.
     fn set_source(
         &mut self,
         alloc: Global,

@@ -16,7 +16,7 @@ pub enum Refusal {
     /// There is no such domain, token or document.
     #[error("there is no such domain, token or document")]
     Absent,
-    /// The domain may keep no more of them: 32 tokens, 256 documents, 1,024 source rows.
+    /// The domain may keep no more of them: 32 tokens, 1,024 documents, 4,096 source rows.
     #[error("the domain may keep no more tokens, documents or source rows")]
     Quota,
     /// There is a document of that kind, id and version already, with another text.

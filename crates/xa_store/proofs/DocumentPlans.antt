@@ -161,7 +161,7 @@ module _ (rows : Rows) (name : List ℕ) (d : DomainRow) (one : IsOnly name d ro
       missing : get state.documents key ≡ None
       missing = got None (find_none has_key xs (sym among ∙ none))
 
-      pub upload_planned : (body : List ℕ) → IsDocumentOf key body → nat_lt (len state.documents) 256 ≡ true → Plans (AddDocument n key body ∷ SetEpoch n epoch ∷ []) (within (uploaded key body)) name rows
+      pub upload_planned : (body : List ℕ) → IsDocumentOf key body → nat_lt (len state.documents) 1_024 ≡ true → Plans (AddDocument n key body ∷ SetEpoch n epoch ∷ []) (within (uploaded key body)) name rows
       upload_planned body document room =
           let new : DocumentRow = record { rowid = next_key (λ x. x.rowid) rows.documents; number = n; key = key; text = body; active = false } in
           let documents = rows.documents ++ new ∷ [] in
@@ -226,7 +226,7 @@ module _ (rows : Rows) (name : List ℕ) (d : DomainRow) (one : IsOnly name d ro
         ap (within (deleted key)) (its_state rows name d one)
         ∙ ap (λ o. (or_absent o >>= (λ document. cond document.active (Err StillActive) (Ok (with_documents (remove state.documents key) state)))) >>= (λ next. Ok (Some next))) nowhere
 
-    pub upload_full : (body : List ℕ) → nat_lt (len state.documents) 256 ≡ false → within (uploaded key body) (state_of name (kept_of rows)) ≡ Err Quota
+    pub upload_full : (body : List ℕ) → nat_lt (len state.documents) 1_024 ≡ false → within (uploaded key body) (state_of name (kept_of rows)) ≡ Err Quota
     upload_full body full =
         ap (within (uploaded key body)) (its_state rows name d one) ∙ ap (λ o. uploaded_over key body state o >>= (λ next. Ok (Some next))) nowhere
         ∙ ap (λ b. cond b (Ok (with_document key body false state)) (Err Quota) >>= (λ next. Ok (Some next))) full
@@ -262,13 +262,13 @@ module _ (rows : Rows) (name : List ℕ) (found : DomainFound) (are : AreNumbere
         subst (λ n. Plans (DropDocument n key ∷ SetEpoch n next ∷ []) (within (deleted key)) name rows) (sym is.number)
         (drop_planned rows name is.row is.only up are key reads next one_more still_fits own.0 own.1 (same ∙ idle))
 
-    pub plan_upload : (body : List ℕ) → IsDocumentOf key body → (count : ℕ) → count ≡ len (state_at rows found.number).documents → FindsDocument found.number key rows None → nat_lt count 256 ≡ true
+    pub plan_upload : (body : List ℕ) → IsDocumentOf key body → (count : ℕ) → count ≡ len (state_at rows found.number).documents → FindsDocument found.number key rows None → nat_lt count 1_024 ≡ true
         → IsUploadPlanned key body name rows (Ok (AddDocument found.number key body ∷ SetEpoch found.number next ∷ []))
     plan_upload body document count all finds room =
         let own = finds_own None finds in
         let own_count : count ≡ len (state_at rows is.row.number).documents = all ∙ ap (λ n. len (state_at rows n).documents) is.number in (
           subst (λ n. Plans (AddDocument n key body ∷ SetEpoch n next ∷ []) (within (uploaded key body)) name rows) (sym is.number)
-              (upload_planned rows name is.row is.only up are key reads next one_more still_fits own body document (subst (λ k. nat_lt k 256 ≡ true) own_count room)),
+              (upload_planned rows name is.row is.only up are key reads next one_more still_fits own body document (subst (λ k. nat_lt k 1_024 ≡ true) own_count room)),
           sym (ap (upload_of key) (its_state rows name is.row is.only) ∙ ap (λ o. cond (is_some o) Same New) (nowhere rows name is.row is.only up are key reads own)),
         )
 
@@ -306,8 +306,8 @@ module _ (rows : Rows) (name : List ℕ) (found : DomainFound) (are : AreNumbere
         let own = finds_own (Some there) finds in
         upload_other rows name is.row is.only up are key reads own.0 own.1 body (ap (λ t. bytes_eq t body) own_text ∙ e)
 
-  pub plan_full : (body : List ℕ) (count : ℕ) → count ≡ len (state_at rows found.number).documents → FindsDocument found.number key rows None → nat_lt count 256 ≡ false
+  pub plan_full : (body : List ℕ) (count : ℕ) → count ≡ len (state_at rows found.number).documents → FindsDocument found.number key rows None → nat_lt count 1_024 ≡ false
       → within (uploaded key body) (state_of name (kept_of rows)) ≡ Err Quota
   plan_full body count all finds full =
       let own_count : count ≡ len (state_at rows is.row.number).documents = all ∙ ap (λ n. len (state_at rows n).documents) is.number in
-      upload_full rows name is.row is.only up are key reads (finds_own None finds) body (subst (λ k. nat_lt k 256 ≡ false) own_count full)
+      upload_full rows name is.row is.only up are key reads (finds_own None finds) body (subst (λ k. nat_lt k 1_024 ≡ false) own_count full)

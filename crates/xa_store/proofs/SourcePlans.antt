@@ -235,17 +235,17 @@ module _ (n : ℤ) where
 abbrev with_source : List SourceRow → DomainState → DomainState
 with_source source state = record { tokens = state.tokens; documents = state.documents; root = state.root; source = source }
 
-set_fits : (ss : List SourceRow) (state : DomainState) → nat_le (length ss) 1_024 ≡ true → within (source_set ss) (Some state) ≡ Ok (Some (with_source ss state))
+set_fits : (ss : List SourceRow) (state : DomainState) → nat_le (length ss) 4_096 ≡ true → within (source_set ss) (Some state) ≡ Ok (Some (with_source ss state))
 set_fits ss state fits = rw fits refl
 
-set_refused : (ss : List SourceRow) (state : DomainState) → nat_le (length ss) 1_024 ≡ false → within (source_set ss) (Some state) ≡ Err Quota
+set_refused : (ss : List SourceRow) (state : DomainState) → nat_le (length ss) 4_096 ≡ false → within (source_set ss) (Some state) ≡ Err Quota
 set_refused ss state over = rw over refl
 
-pub at_most : (ss : List SourceRow) → nat_le (length ss) 1_024 ≡ true → length ss ≤ 1_024
+pub at_most : (ss : List SourceRow) → nat_le (length ss) 4_096 ≡ true → length ss ≤ 4_096
 at_most ss fits = grind (arith, Rattle.std.proofs.lemmas.Bool.Decides.nat_tests)
 
 module _ (rows : Rows) (name : List ℕ) (d : DomainRow) (one : IsOnly name d rows) (up : IsKeyedBy number_of rows.domains) (are : AreNumbered rows) (epoch : ℤ) (ss : List SourceRow)
-    (fits : nat_le (length ss) 1_024 ≡ true) where
+    (fits : nat_le (length ss) 4_096 ≡ true) where
   abbrev target : DomainState
   target = with_source ss (state_at rows d.number)
 
@@ -344,7 +344,7 @@ module _ (rows : Rows) (name : List ℕ) (d : DomainRow) (one : IsOnly name d ro
 
 -- of a domain that was found
 module _ (rows : Rows) (name : List ℕ) (found : DomainFound) (there ss : List SourceRow) (are : AreNumbered rows) (up : IsKeyedBy number_of rows.domains) (is : IsDomain name rows found)
-    (at : there ≡ (state_at rows found.number).source) (fits : nat_le (length ss) 1_024 ≡ true) where
+    (at : there ≡ (state_at rows found.number).source) (fits : nat_le (length ss) 4_096 ≡ true) where
   its_source : there ≡ (state_at rows is.row.number).source
   its_source = at ∙ ap (λ n. (state_at rows n).source) is.number
 
@@ -359,5 +359,5 @@ module _ (rows : Rows) (name : List ℕ) (found : DomainFound) (there ss : List 
       (source_planned rows name is.row is.only up are next ss fits reads texts (λ same. differs (its_source ∙ same)) rises (subst (λ k. k < 2 ^ 63) (sym rises) r.1))
 
 -- too many rows
-pub too_many : (rows : Rows) (name : List ℕ) (found : DomainFound) (ss : List SourceRow) → IsDomain name rows found → nat_le (length ss) 1_024 ≡ false → within (source_set ss) (state_of name (kept_of rows)) ≡ Err Quota
+pub too_many : (rows : Rows) (name : List ℕ) (found : DomainFound) (ss : List SourceRow) → IsDomain name rows found → nat_le (length ss) 4_096 ≡ false → within (source_set ss) (state_of name (kept_of rows)) ≡ Err Quota
 too_many rows name found ss is over = ap (within (source_set ss)) (its_state rows name is.row is.only) ∙ set_refused ss (state_at rows is.row.number) over

@@ -27,7 +27,7 @@ pub(crate) fn token_count<S: Alter>(conn: &mut Connection<S>, number: i64) -> Re
     Ok(rows.as_slice().len())
 }
 
-/// How many documents the domain of that number has: 256 at most. In time in proportion to that, whatever their texts.
+/// How many documents the domain of that number has: 1,024 at most. In time in proportion to that, whatever their texts.
 #[tactic(auto, using(crate::proofs::DocumentLemmas::documents_plain))]
 pub(crate) fn document_count<S: Alter>(
     conn: &mut Connection<S>,

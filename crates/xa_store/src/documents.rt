@@ -120,7 +120,7 @@ pub(crate) fn document_of<S: Alter>(
     one_told(alloc, rows.as_slice())
 }
 
-/// All documents of the domain of that number, in the order of their keys; there are 256 at most. In time in proportion to their number, whatever their texts.
+/// All documents of the domain of that number, in the order of their keys; there are 1,024 at most. In time in proportion to their number, whatever their texts.
 #[tactic(auto, using(crate::proofs::DocumentLemmas::documents_plain))]
 pub(crate) fn documents_of<S: Alter>(
     conn: &mut Connection<S>,

@@ -64,7 +64,7 @@ impl Told for SourceRow {
     }
 }
 
-/// The rows of the source of the domain of that number, in the order of their places. In time in proportion to their number; there are 1,024 at most.
+/// The rows of the source of the domain of that number, in the order of their places. In time in proportion to their number; there are 4,096 at most.
 #[tactic(auto, using(crate::proofs::SourceLemmas::source_plain))]
 pub(crate) fn source_of<S: Alter>(
     conn: &mut Connection<S>,

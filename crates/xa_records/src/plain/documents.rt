@@ -122,7 +122,7 @@ impl Documents {
 
     /// Whether one more document may be put in.
     pub(crate) fn has_room(&self) -> bool
-        ensures { result ≡ nat_lt (len self.now) 256 }
+        ensures { result ≡ nat_lt (len self.now) 1_024 }
     {
         self.len() < MAX_DOCUMENTS
     }

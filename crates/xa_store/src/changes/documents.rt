@@ -70,7 +70,7 @@ fn raising_steps(
 
 /// Whether a domain of so many documents may have one more.
 fn has_room(count: usize) -> bool
-    ensures { result ≡ nat_lt count 256 }
+    ensures { result ≡ nat_lt count 1_024 }
 {
     count < MAX_DOCUMENTS
 }

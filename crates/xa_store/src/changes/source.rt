@@ -77,7 +77,7 @@ fn row_steps(
     number: i64,
     rows: Items<SourceRow>,
 ) -> Result<Items<Step>, AllocError>
-    requires { length rows ≤ 1_024 }
+    requires { length rows ≤ 4_096 }
     ensures { IfOk result (λ all. all ≡ steps ++ row_steps number 0 rows) }
 {
     let mut place: u32 = 0;
@@ -95,7 +95,7 @@ fn source_steps(
     epoch: i64,
     rows: Items<SourceRow>,
 ) -> Result<Items<Step>, AllocError>
-    requires { length rows ≤ 1_024 }
+    requires { length rows ≤ 4_096 }
     ensures { IfOk result (λ steps. steps ≡ source_steps number epoch rows) }
 {
     let mut steps = Items::new(alloc);

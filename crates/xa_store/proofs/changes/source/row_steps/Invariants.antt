@@ -7,4 +7,4 @@ use Rattle.xa_store.proofs.changes.source.row_steps.Given as goal
 abbrev pub invariant-loop-row : goal.invariant-loop-row
 invariant-loop-row l =
     (l.steps ++ row_steps l.number l.place (into_iter_items l.row-iterator) ≡ l.fn.steps ++ row_steps l.number 0 l.fn.rows)
-    × (l.place + length (into_iter_items l.row-iterator) ≤ 1024)
+    × (l.place + length (into_iter_items l.row-iterator) ≤ 4_096)

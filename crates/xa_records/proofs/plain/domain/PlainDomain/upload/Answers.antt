@@ -18,14 +18,14 @@ returns-in-Some-clause-does c =
 pub returns-clause-does : goal.returns-clause-does
 returns-clause-does c =
     let none : get c.self.inside.documents c.args.key ≡ None = first_of (cc, search rules) in
-    let room : nat_lt (len c.self.inside.documents) 256 ≡ true = first_of (cc, search rules) in
+    let room : nat_lt (len c.self.inside.documents) 1_024 ≡ true = first_of (cc, search rules) in
     rw (← c.self.view_is) (plain.document_is_put c.self.inside.number c.self.inside.epoch c.self.inside.tokens c.self.inside.documents c.self.inside.root c.self.inside.source (tt {0}) c.args.key c.args.text.now c.in_ok-epoch.epoch c.put.new.self c.in_ok-epoch.ensures none room
     (c.in_ok-put.ensures.ok ∙ ap (insert c.self.inside.documents c.args.key) c.in_ok-document.ensures))
 
 pub returns-in_err-epoch-clause-store : goal.returns-in_err-epoch-clause-store
 returns-in_err-epoch-clause-store c = λ h.
     let none : get c.self.inside.documents c.args.key ≡ None = first_of (cc, search rules) in
-    let room : nat_lt (len c.self.inside.documents) 256 ≡ true = first_of (cc, search rules) in
+    let room : nat_lt (len c.self.inside.documents) 1_024 ≡ true = first_of (cc, search rules) in
     rw (← c.self.view_is) (plain.cant_rise (uploaded c.args.key c.args.text.now) c.self.inside.number c.self.inside.epoch _ _ (tt {0})
     (plain.document_is_put c.self.inside.number 0 c.self.inside.tokens c.self.inside.documents c.self.inside.root c.self.inside.source (tt {0}) c.args.key c.args.text.now 1
     (insert c.self.inside.documents c.args.key (record { text = c.args.text.now; active = false })) plain.first_epoch none room refl)
