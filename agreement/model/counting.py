@@ -1,7 +1,7 @@
 """How often a server reads a text and works out a response, by what it keeps of those before: a shelf of texts, views of domains that are ready, and a cache of
-responses; and which asks it refuses, by its limits of work and of a response.
+responses; and which asks it refuses, by its limits of work, of a response and of reading.
 
-None of them changes a reply. A view is kept for the domain's number and its epoch, one for each number. A response is kept where it is the same at every moment, for the domain's number, which no other domain ever has, for its epoch,
+What is kept changes no reply. A view is kept for the domain's number and its epoch, one for each number. A response is kept where it is the same at every moment, for the domain's number, which no other domain ever has, for its epoch,
 which rises with each change of what decides, and for the very bytes of the request.
 """
 import collections
@@ -21,6 +21,7 @@ from work import Refused, spent
 MOST_TEXTS, MOST_VIEWS, MOST_RESPONSES, MOST_BYTES = 128, 128, 512, 16_384
 ROOM_FOR_VIEWS = 268_435_456
 CLOCK_IDS = {name for name, _ in CLOCK}
+UNAVAILABLE = error_reply("Unavailable")
 
 
 class LastUsed:
@@ -87,6 +88,11 @@ def size_of_view(state):
     return 16 * texts + 512 * len(state.rows) + 24 * places(view(state)) + 524_288
 
 
+def texts_read(state):
+    """The texts that are read for a decision in the domain, in order: all active ones, where a root is set."""
+    return [state.documents[key].text for key in sorted(state.documents) if state.documents[key].is_active] if state.root is not None else []
+
+
 def designators(held):
     """The designators that stand anywhere in a tree."""
     if isinstance(held, Designator):
@@ -134,13 +140,15 @@ class CountingServer(Server):
         self.restart()
         # the next domain's number, and of each domain that is there its number and its epoch
         self.number, self.gates = 1, {}
-        # the work that a message may ask for, and the bytes that the body of a response may have
-        self.most_units, self.most_bytes = None, None
+        # the work that a message may ask for, the bytes that the body of a response may have, and those of the texts that are read for a message
+        self.most_units, self.most_bytes, self.most_read = None, None, float("inf")
 
     def restart(self):
         """Keeps nothing of what it has read and worked out, as a server that is begun over the same records."""
         self.shelf, self.views, self.cache = LastUsed(MOST_TEXTS), Views(), LastUsed(MOST_RESPONSES)
         self.readings, self.evaluations, self.unkept = 0, 0, 0
+        # the domains of which it is known that their texts are too long to be read, with their epochs
+        self.unread = {}
 
     def answer(self, message, moment):
         name = owner(message)
@@ -149,8 +157,9 @@ class CountingServer(Server):
         self.move(name, before, self.states.get(name))
         if made.startswith((b"HTTP/1.1 200 ", b"HTTP/1.1 400 ")) and name and route_of(message).command == "decide":
             if made.startswith(b"HTTP/1.1 200 ") and self.is_refused(self.states[name], message.body, moment, made):
-                made = error_reply("Unavailable")
-            self.count(name, message.body, made)
+                made = UNAVAILABLE
+            if not self.count(name, message.body, made):
+                made = UNAVAILABLE
         return made
 
     def is_refused(self, state, held, moment, made):
@@ -174,29 +183,45 @@ class CountingServer(Server):
             self.gates[name] = number, epoch + 1
 
     def count(self, name, held, made):
-        """Counts what it took to decide on the bytes of a request, which were answered so."""
+        """Counts what it took to decide on the bytes of a request, which were answered so; False where it took too much to read."""
         key, is_short, state = (self.gates[name], held), len(held) <= MOST_BYTES, self.states[name]
         if is_short and self.cache.has(key):
-            return
+            return True
         succeeds = made.startswith(b"HTTP/1.1 200 ")
-        self.see(*self.gates[name], state, held, succeeds)
+        if not self.see(*self.gates[name], state, held, succeeds):
+            return False
         if succeeds:
             self.evaluations += 1
             if is_short and len(body_of(made)) <= MOST_BYTES and is_still(view(state), held):
                 self.cache.put(key)
+        return True
 
     def see(self, number, epoch, state, held, succeeds):
-        """Takes the view that is kept ready, of which this is a use, with success; where there is none and the policies are asked, it is made and kept, of the texts where a root is set."""
+        """Takes the view that is kept ready, of which this is a use, with success; where there is none and the policies are asked, it is made of the texts, and kept, with success;
+        False where they are too long."""
         if self.views.has(number, epoch):
             if succeeds:
                 self.views.use(number)
         elif asks_policies(held):
-            for document in sorted(state.documents) if state.root is not None else ():
-                self.read(state.documents[document])
-            self.views.put(number, epoch, size_of_view(state))
+            if self.unread.get(number) == epoch or not self.read_all(texts_read(state)):
+                self.unread[number] = epoch
+                return False
+            if succeeds:
+                self.views.put(number, epoch, size_of_view(state))
+        return True
 
-    def read(self, stored):
-        """Takes an active text from the shelf, or reads it."""
-        if stored.is_active and not self.shelf.has(stored.text):
+    def read_all(self, texts):
+        """Reads texts for a message, one after another; False where that is too much."""
+        left = self.most_read
+        for text in texts:
+            left -= len(text)
+            if left < 0:
+                return False
+            self.read(text)
+        return True
+
+    def read(self, text):
+        """Takes a text from the shelf, or reads it."""
+        if not self.shelf.has(text):
             self.readings += 1
-            self.shelf.put(stored.text)
+            self.shelf.put(text)

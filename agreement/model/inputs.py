@@ -29,6 +29,9 @@ class Messages(Setup):
     def reply(self, text):
         self.before.append("reply:" + text)
 
+    def reading(self, text):
+        self.before.append("reading:" + text)
+
     def limit(self, text):
         self.after.append("limit:" + text)
 
@@ -50,7 +53,7 @@ def events(fields):
     setup, place = Messages(), 0
     while place < len(fields) and fields[place].split(":")[0] in SETUP:
         word, _, text = fields[place].partition(":")
-        if setup.name is None and word not in ("views", "limit", "reply", "domain"):
+        if setup.name is None and word not in ("views", "limit", "reply", "reading", "domain"):
             break
         getattr(setup, word)(text)
         place += 1

@@ -6,11 +6,11 @@ and no other message was let in since; and without the view, where the response 
 """
 import collections
 
-from counting import CountingServer, asks_policies
+from counting import UNAVAILABLE, CountingServer, asks_policies
 from documents import document_of
 from machines import KINDS, check_token, digest, in_body
 from messages import Message, Stream, token_shown
-from replies import Error, error_reply
+from replies import Error
 from route_bodies import new_token_of, old_token_of, root_of, rows_of
 from routes import OF_OPERATOR, owner, route_of
 from rows import decoded
@@ -22,7 +22,6 @@ CALL_FOR = {"create": "Create", "remove": "Remove", "put": "PutToken", "drop": "
             "rows": "View", "document": "Document", "delete": "Delete", "activate": "SetActive", "deactivate": "SetActive", "domains": "Domains"}
 BODIES = {"put": new_token_of, "drop": old_token_of, "upload": document_of, "root": root_of, "source": rows_of}
 OF_DOCUMENT = ("document", "delete", "activate", "deactivate")
-UNAVAILABLE = error_reply("Unavailable")
 
 
 def has_body(route, body):
@@ -61,7 +60,7 @@ class CallingServer(CountingServer):
     def see(self, number, epoch, state, held, succeeds):
         if not self.views.has(number, epoch) and asks_policies(held):
             self.calls.append("View")
-        super().see(number, epoch, state, held, succeeds)
+        return super().see(number, epoch, state, held, succeeds)
 
     def note(self, message, name, route):
         """Notes the calls that a message makes, but for the view of an ask."""

@@ -1,4 +1,4 @@
-//! The command line, and the variables PDPD_WORK, PDPD_REPLY and PDPD_IDLE of the environment.
+//! The command line, and the variables PDPD_WORK, PDPD_REPLY, PDPD_READING and PDPD_IDLE of the environment.
 ghost use Rattle.std.specs.Prelude.{◌≡◌, map, option_map, string_bytes};
 ghost use Rattle.pdpd.specs.CommandLine as spec;
 
@@ -13,6 +13,9 @@ const WORK: usize = 150_000_000;
 
 /// How many bytes the body of a response may have where PDPD_REPLY isn't set: 16 MiB.
 const REPLY: usize = 16_777_216;
+
+/// How many bytes of policies may be read for one message where PDPD_READING isn't set.
+const READING: usize = 16_000_000;
 
 /// For how many seconds a connection may give nothing, or take nothing, where PDPD_IDLE isn't set.
 const IDLE: usize = 30;
@@ -128,6 +131,16 @@ pub fn reply_of(set: Option<&str>) -> Option<usize>
 {
     match set {
         None => Some(REPLY),
+        Some(text) => number_up_to(usize::MAX, text.as_bytes()),
+    }
+}
+
+/// How many bytes of policies may be read for one message, by what PDPD_READING is set to; 0 for any number.
+pub fn reading_of(set: Option<&str>) -> Option<usize>
+    ensures { result ≡ spec.reading_of (option_map (λ text. text.now) set.entry) }
+{
+    match set {
+        None => Some(READING),
         Some(text) => number_up_to(usize::MAX, text.as_bytes()),
     }
 }

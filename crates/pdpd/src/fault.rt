@@ -70,6 +70,8 @@ pub enum Fault {
     Work,
     /// PDPD_REPLY is no number.
     Reply,
+    /// PDPD_READING is no number.
+    Reading,
     /// PDPD_IDLE is no number.
     Idle,
     /// The token file can't be read.
@@ -100,6 +102,7 @@ impl Fault {
             Fault::Address
             | Fault::Work
             | Fault::Reply
+            | Fault::Reading
             | Fault::Idle
             | Fault::TokenUnread
             | Fault::TokenBad => Exit::Usage,
@@ -116,6 +119,9 @@ impl Fault {
             Fault::Address => "not an IP address, `:` and a port, such as 127.0.0.1:8080",
             Fault::Work => "PDPD_WORK is to be a number of units of work, or 0 for no limit",
             Fault::Reply => "PDPD_REPLY is to be a number of bytes, or 0 for no limit",
+            Fault::Reading => {
+                "PDPD_READING is to be a number of bytes of policies, or 0 for no limit"
+            }
             Fault::Idle => "PDPD_IDLE is to be a number of seconds, or 0 for no limit",
             Fault::TokenUnread =>
                 "can't be read; its first line is to be the operator's token (8 to 64 visible ASCII characters)",
@@ -138,6 +144,7 @@ impl Fault {
             Fault::Address | Fault::Socket | Fault::Connection => Some(serving.address.as_str()),
             Fault::Work
             | Fault::Reply
+            | Fault::Reading
             | Fault::Idle
             | Fault::Clock
             | Fault::Output

@@ -11,8 +11,8 @@ pub const HELP: &str = "pdpd: policy administration and decisions (XACML 3.0), o
       DATABASE, which is made where it isn't there. ADDRESS: an IP address, `:` and a port.
       TOKEN-FILE: its first line is the operator's token, 8 to 64 visible ASCII characters.
       It prints `listening ADDRESS` once connections are taken.
-      PDPD_WORK in the environment limits the work for one message (0: no limit), and PDPD_REPLY
-      the bytes of its response.
+      PDPD_WORK in the environment limits the work for one message (0: no limit), PDPD_REPLY the
+      bytes of its response, and PDPD_READING the bytes of policies that are read for it.
   pdpd replay OPERATOR-TOKEN
       answers the transcript on standard input, over a store in memory.
   pdpd --help, pdpd --version

@@ -26,16 +26,16 @@ use std::alloc::Global;
 use xa_cache::Key;
 use xa_decide::{Responded, View, asks_policies, respond};
 use xa_notation::NotationError;
-use xa_records::{Records, Refusal};
-use xa_shelf::Shelf;
+use xa_records::{Failure, Records, Refusal};
+use xa_shelf::TextReader;
 use xa_value::{Items, Moment, Text};
 
-/// What decides in the domain, made from what is kept of it, with what a decision may cost. What this costs grows with the texts of the active documents, each of which is looked up on the
-/// shelf where a root is set, and with the rows of attributes, which are put in order.
+/// What decides in the domain, made from what is kept of it, with what a decision may cost. What this costs grows with the texts of the active documents, which the keeper
+/// copies, and each of which is looked up on the shelf or read where a root is set, and with the rows of attributes, which are put in order.
 #[tactic(auto, using(crate::proofs::ReadyLemmas::estimated))]
 fn ready_view<R: Records>(
     alloc: Global,
-    shelf: &mut Shelf,
+    reader: &mut TextReader<'_>,
     records: &mut R,
     name: &Text,
     epoch: u64,
@@ -53,13 +53,39 @@ fn ready_view<R: Records>(
         .view(alloc, name)?
         .ok_or(ErrorCode::Refused(Refusal::Absent))?;
     let bytes = bytes_of_view(&kept);
-    let view = view_of_kept(alloc, shelf, kept)?;
+    let view = view_of_kept(alloc, reader, kept)?;
     let bytes = bytes.saturating_add(bytes_of_tree(&view));
     Ok(Ready {
         epoch,
         view: limits.of_view(view),
         bytes,
     })
+}
+
+/// The same, of no more text than may be read for a message. Where that is too little, it is remembered of the domain.
+fn ready_within<R: Records>(
+    alloc: Global,
+    resources: &mut Resources,
+    records: &mut R,
+    name: &Text,
+    opened: Opened,
+) -> Result<Ready, Stop>
+    ensures tells { (R.custody records.new).sound → MakesReady (R.custody records.old).kept (R.custody records.new).kept opened.epoch result (view_told (state_of name.now (R.custody records.old).kept)) }
+    ensures same { resources.new ≡ resources.old }
+    ensures sound { (R.custody records.new).sound → (R.custody records.old).sound }
+    ensures clean { (R.custody records.new).clean → (R.custody records.old).clean }
+    ensures stays { (R.custody records.new).clean → (R.custody records.old).sound → IfTold result (R.custody records.new).sound }
+    ensures leaves { (R.custody records.new).clean → (R.custody records.old).sound → LeavesNoMore (R.custody records.old).may_leave (R.custody records.new).may_leave }
+    ensures counts { Counts (R.custody records.old).faults (R.custody records.new).faults result }
+{
+    let limits = resources.limits;
+    let mut reader = TextReader::new(&mut resources.shelf, limits.reading);
+    let ready = ready_view(alloc, &mut reader, records, name, opened.epoch, limits);
+    let is_spent = reader.is_spent();
+    resources
+        .unread
+        .remember_if(is_spent, opened.number, opened.epoch);
+    ready
 }
 
 /// The response to the request of the body by what decides.
@@ -92,7 +118,8 @@ fn reply_by(
     Ok(reply)
 }
 
-/// The reply by what is kept of the domain. What decides there is kept ready once the reply is made; without success it isn't.
+/// The reply by what is kept of the domain. What decides there is kept ready once the reply is made; without success it isn't. Where it is known that the domain's
+/// policies take too much to read, they aren't read again.
 #[tactic(auto, using(crate::proofs::AskingLemmas::replied, crate::proofs::AskingLemmas::works_by, crate::proofs::AskingLemmas::absent_reply, crate::proofs::AskingLemmas::absent_worked))]
 fn reply_by_kept<R: Records>(
     alloc: Global,
@@ -115,14 +142,10 @@ fn reply_by_kept<R: Records>(
     ensures leaves { (R.custody records.new).clean → (R.custody records.old).sound → LeavesNoMore (R.custody records.old).may_leave (R.custody records.new).may_leave }
     ensures counts { Counts (R.custody records.old).faults (R.custody records.new).faults result }
 {
-    let ready = ready_view(
-        alloc,
-        &mut resources.shelf,
-        records,
-        name,
-        opened.epoch,
-        resources.limits,
-    )?;
+    if resources.unread.has(opened.number, opened.epoch) {
+        return Err(Stop::Failed(Failure::Memory));
+    }
+    let ready = ready_within(alloc, resources, records, name, opened)?;
     let reply = reply_by(
         alloc,
         &mut resources.decisions,

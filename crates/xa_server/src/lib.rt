@@ -31,6 +31,7 @@ mod resources;
 mod sending;
 mod server;
 mod stop;
+mod unread;
 mod view;
 mod views;
 mod writer;

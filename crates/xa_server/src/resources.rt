@@ -9,6 +9,7 @@ use crate::decisions::Decisions;
 use crate::gates::Gates;
 use crate::limits::Limits;
 use crate::opened::Opened;
+use crate::unread::Unread;
 use crate::views::Views;
 use std::alloc::{AllocError, Global};
 use std::marker::Model;
@@ -23,6 +24,8 @@ pub(crate) struct Resources {
     pub(crate) views: Views,
     pub(crate) decisions: Decisions,
     gates: Gates,
+    /// The domains of which more would have to be read for a decision than may be.
+    pub(crate) unread: Unread,
     /// What the decision on a message may cost.
     pub(crate) limits: Limits,
 }
@@ -51,6 +54,7 @@ impl Resources {
             views: Views::new(alloc)?,
             decisions: Decisions::new(alloc, operator)?,
             gates: Gates::new(alloc)?,
+            unread: Unread::new(alloc)?,
             limits: Limits::none(),
         })
     }
@@ -64,6 +68,7 @@ impl Resources {
             views,
             decisions,
             gates,
+            unread,
             limits,
         } = self;
         Resources {
@@ -71,6 +76,7 @@ impl Resources {
             views: views.with_room_for(most),
             decisions,
             gates,
+            unread,
             limits,
         }
     }
@@ -84,6 +90,7 @@ impl Resources {
             views,
             decisions,
             gates,
+            unread,
             limits: _,
         } = self;
         let most = views.most();
@@ -92,6 +99,7 @@ impl Resources {
             views: views.with_room_for(most),
             decisions,
             gates,
+            unread: unread.cleared(),
             limits,
         }
     }

@@ -83,8 +83,8 @@ impl<R: Records> Server<R> {
     /// The same server, which from now on refuses each message whose decision asks for more work than so many units. A unit is a byte of a
     /// text or of a value that is made, copied or compared; a step, such as an expression, a match or a rule that is looked at, is 32
     /// (`xa_expr::Budget`). Work is counted and not timed, and each message begins anew: the same message on the same state is refused, or
-    /// is not, on every machine, whatever other domains ask. Reading and linking policies, administration, and decisions that are held aren't
-    /// counted. A refusal is `Reply::Refused` as for want of memory: nothing has changed, and the reply is the fixed 503. A server that
+    /// is not, on every machine, whatever other domains ask. Reading (`with_reading`) and linking policies, administration, and decisions that are held
+    /// aren't counted. A refusal is `Reply::Refused` as for want of memory: nothing has changed, and the reply is the fixed 503. A server that
     /// is new has no limit.
     pub fn with_limit(self, units: u64) -> Server<R>
         ensures { result ≡ self }
@@ -92,6 +92,7 @@ impl<R: Records> Server<R> {
         let limits = Limits {
             work: units,
             reply: self.resources.limits.reply,
+            reading: self.resources.limits.reading,
         };
         self.with_limits(limits)
     }
@@ -106,6 +107,22 @@ impl<R: Records> Server<R> {
         let limits = Limits {
             work: self.resources.limits.work,
             reply: bytes,
+            reading: self.resources.limits.reading,
+        };
+        self.with_limits(limits)
+    }
+
+    /// The same server, which from now on refuses each message for which texts of policies would have to be read that have more than so many bytes together. They are
+    /// counted whether their documents are held or not, and each message begins anew: whether it is refused depends on the domain's active documents and its root
+    /// alone. For a body that doesn't ask the policies, in a domain without a root, and for a decision that is held nothing is read. A refusal is
+    /// `Reply::Refused` as for want of memory: nothing has changed, and the reply is the fixed 503. A server that is new has no limit.
+    pub fn with_reading(self, bytes: u64) -> Server<R>
+        ensures { result ≡ self }
+    {
+        let limits = Limits {
+            work: self.resources.limits.work,
+            reply: self.resources.limits.reply,
+            reading: bytes,
         };
         self.with_limits(limits)
     }

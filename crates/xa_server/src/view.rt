@@ -11,7 +11,7 @@ use xa_link::Active;
 use xa_notation::Parsed;
 use xa_policy::Reference;
 use xa_records::KeptView;
-use xa_shelf::Shelf;
+use xa_shelf::TextReader;
 use xa_value::{Items, OrMemory, Shared};
 
 /// The document as references may resolve to it.
@@ -27,11 +27,11 @@ fn active_document(document: Shared<Parsed>) -> Result<Active, AllocError>
     })
 }
 
-/// The document that the text is, if it is one. A text that was read before is on the shelf.
-fn active_if(shelf: &mut Shelf, text: &[u8]) -> Result<Option<Active>, AllocError>
+/// The document that the text is, if it is one. Where the reader's limit is reached, it is answered as if memory were wanting.
+fn active_if(reader: &mut TextReader<'_>, text: &[u8]) -> Result<Option<Active>, AllocError>
     ensures { IfOk result (λ active. active ≡ active_if (document_of text.now)) }
 {
-    match shelf.get_or_read(text) {
+    match reader.read(text) {
         Ok(document) => Ok(Some(active_document(document)?)),
         Err(OrMemory::Error(_)) => Ok(None),
         Err(OrMemory::Memory) => Err(AllocError),
@@ -41,14 +41,14 @@ fn active_if(shelf: &mut Shelf, text: &[u8]) -> Result<Option<Active>, AllocErro
 /// The documents of the texts, in order.
 fn active_documents(
     alloc: Global,
-    shelf: &mut Shelf,
+    reader: &mut TextReader<'_>,
     texts: &[Items<u8>],
 ) -> Result<Items<Active>, AllocError>
     ensures { IfOk result (λ active. active ≡ filter_map (λ text. active_if (document_of text)) texts.now) }
 {
     let mut documents = Items::new(alloc);
     for text in texts {
-        if let Some(document) = active_if(shelf, text.as_slice())? {
+        if let Some(document) = active_if(reader, text.as_slice())? {
             documents.push(document)?;
         }
     }
@@ -58,21 +58,21 @@ fn active_documents(
 /// What decides by these texts: each is looked up on the shelf, or read as it was when it was uploaded. What this costs grows with the texts.
 fn view_of_texts(
     alloc: Global,
-    shelf: &mut Shelf,
+    reader: &mut TextReader<'_>,
     texts: &[Items<u8>],
     root: &Option<Reference>,
     source: Items<SourceRow>,
 ) -> Result<View, AllocError>
     ensures { IfOk result (λ view. view ≡ view_by (filter_map (λ text. active_if (document_of text)) texts.now) root.now source) }
 {
-    let active = active_documents(alloc, shelf, texts)?;
+    let active = active_documents(alloc, reader, texts)?;
     View::new(alloc, active.as_slice(), root, source)
 }
 
 /// What decides. Without a root no text is looked at.
 pub(crate) fn view_of_kept(
     alloc: Global,
-    shelf: &mut Shelf,
+    reader: &mut TextReader<'_>,
     kept: KeptView,
 ) -> Result<View, AllocError>
     ensures { IfOk result (λ view. view ≡ viewed kept) }
@@ -83,7 +83,7 @@ pub(crate) fn view_of_kept(
         source,
     } = kept;
     match &root {
-        Some(_) => view_of_texts(alloc, shelf, texts.as_slice(), &root, source),
+        Some(_) => view_of_texts(alloc, reader, texts.as_slice(), &root, source),
         None => View::new(alloc, &[], &None, source),
     }
 }

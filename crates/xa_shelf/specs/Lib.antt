@@ -1,1 +1,2 @@
+pub mod Allowance
 pub mod Readings

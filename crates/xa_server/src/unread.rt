@@ -1,0 +1,46 @@
+//! Domains whose policies take more to read than a message may have read.
+use lru::LruCache;
+use std::alloc::{AllocError, Global};
+use std::num::NonZeroUsize;
+
+/// The most domains that are remembered.
+const MAX_DOMAINS: usize = 512;
+
+/// Domains whose root leads to more text than a message may have read, each by its number, with the epoch at which that was found: a message that asks such a policy
+/// is refused at once, and not read for again. No clause speaks of them, since such a message is answered as if memory were wanting, which may be answered to any.
+#[derive(Drop)]
+pub(crate) struct Unread {
+    epochs: LruCache<u64, u64>,
+}
+
+impl Unread {
+    /// No domains, and room for 512.
+    pub(crate) fn new(alloc: Global) -> Result<Unread, AllocError> {
+        let size = NonZeroUsize::new(MAX_DOMAINS).unwrap();
+        Ok(Unread {
+            epochs: LruCache::new(alloc, size)?,
+        })
+    }
+
+    /// No domains, and the same room.
+    pub(crate) fn cleared(self) -> Unread {
+        let Unread { mut epochs } = self;
+        epochs.clear();
+        Unread { epochs }
+    }
+
+    /// Whether the domain of that number is one of them, at that epoch: one look-up.
+    pub(crate) fn has(&self, number: u64, epoch: u64) -> bool {
+        match self.epochs.peek(&number) {
+            Some(found) => *found == epoch,
+            None => false,
+        }
+    }
+
+    /// Remembers the domain of that number, at that epoch, where that was found and there is memory.
+    pub(crate) fn remember_if(&mut self, found: bool, number: u64, epoch: u64) {
+        if found {
+            let _ = self.epochs.put(number, epoch);
+        }
+    }
+}

@@ -1,0 +1,65 @@
+//! Reading for one message.
+ghost use Rattle.std.specs.Prelude.{◌≡◌, false, length, nat_le, Err};
+ghost use Rattle.xa_value.specs.declared.or_memory.OrMemory.TheVariants.{Memory};
+ghost use Rattle.xa_value.specs.Gives.{Gives};
+ghost use Rattle.xa_notation.specs.Document.{document_of};
+ghost use Rattle.xa_shelf.specs.Allowance.{asked};
+
+use crate::shelf::Shelf;
+use std::marker::Model;
+use xa_notation::{NotationError, Parsed};
+use xa_value::{OrMemory, Shared};
+
+/// Reads texts for one message, by a shelf: no more bytes of them together than a limit says, whether they are held or not, so that what others have had read makes
+/// no difference. Contracts see how many bytes are left, and whether more were asked for.
+#[derive(Drop)]
+pub struct TextReader<'a> {
+    shelf: &'a mut Shelf,
+    left: u64,
+    is_spent: bool,
+}
+
+impl<'a> Model for TextReader<'a> {
+    ghost use Rattle.xa_shelf.specs.Allowance.{Allowance};
+
+    ghost Value = { Allowance };
+
+    ghost view = { λ r. record { left = r.left; is_spent = r.is_spent } };
+}
+
+impl<'a> TextReader<'a> {
+    /// A reader by the shelf, of texts of at most so many bytes together.
+    pub fn new(shelf: &'a mut Shelf, limit: u64) -> TextReader<'a>
+        ensures { result ≡ record { left = limit; is_spent = false } }
+    {
+        TextReader {
+            shelf,
+            left: limit,
+            is_spent: false,
+        }
+    }
+
+    /// A share of the text's document, or the text's first fault. Once more bytes were asked for than are left, it is answered as if memory were wanting, and so is
+    /// each text that has any bytes from then on.
+    pub fn read(&mut self, text: &[u8]) -> Result<Shared<Parsed>, OrMemory<NotationError>>
+        ensures value { Gives result (document_of text.now) }
+        ensures spends { self.new ≡ asked (length text.now) self.old }
+        ensures refuses { nat_le (length text.now) self.old.left ≡ false → result ≡ Err Memory }
+    {
+        let bytes = text.len() as u64;
+        if bytes > self.left {
+            self.left = 0;
+            self.is_spent = true;
+            return Err(OrMemory::Memory);
+        }
+        self.left -= bytes;
+        self.shelf.get_or_read(text)
+    }
+
+    /// Whether more bytes were asked for than there were left.
+    pub fn is_spent(&self) -> bool
+        ensures { result ≡ self.now.is_spent }
+    {
+        self.is_spent
+    }
+}
