@@ -9,7 +9,7 @@ import collections
 from contexts import CLOCK, ENVIRONMENT
 from expressions import Designator
 from json_texts import NotJson
-from linking import TooLarge, linked
+from linking import TooLarge, linked, places_read
 from machines import Server, view
 from policies import LEAF
 from replies import error_reply
@@ -46,7 +46,7 @@ class Views:
     """The views that are kept ready, the one that was used last at the end: by a domain's number its epoch, and the memory that the view takes by an estimate."""
 
     def __init__(self):
-        self.most, self.held = MOST_VIEWS, collections.OrderedDict()
+        self.most, self.room, self.held = MOST_VIEWS, ROOM_FOR_VIEWS, collections.OrderedDict()
 
     def has(self, number, epoch):
         return self.held.get(number, (None, 0))[0] == epoch
@@ -57,9 +57,9 @@ class Views:
     def put(self, number, epoch, size):
         """Keeps a view, where it isn't too large, in the place of the domain's older one, and lets go those for which there is no room."""
         self.held.pop(number, None)
-        if self.most and 4 * size <= ROOM_FOR_VIEWS:
+        if self.most and size <= self.room:
             self.held[number] = epoch, size
-        while len(self.held) > self.most or sum(size for _, size in self.held.values()) > ROOM_FOR_VIEWS:
+        while len(self.held) > self.most or sum(size for _, size in self.held.values()) > self.room:
             self.held.popitem(last=False)
 
 
@@ -84,13 +84,15 @@ def places(deciders):
 
 def size_of_view(state):
     """The memory that a view of the domain takes, by the server's estimate."""
-    texts = sum(len(stored.text) for stored in state.documents.values() if stored.is_active)
-    return 16 * texts + 512 * len(state.rows) + 24 * places(view(state)) + 524_288
+    return 8 * sum(map(len, texts_read(state))) + 512 * len(state.rows) + 24 * places(view(state)) + 524_288
 
 
 def texts_read(state):
-    """The texts that are read for a decision in the domain, in order: all active ones, where a root is set."""
-    return [state.documents[key].text for key in sorted(state.documents) if state.documents[key].is_active] if state.root is not None else []
+    """The texts that are read for a decision in the domain, in order: those to which its root leads, each once."""
+    if state.root is None:
+        return []
+    texts = [stored.text for stored in state.documents.values() if stored.is_active]
+    return [texts[place] for place in places_read(view(state).active, state.root)]
 
 
 def designators(held):

@@ -32,6 +32,9 @@ class Messages(Setup):
     def reading(self, text):
         self.before.append("reading:" + text)
 
+    def room(self, text):
+        self.before.append("room:" + text)
+
     def limit(self, text):
         self.after.append("limit:" + text)
 
@@ -53,7 +56,7 @@ def events(fields):
     setup, place = Messages(), 0
     while place < len(fields) and fields[place].split(":")[0] in SETUP:
         word, _, text = fields[place].partition(":")
-        if setup.name is None and word not in ("views", "limit", "reply", "reading", "domain"):
+        if setup.name is None and word not in ("views", "limit", "reply", "reading", "room", "domain"):
             break
         getattr(setup, word)(text)
         place += 1

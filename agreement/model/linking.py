@@ -27,16 +27,18 @@ def active_of(field):
 
 
 class Linking:
-    """Trees over active documents, of this many policies and sets so far; references that have no document are not counted."""
+    """Trees over active documents, of this many policies and sets so far; references that have no document are not counted. And the places of the documents that were
+    looked into so far, each once, in order."""
 
     def __init__(self, active):
-        self.active, self.keys, self.size = active, [held[:3] for held in active], 0
+        self.active, self.keys, self.size, self.read = active, [held[:3] for held in active], 0, {}
 
     def referred(self, reference, path):
         """The tree for which the reference stands, under the documents of the path."""
         place = resolved(reference, self.keys)
         if place is None or place in path or len(path) == MOST_ON_A_PATH:
             return LEAF
+        self.read.setdefault(place)
         return self.tree(self.active[place].document, [*path, place])
 
     def tree(self, document, path):
@@ -51,6 +53,16 @@ class Linking:
 def linked(active, root):
     """The tree of the root reference."""
     return Linking(active).referred(root, [])
+
+
+def places_read(active, root):
+    """The places of the documents that are looked into for the tree of the root reference, in order; up to where it is known to be too large, if it is."""
+    linking = Linking(active)
+    try:
+        linking.referred(root, [])
+    except TooLarge:
+        pass
+    return list(linking.read)
 
 
 def tree_shown(tree):

@@ -9,7 +9,7 @@ from replies import error_reply
 from rows import decoded, encoded
 
 OPERATOR_TOKEN, SETUP_TOKEN = b"operator-token-1", b"setup-token-0"
-SETUP = ("views", "limit", "reply", "reading", "domain", "ask", "admin", "document", "inactive", "root", "row")
+SETUP = ("views", "limit", "reply", "reading", "room", "domain", "ask", "admin", "document", "inactive", "root", "row")
 COUNTS = ("readings", "evaluations", "unkept")
 ROOTS = {"policy": "PolicyIdReference", "set": "PolicySetIdReference"}
 
@@ -91,6 +91,10 @@ class Setup:
     def reading(self, text):
         """The most bytes of texts that are read for a message."""
         self.server.most_read = int(text)
+
+    def room(self, text):
+        """The most bytes that the views which are kept take together."""
+        self.server.views.room = int(text)
 
     def domain(self, text):
         self.end()

@@ -25,7 +25,7 @@ use Rattle.xa_server.proofs.IsolationLemmas.{isolated}
 use Rattle.pdpd.specs.Connections.{AreIsolated, IsConnectionServed}
 use Rattle.pdpd.specs.declared.fault.Fault.{Fault}
 use Rattle.pdpd.specs.declared.fault.Fault.TheVariants as variant
-use Rattle.pdpd.specs.declared.fault.Fault.TheVariants.{Address, Work, Reading, Idle, TokenUnread, TokenBad, Store, Socket, Connection, Clock, Output, Memory}
+use Rattle.pdpd.specs.declared.fault.Fault.TheVariants.{Address, Work, Reading, Views, Idle, TokenUnread, TokenBad, Store, Socket, Connection, Clock, Output, Memory}
 use Rattle.pdpd.specs.Fault.{IsNoAddress, IsOfConnections, IsOfFiles, IsOfServing, IsOfSetting, IsOfStore, IsOfToken, fault_of_end}
 use Rattle.pdpd.specs.Serving.{Serves, ServesOne}
 use Rattle.pdpd.specs.Token.{IsOperator}
@@ -208,6 +208,7 @@ token_not_address Memory is = λ same. cc
 token_not_address Work none = absurd none
 token_not_address variant.Reply none = absurd none
 token_not_address Reading none = absurd none
+token_not_address Views none = absurd none
 token_not_address Idle none = absurd none
 token_not_address (Store fault) none = absurd none
 token_not_address Socket none = absurd none
@@ -224,6 +225,7 @@ store_not_address TokenBad none = absurd none
 store_not_address Work none = absurd none
 store_not_address variant.Reply none = absurd none
 store_not_address Reading none = absurd none
+store_not_address Views none = absurd none
 store_not_address Idle none = absurd none
 store_not_address Socket none = absurd none
 store_not_address Connection none = absurd none
@@ -262,6 +264,7 @@ serving_not_address TokenBad none = absurd none
 serving_not_address Work none = absurd none
 serving_not_address variant.Reply none = absurd none
 serving_not_address Reading none = absurd none
+serving_not_address Views none = absurd none
 serving_not_address Idle none = absurd none
 
 -- where an address was found, its serving says that none was only if the text writes none

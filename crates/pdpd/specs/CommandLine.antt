@@ -1,4 +1,4 @@
--- The command line, and the variables PDPD_WORK, PDPD_REPLY, PDPD_READING and PDPD_IDLE of the environment.
+-- The command line, and the variables PDPD_WORK, PDPD_REPLY, PDPD_READING, PDPD_VIEWS and PDPD_IDLE of the environment.
 use Rattle.std.specs.Prelude.{ℕ, ◌==◌, ◌^◌, ◌-◌, List, [], ◌∷◌, Option, Some, None, if◌then◌else◌, bytes_eq, codes, option_map}
 use Rattle.std.specs.Option.{option_and_then}
 use Rattle.xa_value.specs.Digits.{number_up_to}
@@ -42,6 +42,11 @@ reply_of (Some text) = number_up_to 18_446_744_073_709_551_615 text
 abbrev pub reading_of : Option (List ℕ) → Option ℕ
 reading_of None = Some 16_000_000
 reading_of (Some text) = number_up_to 18_446_744_073_709_551_615 text
+
+-- how many bytes of memory the views of domains may take that are kept ready, by what PDPD_VIEWS is set to, if it is: a number
+abbrev pub views_of : Option (List ℕ) → Option ℕ
+views_of None = Some 268_435_456
+views_of (Some text) = number_up_to 18_446_744_073_709_551_615 text
 
 -- for how many seconds a connection may give nothing, or take nothing, by what PDPD_IDLE is set to, if it is: a number; 0 for ever
 abbrev pub idle_of : Option (List ℕ) → Option ℕ

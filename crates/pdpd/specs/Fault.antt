@@ -10,7 +10,7 @@ use Rattle.xa_server.specs.declared.driven.Driven.TheVariants as driven
 use Rattle.pdpd.specs.declared.exit.Exit.{Exit}
 use Rattle.pdpd.specs.declared.exit.Exit.TheVariants as exit
 use Rattle.pdpd.specs.declared.fault.Fault.{Fault}
-use Rattle.pdpd.specs.declared.fault.Fault.TheVariants.{Address, Work, Reply, Reading, Idle, TokenUnread, TokenBad, Store, Socket, Connection, Clock, Output, Memory}
+use Rattle.pdpd.specs.declared.fault.Fault.TheVariants.{Address, Work, Reply, Reading, Views, Idle, TokenUnread, TokenBad, Store, Socket, Connection, Clock, Output, Memory}
 
 -- how the program ends
 abbrev pub exit_of_fault : Fault → Exit
@@ -18,6 +18,7 @@ exit_of_fault Address = exit.Usage
 exit_of_fault Work = exit.Usage
 exit_of_fault Reply = exit.Usage
 exit_of_fault Reading = exit.Usage
+exit_of_fault Views = exit.Usage
 exit_of_fault Idle = exit.Usage
 exit_of_fault TokenUnread = exit.Usage
 exit_of_fault TokenBad = exit.Usage

@@ -1,4 +1,4 @@
-//! The command line, and the variables PDPD_WORK, PDPD_REPLY, PDPD_READING and PDPD_IDLE of the environment.
+//! The command line, and the variables PDPD_WORK, PDPD_REPLY, PDPD_READING, PDPD_VIEWS and PDPD_IDLE of the environment.
 ghost use Rattle.std.specs.Prelude.{◌≡◌, map, option_map, string_bytes};
 ghost use Rattle.pdpd.specs.CommandLine as spec;
 
@@ -16,6 +16,9 @@ const REPLY: usize = 16_777_216;
 
 /// How many bytes of policies may be read for one message where PDPD_READING isn't set.
 const READING: usize = 16_000_000;
+
+/// How many bytes of memory the views of domains may take that are kept ready where PDPD_VIEWS isn't set: 256 MiB.
+const VIEWS: usize = 268_435_456;
 
 /// For how many seconds a connection may give nothing, or take nothing, where PDPD_IDLE isn't set.
 const IDLE: usize = 30;
@@ -141,6 +144,16 @@ pub fn reading_of(set: Option<&str>) -> Option<usize>
 {
     match set {
         None => Some(READING),
+        Some(text) => number_up_to(usize::MAX, text.as_bytes()),
+    }
+}
+
+/// How many bytes of memory the views of domains may take that are kept ready, by what PDPD_VIEWS is set to; by 0 none is kept.
+pub fn views_of(set: Option<&str>) -> Option<usize>
+    ensures { result ≡ spec.views_of (option_map (λ text. text.now) set.entry) }
+{
+    match set {
+        None => Some(VIEWS),
         Some(text) => number_up_to(usize::MAX, text.as_bytes()),
     }
 }

@@ -72,6 +72,8 @@ pub enum Fault {
     Reply,
     /// PDPD_READING is no number.
     Reading,
+    /// PDPD_VIEWS is no number.
+    Views,
     /// PDPD_IDLE is no number.
     Idle,
     /// The token file can't be read.
@@ -103,6 +105,7 @@ impl Fault {
             | Fault::Work
             | Fault::Reply
             | Fault::Reading
+            | Fault::Views
             | Fault::Idle
             | Fault::TokenUnread
             | Fault::TokenBad => Exit::Usage,
@@ -122,6 +125,7 @@ impl Fault {
             Fault::Reading => {
                 "PDPD_READING is to be a number of bytes of policies, or 0 for no limit"
             }
+            Fault::Views => "PDPD_VIEWS is to be a number of bytes of memory, or 0 for none",
             Fault::Idle => "PDPD_IDLE is to be a number of seconds, or 0 for no limit",
             Fault::TokenUnread =>
                 "can't be read; its first line is to be the operator's token (8 to 64 visible ASCII characters)",
@@ -145,6 +149,7 @@ impl Fault {
             Fault::Work
             | Fault::Reply
             | Fault::Reading
+            | Fault::Views
             | Fault::Idle
             | Fault::Clock
             | Fault::Output

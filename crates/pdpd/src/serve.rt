@@ -7,13 +7,13 @@ ghost use Rattle.xa_server.specs.Front.{FrontState, front_state};
 ghost use Rattle.xa_server.specs.Lines.{none_open};
 ghost use Rattle.xa_server.specs.Tally.{nothing_held};
 ghost use Rattle.xa_store.specs.KeeperReading.{custody_by};
-ghost use Rattle.pdpd.specs.declared.fault.Fault.TheVariants.{Address, Connection, Idle, Memory, Reading, Reply, Work};
+ghost use Rattle.pdpd.specs.declared.fault.Fault.TheVariants.{Address, Connection, Idle, Memory, Reading, Reply, Views, Work};
 ghost use Rattle.pdpd.specs.Connections.{AreIsolated, IsConnectionServed};
 ghost use Rattle.pdpd.specs.Fault.{IsNoAddress, IsOfConnections, IsOfFiles, IsOfServing, IsOfSetting, fault_of_end, goes_on_after, is_of_network, is_passing, is_want_of_room};
 ghost use Rattle.pdpd.specs.Serving.{Serves, ServesOne};
 ghost use Rattle.pdpd.specs.Token.{IsOperator};
 
-use crate::command_line::{Serving, idle_of, reading_of, reply_of, work_of};
+use crate::command_line::{Serving, idle_of, reading_of, reply_of, views_of, work_of};
 use crate::fault::Fault;
 use crate::store::{FileRecords, records_in_file};
 use crate::token::operator_of_file;
@@ -306,6 +306,19 @@ fn reading(rt: &HostRuntime) -> Result<usize, Fault>
     bytes.ok_or(Fault::Reading)
 }
 
+/// How many bytes of memory the views of domains may take that are kept ready, by the environment.
+fn views(rt: &HostRuntime) -> Result<usize, Fault>
+    ensures { IfErr result (IsOfSetting Views) }
+{
+    let bytes = match env::var(rt, "PDPD_VIEWS") {
+        Ok(set) => views_of(Some(set.as_str())),
+        Err(VarError::NotPresent) => views_of(None),
+        Err(VarError::NotUnicode) => None,
+        Err(VarError::OutOfMemory) => return Err(Fault::Memory),
+    };
+    bytes.ok_or(Fault::Views)
+}
+
 /// For how many seconds a connection may give nothing, or take nothing, by the environment; 0 for ever.
 fn idle(rt: &HostRuntime) -> Result<usize, Fault>
     ensures { IfErr result (IsOfSetting Idle) }
@@ -319,7 +332,7 @@ fn idle(rt: &HostRuntime) -> Result<usize, Fault>
     idle.ok_or(Fault::Idle)
 }
 
-/// A server over the keeper, for that operator and with these limits of work, of a response and of reading, and its connections, none of which is open.
+/// A server over the keeper, for that operator and with these limits of work, of a response and of reading and with that room for views, and its connections, none of which is open.
 fn front_over<R: Records + Drop>(
     alloc: Global,
     records: R,
@@ -327,6 +340,7 @@ fn front_over<R: Records + Drop>(
     work: usize,
     reply: usize,
     reading: usize,
+    views: usize,
 ) -> Result<Front<R>, Fault>
     ensures operator { IfOk result (λ front. front.server.operator ≡ operator) }
     ensures records { IfOk result (λ front. front.server.records ≡ records) }
@@ -336,7 +350,7 @@ fn front_over<R: Records + Drop>(
 {
     let server = Server::new(alloc, records, operator)?;
     let server = with_reply_limit(with_limit(server, work), reply);
-    let server = with_reading(server, reading);
+    let server = with_reading(server, reading).with_room(views);
     Ok(Front::new(alloc, server)?)
 }
 
@@ -347,6 +361,7 @@ fn front_of_files(
     work: usize,
     reply: usize,
     reading: usize,
+    views: usize,
 ) -> Result<Front<FileRecords>, Fault>
     ensures operator { IfOk result (λ front. IsOperator front.server.operator) }
     ensures tally { IfOk result (λ front. front.server.tally ≡ nothing_held) }
@@ -355,11 +370,11 @@ fn front_of_files(
 {
     let operator = operator_of_file(rt, serving.token_file.as_str())?;
     let records = records_in_file(rt, serving.database.as_str())?;
-    front_over(rt.alloc(), records, operator, work, reply, reading)
+    front_over(rt.alloc(), records, operator, work, reply, reading, views)
 }
 
 /// Serves connections over the store in the file, for the operator whose token is the first line of the token file, and gives back the front as they have left it.
-/// Faults are looked for in this order: the address, PDPD_WORK, PDPD_REPLY, PDPD_READING, PDPD_IDLE, the token file, the store,
+/// Faults are looked for in this order: the address, PDPD_WORK, PDPD_REPLY, PDPD_READING, PDPD_VIEWS, PDPD_IDLE, the token file, the store,
 /// the socket.
 #[tactic(auto, using(crate::proofs::ServingLemmas::setting_not_address, crate::proofs::ServingLemmas::files_not_address, crate::proofs::ServingLemmas::serving_not_address, crate::proofs::ServingLemmas::address_found))]
 pub fn serve(rt: &HostRuntime, serving: &Serving<'_>) -> Result<Front<FileRecords>, Fault>
@@ -371,8 +386,9 @@ pub fn serve(rt: &HostRuntime, serving: &Serving<'_>) -> Result<Front<FileRecord
     let work = work(rt)?;
     let reply = reply(rt)?;
     let reading = reading(rt)?;
+    let views = views(rt)?;
     let idle = idle(rt)?;
-    let mut front = front_of_files(rt, serving, work, reply, reading)?;
+    let mut front = front_of_files(rt, serving, work, reply, reading, views)?;
     match serve_at(rt, &mut front, address, serving, idle) {
         Ok(()) => Ok(front),
         Err(fault) => Err(fault),

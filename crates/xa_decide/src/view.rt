@@ -1,5 +1,5 @@
 //! The view of a domain: what its decisions depend on.
-ghost use Rattle.std.specs.Prelude.{◌≡◌, IfOk};
+ghost use Rattle.std.specs.Prelude.{◌≡◌, [], IfOk, None};
 ghost use Rattle.xa_link.specs.Linking.{link};
 ghost use Rattle.xa_decide.specs.Decision.{tree_of, view_by};
 ghost use Rattle.xa_decide.specs.Places.{counted, places, places_of_all, places_of_tree};
@@ -13,6 +13,7 @@ use std::marker::Model;
 use xa_expr::Budget;
 use xa_link::{Active, LinkError, link};
 use xa_policy::{Linked, Reference};
+use xa_shelf::TextReader;
 use xa_value::{Items, OrMemory};
 
 /// What a domain's decisions depend on: the tree that its root stands for among its active documents, if it has one, and its source rows; made ready for any number of
@@ -47,12 +48,13 @@ impl Model for View {
 /// Links the tree that a root stands for; it may be too large.
 fn linked_tree(
     alloc: Global,
+    reader: &mut TextReader<'_>,
     active: &[Active],
     root: &Reference,
 ) -> Result<Result<Linked, LinkError>, AllocError>
     ensures { IfOk result (λ tree. tree ≡ link active.now root.now) }
 {
-    match link(alloc, active, root) {
+    match link(alloc, reader, active, root) {
         Ok(linked) => Ok(Ok(linked)),
         Err(OrMemory::Memory) => Err(AllocError),
         Err(OrMemory::Error(error)) => Ok(Err(error)),
@@ -62,13 +64,14 @@ fn linked_tree(
 /// The tree that decides, where there is one.
 fn tree_of(
     alloc: Global,
+    reader: &mut TextReader<'_>,
     active: &[Active],
     root: &Option<Reference>,
 ) -> Result<Option<Result<Linked, LinkError>>, AllocError>
     ensures { IfOk result (λ tree. tree ≡ tree_of active.now root.now) }
 {
     match root {
-        Some(root) => Ok(Some(linked_tree(alloc, active, root)?)),
+        Some(root) => Ok(Some(linked_tree(alloc, reader, active, root)?)),
         None => Ok(None),
     }
 }
@@ -101,10 +104,12 @@ fn places_of_all(trees: &[Linked]) -> usize
 }
 
 impl View {
-    /// A view of these documents, this root and these rows. The tree is linked and the rows are put in order here, once for all requests. The work of a message
-    /// has no limit, nor has its response.
+    /// A view of these documents, this root and these rows. The documents to which the root leads are read, the tree is linked and the rows are put in order here,
+    /// once for all requests. Where the reader's limit is reached, it is answered as if memory were wanting. The work of a message has no limit, nor has
+    /// its response.
     pub fn new(
         alloc: Global,
+        reader: &mut TextReader<'_>,
         active: &[Active],
         root: &Option<Reference>,
         source: Items<SourceRow>,
@@ -112,12 +117,25 @@ impl View {
         ensures { IfOk result (λ view. view ≡ view_by active.now root.now source) }
     {
         let source = Source::new(alloc, source)?;
-        let tree = tree_of(alloc, active, root)?;
+        let tree = tree_of(alloc, reader, active, root)?;
         let timeless = is_timeless_tree(&tree);
         Ok(View {
             tree,
             source,
             timeless,
+            limit: u64::MAX,
+            reply_limit: u64::MAX,
+        })
+    }
+
+    /// A view of nothing.
+    pub fn of_nothing(alloc: Global) -> Result<View, AllocError>
+        ensures { IfOk result (λ view. view ≡ view_by [] None []) }
+    {
+        Ok(View {
+            tree: None,
+            source: Source::new(alloc, Items::new(alloc))?,
+            timeless: true,
             limit: u64::MAX,
             reply_limit: u64::MAX,
         })

@@ -1,17 +1,19 @@
 -- How far a reference can lead, which ends the recursion.
 use Rattle.std.proofs.Common.{◌≡◌, ℕ, zero, suc, ◌+◌, ◌*◌, ◌≤◌, List, [], ◌∷◌, map, Option, Some, None, Ok, refl, sym, ap, ◌∙◌, arith}
-use Rattle.std.specs.Prelude.{option_map, slice_get}
+use Rattle.std.specs.Prelude.{option_and_then, option_map, slice_get}
 use denote.Param.Weighed.{most}
 use Rattle.xa_policy.specs.declared.linked.Linked.{Linked}
 use Rattle.xa_policy.specs.declared.linked.Linked.TheVariants.{Unresolved}
 use Rattle.xa_policy.specs.declared.reference.Reference.{Reference}
 use Rattle.xa_policy.specs.Policy.{PolicyParts, SetParts}
 use Rattle.xa_value.specs.Gives.{◌>>=◌}
+use Rattle.xa_notation.specs.declared.document.Parsed.{Parsed}
+use Rattle.xa_notation.specs.Document.{document_of}
 use Rattle.xa_link.specs.declared.active.Active.{Active}
 use Rattle.xa_link.specs.declared.placed.Placed.{Placed}
 use Rattle.xa_link.specs.declared.placed.Placed.TheVariants as part
 use Rattle.xa_link.proofs.placed.Placed.TheLaws.{the_size}
-use Rattle.xa_link.specs.Linking.{link, replaced_in, tree_at, tree_within, unless_circular}
+use Rattle.xa_link.specs.Linking.{document_at, if_read, link, replaced_in, tree_at, tree_within, unless_circular}
 use Rattle.xa_link.specs.Placed.{led_within, linked, placed, placed_at}
 use Rattle.xa_link.specs.Resolution.{resolve}
 use Rattle.xa_link.specs.Room.{fitted, policy_fitted, set_fitted}
@@ -19,8 +21,12 @@ use Rattle.xa_link.proofs.PlacedLemmas.{document_is, led_is, linked_policy, link
 use Rattle.xa_link.proofs.RoomLemmas.{link_is, policy_fits, set_fits}
 
 -- how deep a document is, and how deep the deepest one
+abbrev pub depth_if : List Active → Option Parsed → ℕ
+depth_if all None = 0
+depth_if all (Some p) = the_size (placed (resolve all) p.document)
+
 abbrev pub depth_of : List Active → Active → ℕ
-depth_of all a = the_size (placed (resolve all) a.document.document)
+depth_of all a = depth_if all (if_read (document_of a.text))
 
 abbrev pub greatest_depth : List Active → ℕ
 greatest_depth all = most (depth_of all) all
@@ -44,36 +50,40 @@ at_most all (a ∷ rest) (suc place) found is =
 pub at_greatest : (active : List Active) (place : ℕ) (document : Placed) → placed_at active place ≡ Some document → the_size document ≤ greatest_depth active
 at_greatest active place document is = by_found (slice_get active place) refl
   where
-    by_found : (o : Option Active) → slice_get active place ≡ o → the_size document ≤ greatest_depth active
-    by_found None at = absurd (let f : None ≡ Some document = sym (ap (λ o. option_map (λ (a : Active). placed (resolve active) a.document.document) o) at) ∙ is in cc)
-    by_found (Some a) at =
-        let there : Some (placed (resolve active) a.document.document) ≡ Some document = sym (ap (λ o. option_map (λ (a : Active). placed (resolve active) a.document.document) o) at) ∙ is in
-        let same : placed (resolve active) a.document.document ≡ document = cc in
+    by_read : (a : Active) → slice_get active place ≡ Some a → (r : Option Parsed) → if_read (document_of a.text) ≡ r
+        → option_map (λ (p : Parsed). placed (resolve active) p.document) r ≡ Some document → the_size document ≤ greatest_depth active
+    by_read a at None read there = absurd (let f : None ≡ Some document = there in cc)
+    by_read a at (Some p) read there =
+        let same : placed (resolve active) p.document ≡ document = (let f : Some (placed (resolve active) p.document) ≡ Some document = there in cc) in
         let below : depth_of active a ≤ greatest_depth active = at_most active active place a at in
-        let depth : depth_of active a ≡ the_size document = ap the_size same in
+        let depth : depth_of active a ≡ the_size document = ap (depth_if active) read ∙ ap the_size same in
         omega (arith, below, depth)
+
+    by_found : (o : Option Active) → slice_get active place ≡ o → the_size document ≤ greatest_depth active
+    by_found None at = absurd (let f : None ≡ Some document = sym (ap (λ o. option_map (λ (p : Parsed). placed (resolve active) p.document) (option_and_then (λ (a : Active). if_read (document_of a.text)) o)) at) ∙ is in cc)
+    by_found (Some a) at = by_read a at (if_read (document_of a.text)) refl (sym (ap (λ o. option_map (λ (p : Parsed). placed (resolve active) p.document) (option_and_then (λ (a : Active). if_read (document_of a.text)) o)) at) ∙ is)
 
 -- nothing stands at the place
 pub none_at : (active : List Active) (place : ℕ) (more : ℕ) (path : List ℕ) → placed_at active place ≡ None
-    → replaced_in (tree_within more active path) (slice_get active place) ≡ Unresolved
-none_at active place more path is = by_found (slice_get active place) refl
+    → replaced_in (tree_within more active path) (document_at active place) ≡ Unresolved
+none_at active place more path is = by_found (document_at active place) refl
   where
-    by_found : (o : Option Active) → slice_get active place ≡ o → replaced_in (tree_within more active path) (slice_get active place) ≡ Unresolved
+    by_found : (o : Option Parsed) → document_at active place ≡ o → replaced_in (tree_within more active path) (document_at active place) ≡ Unresolved
     by_found None at = ap (replaced_in (tree_within more active path)) at
-    by_found (Some a) at = absurd (let f : Some (placed (resolve active) a.document.document) ≡ None = sym (ap (λ o. option_map (λ (a : Active). placed (resolve active) a.document.document) o) at) ∙ is in cc)
+    by_found (Some a) at = absurd (let f : Some (placed (resolve active) a.document) ≡ None = sym (ap (λ o. option_map (λ (p : Parsed). placed (resolve active) p.document) o) at) ∙ is in cc)
 
 -- the tree of the document that was found, where the path is longer by its place
 pub linked_where_found : (more : ℕ) (active : List Active) (place : ℕ) (path longer : List ℕ) (document : Placed) → placed_at active place ≡ Some document → longer ≡ path
-    → linked (led_within more active longer) document ≡ replaced_in (tree_within more active path) (slice_get active place)
+    → linked (led_within more active longer) document ≡ replaced_in (tree_within more active path) (document_at active place)
 linked_where_found more active place path longer document is is_longer =
-    ap (λ p. linked (led_within more active p) document) is_longer ∙ by_found (slice_get active place) refl
+    ap (λ p. linked (led_within more active p) document) is_longer ∙ by_found (document_at active place) refl
   where
-    by_found : (o : Option Active) → slice_get active place ≡ o → linked (led_within more active path) document ≡ replaced_in (tree_within more active path) (slice_get active place)
-    by_found None at = absurd (let f : None ≡ Some document = sym (ap (λ o. option_map (λ (a : Active). placed (resolve active) a.document.document) o) at) ∙ is in cc)
+    by_found : (o : Option Parsed) → document_at active place ≡ o → linked (led_within more active path) document ≡ replaced_in (tree_within more active path) (document_at active place)
+    by_found None at = absurd (let f : None ≡ Some document = sym (ap (λ o. option_map (λ (p : Parsed). placed (resolve active) p.document) o) at) ∙ is in cc)
     by_found (Some a) at =
-        let there : Some (placed (resolve active) a.document.document) ≡ Some document = sym (ap (λ o. option_map (λ (a : Active). placed (resolve active) a.document.document) o) at) ∙ is in
-        let same : placed (resolve active) a.document.document ≡ document = cc in
-        ap (linked (led_within more active path)) (sym same) ∙ document_is more active path a.document.document
+        let there : Some (placed (resolve active) a.document) ≡ Some document = sym (ap (λ o. option_map (λ (p : Parsed). placed (resolve active) p.document) o) at) ∙ is in
+        let same : placed (resolve active) a.document ≡ document = cc in
+        ap (linked (led_within more active path)) (sym same) ∙ document_is more active path a.document
         ∙ sym (ap (replaced_in (tree_within more active path)) at)
 
 -- a policy and a policy set, for which there is room

@@ -1,6 +1,6 @@
 -- The tree that a reference leads to (XACML 3.0, core, sections 5.10, 5.11 and 7.15): each reference in a document is replaced by the tree
 -- of the document for which it stands.
-use Rattle.std.specs.Prelude.{ℕ, zero, suc, ◌+◌, ◌==◌, nat_lt, if◌then◌else◌, List, [], ◌∷◌, sum, Option, Some, None, slice_get, Result, Ok, Err}
+use Rattle.std.specs.Prelude.{ℕ, zero, suc, ◌+◌, ◌==◌, nat_lt, if◌then◌else◌, List, [], ◌∷◌, sum, Option, Some, None, option_and_then, slice_get, Result, Ok, Err}
 use Rattle.std.specs.List.{list_any}
 use Rattle.xa_policy.specs.declared.linked.Linked.{Linked, fold-Linked}
 use Rattle.xa_policy.specs.declared.linked.Linked.TheOpen.{Linked-F}
@@ -8,6 +8,9 @@ use Rattle.xa_policy.specs.declared.linked.Linked.TheVariants.{Unresolved, Polic
 use Rattle.xa_policy.specs.declared.reference.Reference.{Reference}
 use Rattle.xa_notation.specs.declared.document.Document.{Document, fold-Document}
 use Rattle.xa_notation.specs.declared.document.Document.TheOpen.{Document-F}
+use Rattle.xa_notation.specs.declared.document.Parsed.{Parsed}
+use Rattle.xa_notation.specs.declared.notation_error.NotationError.{NotationError}
+use Rattle.xa_notation.specs.Document.{document_of}
 use Rattle.xa_link.specs.declared.active.Active.{Active}
 use Rattle.xa_link.specs.declared.link_error.LinkError.{LinkError}
 use Rattle.xa_link.specs.declared.link_error.LinkError.TheVariants.{TooLarge}
@@ -22,10 +25,19 @@ replaced_step replacement (Document-F.Reference reference) = replacement referen
 abbrev pub replaced : (Reference → Linked) → Document → Linked
 replaced replacement = fold-Document Linked (replaced_step replacement)
 
--- an active document in which each reference is replaced
-abbrev pub replaced_in : (Reference → Linked) → Option Active → Linked
+-- the document that a text was read as, if it is one
+abbrev pub if_read : Result Parsed NotationError → Option Parsed
+if_read (Ok parsed) = Some parsed
+if_read (Err _) = None
+
+-- the active document at a place, by its text
+abbrev pub document_at : List Active → ℕ → Option Parsed
+document_at active place = option_and_then (λ (document : Active). if_read (document_of document.text)) (slice_get active place)
+
+-- a document in which each reference is replaced
+abbrev pub replaced_in : (Reference → Linked) → Option Parsed → Linked
 replaced_in replacement None = Unresolved
-replaced_in replacement (Some active) = replaced replacement active.document.document
+replaced_in replacement (Some parsed) = replaced replacement parsed.document
 
 -- a document to which a path leads back makes a circle. Documents are told apart by their places in the list. Such circles are those of the
 -- definition by documents, which tells them apart by kind, id and version: two references that stand for documents of one kind, id and version stand
@@ -41,7 +53,7 @@ next_place active path reference = unless_circular path (resolve active referenc
 -- the tree of the document at a place, by what the references in it lead to
 abbrev pub tree_at : (ℕ → Reference → Linked) → List Active → Option ℕ → Linked
 tree_at below active None = Unresolved
-tree_at below active (Some place) = replaced_in (below place) (slice_get active place)
+tree_at below active (Some place) = replaced_in (below place) (document_at active place)
 
 -- what a reference leads to at the end of a path of documents, to which at most that many may be added
 unfoldable pub tree_within : ℕ → List Active → List ℕ → Reference → Linked

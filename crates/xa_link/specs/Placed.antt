@@ -5,11 +5,12 @@ use Rattle.xa_policy.specs.declared.linked.Linked.TheVariants.{Unresolved, Polic
 use Rattle.xa_policy.specs.declared.reference.Reference.{Reference}
 use Rattle.xa_notation.specs.declared.document.Document.{Document, fold-Document}
 use Rattle.xa_notation.specs.declared.document.Document.TheOpen.{Document-F}
+use Rattle.xa_notation.specs.declared.document.Parsed.{Parsed}
 use Rattle.xa_link.specs.declared.active.Active.{Active}
 use Rattle.xa_link.specs.declared.placed.Placed.{Placed, fold-Placed}
 use Rattle.xa_link.specs.declared.placed.Placed.TheOpen.{Placed-F}
 use Rattle.xa_link.specs.declared.placed.Placed.TheVariants as part
-use Rattle.xa_link.specs.Linking.{tree_at, tree_within, unless_circular}
+use Rattle.xa_link.specs.Linking.{document_at, tree_at, tree_within, unless_circular}
 use Rattle.xa_link.specs.Resolution.{resolve}
 
 -- a document, or a part of one, with the places that its references stand for
@@ -23,7 +24,7 @@ placed place_of = fold-Document Placed (placed_step place_of)
 
 -- the active document at a place
 abbrev pub placed_at : List Active → ℕ → Option Placed
-placed_at active place = option_map (λ (document : Active). placed (resolve active) document.document.document) (slice_get active place)
+placed_at active place = option_map (λ (parsed : Parsed). placed (resolve active) parsed.document) (document_at active place)
 
 -- its tree, by what the places lead to
 abbrev pub linked_step : (Option ℕ → Linked) → Placed-F Linked → Linked

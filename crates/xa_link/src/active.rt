@@ -1,9 +1,8 @@
 //! Active documents.
-use xa_notation::Parsed;
 use xa_policy::{DocumentKind, Version};
-use xa_value::{Shared, Text};
+use xa_value::{Items, Text};
 
-/// An active document, to which a reference may resolve. A policy or a set inside a document isn't one.
+/// An active document, to which a reference may resolve, by its kind, its id and its version alone. A policy or a set inside a document isn't one.
 #[derive(Debug, Drop)]
 pub struct Active {
     /// Whether it is a policy or a policy set.
@@ -12,6 +11,6 @@ pub struct Active {
     pub id: Text,
     /// Its version.
     pub version: Version,
-    /// The document itself.
-    pub document: Shared<Parsed>,
+    /// Its text, which is read where a reference leads to it.
+    pub text: Items<u8>,
 }

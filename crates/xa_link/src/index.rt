@@ -59,14 +59,10 @@ pub(crate) struct Index<'a> {
 
 impl<'a> Model for Index<'a> {
     ghost use Rattle.std.specs.Prelude.{List};
-    ghost use Rattle.std.specs.Coded.{codes};
-    ghost use Rattle.xa_notation.specs.contracts.document.Document as document;
     ghost use Rattle.xa_link.specs.declared.active.Active.{Active as Document};
     ghost use Rattle.xa_link.specs.Order.{IsOrderIfAny};
 
     ghost Value = { List Document };
-
-    ghost coded = { Prim.hlevel (codes, document.the_row.coded) };
 
     ghost view = { λ i. i.active.now };
 

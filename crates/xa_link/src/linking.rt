@@ -1,9 +1,9 @@
 //! The tree that a reference leads to.
-ghost use Rattle.std.specs.Prelude.{◌≡◌, ◌≤◌, ◌-◌, ◌∷◌, List, map, slice_get, None, IfOk, IsTrue};
+ghost use Rattle.std.specs.Prelude.{◌≡◌, ◌≤◌, ◌-◌, ◌∷◌, List, map, None, IfOk, IsTrue};
 ghost use Rattle.xa_value.specs.Gives.{Gives, answered};
 ghost use Rattle.xa_policy.specs.declared.linked.Linked.TheVariants.{Unresolved};
 ghost use Rattle.xa_link.specs.declared.active.Active.{Active as Document};
-ghost use Rattle.xa_link.specs.Linking.{link, replaced_in, tree_within, unless_circular};
+ghost use Rattle.xa_link.specs.Linking.{document_at, link, replaced_in, tree_within, unless_circular};
 ghost use Rattle.xa_link.specs.Placed.{led_within, linked};
 ghost use Rattle.xa_link.specs.Resolution.{resolve};
 ghost use Rattle.xa_link.specs.Room.{all_fitted, fitted, policy_fitted, set_fitted};
@@ -16,6 +16,7 @@ use crate::resolved::Resolved;
 use crate::room::{Fitted, less_one};
 use std::alloc::{AllocError, Global};
 use xa_policy::{Linked, Policy, PolicySet, Reference};
+use xa_shelf::TextReader;
 use xa_value::{Boxed, Items, OrMemory, Shared};
 
 /// How many documents may stand on a path, the first one too. The standard sets no bound; linking recurses once for each.
@@ -25,11 +26,13 @@ const MAX_DOCUMENTS: usize = 17;
 const MAX_SIZE: usize = 1_000;
 
 /// The tree that the reference leads to among the active documents (XACML 3.0, core, sections 5.10, 5.11 and 7.15). A reference that
-/// leads to no document, back to one on its path, or past 17 documents is left unresolved. Rules are shared with the documents. The
-/// references of a document are resolved once, however often the tree holds it; then a reference in the tree costs its leaf alone.
+/// leads to no document, back to one on its path, or past 17 documents is left unresolved. Rules are shared with the documents. A document is read, and
+/// its references are resolved, once, however often the tree holds it, and not at all where the root doesn't lead to it; then a reference in the tree
+/// costs its leaf alone. Where the reader's limit is reached, it is answered as if memory were wanting.
 #[tactic(auto, using(crate::proofs::LinkingLemmas::link_is_led))]
 pub fn link(
     alloc: Global,
+    reader: &mut TextReader<'_>,
     active: &[Active],
     root: &Reference,
 ) -> Result<Linked, OrMemory<LinkError>>
@@ -42,7 +45,7 @@ pub fn link(
         places: &[],
         more: MAX_DOCUMENTS,
     };
-    let fitted = linked_reference(alloc, &mut resolved, &path, place, MAX_SIZE)?;
+    let fitted = linked_reference(alloc, &mut resolved, reader, &path, place, MAX_SIZE)?;
     Ok(fitted.part)
 }
 
@@ -123,6 +126,7 @@ fn linked_policy(
 fn linked_reference<'a>(
     alloc: Global,
     resolved: &mut Resolved<'a>,
+    reader: &mut TextReader<'_>,
     path: &Path<'_>,
     place: Option<usize>,
     room: usize,
@@ -135,7 +139,7 @@ fn linked_reference<'a>(
         return Ok(leaf(room));
     }
     match unless_circular(path.places, place) {
-        Some(place) => linked_active(alloc, resolved, path, place, room),
+        Some(place) => linked_active(alloc, resolved, reader, path, place, room),
         None => Ok(leaf(room)),
     }
 }
@@ -145,15 +149,16 @@ fn linked_reference<'a>(
 fn linked_active<'a>(
     alloc: Global,
     resolved: &mut Resolved<'a>,
+    reader: &mut TextReader<'_>,
     path: &Path<'_>,
     place: usize,
     room: usize,
 ) -> Result<Fitted<Linked>, OrMemory<LinkError>>
     requires { 1 ≤ path.now.more }
-    ensures value { Gives result (fitted room (replaced_in (tree_within (path.now.more - 1) resolved.old (place ∷ path.now.places.now)) (slice_get resolved.old place))) }
+    ensures value { Gives result (fitted room (replaced_in (tree_within (path.now.more - 1) resolved.old (place ∷ path.now.places.now)) (document_at resolved.old place))) }
     ensures kept { resolved.new ≡ resolved.old }
 {
-    let Some(document) = resolved.document_at(alloc, place)? else {
+    let Some(document) = resolved.document_at(alloc, reader, place)? else {
         return Ok(leaf(room));
     };
     let places = longer_path(alloc, place, path.places)?;
@@ -161,7 +166,7 @@ fn linked_active<'a>(
         places: places.as_slice(),
         more: path.more - 1,
     };
-    linked_document(alloc, resolved, &longer, document.get(), room)
+    linked_document(alloc, resolved, reader, &longer, document.get(), room)
 }
 
 /// The document, or a part of one, in which each reference is replaced.
@@ -169,6 +174,7 @@ fn linked_active<'a>(
 fn linked_document<'a>(
     alloc: Global,
     resolved: &mut Resolved<'a>,
+    reader: &mut TextReader<'_>,
     path: &Path<'_>,
     document: &Placed,
     room: usize,
@@ -179,9 +185,17 @@ fn linked_document<'a>(
     match document {
         Placed::Policy(policy) => linked_policy(policy, room),
         Placed::PolicySet(set, children) => {
-            linked_set(alloc, resolved, path, set, children.as_slice(), room)
+            linked_set(
+                alloc,
+                resolved,
+                reader,
+                path,
+                set,
+                children.as_slice(),
+                room,
+            )
         }
-        Placed::Reference(place) => linked_reference(alloc, resolved, path, *place, room),
+        Placed::Reference(place) => linked_reference(alloc, resolved, reader, path, *place, room),
     }
 }
 
@@ -191,6 +205,7 @@ fn linked_document<'a>(
 fn linked_set<'a>(
     alloc: Global,
     resolved: &mut Resolved<'a>,
+    reader: &mut TextReader<'_>,
     path: &Path<'_>,
     set: &Shared<PolicySet>,
     children: &[Placed],
@@ -200,7 +215,7 @@ fn linked_set<'a>(
     ensures kept { resolved.new ≡ resolved.old }
 {
     let room = less_one(room)?;
-    let children = linked_children(alloc, resolved, path, children, room)?;
+    let children = linked_children(alloc, resolved, reader, path, children, room)?;
     Ok(Fitted {
         part: Linked::PolicySet(set.clone()?, Boxed::new(alloc, children.part)?),
         room: children.room,
@@ -213,6 +228,7 @@ fn linked_set<'a>(
 fn linked_children<'a>(
     alloc: Global,
     resolved: &mut Resolved<'a>,
+    reader: &mut TextReader<'_>,
     path: &Path<'_>,
     children: &[Placed],
     room: usize,
@@ -226,7 +242,7 @@ fn linked_children<'a>(
         if leads_nowhere(path, child) {
             parts.push(Linked::Unresolved)?;
         } else {
-            let fitted = linked_document(alloc, resolved, path, child, room)?;
+            let fitted = linked_document(alloc, resolved, reader, path, child, room)?;
             parts.push(fitted.part)?;
             room = fitted.room;
         }

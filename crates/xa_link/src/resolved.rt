@@ -1,5 +1,7 @@
-//! Active documents whose references are resolved, each document's when it is first wanted, and once at most.
+//! Active documents, each of which is read, and its references resolved, when it is first wanted, and once at most.
 ghost use Rattle.std.specs.Prelude.{◌≡◌, ◌<◌, length, slice_get, option_map, Some, None, IfOk, OnErr};
+ghost use Rattle.xa_notation.specs.Document.{document_of};
+ghost use Rattle.xa_link.specs.Linking.{document_at, if_read};
 ghost use Rattle.xa_link.specs.Placed.{AreRight, HasPlaced, SamePlaced, held, placed_at};
 ghost use Rattle.xa_link.specs.Resolution.{resolve};
 
@@ -8,9 +10,11 @@ use crate::index::Index;
 use crate::placed::{Placed, with_places};
 use std::alloc::{AllocError, Global};
 use std::marker::Model;
-use xa_value::Shared;
+use xa_notation::Parsed;
+use xa_shelf::TextReader;
+use xa_value::{OrMemory, Shared};
 
-/// Active documents, and those of them whose references have been resolved, by their places. Clauses see the documents.
+/// Active documents, and those of them that were read and whose references have been resolved, by their places. Clauses see the documents.
 #[derive(Debug, Drop)]
 pub(crate) struct Resolved<'a> {
     index: Index<'a>,
@@ -19,14 +23,10 @@ pub(crate) struct Resolved<'a> {
 
 impl<'a> Model for Resolved<'a> {
     ghost use Rattle.std.specs.Prelude.{List};
-    ghost use Rattle.std.specs.Coded.{codes};
-    ghost use Rattle.xa_notation.specs.contracts.document.Document as document;
     ghost use Rattle.xa_link.specs.declared.active.Active.{Active as Document};
     ghost use Rattle.xa_link.specs.Placed.{AreRight};
 
     ghost Value = { List Document };
-
-    ghost coded = { Prim.hlevel (codes, document.the_row.coded) };
 
     ghost view = { λ r. r.index };
 
@@ -71,6 +71,31 @@ fn kept(
     }
 }
 
+/// The document that the text is, if it is one.
+fn read_if(reader: &mut TextReader<'_>, text: &[u8]) -> Result<Option<Shared<Parsed>>, AllocError>
+    ensures { IfOk result (λ document. document ≡ if_read (document_of text.now)) }
+{
+    match reader.read(text) {
+        Ok(document) => Ok(Some(document)),
+        Err(OrMemory::Error(_)) => Ok(None),
+        Err(OrMemory::Memory) => Err(AllocError),
+    }
+}
+
+/// The document at the place, which is read.
+fn read_at(
+    active: &[Active],
+    reader: &mut TextReader<'_>,
+    place: usize,
+) -> Result<Option<Shared<Parsed>>, AllocError>
+    ensures { IfOk result (λ document. document ≡ document_at active.now place) }
+{
+    match active.get(place) {
+        Some(found) => read_if(reader, found.text.as_slice()),
+        None => Ok(None),
+    }
+}
+
 impl<'a> Resolved<'a> {
     /// No reference is resolved yet, and nothing allocated.
     pub(crate) fn new(alloc: Global, active: &'a [Active]) -> Resolved<'a>
@@ -82,10 +107,11 @@ impl<'a> Resolved<'a> {
         }
     }
 
-    /// The document at the place, with places for its references.
+    /// The document at the place, with places for its references. It is read when it is first wanted, and once.
     pub(crate) fn document_at(
         &mut self,
         alloc: Global,
+        reader: &mut TextReader<'_>,
         place: usize,
     ) -> Result<Option<Shared<Placed>>, AllocError>
         ensures value { IfOk result (λ document. document ≡ placed_at self.old place) }
@@ -94,10 +120,10 @@ impl<'a> Resolved<'a> {
         if let Some(document) = kept(self.documents.as_slice(), place)? {
             return Ok(Some(document));
         }
-        let Some(found) = self.index.active().get(place) else {
+        let Some(parsed) = read_at(self.index.active(), reader, place)? else {
             return Ok(None);
         };
-        let document = with_places(alloc, &mut self.index, found.document.get().document())?;
+        let document = with_places(alloc, &mut self.index, parsed.get().document())?;
         let document = Shared::new(alloc, document)?;
         keep(&mut self.documents, place, document.clone()?)?;
         Ok(Some(document))

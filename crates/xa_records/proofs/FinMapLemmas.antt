@@ -1,12 +1,14 @@
--- Finite maps where one key is put in or taken out.
-use Rattle.std.proofs.Common.{◌≡◌, Bool, true, false, refl, sym, ap, ◌∙◌, cond}
-use Rattle.std.specs.Prelude.{Some, None, ◌≢◌, ◌⊎◌}
+-- Finite maps where one key is put in or taken out, and what holds of all their entries.
+use Rattle.std.proofs.Common.{◌≡◌, Bool, true, false, List, [], ◌∷◌, refl, sym, ap, ◌∙◌, cond}
+use Rattle.std.specs.Prelude.{Some, None, T, ◌≢◌, ◌⊎◌, ◌&&◌}
 use Rattle.std.proofs.Common.{inl, inr}
 use Rattle.std.specs.Cmp.{IsTotalOrder, eq_by_cmp_equiv}
 use Rattle.std.specs.declared.cmp.Ordering.{Ordering}
 use Rattle.std.specs.declared.cmp.Ordering.TheVariants.{Less, Equal, Greater}
-use Rattle.std.specs.FinMap.{FinMap, IsAntisymmetric, get, insert, remove, get-insert, get-remove, same_map}
-use Rattle.std.specs.Ordering.{eq_by_cmp, is_eq}
+use Rattle.std.specs.FinMap.Entries.{below_all, find_tied, is_sorted}
+use Rattle.std.specs.FinMap.{FinMap, IsAntisymmetric, entries, entries_sorted, find, get, insert, remove, get-entries, get-insert, get-remove, same_map}
+use Rattle.std.specs.List.{AllByRecursion}
+use Rattle.std.specs.Ordering.{eq_by_cmp, is_eq, is_lt}
 
 ties : (o : Ordering) → is_eq o ≡ true → o ≡ Equal
 ties Less e = absurd (cc)
@@ -48,3 +50,36 @@ module _ {K X : Type 0} {R : K → K → Ordering} (o : IsTotalOrder R) where
       | inl e ↦ ap (get (insert m k v)) e ∙ get_put m k v ∙ sym there ∙ ap (get m) (sym e)
       | inr e ↦ get-insert o m k v q ∙ ap (λ b. cond b (Some v) (get m q)) e
     ])
+
+-- ---- all entries
+
+parts : (a b : Bool) → T (a && b) → T a × T b
+parts true b h = (tt, h)
+parts false b h = absurd h
+
+-- what is below all keys isn't found
+none_below : {K X : Type 0} (R : K → K → Ordering) (k : K) (es : List (K × X)) → T (below_all R k es) → find R k es ≡ None
+none_below R k [] h = refl
+none_below R k (e ∷ es) h = by_place (R k e.0) refl h where
+  by_place : (o : Ordering) → R k e.0 ≡ o → T (is_lt o && below_all R k es) → find R k (e ∷ es) ≡ None
+  by_place Less at h = ap (λ o. cond (is_eq o) (Some e.1) (find R k es)) at ∙ none_below R k es h
+  by_place Equal at h = absurd h
+  by_place Greater at h = absurd h
+
+module _ {K X : Type 0} {R : K → K → Ordering} (o : IsTotalOrder R) (P : K × X → Type 0) where
+  all_found : (es : List (K × X)) → T (is_sorted R es) → ((q : K) (v : X) → find R q es ≡ Some v → P (q, v)) → AllByRecursion P es
+  all_found [] sorted each = tt
+  all_found (e ∷ es) sorted each =
+      let both = parts (below_all R e.0 es) (is_sorted R es) sorted in (
+        each e.0 e.1 (ap (λ b. cond b (Some e.1) (find R e.0 es)) ((eq_by_cmp_equiv o).refl e.0)),
+        all_found es both.1 (λ q v found. by_tie (eq_by_cmp R q e.0) q v refl found both.0),
+      )
+    where
+      by_tie : (b : Bool) (q : K) (v : X) → eq_by_cmp R q e.0 ≡ b → find R q es ≡ Some v → T (below_all R e.0 es) → P (q, v)
+      by_tie false q v apart found below = each q v (ap (λ b. cond b (Some e.1) (find R q es)) apart ∙ found)
+      by_tie true q v tied found below =
+          absurd (let f : None ≡ Some v = sym (none_below R e.0 es below) ∙ find_tied R o q e.0 (ties _ tied) es ∙ found in cc)
+
+  -- what holds of each key with what the map has there holds of all entries
+  pub all_entries : (m : FinMap R X) → ((q : K) (v : X) → get m q ≡ Some v → P (q, v)) → AllByRecursion P (entries m)
+  all_entries m each = all_found (entries m) (entries_sorted m) (λ q v found. each q v (get-entries m q ∙ found))

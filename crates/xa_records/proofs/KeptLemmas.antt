@@ -99,7 +99,7 @@ numbered_new next low = record {
 }
 
 -- one domain
-at_one : (name : List ℕ) (one d : Domain) (q : List ℕ) → get (insert {R = compare_bytes} empty name one) q ≡ Some d → (q ≡ name) × (d ≡ one)
+pub at_one : (name : List ℕ) (one d : Domain) (q : List ℕ) → get (insert {R = compare_bytes} empty name one) q ≡ Some d → (q ≡ name) × (d ≡ one)
 at_one name one d q there = elim (here_or_elsewhere bytes_exact q name) [
   | inl here ↦ (here, one_value d one (sym there ∙ ap (get (insert {R = compare_bytes} empty name one)) here ∙ get_put bytes_total empty name one))
   | inr away ↦ absurd (nothing d (sym (get-empty compare_bytes q) ∙ sym (get_put_elsewhere bytes_total bytes_exact empty name one q (different bytes_total q name away)) ∙ there))

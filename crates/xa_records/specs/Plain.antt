@@ -3,6 +3,7 @@ use Rattle.std.specs.Prelude.{◌≡◌, ℕ, Bool, List, bytes_eq, if◌then◌
 use Rattle.std.specs.FinMap.{FinMap, get, insert}
 use Rattle.xa_policy.specs.declared.document_key.DocumentKey.{DocumentKey}
 use Rattle.xa_policy.specs.DocumentKey.{compare_keys}
+use Rattle.xa_records.specs.declared.active_text.ActiveText.{ActiveText}
 use Rattle.xa_records.specs.declared.refusal.ChangeError.{ChangeError}
 use Rattle.xa_records.specs.declared.refusal.ChangeError.TheVariants.{Failed, Refused}
 use Rattle.xa_records.specs.declared.refusal.Failure.{Failure}
@@ -15,6 +16,7 @@ use Rattle.xa_value.specs.Gives.{◌>>=◌}
 use Rattle.xa_records.specs.Changes.{or_absent}
 use Rattle.xa_records.specs.DomainState.{DomainState, StoredDocument}
 use Rattle.xa_records.specs.Kept.{DecidesAlike, Domain, IsGreatest, IsNextEpoch, IsRaised}
+use Rattle.xa_records.specs.Readings.{active_text}
 
 -- one more, up to the greatest number
 abbrev pub RaisesTo : ℕ → Result ℕ Failure → Type 0
@@ -39,8 +41,8 @@ abbrev pub upload_again : StoredDocument → List ℕ → Result Upload ChangeEr
 upload_again document text = if bytes_eq document.text text then Ok Same else Err (Refused SameVersionOtherText)
 
 -- the texts of the active ones
-abbrev pub active_among : List StoredDocument → List (List ℕ)
-active_among documents = map (λ document. document.text) (filter (λ document. document.active) documents)
+abbrev pub active_among : List (DocumentKey × StoredDocument) → List ActiveText
+active_among documents = map active_text (filter (λ entry. entry.1.active) documents)
 
 -- the domain has gone over into that state
 abbrev pub GoesOver : Domain → Domain → DomainState → Type 0

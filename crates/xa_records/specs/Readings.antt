@@ -1,8 +1,9 @@
 -- What is read of a domain: nothing of one that is absent.
 use Rattle.std.specs.Prelude.{ℕ, List, map, filter, Option, option_map, option_and_then}
-use Rattle.std.specs.FinMap.{get, entries, values}
+use Rattle.std.specs.FinMap.{get, entries}
 use Rattle.xa_policy.specs.declared.document_key.DocumentKey.{DocumentKey}
 use Rattle.xa_notation.specs.declared.token.Role.{Role}
+use Rattle.xa_records.specs.declared.active_text.ActiveText.{ActiveText}
 use Rattle.xa_records.specs.declared.gate.Gate.{Gate}
 use Rattle.xa_records.specs.declared.gate.Token.{Token}
 use Rattle.xa_records.specs.declared.kept_view.KeptView.{KeptView}
@@ -20,9 +21,13 @@ gate_of_domain domain = record { number = domain.number; epoch = domain.epoch; t
 abbrev pub gate_of : List ℕ → Kept → Option Gate
 gate_of name kept = option_map gate_of_domain (get kept.domains name)
 
+-- the text of a document, with its key
+abbrev pub active_text : DocumentKey × StoredDocument → ActiveText
+active_text entry = record { key = entry.0; text = entry.1.text }
+
 -- the texts of the active documents, in the order of their keys
-abbrev pub active_texts : DomainState → List (List ℕ)
-active_texts state = map (λ document. document.text) (filter (λ document. document.active) (values state.documents))
+abbrev pub active_texts : DomainState → List ActiveText
+active_texts state = map active_text (filter (λ entry. entry.1.active) (entries state.documents))
 
 -- what decides in a domain
 abbrev pub view_of_state : DomainState → KeptView

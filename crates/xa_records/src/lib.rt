@@ -1,6 +1,7 @@
 //! What is kept of all domains: their tokens, documents, roots and source rows, and the changes to it.
 #![tactic(auto)]
 
+mod active_text;
 mod digest;
 mod domain_name;
 mod gate;
@@ -14,6 +15,7 @@ mod refusal;
 mod sameness;
 mod upload;
 
+pub use active_text::ActiveText;
 pub use digest::Digest;
 pub use domain_name::is_domain_name;
 pub use gate::{Gate, Token};

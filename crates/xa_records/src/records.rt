@@ -5,6 +5,7 @@ ghost use Rattle.xa_records.specs.DomainName.{is_domain_name};
 ghost use Rattle.xa_records.specs.DomainState.{IsDocumentOf};
 ghost use Rattle.xa_records.specs.Keeper.{Changing, Custody, Reading};
 ghost use Rattle.xa_records.specs.Kept.{IsNumbered, Kept, names_of, state_of};
+ghost use Rattle.xa_records.specs.Keyed.{KeepsDocuments};
 ghost use Rattle.xa_records.specs.Readings.{gate_of, listing_of, text_of, view_of};
 
 use crate::digest::Digest;
@@ -130,6 +131,10 @@ pub trait Records {
         rows: Items<SourceRow>,
     ) -> Result<(), ChangeError>
         ensures { Changing (custody self.old) (custody self.new) result name.now (within (source_set rows)) };
+
+    /// Law: each text is a document of the key under which it is kept, so that it need not be read in order to know its key. It does nothing.
+    fn keeps_documents(&self)
+        ensures { (custody self.now).sound → KeepsDocuments (custody self.now).kept };
 
     /// Law: no two domains have one number, and every number is below the next.
     ghost numbered: { (s : Self) → (custody s).sound → IsNumbered (custody s).kept };

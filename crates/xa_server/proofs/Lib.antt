@@ -9,6 +9,7 @@ pub mod DrivingLemmas
 pub mod GateLemmas
 pub mod GrowthLemmas
 pub mod IsolationLemmas
+pub mod KeyedLemmas
 pub mod NameLemmas
 pub mod MultiplexerLemmas
 pub mod ReadyLemmas

@@ -1,6 +1,6 @@
 -- Views that are kept ready decide as what is kept does.
 use Rattle.std.proofs.Common.{◌≡◌, ℕ, Bool, true, false, nat_eq, List, refl, sym, ap, ◌∙◌, subst, cond}
-use Rattle.std.specs.Prelude.{Option, Some, None, Ok, IfSome}
+use Rattle.std.specs.Prelude.{Option, Some, None, Ok, IfSome, length}
 use Rattle.std.specs.FinMap.{get}
 use Rattle.std.specs.Map.{lookup}
 use Rattle.std.proofs.lemmas.Bool.{eqb-true}
@@ -92,9 +92,11 @@ ready_without kept number room ready = all_removed (IsReady kept) (nat_eq number
 pub ready_with : (kept : Kept) (number : ℕ) (view : Ready) (room : Room) → IsReady kept (number, view) → AreReady kept room.views → AreReady kept (with_view number view room).views
 ready_with kept number view room this ready =
     let all = in_front number view room.views in
-    all_taken (IsReady kept) (fitting room.most 268_435_456 all) all (this, all_removed (IsReady kept) (nat_eq number) room.views ready)
+    all_taken (IsReady kept) (fitting room.most room.bytes all) all (this, all_removed (IsReady kept) (nat_eq number) room.views ready)
 
 -- by how much memory a view is counted that was made of what is kept
-pub estimated : (there : Option KeptView) (kept : KeptView) (ready : Ready) → Some kept ≡ there → ready.bytes ≡ added (bytes_of_view kept) (bytes_of_tree ready.view)
-    → IfSome there (λ k. ready.bytes ≡ added (bytes_of_view k) (bytes_of_tree ready.view))
-estimated there kept ready is bytes = subst (λ (o : Option KeptView). IfSome o (λ k. ready.bytes ≡ added (bytes_of_view k) (bytes_of_tree ready.view))) is bytes
+pub estimated : (there : Option KeptView) (kept : KeptView) (ready : Ready) (read : ℕ) → Some kept ≡ there
+    → ready.bytes ≡ added (bytes_of_view read (length kept.source)) (bytes_of_tree ready.view)
+    → IfSome there (λ k. ready.bytes ≡ added (bytes_of_view read (length k.source)) (bytes_of_tree ready.view))
+estimated there kept ready read is bytes =
+    subst (λ (o : Option KeptView). IfSome o (λ k. ready.bytes ≡ added (bytes_of_view read (length k.source)) (bytes_of_tree ready.view))) is bytes

@@ -1,27 +1,29 @@
 -- What decides in a domain, by what is kept of it.
-use Rattle.std.specs.Prelude.{[], Option, Some, None, Result, Ok, Err}
-use Rattle.std.specs.List.{filter_map}
+use Rattle.std.specs.Prelude.{◌≡◌, ℕ, List, [], Option, Some, None, Result, Ok, Err}
+use Rattle.std.specs.List.{AllByRecursion, filter_map}
 use Rattle.xa_notation.specs.declared.document.Parsed.{Parsed}
 use Rattle.xa_notation.specs.declared.notation_error.NotationError.{NotationError}
 use Rattle.xa_notation.specs.Document.{document_of}
 use Rattle.xa_link.specs.declared.active.Active.{Active}
 use Rattle.xa_decide.specs.Decision.{Viewed, view_by}
+use Rattle.xa_records.specs.declared.active_text.ActiveText.{ActiveText}
 use Rattle.xa_records.specs.declared.kept_view.KeptView.{KeptView}
 use Rattle.xa_records.specs.DomainState.{DomainState}
+use Rattle.xa_records.specs.Keyed.{key_in}
 use Rattle.xa_records.specs.Readings.{view_of_state}
 
--- a document as references may resolve to it
-abbrev pub active_document : Parsed → Active
-active_document parsed = record { kind = parsed.kind; id = parsed.id; version = parsed.version; document = parsed }
+-- a document as references may resolve to it, with its text
+abbrev pub active_document : List ℕ → Parsed → Active
+active_document text parsed = record { kind = parsed.kind; id = parsed.id; version = parsed.version; text = text }
 
 -- the one that a text is, if it is one
-abbrev pub active_if : Result Parsed NotationError → Option Active
-active_if (Ok parsed) = Some (active_document parsed)
-active_if (Err _) = None
+abbrev pub active_if : List ℕ → Result Parsed NotationError → Option Active
+active_if text (Ok parsed) = Some (active_document text parsed)
+active_if text (Err _) = None
 
 -- each active text is read anew
 abbrev pub viewed : KeptView → Viewed
-viewed kept = view_by (filter_map (λ text. active_if (document_of text)) kept.texts) kept.root kept.source
+viewed kept = view_by (filter_map (λ one. active_if one.text (document_of one.text)) kept.texts) kept.root kept.source
 
 -- what decides in a domain of that state
 abbrev pub view_of : DomainState → Viewed
@@ -30,3 +32,13 @@ view_of domain = viewed (view_of_state domain)
 -- what decides where nothing is kept
 abbrev pub nothing_viewed : Viewed
 nothing_viewed = view_by [] None []
+
+-- ---- words that only private functions cite
+
+-- a document as references may resolve to it, by the key under which it is kept
+abbrev pub active_by_key : ActiveText → Active
+active_by_key one = record { kind = one.key.kind; id = one.key.id; version = one.key.version; text = one.text }
+
+-- each text is a document of its key
+abbrev pub AreKeyed : List ActiveText → Type 0
+AreKeyed texts = AllByRecursion (λ one. key_in one.text ≡ Some one.key) texts

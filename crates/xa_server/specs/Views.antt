@@ -1,17 +1,16 @@
 -- Views that are kept ready, each under its domain's number, the one that was used last first: words that only private functions and the server's invariant cite.
-use Rattle.std.specs.Prelude.{◌+◌, ◌*◌, ◌-◌, ◌&&◌, ℕ, List, [], ◌∷◌, Option, Some, None, length, min, nat_eq, nat_le, nat_lt, option_and_then, take, ◌^◌, if◌then◌else◌}
-use Rattle.std.specs.List.{fold}
+use Rattle.std.specs.Prelude.{◌+◌, ◌*◌, ◌-◌, ◌&&◌, ℕ, List, [], ◌∷◌, Option, Some, None, min, nat_eq, nat_le, nat_lt, option_and_then, take, ◌^◌, if◌then◌else◌}
 use Rattle.std.specs.Map.{lookup, remove_entry}
 use Rattle.lru.specs.LruCache.{promoted}
 use Rattle.xa_decide.specs.Decision.{Viewed}
 use Rattle.xa_decide.specs.Places.{places_of_tree}
-use Rattle.xa_records.specs.declared.kept_view.KeptView.{KeptView}
 use Rattle.xa_server.specs.declared.ready.Ready.{Ready}
 
--- the views, and how many of them there may be
+-- the views, how many of them there may be, and how many bytes they may take together
 pub record Room : Type 0 where
   pub views : List (ℕ × Ready)
   pub most : ℕ
+  pub bytes : ℕ
 
 -- the view, if it is of that epoch
 abbrev pub view_if : ℕ → Ready → Option Viewed
@@ -39,13 +38,13 @@ fitting most bytes (entry ∷ entries) =
 abbrev pub in_front : ℕ → Ready → List (ℕ × Ready) → List (ℕ × Ready)
 in_front number ready views = (number, ready) ∷ remove_entry (nat_eq number) views
 
--- the first, as many as find room in 268,435,456 bytes
-abbrev pub shortened : ℕ → List (ℕ × Ready) → List (ℕ × Ready)
-shortened most views = take (fitting most 268_435_456 views) views
+-- the first, as many as find room
+abbrev pub shortened : ℕ → ℕ → List (ℕ × Ready) → List (ℕ × Ready)
+shortened most bytes views = take (fitting most bytes views) views
 
 -- with that view under that number
 abbrev pub with_view : ℕ → Ready → Room → Room
-with_view number ready room = record room { views = shortened room.most (in_front number ready room.views) }
+with_view number ready room = record room { views = shortened room.most room.bytes (in_front number ready room.views) }
 
 -- a sum, as far as numbers of 64 bits go
 abbrev pub added : ℕ → ℕ → ℕ
@@ -54,13 +53,9 @@ added a b = min (a + b) (2 ^ 64 - 1)
 abbrev pub times : ℕ → ℕ → ℕ
 times a b = min (a * b) (2 ^ 64 - 1)
 
--- the bytes of the texts
-abbrev pub bytes_of_texts : List (List ℕ) → ℕ
-bytes_of_texts texts = fold (λ bytes text. added bytes (length text)) 0 texts
-
--- by how much memory a view is counted before its tree is linked: 16 bytes for each byte of a text, 512 for each row, and 524,288 for the rest
-abbrev pub bytes_of_view : KeptView → ℕ
-bytes_of_view kept = added (added (times (bytes_of_texts kept.texts) 16) (times (length kept.source) 512)) 524_288
+-- by how much memory a view is counted but for its tree: 8 bytes for each byte of the texts that were read for it, 512 for each row, and 524,288 for the rest
+abbrev pub bytes_of_view : ℕ → ℕ → ℕ
+bytes_of_view read rows = added (added (times read 8) (times rows 512)) 524_288
 
 -- by how much its tree is: 24 bytes for each place
 abbrev pub bytes_of_tree : Viewed → ℕ

@@ -1,15 +1,18 @@
 //! Asking for a decision. What is held is given again; all else is worked out by what decides in the domain, which is kept ready for the next, counted, and held
 //! where it stays the same. A body that doesn't ask the policies is answered without what decides, where that isn't ready.
-ghost use Rattle.std.specs.Prelude.{◌≡◌, false, Some, IfOk, IfSome, OnErr};
+ghost use Rattle.std.specs.Prelude.{◌≡◌, ◌-◌, false, length, Some, IfOk, IfSome, OnErr};
 ghost use Rattle.xa_decide.specs.Asked.{asks_policies};
 ghost use Rattle.xa_http.specs.declared.command.DomainCommand.TheVariants as domain;
+ghost use Rattle.std.specs.Option.{ok_or};
+ghost use Rattle.xa_records.specs.declared.refusal.Refusal.TheVariants.{Absent};
 ghost use Rattle.xa_records.specs.Kept.{state_of};
+ghost use Rattle.xa_server.specs.declared.error_code.ErrorCode.TheVariants.{Refused};
 ghost use Rattle.xa_records.specs.Readings.{view_of};
 ghost use Rattle.xa_server.specs.Gates.{opened_of};
 ghost use Rattle.xa_server.specs.Handling.{Answers, Counts, IfTold, IsAsked, IsFresh, IsResponseReply, IsResponse, LeavesNoMore, MakesReady, Shows, key_opened, key_within, reply_told, view_told, worked_in};
 ghost use Rattle.xa_server.specs.Machine.{by_domain_command};
 ghost use Rattle.xa_server.specs.Stock.{AllStand};
-ghost use Rattle.xa_server.specs.View.{nothing_viewed};
+ghost use Rattle.xa_server.specs.View.{AreKeyed, nothing_viewed};
 ghost use Rattle.xa_server.specs.Views.{added, bytes_of_tree, bytes_of_view};
 ghost use Rattle.xa_server.specs.Work.{body_held, response_of};
 
@@ -26,12 +29,30 @@ use std::alloc::Global;
 use xa_cache::Key;
 use xa_decide::{Responded, View, asks_policies, respond};
 use xa_notation::NotationError;
-use xa_records::{Failure, Records, Refusal};
+use xa_records::{Failure, KeptView, Records, Refusal};
 use xa_shelf::TextReader;
 use xa_value::{Items, Moment, Text};
 
-/// What decides in the domain, made from what is kept of it, with what a decision may cost. What this costs grows with the texts of the active documents, which the keeper
-/// copies, and each of which is looked up on the shelf or read where a root is set, and with the rows of attributes, which are put in order.
+/// What is kept of the domain that decides there, with texts that are documents of their keys.
+#[tactic(auto, using(crate::proofs::KeyedLemmas::keyed_view))]
+fn kept_view<R: Records>(alloc: Global, records: &mut R, name: &Text) -> Result<KeptView, Stop>
+    ensures tells { (R.custody records.new).sound → Shows (R.custody records.old).kept (R.custody records.new).kept result (ok_or (view_of name.now (R.custody records.old).kept) (Refused Absent)) }
+    ensures keyed { (R.custody records.new).sound → IfOk result (λ kept. AreKeyed kept.texts) }
+    ensures sound { (R.custody records.new).sound → (R.custody records.old).sound }
+    ensures clean { (R.custody records.new).clean → (R.custody records.old).clean }
+    ensures stays { (R.custody records.new).clean → (R.custody records.old).sound → IfTold result (R.custody records.new).sound }
+    ensures leaves { (R.custody records.new).clean → (R.custody records.old).sound → LeavesNoMore (R.custody records.old).may_leave (R.custody records.new).may_leave }
+    ensures counts { Counts (R.custody records.old).faults (R.custody records.new).faults result }
+{
+    let kept = records
+        .view(alloc, name)?
+        .ok_or(ErrorCode::Refused(Refusal::Absent))?;
+    records.keeps_documents();
+    Ok(kept)
+}
+
+/// What decides in the domain, made from what is kept of it, with what a decision may cost. What this costs grows with the texts of the active documents, which
+/// the keeper copies, with those of them to which the root leads, each of which is looked up on the shelf or read, and with the rows of attributes, which are put in order.
 #[tactic(auto, using(crate::proofs::ReadyLemmas::estimated))]
 fn ready_view<R: Records>(
     alloc: Global,
@@ -42,19 +63,19 @@ fn ready_view<R: Records>(
     limits: Limits,
 ) -> Result<Ready, Stop>
     ensures tells { (R.custody records.new).sound → MakesReady (R.custody records.old).kept (R.custody records.new).kept epoch result (view_told (state_of name.now (R.custody records.old).kept)) }
-    ensures estimate { (R.custody records.new).sound → IfOk result (λ ready. IfSome (view_of name.now (R.custody records.old).kept) (λ kept. ready.bytes ≡ added (bytes_of_view kept) (bytes_of_tree ready.view))) }
+    ensures estimate { (R.custody records.new).sound → IfOk result (λ ready. IfSome (view_of name.now (R.custody records.old).kept) (λ kept. ready.bytes ≡ added (bytes_of_view (reader.old.left - reader.new.left) (length kept.source)) (bytes_of_tree ready.view))) }
     ensures sound { (R.custody records.new).sound → (R.custody records.old).sound }
     ensures clean { (R.custody records.new).clean → (R.custody records.old).clean }
     ensures stays { (R.custody records.new).clean → (R.custody records.old).sound → IfTold result (R.custody records.new).sound }
     ensures leaves { (R.custody records.new).clean → (R.custody records.old).sound → LeavesNoMore (R.custody records.old).may_leave (R.custody records.new).may_leave }
     ensures counts { Counts (R.custody records.old).faults (R.custody records.new).faults result }
 {
-    let kept = records
-        .view(alloc, name)?
-        .ok_or(ErrorCode::Refused(Refusal::Absent))?;
-    let bytes = bytes_of_view(&kept);
+    let kept = kept_view(alloc, records, name)?;
+    let rows = kept.source.len();
+    let left = reader.left();
     let view = view_of_kept(alloc, reader, kept)?;
-    let bytes = bytes.saturating_add(bytes_of_tree(&view));
+    let read = left.saturating_sub(reader.left()) as usize;
+    let bytes = bytes_of_view(read, rows).saturating_add(bytes_of_tree(&view));
     Ok(Ready {
         epoch,
         view: limits.of_view(view),
@@ -173,7 +194,7 @@ fn reply_without_policies(
     ensures tells { IsResponseReply (response_of nothing_viewed body.now moment) result }
     ensures works { IsFresh (key_opened opened body.now) (response_of nothing_viewed body.now moment) result decisions.old decisions.new }
 {
-    let nothing = limits.of_view(View::new(alloc, &[], &None, Items::new(alloc))?);
+    let nothing = limits.of_view(View::of_nothing(alloc)?);
     reply_by(alloc, decisions, opened, key, &nothing, body, moment)
 }
 

@@ -61,7 +61,7 @@ impl Resources {
 
     /// With room for at most so many views, of which none is kept yet.
     pub(crate) fn with_views(self, most: usize) -> Resources
-        ensures { result ≡ record { tally = self.tally; room = record { views = []; most = min most 128 }; gates = self.gates } }
+        ensures { result ≡ record { tally = self.tally; room = record { views = []; most = min most 128; bytes = self.room.bytes }; gates = self.gates } }
     {
         let Resources {
             shelf,
@@ -81,9 +81,31 @@ impl Resources {
         }
     }
 
+    /// With room for views that take so many bytes together, of which none is kept yet.
+    pub(crate) fn with_room(self, bytes: usize) -> Resources
+        ensures { result ≡ record { tally = self.tally; room = record { views = []; most = self.room.most; bytes = bytes }; gates = self.gates } }
+    {
+        let Resources {
+            shelf,
+            views,
+            decisions,
+            gates,
+            unread,
+            limits,
+        } = self;
+        Resources {
+            shelf,
+            views: views.with_room_of(bytes),
+            decisions,
+            gates,
+            unread,
+            limits,
+        }
+    }
+
     /// With these limits. The views that were kept had others; none is kept yet.
     pub(crate) fn with_limits(self, limits: Limits) -> Resources
-        ensures { result ≡ record { tally = self.tally; room = record { views = []; most = min self.room.most 128 }; gates = self.gates } }
+        ensures { result ≡ record { tally = self.tally; room = record { views = []; most = min self.room.most 128; bytes = self.room.bytes }; gates = self.gates } }
     {
         let Resources {
             shelf,

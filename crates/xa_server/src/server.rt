@@ -112,9 +112,9 @@ impl<R: Records> Server<R> {
         self.with_limits(limits)
     }
 
-    /// The same server, which from now on refuses each message for which texts of policies would have to be read that have more than so many bytes together. They are
-    /// counted whether their documents are held or not, and each message begins anew: whether it is refused depends on the domain's active documents and its root
-    /// alone. For a body that doesn't ask the policies, in a domain without a root, and for a decision that is held nothing is read. A refusal is
+    /// The same server, which from now on refuses each message that asks policies whose texts have more than so many bytes together: those to which the domain's root
+    /// leads, each once. They are counted whether their documents are held or not, and each message begins anew: whether it is refused depends on the domain's
+    /// documents and its root alone. A body that doesn't ask the policies, a domain without a root, and a decision that is held have nothing read. A refusal is
     /// `Reply::Refused` as for want of memory: nothing has changed, and the reply is the fixed 503. A server that is new has no limit.
     pub fn with_reading(self, bytes: u64) -> Server<R>
         ensures { result ≡ self }
@@ -164,6 +164,27 @@ impl<R: Records> Server<R> {
             operator,
             records,
             resources: resources.with_views(most),
+        }
+    }
+
+    /// The same server with room for views that are kept ready of so many bytes together, by an estimate of the memory that each takes; none is kept yet. One of them
+    /// may take all. A server that is new has room for 256 MiB. What it answers doesn't depend on them.
+    pub fn with_room(self, bytes: usize) -> Server<R>
+        ensures { result ≡ self }
+    {
+        let Server {
+            alloc,
+            routes,
+            operator,
+            records,
+            resources,
+        } = self;
+        Server {
+            alloc,
+            routes,
+            operator,
+            records,
+            resources: resources.with_room(bytes),
         }
     }
 

@@ -1,89 +1,54 @@
 //! What decides in a domain, by what is kept of it.
-ghost use Rattle.std.specs.Prelude.{◌≡◌, IfOk};
-ghost use Rattle.std.specs.List.{filter_map};
-ghost use Rattle.xa_notation.specs.Document.{document_of};
-ghost use Rattle.xa_decide.specs.Decision.{view_by};
-ghost use Rattle.xa_server.specs.View.{active_document, active_if, viewed};
+ghost use Rattle.std.specs.Prelude.{◌≡◌, map, IfOk};
+ghost use Rattle.xa_server.specs.View.{AreKeyed, active_by_key, viewed};
 
 use std::alloc::{AllocError, Global};
-use xa_decide::{SourceRow, View};
+use xa_decide::View;
 use xa_link::Active;
-use xa_notation::Parsed;
-use xa_policy::Reference;
-use xa_records::KeptView;
+use xa_policy::DocumentKey;
+use xa_records::{ActiveText, KeptView};
 use xa_shelf::TextReader;
-use xa_value::{Items, OrMemory, Shared};
+use xa_value::Items;
 
-/// The document as references may resolve to it.
-fn active_document(document: Shared<Parsed>) -> Result<Active, AllocError>
-    ensures { IfOk result (λ active. active ≡ active_document document) }
+/// The document as references may resolve to it, by the key under which it is kept.
+fn active_by_key(active: ActiveText) -> Active
+    ensures { result ≡ active_by_key active }
 {
-    let parsed = document.get();
-    Ok(Active {
-        kind: parsed.kind(),
-        id: parsed.id().clone()?,
-        version: *parsed.version(),
-        document,
-    })
-}
-
-/// The document that the text is, if it is one. Where the reader's limit is reached, it is answered as if memory were wanting.
-fn active_if(reader: &mut TextReader<'_>, text: &[u8]) -> Result<Option<Active>, AllocError>
-    ensures { IfOk result (λ active. active ≡ active_if (document_of text.now)) }
-{
-    match reader.read(text) {
-        Ok(document) => Ok(Some(active_document(document)?)),
-        Err(OrMemory::Error(_)) => Ok(None),
-        Err(OrMemory::Memory) => Err(AllocError),
+    let ActiveText { key, text } = active;
+    let DocumentKey { kind, id, version } = key;
+    Active {
+        kind,
+        id,
+        version,
+        text,
     }
 }
 
 /// The documents of the texts, in order.
-fn active_documents(
-    alloc: Global,
-    reader: &mut TextReader<'_>,
-    texts: &[Items<u8>],
-) -> Result<Items<Active>, AllocError>
-    ensures { IfOk result (λ active. active ≡ filter_map (λ text. active_if (document_of text)) texts.now) }
+fn all_active(alloc: Global, texts: Items<ActiveText>) -> Result<Items<Active>, AllocError>
+    ensures { IfOk result (λ active. active ≡ map active_by_key texts) }
 {
-    let mut documents = Items::new(alloc);
-    for text in texts {
-        if let Some(document) = active_if(reader, text.as_slice())? {
-            documents.push(document)?;
-        }
+    let mut active = Items::new(alloc);
+    for one in texts.into_vec() {
+        active.push(active_by_key(one))?;
     }
-    Ok(documents)
+    Ok(active)
 }
 
-/// What decides by these texts: each is looked up on the shelf, or read as it was when it was uploaded. What this costs grows with the texts.
-fn view_of_texts(
-    alloc: Global,
-    reader: &mut TextReader<'_>,
-    texts: &[Items<u8>],
-    root: &Option<Reference>,
-    source: Items<SourceRow>,
-) -> Result<View, AllocError>
-    ensures { IfOk result (λ view. view ≡ view_by (filter_map (λ text. active_if (document_of text)) texts.now) root.now source) }
-{
-    let active = active_documents(alloc, reader, texts)?;
-    View::new(alloc, active.as_slice(), root, source)
-}
-
-/// What decides. Without a root no text is looked at.
+/// What decides. A text is read where the root leads to it, by the keys under which the texts are kept, and no other is looked at. What this costs grows with the
+/// number of the texts, and with those that are read.
 pub(crate) fn view_of_kept(
     alloc: Global,
     reader: &mut TextReader<'_>,
     kept: KeptView,
 ) -> Result<View, AllocError>
-    ensures { IfOk result (λ view. view ≡ viewed kept) }
+    ensures { AreKeyed kept.texts → IfOk result (λ view. view ≡ viewed kept) }
 {
     let KeptView {
         texts,
         root,
         source,
     } = kept;
-    match &root {
-        Some(_) => view_of_texts(alloc, reader, texts.as_slice(), &root, source),
-        None => View::new(alloc, &[], &None, source),
-    }
+    let active = all_active(alloc, texts)?;
+    View::new(alloc, reader, active.as_slice(), &root, source)
 }

@@ -13,17 +13,15 @@ use xa_decide::View;
 /// The most views that are kept.
 const MAX_VIEWS: usize = 128;
 
-/// The most bytes that they take together, by their estimates: 256 MiB.
-const MAX_BYTES: usize = 268_435_456;
-
-/// The most bytes that one of them takes: a quarter of all.
-const MAX_VIEW_BYTES: usize = 67_108_864;
+/// The most bytes that they take together, by their estimates, where nothing else is said: 256 MiB.
+const BYTES: usize = 268_435_456;
 
 /// Views that are kept ready, each under its domain's number. The map would hold any number of them: how many stay is said here.
 #[derive(Drop)]
 pub(crate) struct Views {
     ready: LruCache<u64, Ready>,
     most: usize,
+    bytes: usize,
 }
 
 impl Model for Views {
@@ -36,32 +34,51 @@ impl Model for Views {
 
     ghost coded = { Prim.hlevel (codes, entry.the_row.coded) };
 
-    ghost view = { λ v. record { views = v.ready.entries; most = v.most } };
+    ghost view = { λ v. record { views = v.ready.entries; most = v.most; bytes = v.bytes } };
 
     ghost invariant = { λ v. v.ready.cap ≡ 2 ^ 64 - 1 };
 }
 
 impl Views {
-    /// No views, and room for 128.
+    /// No views, and room for 128, of 256 MiB together.
     pub(crate) fn new(alloc: Global) -> Result<Views, AllocError>
-        ensures { IfOk result (λ views. views ≡ record { views = []; most = 128 }) }
+        ensures { IfOk result (λ views. views ≡ record { views = []; most = 128; bytes = 268_435_456 }) }
     {
         Ok(Views {
             ready: LruCache::unbounded(alloc)?,
             most: MAX_VIEWS,
+            bytes: BYTES,
         })
     }
 
     /// No views, and room for so many, or for 128, whichever is less.
     pub(crate) fn with_room_for(self, most: usize) -> Views
-        ensures { result ≡ record { views = []; most = min most 128 } }
+        ensures { result ≡ record { views = []; most = min most 128; bytes = self.bytes } }
     {
-        let Views { mut ready, most: _ } = self;
+        let Views {
+            mut ready,
+            most: _,
+            bytes,
+        } = self;
         ready.clear();
         Views {
             ready,
             most: cmp::min(most, MAX_VIEWS),
+            bytes,
         }
+    }
+
+    /// No views, and room for so many bytes.
+    pub(crate) fn with_room_of(self, bytes: usize) -> Views
+        ensures { result ≡ record { views = []; most = self.most; bytes = bytes } }
+    {
+        let Views {
+            mut ready,
+            most,
+            bytes: _,
+        } = self;
+        ready.clear();
+        Views { ready, most, bytes }
     }
 
     /// For how many views there is room.
@@ -94,9 +111,9 @@ impl Views {
     pub(crate) fn keep(&mut self, number: u64, ready: Ready) -> bool
         ensures kept { result ≡ true → self.new ≡ with_view number ready self.old }
         ensures left { result ≡ false → self.new ≡ without number self.old }
-        ensures too_large { nat_le ready.bytes 67_108_864 ≡ false → result ≡ false }
+        ensures too_large { nat_le ready.bytes self.old.bytes ≡ false → result ≡ false }
     {
-        if self.most == 0 || ready.bytes > MAX_VIEW_BYTES {
+        if self.most == 0 || ready.bytes > self.bytes {
             self.ready.pop(&number);
             return false;
         }
@@ -104,7 +121,7 @@ impl Views {
             self.ready.pop(&number);
             return false;
         }
-        shorten(&mut self.ready, self.most);
+        shorten(&mut self.ready, self.most, self.bytes);
         true
     }
 }
@@ -124,27 +141,27 @@ fn put(views: &mut LruCache<u64, Ready>, number: u64, ready: Ready) -> bool
 }
 
 /// How many of the views that were used last find room.
-fn fitting(views: &LruCache<u64, Ready>, most: usize) -> usize
-    ensures { result ≡ fitting most 268_435_456 views.now.entries }
+fn fitting(views: &LruCache<u64, Ready>, most: usize, bytes: usize) -> usize
+    ensures { result ≡ fitting most bytes views.now.entries }
 {
     let mut count = 0usize;
-    let mut bytes = MAX_BYTES;
+    let mut left = bytes;
     for (_, ready) in views.iter() {
-        if count >= most || ready.bytes > bytes {
+        if count >= most || ready.bytes > left {
             return count;
         }
-        bytes -= ready.bytes;
+        left -= ready.bytes;
         count += 1;
     }
     count
 }
 
 /// Lets the views go that find no room.
-fn shorten(views: &mut LruCache<u64, Ready>, most: usize)
+fn shorten(views: &mut LruCache<u64, Ready>, most: usize, bytes: usize)
     ensures cap { views.new.cap ≡ views.old.cap }
-    ensures entries { views.new.entries ≡ shortened most views.old.entries }
+    ensures entries { views.new.entries ≡ shortened most bytes views.old.entries }
 {
-    let count = fitting(views, most);
+    let count = fitting(views, most, bytes);
     while views.len() > count {
         views.pop_lru();
     }

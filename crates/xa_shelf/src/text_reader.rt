@@ -56,6 +56,13 @@ impl<'a> TextReader<'a> {
         self.shelf.get_or_read(text)
     }
 
+    /// How many bytes may yet be asked for.
+    pub fn left(&self) -> u64
+        ensures { result ≡ self.now.left }
+    {
+        self.left
+    }
+
     /// Whether more bytes were asked for than there were left.
     pub fn is_spent(&self) -> bool
         ensures { result ≡ self.now.is_spent }

@@ -26,9 +26,9 @@ use Rattle.xa_policy.specs.DocumentKey.{compare_keys}
 use Rattle.xa_policy.specs.Version.{read_version, version_text}
 use Rattle.xa_records.specs.declared.listed.Listed.{Listed}
 use Rattle.xa_records.specs.DomainState.{StoredDocument}
-use Rattle.xa_records.specs.Readings.{active_texts, listed_of, listing_of_state, text_in}
+use Rattle.xa_records.specs.Readings.{active_text, active_texts, listed_of, listing_of_state, text_in}
 use Rattle.xa_records.proofs.OrderLemmas.{keys_total, keys_exact}
-use Rattle.xa_store.specs.declared.active_text.ActiveText.{ActiveText}
+use Rattle.xa_records.specs.declared.active_text.ActiveText.{ActiveText}
 use Rattle.xa_store.specs.declared.document_found.DocumentFound.{DocumentFound}
 use Rattle.xa_store.specs.Found.{FindsDocument, found_of}
 use Rattle.xa_store.specs.Rows.{DocumentRow, document_row, document_in, bit, given as given_by, kind_number, version_in}
@@ -169,16 +169,15 @@ module _ (db : Trees) (number : ℤ) (ours : AreTables db) where
   is_active d = d.active
 
   pub texts_are : (items out : List ActiveText) → IsPermutation (map text_row (filter is_active mine)) items → IsPermutation items out → IsSorted (on (λ (a : ActiveText). a.key) compare_keys) out
-      → map (λ (a : ActiveText). a.text) out ≡ active_texts (state_at (rows_of db) number)
+      → out ≡ active_texts (state_at (rows_of db) number)
   texts_are items out told same sorted =
       let kept = filter is_active ordered in
       let is = in_order_is (λ a. a.key) (on_total (λ (a : ActiveText). a.key) keys_total) text_row kept (ascending-filter _ is_active ordered rising) items out
       (IsPermutation-trans (map text_row kept) (map text_row (filter is_active mine)) items
       (IsPermutation-map text_row kept (filter is_active mine) (IsPermutation-filter is_active ordered mine (IsPermutation-sort_by by_document_key document_order mine))) told) same sorted in
-      ap (map (λ (a : ActiveText). a.text)) is ∙ map-map (λ (a : ActiveText). a.text) text_row kept
-      ∙ sym (ap (λ es. map (λ (d : StoredDocument). d.text) (filter (λ d. d.active) (map (λ (e : DocumentKey × StoredDocument). e.1) es))) entries_are
-      ∙ ap (λ ds. map (λ (d : StoredDocument). d.text) (filter (λ d. d.active) ds)) (map-map (λ (e : DocumentKey × StoredDocument). e.1) document_entry ordered)
-      ∙ ap (map (λ (d : StoredDocument). d.text)) (filter-map (λ (d : StoredDocument). d.active) stored_of ordered) ∙ map-map (λ (d : StoredDocument). d.text) stored_of kept)
+      is
+      ∙ sym (ap (λ es. map active_text (filter (λ (e : DocumentKey × StoredDocument). e.1.active) es)) entries_are
+      ∙ ap (map active_text) (filter-map (λ (e : DocumentKey × StoredDocument). e.1.active) document_entry ordered) ∙ map-map active_text document_entry kept)
 
 -- ---- what the queries tell
 

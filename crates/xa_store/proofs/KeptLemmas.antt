@@ -6,9 +6,11 @@ use Rattle.xa_policy.specs.declared.document_key.DocumentKey.{DocumentKey}
 use Rattle.xa_policy.specs.DocumentKey.{compare_keys}
 use Rattle.xa_records.specs.DomainState.{IsDocumentOf, StoredDocument}
 use Rattle.xa_records.specs.Kept.{Domain}
+use Rattle.xa_records.specs.Keyed.{KeepsDocuments}
+use Rattle.xa_records.proofs.KeyedLemmas.{key_is}
 use Rattle.xa_records.proofs.OrderLemmas.{keys_exact, keys_total}
 use Rattle.xa_store.specs.Rows.{DomainRow, DocumentRow}
-use Rattle.xa_store.specs.Sound.{AreDocuments, KeepsDocuments}
+use Rattle.xa_store.specs.Sound.{AreDocuments}
 use Rattle.xa_store.specs.Steps.{is_named}
 use Rattle.xa_store.specs.World.{Rows, documents_at, domain_of, kept_of, state_at}
 use Rattle.xa_store.proofs.ChangeLemmas.{found_all, kept_at}
@@ -49,4 +51,5 @@ module _ (rows : Rows) (all : AreDocuments rows.documents) (key : DocumentKey) (
       in_domain d (subst (λ (x : Domain). get x.state.documents key ≡ Some document) (sym same) here)
 
 pub keeps_documents : (rows : Rows) → AreDocuments rows.documents → KeepsDocuments (kept_of rows)
-keeps_documents rows all name domain there key document here = named rows all key document domain (find (is_named name) rows.domains) (sym (kept_at rows name) ∙ there) here
+keeps_documents rows all name domain there key document here =
+    key_is key document.text (named rows all key document domain (find (is_named name) rows.domains) (sym (kept_at rows name) ∙ there) here)

@@ -9,6 +9,7 @@ use Rattle.xa_records.specs.declared.gate.Token.{Token}
 use Rattle.xa_records.specs.declared.kept_view.KeptView.{KeptView}
 use Rattle.xa_records.specs.declared.listed.Listed.{Listed}
 use Rattle.xa_records.specs.Kept.{Domain, state_of}
+use Rattle.xa_records.specs.declared.active_text.ActiveText.{ActiveText}
 use Rattle.xa_records.specs.Readings.{active_texts, gate_of, gate_of_domain, listing_of, listing_of_state, text_in, text_of, token_of, view_of, view_of_state}
 use Rattle.xa_store.specs.declared.domain_found.DomainFound.{DomainFound}
 use Rattle.xa_store.specs.Found.{IsDomain, TellsGate}
@@ -59,7 +60,7 @@ module _ (rows : Rows) (name : List ℕ) where
     view_there view told = ap Some told ∙ sym (ap (option_map view_of_state) state_is)
 
 -- the parts of a view, each told of the same rows
-pub view_told : (a b c : Rows) (number : ℤ) → b ≡ a → c ≡ a → (texts : List (List ℕ)) (root : Option Reference) (source : List SourceRow) → texts ≡ active_texts (state_at a number) → root ≡ (state_at b number).root
+pub view_told : (a b c : Rows) (number : ℤ) → b ≡ a → c ≡ a → (texts : List ActiveText) (root : Option Reference) (source : List SourceRow) → texts ≡ active_texts (state_at a number) → root ≡ (state_at b number).root
     → source ≡ (state_at c number).source → ◌≡◌ {A = KeptView} (record { texts = texts; root = root; source = source }) (view_of_state (state_at a number))
 view_told a b c number second third texts root source p q r =
     λ i. record { texts = p i; root = (q ∙ ap (λ (w : Rows). (state_at w number).root) second) i; source = (r ∙ ap (λ (w : Rows). (state_at w number).source) third) i }

@@ -10,7 +10,7 @@ use Rattle.xa_notation.specs.declared.token.Role.{Role}
 use Rattle.xa_decide.specs.declared.source_row.SourceRow.{SourceRow}
 use Rattle.xa_records.specs.declared.gate.Token.{Token}
 use Rattle.xa_records.specs.declared.listed.Listed.{Listed}
-use Rattle.xa_store.specs.declared.active_text.ActiveText.{ActiveText}
+use Rattle.xa_records.specs.declared.active_text.ActiveText.{ActiveText}
 use Rattle.xa_store.specs.declared.document_found.DocumentFound.{DocumentFound}
 use Rattle.xa_store.specs.Rows.{given, is_set, kind_in, role_in, value_in, version_in}
 

@@ -1,6 +1,5 @@
 -- When the tables mean what the keeper says that they do.
 use Rattle.std.specs.Prelude.{◌≡◌, ◌≤◌, ℕ, ℤ, pos, Bool, false, ◌&&◌, true, List, [], ◌∷◌, map, Option, Some, None, Ok, IsTrue}
-use Rattle.std.specs.FinMap.{get}
 use Rattle.std.specs.List.{AllByRecursion}
 use Rattle.std.specs.Ordering.{eq_by_cmp, int_eq}
 use Rattle.std.specs.Str.{is_utf8}
@@ -10,12 +9,11 @@ use Rattle.sqlite.specs.Tree.{Trees}
 use Rattle.sqlite_catalog.specs.Listing.{IsSound}
 use Rattle.sqlite_keyed.specs.Keyed.{IsKeyedBy}
 use Rattle.sqlite_keyed.specs.Rules.{AreApart}
-use Rattle.xa_policy.specs.declared.document_key.DocumentKey.{DocumentKey}
 use Rattle.xa_policy.specs.DocumentKey.{compare_keys}
 use Rattle.xa_decide.specs.declared.source_row.SourceRow.{SourceRow}
 use Rattle.xa_records.specs.DomainName.{is_domain_name}
-use Rattle.xa_records.specs.DomainState.{IsDocumentOf, StoredDocument, compare_bytes, new_domain}
-use Rattle.xa_records.specs.Kept.{Domain, IsNumbered, Kept}
+use Rattle.xa_records.specs.DomainState.{IsDocumentOf, compare_bytes, new_domain}
+use Rattle.xa_records.specs.Kept.{IsNumbered, Kept}
 use Rattle.xa_store.specs.Opened.{Place, count_from, holds_value, is_count, is_digest, is_given, is_pattern, is_version, opened, places_of}
 use Rattle.xa_store.specs.Rows.{DomainRow, TokenRow, DocumentRow, RootRow, AttributeRow, meta_row, next_in, domain_row, domain_in, token_row, token_in, document_row, document_in, root_row, root_in, attribute_row, attribute_in, text_at, type_number, value_text}
 use Rattle.xa_store.specs.Tables.{our_schema}
@@ -62,11 +60,6 @@ pub record AreNumbered (rows : Rows) : Type 0 where
 -- each text is a document of the key under which it is kept
 abbrev pub AreDocuments : List DocumentRow → Type 0
 AreDocuments = AllByRecursion (λ d. IsDocumentOf d.key d.text)
-
--- of all domains
-abbrev pub KeepsDocuments : Kept → Type 0
-KeepsDocuments kept =
-    (name : List ℕ) (domain : Domain) → get kept.domains name ≡ Some domain → (key : DocumentKey) (document : StoredDocument) → get domain.state.documents key ≡ Some document → IsDocumentOf key document.text
 
 -- ---- what the columns hold
 

@@ -1,5 +1,5 @@
 //! The documents of a domain.
-ghost use Rattle.std.specs.Prelude.{◌≡◌, [], ◌∷◌, map, IsTrue, IfOk, OnOk};
+ghost use Rattle.std.specs.Prelude.{◌≡◌, [], ◌∷◌, IsTrue, IfOk, OnOk};
 ghost use Rattle.std.specs.List.Sorted.{IsPermutation, IsSorted};
 ghost use Rattle.std.specs.Ordering.{on};
 ghost use Rattle.sqlite.specs.Held.{state};
@@ -16,7 +16,6 @@ ghost use Rattle.xa_store.specs.Sound.{Ours};
 ghost use Rattle.xa_store.specs.Texts.{document_shown};
 ghost use Rattle.xa_store.specs.World.{rows_of, state_at};
 
-use crate::active_text::ActiveText;
 use crate::document_found::DocumentFound;
 use crate::shown::{kind_column, shown};
 use crate::told::{all_told, one_told};
@@ -24,7 +23,7 @@ use sqlite::types::ValueRef;
 use sqlite::{Alter, Connection, Row};
 use std::alloc::Global;
 use xa_policy::DocumentKey;
-use xa_records::{Failure, Listed};
+use xa_records::{ActiveText, Failure, Listed};
 use xa_value::{Items, Text};
 
 /// What has a document's key.
@@ -61,17 +60,6 @@ fn in_order<T: Keyed>(items: Items<T>) -> Vec<T>
     let mut items = items.into_vec();
     items.sort_unstable_by(|one, other| one.key().cmp(other.key()));
     items
-}
-
-/// The texts alone, in the same order.
-fn texts_alone(alloc: Global, active: Vec<ActiveText>) -> Result<Items<Items<u8>>, Failure>
-    ensures { IfOk result (λ texts. texts ≡ map (λ one. one.text) active.items) }
-{
-    let mut texts = Items::new(alloc);
-    for one in active {
-        texts.push(one.text)?;
-    }
-    Ok(texts)
 }
 
 /// The row of the document of that key, whose kind and version stand beside it as columns hold them.
@@ -147,7 +135,7 @@ pub(crate) fn active_texts_of<S: Alter>(
     conn: &mut Connection<S>,
     alloc: Global,
     number: i64,
-) -> Result<Items<Items<u8>>, Failure>
+) -> Result<Items<ActiveText>, Failure>
     ensures quiet { Quiet (state S.Store conn.old) (state S.Store conn.new) }
     ensures opens { HasCleanDisk (state S.Store conn.new) → OnOk result (IsTrue (state S.Store conn.new).is_open) }
     ensures reads { HasCleanDisk (state S.Store conn.new) → Ours (state S.Store conn.old) → IfOk result (λ texts. texts ≡ active_texts (state_at (rows_of (state S.Store conn.old).now.trees) number)) }
@@ -158,5 +146,5 @@ pub(crate) fn active_texts_of<S: Alter>(
         &[ValueRef::Int(number)],
     )?;
     let active = all_told::<ActiveText>(alloc, rows)?;
-    texts_alone(alloc, in_order(active))
+    Ok(Items::from_vec(in_order(active)))
 }

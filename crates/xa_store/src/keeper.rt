@@ -2,9 +2,8 @@
 ghost use Rattle.std.specs.Prelude.{◌≡◌, true, Ok, IsTrue};
 ghost use Rattle.sqlite.specs.Held.{state};
 ghost use Rattle.xa_store.specs.Keeper.{IsSound};
-ghost use Rattle.xa_store.specs.KeeperReading.{kept_by};
 ghost use Rattle.xa_store.specs.Opened.{opened};
-ghost use Rattle.xa_store.specs.Sound.{KeepsDocuments, Ours};
+ghost use Rattle.xa_store.specs.Sound.{Ours};
 
 mod reading;
 mod records;
@@ -53,11 +52,6 @@ impl<S: Alter> SqlRecords<S> {
     {
         self.ours
     }
-
-    /// Law: each text that a sound keeper holds is a document of its key.
-    pub fn keeps_documents(&self)
-        ensures { IsSound S.Store self.now → KeepsDocuments (kept_by S.Store self.now) }
-    {}
 
     /// Law: the tables of a sound keeper open again.
     pub fn opens_again(&self)

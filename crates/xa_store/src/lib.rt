@@ -1,7 +1,6 @@
 //! A keeper of domains over the tables of a database.
 #![tactic(auto)]
 
-mod active_text;
 mod ask;
 mod changes;
 mod counts;
@@ -10,6 +9,7 @@ mod documents;
 mod domain_found;
 mod failure;
 mod keeper;
+mod keyed_rows;
 mod names;
 mod next_number;
 mod open_error;

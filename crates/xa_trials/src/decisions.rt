@@ -9,6 +9,7 @@ use std::alloc::Global;
 use xa_decide::{SourceRow, View};
 use xa_link::Active;
 use xa_policy::Reference;
+use xa_shelf::{Shelf, TextReader};
 use xa_value::{Items, Moment};
 
 /// What decides on a row's request, and when.
@@ -69,7 +70,9 @@ pub fn decision(answer: &mut Answer, fields: &[&str]) -> Result<(), NoAnswer> {
         source,
         moment,
     } = case_of(alloc, fields)?;
-    let view = View::new(alloc, active.as_slice(), &root, source)?;
+    let mut shelf = Shelf::new(alloc)?;
+    let mut reader = TextReader::new(&mut shelf, u64::MAX);
+    let view = View::new(alloc, &mut reader, active.as_slice(), &root, source)?;
     match xa_decide::answer(alloc, &view, &bytes_of(alloc, body)?, moment)? {
         Some(body) => answer.field("", &body),
         None => answer.word("!NotJson"),

@@ -6,7 +6,7 @@ use std::alloc::Global;
 use xa_link::Active;
 use xa_notation::Parsed;
 use xa_policy::DocumentKind;
-use xa_value::Shared;
+use xa_value::Items;
 
 /// What the text is read as: its kind, its id and its version.
 pub fn document(answer: &mut Answer, field: &str) -> Result<(), NoAnswer> {
@@ -31,13 +31,14 @@ fn show(answer: &mut Answer, parsed: &Parsed) -> Result<(), NoAnswer> {
 
 /// The active document of the field.
 pub fn active_of(alloc: Global, field: &str) -> Result<Active, NoAnswer> {
-    let Ok(parsed) = Parsed::read(alloc, &bytes_of(alloc, field)?) else {
+    let text = bytes_of(alloc, field)?;
+    let Ok(parsed) = Parsed::read(alloc, &text) else {
         return Err(NoAnswer::Malformed);
     };
     Ok(Active {
         kind: parsed.kind(),
         id: parsed.id().clone()?,
         version: *parsed.version(),
-        document: Shared::new(alloc, parsed)?,
+        text: Items::from_vec(text),
     })
 }

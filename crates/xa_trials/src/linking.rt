@@ -4,12 +4,16 @@ use crate::no_answer::NoAnswer;
 use crate::references::{documents_of, reference_of};
 use xa_link::link;
 use xa_policy::Linked;
+use xa_shelf::{Shelf, TextReader};
 
 /// The tree that the reference leads to among the active documents of these texts.
 pub fn tree(answer: &mut Answer, root: &str, texts: &[&str]) -> Result<(), NoAnswer> {
-    let root = reference_of(answer.alloc(), root)?;
-    let documents = documents_of(answer.alloc(), texts)?;
-    if let Some(tree) = answer.success(link(answer.alloc(), &documents, &root)) {
+    let alloc = answer.alloc();
+    let root = reference_of(alloc, root)?;
+    let documents = documents_of(alloc, texts)?;
+    let mut shelf = Shelf::new(alloc)?;
+    let mut reader = TextReader::new(&mut shelf, u64::MAX);
+    if let Some(tree) = answer.success(link(alloc, &mut reader, &documents, &root)) {
         show(answer, &tree);
     }
     Ok(())

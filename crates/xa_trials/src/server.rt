@@ -1,6 +1,6 @@
 //! Rows of messages: what a server answers to a stream, on a connection of a front. First come `made:BYTES`, messages that have to succeed and aren't answered,
 //! `views:COUNT`, for how many views the server has room, where that isn't 128, `limit:UNITS`, which limits the work for each message, `reply:BYTES`, which
-//! limits the body of each response, and `reading:BYTES`, which limits the texts that are read for each message. An event is `moment:SECONDS`, which dates what follows, `piece:BYTES`, the next piece of the stream, `close:`, after which the stream is another, `restart:`, after which
+//! limits the body of each response, and `reading:BYTES`, which limits the texts that are read for each message, and `room:BYTES`, how many bytes the views that are kept may take. An event is `moment:SECONDS`, which dates what follows, `piece:BYTES`, the next piece of the stream, `close:`, after which the stream is another, `restart:`, after which
 //! the server is another, too, over the keeper that the one before gave back, or `readings:`, `evaluations:` and `unkept:`, which ask how often the server has done
 //! that, and after which the stream is another.
 use crate::answer::Answer;
@@ -86,7 +86,10 @@ fn make<R: Records + Drop>(
 
 /// Whether what the word says is done before the first event.
 fn is_of_setup(word: &str) -> bool {
-    matches!(word, "views" | "made" | "limit" | "reply" | "reading")
+    matches!(
+        word,
+        "views" | "made" | "limit" | "reply" | "reading" | "room"
+    )
 }
 
 /// A server over the keeper, as the fields before the first event make it.
@@ -103,6 +106,7 @@ pub fn server_made<R: Records + Drop>(
             "limit" => server = server.with_limit(number_of(text)?),
             "reply" => server = server.with_reply_limit(number_of(text)?),
             "reading" => server = server.with_reading(number_of(text)?),
+            "room" => server = server.with_room(number_of(text)?),
             "made" => make(answer, &mut server, text)?,
             _ => return Ok(server),
         }

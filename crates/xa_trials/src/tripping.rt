@@ -306,6 +306,10 @@ impl<R: Records> Records for Tripping<R> {
         done
     }
 
+    fn keeps_documents(&self) {
+        self.inner.keeps_documents();
+    }
+
     ghost numbered = { λ t. R.numbered t.inner };
 
     ghost settled = { λ t. R.settled t.inner };

@@ -1,10 +1,11 @@
 //! The documents of a domain, in memory.
 ghost use Rattle.std.specs.Prelude.{◌≡◌, ℕ, List, false, map, nat_lt, filter, IfOk, OnOk, OnErr, Some, None, option_map};
-ghost use Rattle.std.specs.FinMap.{contains_key, empty, entries, get, insert, len, remove, values};
+ghost use Rattle.std.specs.FinMap.{contains_key, empty, entries, get, insert, len, remove};
 ghost use Rattle.xa_records.specs.DomainState.{StoredDocument};
 ghost use Rattle.xa_records.specs.Plain.{active_among, with_activity};
 ghost use Rattle.xa_records.specs.Readings.{listed_of};
 
+use crate::active_text::ActiveText;
 use crate::limits::MAX_DOCUMENTS;
 use crate::listed::Listed;
 use std::alloc::{AllocError, Global};
@@ -80,6 +81,16 @@ fn listed_as(key: &DocumentKey, document: &Document) -> Result<Listed, AllocErro
     Ok(Listed {
         key: key.clone()?,
         active: document.is_active(),
+    })
+}
+
+/// A copy of the text of the document of that key.
+fn text_of(alloc: Global, key: &DocumentKey, document: &Document) -> Result<ActiveText, AllocError>
+    ensures { IfOk result (λ active. active ≡ record { key = key.now; text = document.now.text }) }
+{
+    Ok(ActiveText {
+        key: key.clone()?,
+        text: copy_of(alloc, document.text())?,
     })
 }
 
@@ -171,13 +182,13 @@ impl Documents {
     }
 
     /// Copies of the texts of the active documents, in the order of their keys.
-    pub(crate) fn active_texts(&self, alloc: Global) -> Result<Items<Items<u8>>, AllocError>
-        ensures { IfOk result (λ texts. texts ≡ active_among (values self.now)) }
+    pub(crate) fn active_texts(&self, alloc: Global) -> Result<Items<ActiveText>, AllocError>
+        ensures { IfOk result (λ texts. texts ≡ active_among (entries self.now)) }
     {
         let mut texts = Vec::new(alloc);
-        for document in self.documents.values() {
+        for (key, document) in self.documents.iter() {
             if document.is_active() {
-                texts.push(copy_of(alloc, document.text())?)?;
+                texts.push(text_of(alloc, key, document)?)?;
             }
         }
         Ok(Items::from_vec(texts))

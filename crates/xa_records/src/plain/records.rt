@@ -5,8 +5,10 @@ ghost use Rattle.xa_records.specs.declared.refusal.Failure.TheVariants.{Store};
 ghost use Rattle.xa_records.specs.Changes.{activity_set, created, deleted, removed, root_set, source_set, token_dropped, token_put, upload_of, uploaded, within};
 ghost use Rattle.xa_records.specs.Keeper.{Changing, Reading, in_memory};
 ghost use Rattle.xa_records.specs.Kept.{CantRaise, IsGreatest, IsNumbered, names_of, nothing_kept, one_kept, state_of};
+ghost use Rattle.xa_records.specs.Keyed.{KeepsDocuments};
 ghost use Rattle.xa_records.specs.Readings.{gate_of, listing_of, text_of, view_of};
 ghost use Rattle.std.proofs.Props.{props};
+ghost use Rattle.xa_policy.specs.contracts.document_key.DocumentKey as key;
 
 use crate::digest::Digest;
 use crate::gate::Gate;
@@ -28,6 +30,7 @@ pub struct PlainRecords {
     domains: Domains,
     faults: u64,
     pub ghost numbered: { IsNumbered domains } by { Prim.hlevel props },
+    pub ghost documented: { KeepsDocuments domains } by { Prim.hlevel (props, key.the_row.coded) },
 }
 
 impl PlainRecords {
@@ -235,6 +238,8 @@ impl Records for PlainRecords {
         count_failure(&mut self.faults, &done);
         done
     }
+
+    fn keeps_documents(&self) {}
 
     ghost numbered = { λ r _. r.numbered };
 

@@ -18,6 +18,8 @@ impl<S: Alter> Records for SqlRecords<S> {
 
     ghost settled = { λ r is left leaves. leaves.2 (is.1.settled leaves.0 leaves.1).0 ∙ (is.1.settled leaves.0 leaves.1).1 };
 
+    fn keeps_documents(&self) {}
+
     fn faults(&self) -> u64 {
         self.faults
     }

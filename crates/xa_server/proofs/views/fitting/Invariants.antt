@@ -8,4 +8,4 @@ invariant-loop-ready l =
     (goal.iterator-loop-ready).can_next l.ready-iterator ×
     (goal.iterator-loop-ready).is_finite l.ready-iterator ×
     (l.count ≤ l.most) ×
-    (l.count + fitting (l.most - l.count) l.bytes l.ready-iterator ≡ fitting l.most 268_435_456 l.views.entries)
+    (l.count + fitting (l.most - l.count) l.left l.ready-iterator ≡ fitting l.most l.bytes l.views.entries)

@@ -1,7 +1,7 @@
 use Rattle.std.proofs.Common.{◌≡◌, ◌++◌}
-use Rattle.std.specs.FinMap.{values}
+use Rattle.std.specs.FinMap.{entries}
 use Rattle.xa_records.specs.Plain.{active_among}
 use Rattle.xa_records.proofs.plain.documents.Documents.active_texts.Given as goal
 
-abbrev pub invariant-loop-document : goal.invariant-loop-document
-invariant-loop-document l = l.texts.items ++ active_among l.document-iterator ≡ active_among (values l.self)
+abbrev pub invariant-loop-key : goal.invariant-loop-key
+invariant-loop-key l = l.texts.items ++ active_among l.key-iterator ≡ active_among (entries l.self)

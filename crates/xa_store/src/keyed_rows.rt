@@ -1,4 +1,4 @@
-//! The text of an active document.
+//! What rows tell that begin with a document's key.
 ghost use Rattle.std.specs.Prelude.{◌≡◌, IfOk};
 ghost use Rattle.xa_store.specs.Shown.{key_told, listed_told, text_told};
 
@@ -7,17 +7,7 @@ use crate::told::Told;
 use sqlite::Row;
 use std::alloc::Global;
 use xa_policy::DocumentKey;
-use xa_records::{Failure, Listed};
-use xa_value::Items;
-
-/// The text of an active document, with its key.
-#[derive(Debug, Drop)]
-pub(crate) struct ActiveText {
-    /// The document's key.
-    pub key: DocumentKey,
-    /// Its text.
-    pub text: Items<u8>,
-}
+use xa_records::{ActiveText, Failure, Listed};
 
 /// The key that a row begins with.
 fn key_in(row: &Row) -> Result<DocumentKey, Failure>
