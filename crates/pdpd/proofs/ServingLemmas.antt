@@ -25,7 +25,7 @@ use Rattle.xa_server.proofs.IsolationLemmas.{isolated}
 use Rattle.pdpd.specs.Connections.{AreIsolated, IsConnectionServed}
 use Rattle.pdpd.specs.declared.fault.Fault.{Fault}
 use Rattle.pdpd.specs.declared.fault.Fault.TheVariants as variant
-use Rattle.pdpd.specs.declared.fault.Fault.TheVariants.{Address, Work, Reading, Views, Idle, TokenUnread, TokenBad, Store, Socket, Connection, Clock, Output, Memory}
+use Rattle.pdpd.specs.declared.fault.Fault.TheVariants.{Address, Work, Reading, Views, Idle, TokenUnread, TokenBad, Store, Shut, Socket, Connection, Clock, Output, Memory}
 use Rattle.pdpd.specs.Fault.{IsNoAddress, IsOfConnections, IsOfFiles, IsOfServing, IsOfSetting, IsOfStore, IsOfToken, fault_of_end}
 use Rattle.pdpd.specs.Serving.{Serves, ServesOne}
 use Rattle.pdpd.specs.Token.{IsOperator}
@@ -214,6 +214,7 @@ token_not_address (Store fault) none = absurd none
 token_not_address Socket none = absurd none
 token_not_address Connection none = absurd none
 token_not_address Clock none = absurd none
+token_not_address Shut none = absurd none
 token_not_address Output none = absurd none
 
 pub store_not_address : (fault : Fault) → IsOfStore fault → fault ≢ Address
@@ -230,6 +231,7 @@ store_not_address Idle none = absurd none
 store_not_address Socket none = absurd none
 store_not_address Connection none = absurd none
 store_not_address Clock none = absurd none
+store_not_address Shut none = absurd none
 store_not_address Output none = absurd none
 
 pub files_not_address : (fault : Fault) → IsOfFiles fault → fault ≢ Address
@@ -240,6 +242,7 @@ pub connections_are_served : (result : Result (Unit {0}) Fault) → IfErr result
 connections_are_served (Ok done) is = tt
 connections_are_served (Err Connection) is = tt
 connections_are_served (Err Clock) is = tt
+connections_are_served (Err Shut) is = tt
 connections_are_served (Err Memory) is = tt
 connections_are_served (Err Address) none = absurd none
 connections_are_served (Err Work) none = absurd none
@@ -257,6 +260,7 @@ serving_not_address Socket is = λ same. cc
 serving_not_address Output is = λ same. cc
 serving_not_address Connection is = λ same. cc
 serving_not_address Clock is = λ same. cc
+serving_not_address Shut is = λ same. cc
 serving_not_address Memory is = λ same. cc
 serving_not_address (Store fault) none = absurd none
 serving_not_address TokenUnread none = absurd none

@@ -10,7 +10,7 @@ use Rattle.xa_server.specs.declared.driven.Driven.TheVariants as driven
 use Rattle.pdpd.specs.declared.exit.Exit.{Exit}
 use Rattle.pdpd.specs.declared.exit.Exit.TheVariants as exit
 use Rattle.pdpd.specs.declared.fault.Fault.{Fault}
-use Rattle.pdpd.specs.declared.fault.Fault.TheVariants.{Address, Work, Reply, Reading, Views, Idle, TokenUnread, TokenBad, Store, Socket, Connection, Clock, Output, Memory}
+use Rattle.pdpd.specs.declared.fault.Fault.TheVariants.{Address, Work, Reply, Reading, Views, Idle, TokenUnread, TokenBad, Store, Shut, Socket, Connection, Clock, Output, Memory}
 
 -- how the program ends
 abbrev pub exit_of_fault : Fault → Exit
@@ -23,6 +23,7 @@ exit_of_fault Idle = exit.Usage
 exit_of_fault TokenUnread = exit.Usage
 exit_of_fault TokenBad = exit.Usage
 exit_of_fault (Store _) = exit.Store
+exit_of_fault Shut = exit.Store
 exit_of_fault Socket = exit.Socket
 exit_of_fault Connection = exit.Socket
 exit_of_fault Clock = exit.Socket
@@ -52,6 +53,7 @@ IsOfFiles fault = IsOfToken fault ⊎ IsOfStore fault
 abbrev pub IsOfConnections : Fault → Type 0
 IsOfConnections Connection = ⊤
 IsOfConnections Clock = ⊤
+IsOfConnections Shut = ⊤
 IsOfConnections Memory = ⊤
 IsOfConnections _ = ⊥
 
@@ -61,6 +63,7 @@ IsOfServing Socket = ⊤
 IsOfServing Output = ⊤
 IsOfServing Connection = ⊤
 IsOfServing Clock = ⊤
+IsOfServing Shut = ⊤
 IsOfServing Memory = ⊤
 IsOfServing _ = ⊥
 
@@ -78,6 +81,7 @@ IsNoAddress text = (address : SocketAddr) → ¬ (IsSocketText text address)
 abbrev pub fault_of_end : Driven → Option Fault
 fault_of_end driven.NoClock = Some Clock
 fault_of_end driven.Memory = Some Memory
+fault_of_end driven.Shut = Some Shut
 fault_of_end _ = None
 
 -- whether the next connection may be taken after one that couldn't be: its peer or the network failed, not the listener

@@ -80,8 +80,10 @@ pub enum Fault {
     TokenUnread,
     /// Its first line is no token.
     TokenBad,
-    /// The store can't be opened.
+    /// The store can't be opened, or closed.
     Store(StoreFault),
+    /// A message was refused for want of storage, and the store can't go on.
+    Shut,
     /// No connections can be taken at the address.
     Socket,
     /// Taking a connection failed.
@@ -109,7 +111,7 @@ impl Fault {
             | Fault::Idle
             | Fault::TokenUnread
             | Fault::TokenBad => Exit::Usage,
-            Fault::Store(_) => Exit::Store,
+            Fault::Store(_) | Fault::Shut => Exit::Store,
             Fault::Socket | Fault::Connection | Fault::Clock => Exit::Socket,
             Fault::Output => Exit::Failed,
             Fault::Memory => Exit::Memory,
@@ -131,6 +133,8 @@ impl Fault {
                 "can't be read; its first line is to be the operator's token (8 to 64 visible ASCII characters)",
             Fault::TokenBad => "its first line is no token (8 to 64 visible ASCII characters)",
             Fault::Store(fault) => fault.advice(),
+            Fault::Shut =>
+                "writing or reading it failed, and it can't go on; look after the disk, then start the program again",
             Fault::Socket =>
                 "no connections can be taken there; another program may have the port, or this machine another address",
             Fault::Connection => "taking a connection failed; start the program again",
@@ -144,7 +148,7 @@ impl Fault {
     fn subject<'a>(self, serving: &'a Serving<'_>) -> Option<&'a str> {
         match self {
             Fault::TokenUnread | Fault::TokenBad => Some(serving.token_file.as_str()),
-            Fault::Store(_) => Some(serving.database.as_str()),
+            Fault::Store(_) | Fault::Shut => Some(serving.database.as_str()),
             Fault::Address | Fault::Socket | Fault::Connection => Some(serving.address.as_str()),
             Fault::Work
             | Fault::Reply

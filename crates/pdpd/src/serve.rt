@@ -106,6 +106,7 @@ fn after(driven: Driven) -> Result<(), Fault>
     match driven {
         Driven::NoClock => Err(Fault::Clock),
         Driven::Memory => Err(Fault::Memory),
+        Driven::Shut => Err(Fault::Shut),
         _ => Ok(()),
     }
 }
@@ -132,8 +133,8 @@ fn serve_connection<R: Records, I: Reader, W: Writer, C: Clock>(
 ) -> Result<(), Fault>
     requires { front.old.lines ≡ none_open }
     ensures served { OnOk result ((R.custody front.new.server.records).sound → IsConnectionServed (front_state R.custody front.old) (front_state R.custody front.new)
-        (known None (I.remaining reader.old) (I.reads reader.old) (W.contents writer.old) (W.writes writer.old) (C.told clock.old))
-        (known None (I.remaining reader.new) (I.reads reader.new) (W.contents writer.new) (W.writes writer.new) (C.told clock.new))) }
+        (known None (I.remaining reader.old) (I.reads reader.old) (W.contents writer.old) (W.writes writer.old) (C.told clock.old) None)
+        (known None (I.remaining reader.new) (I.reads reader.new) (W.contents writer.new) (W.writes writer.new) (C.told clock.new) None)) }
     ensures closed { front.new.lines ≡ none_open }
     ensures sound { (R.custody front.new.server.records).sound → (R.custody front.old.server.records).sound }
     ensures err { IfErr result IsOfConnections }

@@ -17,7 +17,7 @@ use Rattle.xa_server.specs.declared.driven.Driven.{Driven}
 use Rattle.xa_server.specs.declared.driven.Driven.TheVariants.{Ended, ReadFault, WriteFault, NoClock, TooManyReads, Memory}
 use Rattle.xa_server.specs.declared.front_error.FrontError.{FrontError}
 use Rattle.xa_server.specs.declared.lines.Conn.{Conn}
-use Rattle.xa_server.specs.Driven.{AreMade, AreSent, AreWritten, HadMemory, HasTold, HaveMemory, HaveRead, IsConnection, IsDriven, IsDrivenWithin, Known, StopsAfter, known}
+use Rattle.xa_server.specs.Driven.{AreMade, AreSent, AreWritten, HadMemory, HasTold, HaveMemory, HaveRead, HaveSaid, IsConnection, IsDriven, IsDrivenWithin, Known, StopsAfter, known}
 use Rattle.xa_server.specs.Driving.{FeedsOne, GoesOn, HasRead, IsHeldAnswered, IsRead, IsTurn, IsWaiting}
 use Rattle.xa_server.specs.Front.{FrontState, ServerState}
 use Rattle.xa_server.specs.Replies.{bytes_of}
@@ -97,11 +97,11 @@ turns_over turns n conn a b x y result held many is =
 
 -- the connection goes on after it
 goes_read : (conn : Conn) (a b : FrontState) (s t : Stream) (found : List Bool) (read : ReadEnd) (x y : Known)
-    → AreMade (record { memory = found; reads = read ∷ []; writes = []; told = [] }) x y → fed s (bytes_read (read ∷ [])) ≡ t
+    → AreMade (record { memory = found; reads = read ∷ []; writes = []; told = []; said = [] }) x y → fed s (bytes_read (read ∷ [])) ≡ t
     → b.server ≡ a.server → b.lines ≡ with_line conn (Some t) a.lines → IsOpen conn a.lines s → IsReadOn read → All HadMemory found
     → GoesOn 1 conn a b s t x y
 goes_read conn a b s t found read x y made comes server lines opens on finds = record {
-  calls = record { memory = found; reads = read ∷ []; writes = []; told = [] };
+  calls = record { memory = found; reads = read ∷ []; writes = []; told = []; said = [] };
   events = [];
   run = [];
   made = made;
@@ -115,17 +115,18 @@ goes_read conn a b s t found read x y made comes server lines opens on finds = r
   told = refl;
   written = refl;
   memory = finds;
+  said = refl;
 }
 
 -- it has ended with it
 ends_read : (driven : Driven) (conn : Conn) (a b : FrontState) (s last : Stream) (found : List Bool) (read : ReadEnd) (x y : Known)
-    → AreMade (record { memory = found; reads = read ∷ []; writes = []; told = [] }) x y → fed s (bytes_read (read ∷ [])) ≡ last → b ≡ a
+    → AreMade (record { memory = found; reads = read ∷ []; writes = []; told = []; said = [] }) x y → fed s (bytes_read (read ∷ [])) ≡ last → b ≡ a
     → IsOpen conn a.lines s → StopsAfter driven None (read ∷ []) last s → HaveRead driven (read ∷ []) s y.left → HasTold driven [] [] → AreWritten driven [] []
-    → HaveMemory driven found → IsRead (Some driven) conn a b s x y
-ends_read driven conn a b s last found read x y made comes same opens stops reads tells written finds =
+    → HaveMemory driven found → HaveSaid driven None [] [] → IsRead (Some driven) conn a b s x y
+ends_read driven conn a b s last found read x y made comes same opens stops reads tells written finds says =
     let world : b.server.world ≡ a.server.world = ap (λ (v : FrontState). v.server.world) same in (
       record {
-        calls = record { memory = found; reads = read ∷ []; writes = []; told = [] };
+        calls = record { memory = found; reads = read ∷ []; writes = []; told = []; said = [] };
         events = [];
         run = [];
         fault = None;
@@ -143,28 +144,29 @@ ends_read driven conn a b s last found read x y made comes same opens stops read
         told = tells;
         written = written;
         memory = finds;
+        said = says;
       },
       omega arith,
     )
 
 pub retried : (error : Error) (conn : Conn) (a : FrontState) (s : Stream) (f : Option (List Bool)) (l m : Option (List ℕ)) (r q : Option (List ReadEnd))
-    (c : Option (List ℕ)) (w : Option (List WriteEnd)) (k : Option (List (Option ℤ))) → IsOpen conn a.lines s → IsWaiting s → error_kind error ≡ Interrupted
-    → Keeps l m → Grows r q (unread (error_kind error) ∷ []) → IsRead None conn a a s (known f l r c w k) (known f m q c w k)
-retried error conn a s f l m r q c w k opens waits kind kept grows = (
+    (c : Option (List ℕ)) (w : Option (List WriteEnd)) (k : Option (List (Option ℤ))) (o : Option (List Bool)) → IsOpen conn a.lines s → IsWaiting s → error_kind error ≡ Interrupted
+    → Keeps l m → Grows r q (unread (error_kind error) ∷ []) → IsRead None conn a a s (known f l r c w k o) (known f m q c w k o)
+retried error conn a s f l m r q c w k o opens waits kind kept grows = (
   s,
-  goes_read conn a a s s [] (unread (error_kind error)) (known f l r c w k) (known f m q c w k)
-      (made_read [] (unread (error_kind error)) f f l m r q c w k (grows_none f) (consumes_kept l m kept) grows)
+  goes_read conn a a s s [] (unread (error_kind error)) (known f l r c w k o) (known f m q c w k o)
+      (made_read [] (unread (error_kind error)) f f l m r q c w k o (grows_none f) (consumes_kept l m kept) grows)
       (fed_nothing s) refl (line_kept conn a.lines a.lines s opens refl) opens kind (All-nil HadMemory),
   waits,
 )
 
 pub failed_read : (error : Error) (conn : Conn) (a : FrontState) (s : Stream) (f : Option (List Bool)) (l m : Option (List ℕ)) (r q : Option (List ReadEnd))
-    (c : Option (List ℕ)) (w : Option (List WriteEnd)) (k : Option (List (Option ℤ))) → IsOpen conn a.lines s → IsWaiting s → error_kind error ≢ Interrupted
-    → Keeps l m → Grows r q (unread (error_kind error) ∷ []) → IsRead (Some ReadFault) conn a a s (known f l r c w k) (known f m q c w k)
-failed_read error conn a s f l m r q c w k opens waits kind kept grows =
-    ends_read ReadFault conn a a s s [] (unread (error_kind error)) (known f l r c w k) (known f m q c w k)
-    (made_read [] (unread (error_kind error)) f f l m r q c w k (grows_none f) (consumes_kept l m kept) grows)
-    (fed_nothing s) refl opens waits ([], error_kind error, All-nil IsReadOn, kind, refl) refl refl (All-nil HadMemory)
+    (c : Option (List ℕ)) (w : Option (List WriteEnd)) (k : Option (List (Option ℤ))) (o : Option (List Bool)) → IsOpen conn a.lines s → IsWaiting s → error_kind error ≢ Interrupted
+    → Keeps l m → Grows r q (unread (error_kind error) ∷ []) → IsRead (Some ReadFault) conn a a s (known f l r c w k o) (known f m q c w k o)
+failed_read error conn a s f l m r q c w k o opens waits kind kept grows =
+    ends_read ReadFault conn a a s s [] (unread (error_kind error)) (known f l r c w k o) (known f m q c w k o)
+    (made_read [] (unread (error_kind error)) f f l m r q c w k o (grows_none f) (consumes_kept l m kept) grows)
+    (fed_nothing s) refl opens waits ([], error_kind error, All-nil IsReadOn, kind, refl) refl refl (All-nil HadMemory) refl
 
 -- a read that gave nothing where there was room
 came_to_none : (result : Result ℕ Error) (count : ℕ) (room : List ℕ) (l m : Option (List ℕ)) (r q : Option (List ReadEnd)) → result ≡ Ok count → count ≡ 0
@@ -176,27 +178,27 @@ came_to_none result count room l m r q is none space bytes grows =
     (came.0, came.1 refl (omega (arith, space)), subst (λ (n : ℕ). Grows r q (gave n [] ∷ [])) space empty)
 
 pub ended_read : (result : Result ℕ Error) (count : ℕ) (conn : Conn) (a : FrontState) (s : Stream) (room : List ℕ) (f : Option (List Bool)) (l m : Option (List ℕ))
-    (r q : Option (List ReadEnd)) (c : Option (List ℕ)) (w : Option (List WriteEnd)) (k : Option (List (Option ℤ))) → IsOpen conn a.lines s → IsWaiting s
+    (r q : Option (List ReadEnd)) (c : Option (List ℕ)) (w : Option (List WriteEnd)) (k : Option (List (Option ℤ))) (o : Option (List Bool)) → IsOpen conn a.lines s → IsWaiting s
     → result ≡ Ok count → count ≡ 0 → length room ≡ 65_536 → ReadConsumes l m result room → Grows r q (read_end result room ∷ [])
-    → IsRead (Some Ended) conn a a s (known f l r c w k) (known f m q c w k)
-ended_read result count conn a s room f l m r q c w k opens waits is none space bytes grows =
+    → IsRead (Some Ended) conn a a s (known f l r c w k o) (known f m q c w k o)
+ended_read result count conn a s room f l m r q c w k o opens waits is none space bytes grows =
     let came = came_to_none result count room l m r q is none space bytes grows in
-    ends_read Ended conn a a s s [] (gave 65_536 []) (known f l r c w k) (known f m q c w k)
-    (made_read [] (gave 65_536 []) f f l m r q c w k (grows_none f) came.0 came.2)
-    (fed_nothing s) refl opens (inl waits) (inr ([], All-nil IsReadOn, refl, came.1)) refl refl (All-nil HadMemory)
+    ends_read Ended conn a a s s [] (gave 65_536 []) (known f l r c w k o) (known f m q c w k o)
+    (made_read [] (gave 65_536 []) f f l m r q c w k o (grows_none f) came.0 came.2)
+    (fed_nothing s) refl opens (inl waits) (inr ([], All-nil IsReadOn, refl, came.1)) refl refl (All-nil HadMemory) refl
 
 -- ---- a piece
 
 -- a piece came to the connection
 pub fed_read : (conn : Conn) (a b : FrontState) (s : Stream) (room : ℕ) (piece : List ℕ) (f g : Option (List Bool)) (l m : Option (List ℕ)) (r q : Option (List ReadEnd))
-    (c : Option (List ℕ)) (w : Option (List WriteEnd)) (k : Option (List (Option ℤ))) → IsOpen conn a.lines s → room ≡ 65_536 → 0 < length piece → length piece ≤ room
-    → Consumes l m piece → Grows r q (gave room piece ∷ []) → FeedsOne conn piece a b f g (Ok tt) → GoesOn 1 conn a b s (fed s piece) (known f l r c w k) (known g m q c w k)
-fed_read conn a b s room piece f g l m r q c w k opens full some few consumes grows fed' =
-    goes_read conn a b s (fed s piece) (true ∷ []) (gave room piece) (known f l r c w k) (known g m q c w k)
-    (made_read (true ∷ []) (gave room piece) f g l m r q c w k fed'.4 (subst (λ (bs : List ℕ). Consumes l m bs) (sym (append-nil piece)) consumes) grows)
+    (c : Option (List ℕ)) (w : Option (List WriteEnd)) (k : Option (List (Option ℤ))) (o p : Option (List Bool)) → IsOpen conn a.lines s → room ≡ 65_536 → 0 < length piece → length piece ≤ room
+    → Consumes l m piece → Grows r q (gave room piece ∷ []) → p ≡ o → FeedsOne conn piece a b f g (Ok tt) → GoesOn 1 conn a b s (fed s piece) (known f l r c w k o) (known g m q c w k p)
+fed_read conn a b s room piece f g l m r q c w k o p opens full some few consumes grows saying fed' =
+    subst (λ (z : Option (List Bool)). GoesOn 1 conn a b s (fed s piece) (known f l r c w k o) (known g m q c w k z)) (sym saying) (goes_read conn a b s (fed s piece) (true ∷ []) (gave room piece) (known f l r c w k o) (known g m q c w k o)
+    (made_read (true ∷ []) (gave room piece) f g l m r q c w k o fed'.4 (subst (λ (bs : List ℕ). Consumes l m bs) (sym (append-nil piece)) consumes) grows)
     (ap (λ (bs : List ℕ). fed s bs) (append-nil piece)) fed'.3
     (subst (λ (u : Stream). b.lines ≡ with_line conn (Some (fed u piece)) a.lines) (same_stream conn a.lines fed'.0 s fed'.1 opens) fed'.2)
-    opens (full, some, few) (All-cons HadMemory true [] refl (All-nil HadMemory))
+    opens (full, some, few) (All-cons HadMemory true [] refl (All-nil HadMemory)))
 
 -- and is answered
 pub piece_answered : (result : Option Driven) (conn : Conn) (a b c : FrontState) (s t : Stream) (x y z : Known) → GoesOn 1 conn a b s t x y
@@ -210,15 +212,15 @@ piece_answered (Some driven) conn a b c s t x y z first is =
 
 -- there was no memory for it
 pub not_fed : (error : FrontError) (conn : Conn) (a b : FrontState) (s : Stream) (room : ℕ) (piece : List ℕ) (f g : Option (List Bool)) (l m : Option (List ℕ)) (r q : Option (List ReadEnd))
-    (c : Option (List ℕ)) (w : Option (List WriteEnd)) (k : Option (List (Option ℤ))) → IsOpen conn a.lines s → IsWaiting s → room ≡ 65_536 → 0 < length piece → length piece ≤ room
-    → Consumes l m piece → Grows r q (gave room piece ∷ []) → FeedsOne conn piece a b f g (Err error) → IsRead (Some Memory) conn a b s (known f l r c w k) (known g m q c w k)
-not_fed error conn a b s room piece f g l m r q c w k opens waits full some few consumes grows (inl is) =
-    ends_read Memory conn a b s (fed s piece) (false ∷ []) (gave room piece) (known f l r c w k) (known g m q c w k)
-    (made_read (false ∷ []) (gave room piece) f g l m r q c w k is.1 (subst (λ (bs : List ℕ). Consumes l m bs) (sym (append-nil piece)) consumes) grows)
+    (c : Option (List ℕ)) (w : Option (List WriteEnd)) (k : Option (List (Option ℤ))) (o p : Option (List Bool)) → IsOpen conn a.lines s → IsWaiting s → room ≡ 65_536 → 0 < length piece → length piece ≤ room
+    → Consumes l m piece → Grows r q (gave room piece ∷ []) → p ≡ o → FeedsOne conn piece a b f g (Err error) → IsRead (Some Memory) conn a b s (known f l r c w k o) (known g m q c w k p)
+not_fed error conn a b s room piece f g l m r q c w k o p opens waits full some few consumes grows saying (inl is) =
+    subst (λ (z : Option (List Bool)). IsRead (Some Memory) conn a b s (known f l r c w k o) (known g m q c w k z)) (sym saying) (ends_read Memory conn a b s (fed s piece) (false ∷ []) (gave room piece) (known f l r c w k o) (known g m q c w k o)
+    (made_read (false ∷ []) (gave room piece) f g l m r q c w k o is.1 (subst (λ (bs : List ℕ). Consumes l m bs) (sym (append-nil piece)) consumes) grows)
     (ap (λ (bs : List ℕ). fed s bs) (append-nil piece)) is.0 opens (inr ([], piece, ap (λ (n : ℕ). gave n piece ∷ []) full, refl)) (All-cons IsReadOn (gave room piece) [] (full, some, few) (All-nil IsReadOn))
-    (inl refl) refl ([], All-nil HadMemory, refl)
-not_fed error conn a b s room piece f g l m r q c w k opens waits full some few consumes grows (inr (inl closed)) = absurd (not_closed conn a.lines s opens closed)
-not_fed error conn a b s room piece f g l m r q c w k opens waits full some few consumes grows (inr (inr over)) =
+    (inl refl) refl ([], All-nil HadMemory, refl) refl)
+not_fed error conn a b s room piece f g l m r q c w k o p opens waits full some few consumes grows saying (inr (inl closed)) = absurd (not_closed conn a.lines s opens closed)
+not_fed error conn a b s room piece f g l m r q c w k o p opens waits full some few consumes grows saying (inr (inr over)) =
     absurd (omega (arith, over.2, full, few, waiting_short s.held waits.1, ap (λ (u : Stream). length u.held) (same_stream conn a.lines over.0 s over.1 opens)))
 
 -- ---- the whole
@@ -264,6 +266,7 @@ read_out count conn a b x y often (s, t, opens, goes, waits) = subst (λ (line :
     told = goes.told;
     written = subst (λ (rs : List (List ℕ)). AreSent rs goes.calls.writes) (sym (append-nil (map bytes_of goes.run))) goes.written;
     memory = goes.memory;
+    said = goes.said;
   },
   omega (arith, goes.counted, often),
 )

@@ -10,7 +10,7 @@ use Rattle.xa_http.specs.Messages.{Cuts}
 use Rattle.xa_http.specs.Stream.{Stream, fed}
 use Rattle.xa_http.proofs.LawLemmas.{feeds_on}
 use Rattle.xa_server.specs.declared.driven.Driven.{Driven}
-use Rattle.xa_server.specs.declared.driven.Driven.TheVariants.{Ended, ReadFault, WriteFault, NoClock, TooManyReads, Memory}
+use Rattle.xa_server.specs.declared.driven.Driven.TheVariants.{Ended, ReadFault, WriteFault, NoClock, TooManyReads, Memory, Shut}
 use Rattle.xa_server.specs.declared.lines.Conn.{Conn}
 use Rattle.xa_server.specs.declared.replies.Reply.{Reply}
 use Rattle.xa_server.specs.Alone.{Event}
@@ -22,6 +22,7 @@ use Rattle.xa_server.specs.Lines.{IsOpen}
 use Rattle.xa_server.specs.Replies.{bytes_of}
 use Rattle.xa_server.specs.Served.{IsRun}
 use Rattle.xa_server.specs.Transfers.{IsReadOn, ReadEnd, WriteEnd, bytes_read, gave, unread}
+use Rattle.xa_server.proofs.AskedLemmas.{said_after, said_on}
 use Rattle.xa_server.proofs.ConnectionLemmas.{cuts_trans, run_trans, work_trans}
 use Rattle.xa_server.proofs.IsolationLemmas.{headline, isolated}
 use Rattle.xa_server.proofs.MultiplexerLemmas.{line_again, line_kept}
@@ -87,6 +88,7 @@ none_gone conn w s x opens = record {
   told = refl;
   written = refl;
   memory = All-nil HadMemory;
+  said = refl;
 }
 
 pub goes_trans : (n m : ℕ) (conn : Conn) (a b c : FrontState) (s t u : Stream) (x y z : Known)
@@ -110,6 +112,7 @@ goes_trans n m conn a b c s t u x y z first later = record {
       subst (λ (rs : List (List ℕ)). AreSent rs (first.calls.writes ++ later.calls.writes)) (sym (map-append bytes_of first.run later.run))
       (sent_trans (map bytes_of first.run) (map bytes_of later.run) first.calls.writes later.calls.writes first.written later.written);
   memory = All-append HadMemory first.calls.memory later.calls.memory first.memory later.memory;
+  said = said_on first.run later.run first.calls.said later.calls.said first.said later.said;
 }
 
 -- ---- an end after what was answered
@@ -135,6 +138,7 @@ read_after TooManyReads ps qs after left few on is = absurd (omega (arith, few, 
 read_after WriteFault ps qs after left few on is = All-append IsReadOn ps qs on is
 read_after NoClock ps qs after left few on is = All-append IsReadOn ps qs on is
 read_after Memory ps qs after left few on is = All-append IsReadOn ps qs on is
+read_after Shut ps qs after left few on is = All-append IsReadOn ps qs on is
 
 -- nor does the end of what is held depend on them
 stops_after : (driven : Driven) (fault : Option SessionFault) (ps qs : List ReadEnd) (last after : Stream) → StopsAfter driven fault qs last after
@@ -152,6 +156,8 @@ stops_after NoClock None ps qs last after is = is
 stops_after NoClock (Some fault) ps qs last after is = is
 stops_after TooManyReads None ps qs last after is = is
 stops_after TooManyReads (Some fault) ps qs last after is = is
+stops_after Shut None ps qs last after is = is
+stops_after Shut (Some fault) ps qs last after is = is
 
 told_after : (driven : Driven) (ks ls : List (Option ℤ)) (es fs : List Event) → ks ≡ map Some (moments_of es) → HasTold driven (moments_of fs) ls
     → HasTold driven (moments_of (es ++ fs)) (ks ++ ls)
@@ -162,6 +168,7 @@ told_after Ended ks ls es fs first is = told_on ks ls es fs first is
 told_after ReadFault ks ls es fs first is = told_on ks ls es fs first is
 told_after WriteFault ks ls es fs first is = told_on ks ls es fs first is
 told_after TooManyReads ks ls es fs first is = told_on ks ls es fs first is
+told_after Shut ks ls es fs first is = told_on ks ls es fs first is
 
 -- replies that were written whole, before others
 written_after : (driven : Driven) (rs qs : List (List ℕ)) (ws vs : List WriteEnd) → AreSent rs ws → AreWritten driven qs vs → AreWritten driven (rs ++ qs) (ws ++ vs)
@@ -180,6 +187,7 @@ written_after ReadFault rs qs ws vs sent is = sent_trans rs qs ws vs sent is
 written_after NoClock rs qs ws vs sent is = sent_trans rs qs ws vs sent is
 written_after TooManyReads rs qs ws vs sent is = sent_trans rs qs ws vs sent is
 written_after Memory rs qs ws vs sent is = sent_trans rs qs ws vs sent is
+written_after Shut rs qs ws vs sent is = sent_trans rs qs ws vs sent is
 
 found_after : (driven : Driven) (ps qs : List Bool) → All HadMemory ps → HaveMemory driven qs → HaveMemory driven (ps ++ qs)
 found_after Memory ps qs found is = (
@@ -192,6 +200,7 @@ found_after ReadFault ps qs found is = All-append HadMemory ps qs found is
 found_after WriteFault ps qs found is = All-append HadMemory ps qs found is
 found_after NoClock ps qs found is = All-append HadMemory ps qs found is
 found_after TooManyReads ps qs found is = All-append HadMemory ps qs found is
+found_after Shut ps qs found is = All-append HadMemory ps qs found is
 
 replies_after : (rs qs : List Reply) (fault : Option SessionFault) → map bytes_of rs ++ all_replies qs fault ≡ all_replies (rs ++ qs) fault
 replies_after rs qs fault =
@@ -225,6 +234,7 @@ driven_after n driven conn a b c s t x y z first later few =
           subst (λ (rs : List (List ℕ)). AreWritten driven rs (first.calls.writes ++ later.calls.writes)) (replies_after first.run later.run later.fault)
           (written_after driven (map bytes_of first.run) (all_replies later.run later.fault) first.calls.writes later.calls.writes first.written later.written);
       memory = found_after driven first.calls.memory later.calls.memory first.memory later.memory;
+      said = said_after driven later.fault first.run later.run first.calls.said later.calls.said first.said later.said;
     }
 
 fewer : (ps qs : List ReadEnd) (n m most : ℕ) → length ps ≡ n → length qs ≤ m → n + m ≤ most → length (ps ++ qs) ≤ most

@@ -1,5 +1,6 @@
 pub mod AdmissionLemmas
 pub mod AnswerLemmas
+pub mod AskedLemmas
 pub mod AskingLemmas
 pub mod AuthorizationLemmas
 pub mod ConnectionLemmas

@@ -19,7 +19,7 @@ use Rattle.xa_http.proofs.SizeLemmas.{first_shrinks}
 use Rattle.xa_server.specs.declared.answering.Turn.{Turn}
 use Rattle.xa_server.specs.declared.answering.Turn.TheVariants.{Answered, Waits, Ends}
 use Rattle.xa_server.specs.declared.driven.Driven.{Driven}
-use Rattle.xa_server.specs.declared.driven.Driven.TheVariants.{Ended, WriteFault, NoClock, Memory}
+use Rattle.xa_server.specs.declared.driven.Driven.TheVariants.{Ended, WriteFault, NoClock, Memory, Shut}
 use Rattle.xa_server.specs.declared.event.Answer.{Answer}
 use Rattle.xa_server.specs.declared.front_error.FrontError.{FrontError}
 use Rattle.xa_server.specs.declared.front_error.FrontError.TheVariants as error
@@ -27,8 +27,8 @@ use Rattle.xa_server.specs.declared.lines.Conn.{Conn}
 use Rattle.xa_server.specs.declared.replies.Reply.{Reply}
 use Rattle.xa_server.specs.declared.replies.Reply.TheVariants.{Sent}
 use Rattle.xa_server.specs.Connection.{fault_replies}
-use Rattle.xa_server.specs.Driven.{AreMade, AreWritten, Calls, HadMemory, HasTold, HaveMemory, HaveRead, IsDriven, IsDrivenWithin, Known, StopsAfter, known}
-use Rattle.xa_server.specs.Driving.{GoesOn, IsAnsweredAt, IsAnsweredNow, IsSentAs, IsTurn, IsWaiting, turn_after}
+use Rattle.xa_server.specs.Driven.{AreMade, AreWritten, Calls, HadMemory, HasTold, HaveMemory, HaveRead, HaveSaid, IsDriven, IsDrivenWithin, Known, StopsAfter, goes_on_after, known}
+use Rattle.xa_server.specs.Driving.{GoesOn, IsAnsweredAt, IsAnsweredNow, IsAsked, IsSentAs, IsTurn, IsWaiting, turn_after}
 use Rattle.xa_server.specs.ErrorCode.{code_of_session_fault, error_reply}
 use Rattle.xa_server.specs.Front.{FrontState, IsAnswered, IsGiven, ServerState}
 use Rattle.xa_server.specs.Lines.{IsLooked, IsOpen, line_at, with_line}
@@ -38,6 +38,7 @@ use Rattle.xa_server.specs.Sending.{IsTaken, IsWritten}
 use Rattle.xa_server.specs.Served.{IsRun, IsServed}
 use Rattle.xa_server.specs.Transfers.{Grows, IsReadOn, ReadEnd, WriteEnd, bytes_taken}
 use Rattle.xa_server.specs.Work.{IsWork, IsWorkOfRun}
+use Rattle.xa_server.proofs.AskedLemmas.{asked_none, asked_on, asked_shut, unasked}
 use Rattle.xa_server.proofs.DrivingLemmas.{fed_nothing}
 use Rattle.xa_server.proofs.IsolationLemmas.{headline, isolated}
 use Rattle.xa_server.proofs.MultiplexerLemmas.{line_kept, looked, not_closed, same_stream, still_open}
@@ -54,12 +55,12 @@ two_found = All-cons HadMemory true (true ∷ []) refl one_found
 
 -- it ends, and no message was answered
 ends_idle : (driven : Driven) (conn : Conn) (a b : FrontState) (s after : Stream) (fault : Option SessionFault) (found : List Bool) (writes : List WriteEnd)
-    (told : List (Option ℤ)) (x y : Known) → AreMade (record { memory = found; reads = []; writes = writes; told = told }) x y
+    (told : List (Option ℤ)) (x y : Known) → AreMade (record { memory = found; reads = []; writes = writes; told = told; said = [] }) x y
     → b.server ≡ a.server → b.lines ≡ with_line conn (Some after) a.lines → StopsAfter driven fault [] s after → HaveRead driven [] after y.left
-    → HasTold driven [] told → AreWritten driven (fault_replies fault) writes → HaveMemory driven found → IsDrivenWithin 0 driven conn a b s x y
-ends_idle driven conn a b s after fault found writes told x y made server lines stops read tells written finds = (
+    → HasTold driven [] told → AreWritten driven (fault_replies fault) writes → HaveMemory driven found → HaveSaid driven fault [] [] → IsDrivenWithin 0 driven conn a b s x y
+ends_idle driven conn a b s after fault found writes told x y made server lines stops read tells written finds says = (
   record {
-    calls = record { memory = found; reads = []; writes = writes; told = told };
+    calls = record { memory = found; reads = []; writes = writes; told = told; said = [] };
     events = [];
     run = [];
     fault = fault;
@@ -77,6 +78,7 @@ ends_idle driven conn a b s after fault found writes told x y made server lines 
     told = tells;
     written = written;
     memory = finds;
+    said = says;
   },
   omega arith,
 )
@@ -86,15 +88,15 @@ first_fed s message after first = (after, subst (λ (u : Stream). IsFirst u mess
 
 -- it ends after one message
 ends_one : (driven : Driven) (conn : Conn) (a b : FrontState) (s after : Stream) (moment : ℤ) (message : Message) (reply : Reply) (found : List Bool)
-    (writes : List WriteEnd) (x y : Known) → AreMade (record { memory = found; reads = []; writes = writes; told = Some moment ∷ [] }) x y
+    (writes : List WriteEnd) (said : List Bool) (x y : Known) → AreMade (record { memory = found; reads = []; writes = writes; told = Some moment ∷ []; said = said }) x y
     → IsFirst s message after → IsServed a.server.world b.server.world moment message reply
     → IsWork a.server.world.kept moment message reply a.server.tally b.server.tally → b.lines ≡ with_line conn (Some after) a.lines
     → StopsAfter driven None [] after after → HaveRead driven [] after y.left → HasTold driven (moment ∷ []) (Some moment ∷ [])
-    → AreWritten driven (bytes_of reply ∷ []) writes → HaveMemory driven found → IsDrivenWithin 0 driven conn a b s x y
-ends_one driven conn a b s after moment message reply found writes x y made first served work lines stops read tells written finds =
+    → AreWritten driven (bytes_of reply ∷ []) writes → HaveMemory driven found → HaveSaid driven None (reply ∷ []) said → IsDrivenWithin 0 driven conn a b s x y
+ends_one driven conn a b s after moment message reply found writes said x y made first served work lines stops read tells written finds says =
     let run : IsRun a.server.world ((moment, message) ∷ []) (reply ∷ []) b.server.world = (b.server.world, served, refl) in (
       record {
-        calls = record { memory = found; reads = []; writes = writes; told = Some moment ∷ [] };
+        calls = record { memory = found; reads = []; writes = writes; told = Some moment ∷ []; said = said };
         events = (moment, message) ∷ [];
         run = reply ∷ [];
         fault = None;
@@ -112,18 +114,19 @@ ends_one driven conn a b s after moment message reply found writes x y made firs
         told = tells;
         written = written;
         memory = finds;
+        said = says;
       },
       omega arith,
     )
 
 -- it goes on after one message
 goes_one : (conn : Conn) (a b : FrontState) (s after : Stream) (moment : ℤ) (message : Message) (reply : Reply) (writes : List WriteEnd) (x y : Known)
-    → AreMade (record { memory = true ∷ true ∷ []; reads = []; writes = writes; told = Some moment ∷ [] }) x y
+    → AreMade (record { memory = true ∷ true ∷ []; reads = []; writes = writes; told = Some moment ∷ []; said = goes_on_after (reply ∷ []) }) x y
     → IsFirst s message after → IsServed a.server.world b.server.world moment message reply
     → IsWork a.server.world.kept moment message reply a.server.tally b.server.tally → b.lines ≡ with_line conn (Some after) a.lines → IsOpen conn a.lines s
     → IsTaken true (bytes_of reply) writes → GoesOn 0 conn a b s after x y
 goes_one conn a b s after moment message reply writes x y made first served work lines opens written = record {
-  calls = record { memory = true ∷ true ∷ []; reads = []; writes = writes; told = Some moment ∷ [] };
+  calls = record { memory = true ∷ true ∷ []; reads = []; writes = writes; told = Some moment ∷ []; said = goes_on_after (reply ∷ []) };
   events = (moment, message) ∷ [];
   run = reply ∷ [];
   made = made;
@@ -137,14 +140,15 @@ goes_one conn a b s after moment message reply writes x y made first served work
   told = refl;
   written = one_sent (bytes_of reply) writes written;
   memory = two_found;
+  said = refl;
 }
 
 -- it goes on, and no message was answered
 goes_idle : (conn : Conn) (a b : FrontState) (s : Stream) (found : List Bool) (x y : Known)
-    → AreMade (record { memory = found; reads = []; writes = []; told = [] }) x y → b.server ≡ a.server → b.lines ≡ with_line conn (Some s) a.lines
+    → AreMade (record { memory = found; reads = []; writes = []; told = []; said = [] }) x y → b.server ≡ a.server → b.lines ≡ with_line conn (Some s) a.lines
     → IsOpen conn a.lines s → All HadMemory found → GoesOn 0 conn a b s s x y
 goes_idle conn a b s found x y made server lines opens finds = record {
-  calls = record { memory = found; reads = []; writes = []; told = [] };
+  calls = record { memory = found; reads = []; writes = []; told = []; said = [] };
   events = [];
   run = [];
   made = made;
@@ -158,6 +162,7 @@ goes_idle conn a b s found x y made server lines opens finds = record {
   told = refl;
   written = refl;
   memory = finds;
+  said = refl;
 }
 
 -- ---- one reply
@@ -175,28 +180,37 @@ cut_short reply writes cut = record {
 }
 
 -- a message was answered, and its reply sent, or a part of it
-message_sent : (whole last : Bool) (turn : Turn) (conn : Conn) (old new : FrontState) (s after : Stream) (moment : ℤ) (message : Message) (reply : Reply)
+message_sent : (whole shut last : Bool) (turn : Turn) (conn : Conn) (old new : FrontState) (s after : Stream) (moment : ℤ) (message : Message) (reply : Reply)
     (f h : Option (List Bool)) (l : Option (List ℕ)) (r : Option (List ReadEnd)) (c d : Option (List ℕ)) (w v : Option (List WriteEnd)) (k j : Option (List (Option ℤ)))
-    → IsFirst s message after → IsServed old.server.world new.server.world moment message reply
+    (o p : Option (List Bool)) → IsFirst s message after → IsServed old.server.world new.server.world moment message reply
     → IsWork old.server.world.kept moment message reply old.server.tally new.server.tally → new.lines ≡ with_line conn (Some after) old.lines
     → IsOpen conn old.lines s → last ≡ after.ended → Grows f h (true ∷ true ∷ []) → Grows k j (Some moment ∷ [])
-    → IsWritten whole (bytes_of reply) c d w v → turn ≡ turn_after whole last
-    → IsTurn turn conn old new s (known f l r c w k) (known h l r d v j)
-message_sent false last turn conn old new s after moment message reply f h l r c d w v k j first served work lines opens ended finds tells sent same =
-    subst (λ (t : Turn). IsTurn t conn old new s (known f l r c w k) (known h l r d v j)) (sym same)
-    (ends_one WriteFault conn old new s after moment message reply (true ∷ true ∷ []) sent.writings (known f l r c w k) (known h l r d v j)
-    (made_unread (true ∷ true ∷ []) sent.writings (Some moment ∷ []) f h l r c d w v k j finds sent.appends sent.grows tells)
-    first served work lines refl (All-nil IsReadOn) refl (cut_short (bytes_of reply) sent.writings sent.taken) two_found)
-message_sent true true turn conn old new s after moment message reply f h l r c d w v k j first served work lines opens ended finds tells sent same =
-    subst (λ (t : Turn). IsTurn t conn old new s (known f l r c w k) (known h l r d v j)) (sym same)
-    (ends_one Ended conn old new s after moment message reply (true ∷ true ∷ []) sent.writings (known f l r c w k) (known h l r d v j)
-    (made_unread (true ∷ true ∷ []) sent.writings (Some moment ∷ []) f h l r c d w v k j finds sent.appends sent.grows tells)
-    first served work lines (inr (sym ended, refl)) (inl (All-nil IsReadOn, sym ended)) refl (one_sent (bytes_of reply) sent.writings sent.taken) two_found)
-message_sent true false turn conn old new s after moment message reply f h l r c d w v k j first served work lines opens ended finds tells sent same =
-    subst (λ (t : Turn). IsTurn t conn old new s (known f l r c w k) (known h l r d v j)) (sym same) (
+    → IsWritten whole (bytes_of reply) c d w v → IsAsked whole reply shut o p → turn ≡ turn_after whole shut last
+    → IsTurn turn conn old new s (known f l r c w k o) (known h l r d v j p)
+message_sent false shut last turn conn old new s after moment message reply f h l r c d w v k j o p first served work lines opens ended finds tells sent asked same =
+    subst (λ (t : Turn). IsTurn t conn old new s (known f l r c w k o) (known h l r d v j p)) (sym same)
+    (ends_one WriteFault conn old new s after moment message reply (true ∷ true ∷ []) sent.writings [] (known f l r c w k o) (known h l r d v j p)
+    (made_unread (true ∷ true ∷ []) sent.writings (Some moment ∷ []) [] f h l r c d w v k j o p finds sent.appends sent.grows tells (unasked reply shut o p asked))
+    first served work lines refl (All-nil IsReadOn) refl (cut_short (bytes_of reply) sent.writings sent.taken) two_found ([], reply, refl, refl))
+message_sent true true last turn conn old new s after moment message reply f h l r c d w v k j o p first served work lines opens ended finds tells sent asked same =
+    let shut = asked_shut reply o p asked in
+    subst (λ (t : Turn). IsTurn t conn old new s (known f l r c w k o) (known h l r d v j p)) (sym same)
+    (ends_one Shut conn old new s after moment message reply (true ∷ true ∷ []) sent.writings (false ∷ []) (known f l r c w k o) (known h l r d v j p)
+    (made_unread (true ∷ true ∷ []) sent.writings (Some moment ∷ []) (false ∷ []) f h l r c d w v k j o p finds sent.appends sent.grows tells shut.1)
+    first served work lines refl (All-nil IsReadOn) refl (one_sent (bytes_of reply) sent.writings sent.taken) two_found
+    ([], ap (λ (q : Reply). q ∷ []) shut.0, refl))
+message_sent true false true turn conn old new s after moment message reply f h l r c d w v k j o p first served work lines opens ended finds tells sent asked same =
+    subst (λ (t : Turn). IsTurn t conn old new s (known f l r c w k o) (known h l r d v j p)) (sym same)
+    (ends_one Ended conn old new s after moment message reply (true ∷ true ∷ []) sent.writings (goes_on_after (reply ∷ [])) (known f l r c w k o) (known h l r d v j p)
+    (made_unread (true ∷ true ∷ []) sent.writings (Some moment ∷ []) (goes_on_after (reply ∷ [])) f h l r c d w v k j o p finds sent.appends sent.grows tells
+    (asked_on reply o p asked))
+    first served work lines (inr (sym ended, refl)) (inl (All-nil IsReadOn, sym ended)) refl (one_sent (bytes_of reply) sent.writings sent.taken) two_found refl)
+message_sent true false false turn conn old new s after moment message reply f h l r c d w v k j o p first served work lines opens ended finds tells sent asked same =
+    subst (λ (t : Turn). IsTurn t conn old new s (known f l r c w k o) (known h l r d v j p)) (sym same) (
       after,
-      goes_one conn old new s after moment message reply sent.writings (known f l r c w k) (known h l r d v j)
-          (made_unread (true ∷ true ∷ []) sent.writings (Some moment ∷ []) f h l r c d w v k j finds sent.appends sent.grows tells)
+      goes_one conn old new s after moment message reply sent.writings (known f l r c w k o) (known h l r d v j p)
+          (made_unread (true ∷ true ∷ []) sent.writings (Some moment ∷ []) (goes_on_after (reply ∷ [])) f h l r c d w v k j o p finds sent.appends sent.grows tells
+          (asked_on reply o p asked))
           first served work lines opens sent.taken,
       first_shrinks s message after first,
     )
@@ -204,21 +218,21 @@ message_sent true false turn conn old new s after moment message reply f h l r c
 -- so was the fault by which the stream ends
 fault_sent : (whole : Bool) (turn : Turn) (conn : Conn) (old new : FrontState) (s after : Stream) (fault : SessionFault) (reply : Reply)
     (f h : Option (List Bool)) (l : Option (List ℕ)) (r : Option (List ReadEnd)) (c d : Option (List ℕ)) (w v : Option (List WriteEnd)) (k : Option (List (Option ℤ)))
-    → IsNext s (next.Fault fault) after → bytes_of reply ≡ error_reply (code_of_session_fault fault) → new.server ≡ old.server
-    → new.lines ≡ with_line conn (Some after) old.lines → Grows f h (true ∷ true ∷ []) → IsWritten whole (bytes_of reply) c d w v
-    → turn ≡ turn_after whole true → IsTurn turn conn old new s (known f l r c w k) (known h l r d v k)
-fault_sent false turn conn old new s after fault reply f h l r c d w v k is bytes server lines finds sent same =
-    subst (λ (t : Turn). IsTurn t conn old new s (known f l r c w k) (known h l r d v k)) (sym same)
-    (ends_idle WriteFault conn old new s after (Some fault) (true ∷ true ∷ []) sent.writings [] (known f l r c w k) (known h l r d v k)
-    (made_unread (true ∷ true ∷ []) sent.writings [] f h l r c d w v k k finds sent.appends sent.grows (grows_none k))
+    (o p : Option (List Bool)) → IsNext s (next.Fault fault) after → bytes_of reply ≡ error_reply (code_of_session_fault fault) → new.server ≡ old.server
+    → new.lines ≡ with_line conn (Some after) old.lines → Grows f h (true ∷ true ∷ []) → IsWritten whole (bytes_of reply) c d w v → Grows o p []
+    → turn ≡ turn_after whole false true → IsTurn turn conn old new s (known f l r c w k o) (known h l r d v k p)
+fault_sent false turn conn old new s after fault reply f h l r c d w v k o p is bytes server lines finds sent says same =
+    subst (λ (t : Turn). IsTurn t conn old new s (known f l r c w k o) (known h l r d v k p)) (sym same)
+    (ends_idle WriteFault conn old new s after (Some fault) (true ∷ true ∷ []) sent.writings [] (known f l r c w k o) (known h l r d v k p)
+    (made_unread (true ∷ true ∷ []) sent.writings [] [] f h l r c d w v k k o p finds sent.appends sent.grows (grows_none k) says)
     server lines is (All-nil IsReadOn) refl
-    (cut_short (error_reply (code_of_session_fault fault)) sent.writings (subst (λ (b : List ℕ). IsTaken false b sent.writings) bytes sent.taken)) two_found)
-fault_sent true turn conn old new s after fault reply f h l r c d w v k is bytes server lines finds sent same =
-    subst (λ (t : Turn). IsTurn t conn old new s (known f l r c w k) (known h l r d v k)) (sym same)
-    (ends_idle Ended conn old new s after (Some fault) (true ∷ true ∷ []) sent.writings [] (known f l r c w k) (known h l r d v k)
-    (made_unread (true ∷ true ∷ []) sent.writings [] f h l r c d w v k k finds sent.appends sent.grows (grows_none k))
+    (cut_short (error_reply (code_of_session_fault fault)) sent.writings (subst (λ (b : List ℕ). IsTaken false b sent.writings) bytes sent.taken)) two_found refl)
+fault_sent true turn conn old new s after fault reply f h l r c d w v k o p is bytes server lines finds sent says same =
+    subst (λ (t : Turn). IsTurn t conn old new s (known f l r c w k o) (known h l r d v k p)) (sym same)
+    (ends_idle Ended conn old new s after (Some fault) (true ∷ true ∷ []) sent.writings [] (known f l r c w k o) (known h l r d v k p)
+    (made_unread (true ∷ true ∷ []) sent.writings [] [] f h l r c d w v k k o p finds sent.appends sent.grows (grows_none k) says)
     server lines is (inl (All-nil IsReadOn, ap (λ (u : Stream). u.ended) is.2)) refl
-    (one_sent (error_reply (code_of_session_fault fault)) sent.writings (subst (λ (b : List ℕ). IsTaken true b sent.writings) bytes sent.taken)) two_found)
+    (one_sent (error_reply (code_of_session_fault fault)) sent.writings (subst (λ (b : List ℕ). IsTaken true b sent.writings) bytes sent.taken)) two_found refl)
 
 -- ---- without an answer
 
@@ -231,30 +245,33 @@ kept conn old new s opens same = line_kept conn old.lines new.lines s opens (ap 
 appends_same : (c d : Option (List ℕ)) → d ≡ c → Appends c d []
 appends_same c d same = subst (λ (z : Option (List ℕ)). Appends c z []) (sym same) (appends_none c)
 
+says_same : (o p : Option (List Bool)) → p ≡ o → Grows o p []
+says_same o p same = subst (λ (z : Option (List Bool)). Grows o z []) (sym same) (grows_none o)
+
 writes_same : (w v : Option (List WriteEnd)) → v ≡ w → Grows w v []
 writes_same w v same = subst (λ (z : Option (List WriteEnd)). Grows w z []) (sym same) (grows_none w)
 
 -- there was no memory, for these calls of the front and after what the clock told
 wanted : (turn : Turn) (before : List Bool) (told : List (Option ℤ)) (conn : Conn) (old new : FrontState) (s : Stream) (f h : Option (List Bool)) (l : Option (List ℕ))
-    (r : Option (List ReadEnd)) (c d : Option (List ℕ)) (w v : Option (List WriteEnd)) (k j : Option (List (Option ℤ)))
-    → IsOpen conn old.lines s → new ≡ old → All HadMemory before → Grows f h (before ++ false ∷ []) → d ≡ c → v ≡ w → Grows k j told
-    → HasTold Memory [] told → turn ≡ Ends Memory → IsTurn turn conn old new s (known f l r c w k) (known h l r d v j)
-wanted turn before told conn old new s f h l r c d w v k j opens same all finds contents writes tells is turns =
-    subst (λ (t : Turn). IsTurn t conn old new s (known f l r c w k) (known h l r d v j)) (sym turns)
-    (ends_idle Memory conn old new s s None (before ++ false ∷ []) [] told (known f l r c w k) (known h l r d v j)
-    (made_unread (before ++ false ∷ []) [] told f h l r c d w v k j finds (appends_same c d contents) (writes_same w v writes) tells)
-    (still old new same) (kept conn old new s opens same) (inl refl) (All-nil IsReadOn) is refl (before, all, refl))
+    (r : Option (List ReadEnd)) (c d : Option (List ℕ)) (w v : Option (List WriteEnd)) (k j : Option (List (Option ℤ))) (o p : Option (List Bool))
+    → IsOpen conn old.lines s → new ≡ old → All HadMemory before → Grows f h (before ++ false ∷ []) → d ≡ c → v ≡ w → p ≡ o → Grows k j told
+    → HasTold Memory [] told → turn ≡ Ends Memory → IsTurn turn conn old new s (known f l r c w k o) (known h l r d v j p)
+wanted turn before told conn old new s f h l r c d w v k j o p opens same all finds contents writes saying tells is turns =
+    subst (λ (t : Turn). IsTurn t conn old new s (known f l r c w k o) (known h l r d v j p)) (sym turns)
+    (ends_idle Memory conn old new s s None (before ++ false ∷ []) [] told (known f l r c w k o) (known h l r d v j p)
+    (made_unread (before ++ false ∷ []) [] told [] f h l r c d w v k j o p finds (appends_same c d contents) (writes_same w v writes) tells (says_same o p saying))
+    (still old new same) (kept conn old new s opens same) (inl refl) (All-nil IsReadOn) is refl (before, all, refl) refl)
 
 -- there is no whole message
 waits : (turn : Turn) (found : List Bool) (conn : Conn) (old new : FrontState) (s after : Stream) (f h : Option (List Bool)) (l : Option (List ℕ)) (r : Option (List ReadEnd))
-    (c d : Option (List ℕ)) (w v : Option (List WriteEnd)) (k : Option (List (Option ℤ))) → IsOpen conn old.lines s → IsNext s next.More after → new.server ≡ old.server
-    → new.lines ≡ with_line conn (Some after) old.lines → All HadMemory found → Grows f h found → d ≡ c → v ≡ w → turn ≡ Waits
-    → IsTurn turn conn old new s (known f l r c w k) (known h l r d v k)
-waits turn found conn old new s after f h l r c d w v k opens more server lines all finds contents writes turns =
-    subst (λ (t : Turn). IsTurn t conn old new s (known f l r c w k) (known h l r d v k)) (sym turns) (
+    (c d : Option (List ℕ)) (w v : Option (List WriteEnd)) (k : Option (List (Option ℤ))) (o p : Option (List Bool)) → IsOpen conn old.lines s → IsNext s next.More after → new.server ≡ old.server
+    → new.lines ≡ with_line conn (Some after) old.lines → All HadMemory found → Grows f h found → d ≡ c → v ≡ w → p ≡ o → turn ≡ Waits
+    → IsTurn turn conn old new s (known f l r c w k o) (known h l r d v k p)
+waits turn found conn old new s after f h l r c d w v k o p opens more server lines all finds contents writes saying turns =
+    subst (λ (t : Turn). IsTurn t conn old new s (known f l r c w k o) (known h l r d v k p)) (sym turns) (
       s,
-      goes_idle conn old new s found (known f l r c w k) (known h l r d v k)
-          (made_unread found [] [] f h l r c d w v k k finds (appends_same c d contents) (writes_same w v writes) (grows_none k))
+      goes_idle conn old new s found (known f l r c w k o) (known h l r d v k p)
+          (made_unread found [] [] [] f h l r c d w v k k o p finds (appends_same c d contents) (writes_same w v writes) (grows_none k) (says_same o p saying))
           server (subst (λ (u : Stream). new.lines ≡ with_line conn (Some u) old.lines) more.2 lines) opens all,
       (more.0, more.1, refl),
     )
@@ -263,123 +280,127 @@ waits turn found conn old new s after f h l r c d w v k opens more server lines 
 
 -- what was given is the message that stands first
 message_given : (turn : Turn) (answer : Option Answer) (conn : Conn) (old new : FrontState) (s rest after : Stream) (moment : ℤ) (message : Message) (given : Next)
-    (f g h : Option (List Bool)) (l : Option (List ℕ)) (r : Option (List ReadEnd)) (c d : Option (List ℕ)) (w v : Option (List WriteEnd)) (k j : Option (List (Option ℤ)))
+    (f g h : Option (List Bool)) (l : Option (List ℕ)) (r : Option (List ReadEnd)) (c d : Option (List ℕ)) (w v : Option (List WriteEnd)) (k j : Option (List (Option ℤ))) (o p : Option (List Bool))
     → IsOpen conn old.lines s → IsFirst s message rest → IsNext s given after → IsGiven moment old.server given after answer new.server
     → new.lines ≡ with_line conn (Some after) old.lines → Grows f g (true ∷ []) → Grows g h (true ∷ []) → Grows k j (Some moment ∷ [])
-    → IsSentAs turn answer c d w v → IsTurn turn conn old new s (known f l r c w k) (known h l r d v j)
-message_given turn None conn old new s rest after moment message given f g h l r c d w v k j opens first is gives lines looks finds tells sent =
+    → IsSentAs turn answer c d w v o p → IsTurn turn conn old new s (known f l r c w k o) (known h l r d v j p)
+message_given turn None conn old new s rest after moment message given f g h l r c d w v k j o p opens first is gives lines looks finds tells sent =
     let only = answers_messages s message rest given after first is in
     absurd (subst (λ (n : Next). IsGiven moment old.server n after None new.server) only.0 gives)
-message_given turn (Some answer) conn old new s rest after moment message given f g h l r c d w v k j opens first is gives lines looks finds tells sent =
+message_given turn (Some answer) conn old new s rest after moment message given f g h l r c d w v k j o p opens first is gives lines looks finds tells sent =
     let only = answers_messages s message rest given after first is in
     let gave : IsGiven moment old.server (next.Message message) after (Some answer) new.server
     = subst (λ (n : Next). IsGiven moment old.server n after (Some answer) new.server) only.0 gives in
-    message_sent sent.0 answer.last turn conn old new s after moment message answer.reply f h l r c d w v k j
+    message_sent sent.0 sent.1 answer.last turn conn old new s after moment message answer.reply f h l r c d w v k j o p
     (subst (λ (u : Stream). IsFirst s message u) (sym only.1) first) gave.0 gave.1 lines opens gave.2
-    (grows_trans f g h (true ∷ []) (true ∷ []) looks finds) tells sent.1 sent.2
+    (grows_trans f g h (true ∷ []) (true ∷ []) looks finds) tells sent.2 sent.3 sent.4
 
 message_at : (turn : Turn) (conn : Conn) (old new : FrontState) (s rest : Stream) (moment : ℤ) (message : Message)
-    (f g h : Option (List Bool)) (l : Option (List ℕ)) (r : Option (List ReadEnd)) (c d : Option (List ℕ)) (w v : Option (List WriteEnd)) (k j : Option (List (Option ℤ)))
-    → IsOpen conn old.lines s → IsFirst s message rest → Grows f g (true ∷ []) → Grows k j (Some moment ∷ []) → IsAnsweredAt turn conn moment old new g h c d w v
-    → IsTurn turn conn old new s (known f l r c w k) (known h l r d v j)
-message_at turn conn old new s rest moment message f g h l r c d w v k j opens first looks tells (inl (answer, given, is, finds, sent)) =
-    message_given turn answer conn old new s rest is.1 moment message given f g h l r c d w v k j opens first
+    (f g h : Option (List Bool)) (l : Option (List ℕ)) (r : Option (List ReadEnd)) (c d : Option (List ℕ)) (w v : Option (List WriteEnd)) (k j : Option (List (Option ℤ))) (o p : Option (List Bool))
+    → IsOpen conn old.lines s → IsFirst s message rest → Grows f g (true ∷ []) → Grows k j (Some moment ∷ []) → IsAnsweredAt turn conn moment old new g h c d w v o p
+    → IsTurn turn conn old new s (known f l r c w k o) (known h l r d v j p)
+message_at turn conn old new s rest moment message f g h l r c d w v k j o p opens first looks tells (inl (answer, given, is, finds, sent)) =
+    message_given turn answer conn old new s rest is.1 moment message given f g h l r c d w v k j o p opens first
     (subst (λ (u : Stream). IsNext u given is.1) (same_stream conn old.lines is.0 s is.2 opens) is.3) is.4 is.5 looks finds tells sent
-message_at turn conn old new s rest moment message f g h l r c d w v k j opens first looks tells (inr (inl (turns, same, finds, contents, writes))) =
-    wanted turn (true ∷ []) (Some moment ∷ []) conn old new s f h l r c d w v k j opens same one_found (grows_trans f g h (true ∷ []) (false ∷ []) looks finds)
-    contents writes tells (inr (moment, refl)) turns
-message_at turn conn old new s rest moment message f g h l r c d w v k j opens first looks tells (inr (inr closed)) = absurd (not_closed conn old.lines s opens closed)
+message_at turn conn old new s rest moment message f g h l r c d w v k j o p opens first looks tells (inr (inl (turns, same, finds, contents, writes, saying))) =
+    wanted turn (true ∷ []) (Some moment ∷ []) conn old new s f h l r c d w v k j o p opens same one_found (grows_trans f g h (true ∷ []) (false ∷ []) looks finds)
+    contents writes saying tells (inr (moment, refl)) turns
+message_at turn conn old new s rest moment message f g h l r c d w v k j o p opens first looks tells (inr (inr closed)) = absurd (not_closed conn old.lines s opens closed)
 
 message_now : (turn : Turn) (conn : Conn) (old new : FrontState) (s rest : Stream) (message : Message)
-    (f g h : Option (List Bool)) (l : Option (List ℕ)) (r : Option (List ReadEnd)) (c d : Option (List ℕ)) (w v : Option (List WriteEnd)) (k j : Option (List (Option ℤ)))
-    → IsOpen conn old.lines s → IsFirst s message rest → Grows f g (true ∷ []) → IsAnsweredNow turn conn old new g h c d w v k j
-    → IsTurn turn conn old new s (known f l r c w k) (known h l r d v j)
-message_now turn conn old new s rest message f g h l r c d w v k j opens first looks (inl (moment, tells, is)) =
-    message_at turn conn old new s rest moment message f g h l r c d w v k j opens first looks tells is
-message_now turn conn old new s rest message f g h l r c d w v k j opens first looks (inr (turns, tells, same, finds, contents, writes)) =
-    subst (λ (t : Turn). IsTurn t conn old new s (known f l r c w k) (known h l r d v j)) (sym turns)
-    (ends_idle NoClock conn old new s s None (true ∷ []) [] (None ∷ []) (known f l r c w k) (known h l r d v j)
-    (made_unread (true ∷ []) [] (None ∷ []) f h l r c d w v k j (subst (λ (z : Option (List Bool)). Grows f z (true ∷ [])) (sym finds) looks)
-    (appends_same c d contents) (writes_same w v writes) tells)
-    (still old new same) (kept conn old new s opens same) (message, rest, first, refl) (All-nil IsReadOn) refl refl one_found)
+    (f g h : Option (List Bool)) (l : Option (List ℕ)) (r : Option (List ReadEnd)) (c d : Option (List ℕ)) (w v : Option (List WriteEnd)) (k j : Option (List (Option ℤ))) (o p : Option (List Bool))
+    → IsOpen conn old.lines s → IsFirst s message rest → Grows f g (true ∷ []) → IsAnsweredNow turn conn old new g h c d w v k j o p
+    → IsTurn turn conn old new s (known f l r c w k o) (known h l r d v j p)
+message_now turn conn old new s rest message f g h l r c d w v k j o p opens first looks (inl (moment, tells, is)) =
+    message_at turn conn old new s rest moment message f g h l r c d w v k j o p opens first looks tells is
+message_now turn conn old new s rest message f g h l r c d w v k j o p opens first looks (inr (turns, tells, same, finds, contents, writes, saying)) =
+    subst (λ (t : Turn). IsTurn t conn old new s (known f l r c w k o) (known h l r d v j p)) (sym turns)
+    (ends_idle NoClock conn old new s s None (true ∷ []) [] (None ∷ []) (known f l r c w k o) (known h l r d v j p)
+    (made_unread (true ∷ []) [] (None ∷ []) [] f h l r c d w v k j o p (subst (λ (z : Option (List Bool)). Grows f z (true ∷ [])) (sym finds) looks)
+    (appends_same c d contents) (writes_same w v writes) tells (says_same o p saying))
+    (still old new same) (kept conn old new s opens same) (message, rest, first, refl) (All-nil IsReadOn) refl refl one_found refl)
 
 -- what was given is a fault, or as yet nothing
 fault_given : (turn : Turn) (answer : Option Answer) (conn : Conn) (old new : FrontState) (s after : Stream) (moment : ℤ) (fault : SessionFault) (given : Next)
-    (f g h : Option (List Bool)) (l : Option (List ℕ)) (r : Option (List ReadEnd)) (c d : Option (List ℕ)) (w v : Option (List WriteEnd)) (k : Option (List (Option ℤ)))
+    (f g h : Option (List Bool)) (l : Option (List ℕ)) (r : Option (List ReadEnd)) (c d : Option (List ℕ)) (w v : Option (List WriteEnd)) (k : Option (List (Option ℤ))) (o p : Option (List Bool))
     → IsOpen conn old.lines s → s.ended ≡ false → IsFaulty s.held fault → IsNext s given after → IsGiven moment old.server given after answer new.server
     → new.lines ≡ with_line conn (Some after) old.lines → Grows f g (true ∷ []) → Grows g h (true ∷ [])
-    → IsSentAs turn answer c d w v → IsTurn turn conn old new s (known f l r c w k) (known h l r d v k)
-fault_given turn answer conn old new s after moment fault (next.Message message) f g h l r c d w v k opens on faulty is gives lines looks finds sent =
+    → IsSentAs turn answer c d w v o p → IsTurn turn conn old new s (known f l r c w k o) (known h l r d v k p)
+fault_given turn answer conn old new s after moment fault (next.Message message) f g h l r c d w v k o p opens on faulty is gives lines looks finds sent =
     let none : next.Fault fault ≡ next.Message message = (answers_messages s message after (next.Fault fault) (record s { ended = true }) is (on, faulty, refl)).0 in
     absurd (not_message none)
   where
     not_message : next.Fault fault ≡ next.Message message → ⊥
     not_message same = cc
-fault_given turn None conn old new s after moment fault (next.Fault other) f g h l r c d w v k opens on faulty is gives lines looks finds sent = absurd gives
-fault_given turn (Some answer) conn old new s after moment fault (next.Fault other) f g h l r c d w v k opens on faulty is gives lines looks finds sent =
-    fault_sent sent.0 turn conn old new s after other answer.reply f h l r c d w v k is (ap bytes_of gives.0) gives.2 lines
-    (grows_trans f g h (true ∷ []) (true ∷ []) looks finds) sent.1 (sent.2 ∙ ap (λ (b : Bool). turn_after sent.0 b) gives.1)
-fault_given turn (Some answer) conn old new s after moment fault next.More f g h l r c d w v k opens on faulty is gives lines looks finds sent = absurd gives
-fault_given turn None conn old new s after moment fault next.More f g h l r c d w v k opens on faulty is gives lines looks finds sent =
-    waits turn (true ∷ true ∷ []) conn old new s after f h l r c d w v k opens is gives lines two_found
-    (grows_trans f g h (true ∷ []) (true ∷ []) looks finds) sent.1 sent.2 sent.0
-fault_given turn answer conn old new s after moment fault next.Ended f g h l r c d w v k opens on faulty is gives lines looks finds sent =
+fault_given turn None conn old new s after moment fault (next.Fault other) f g h l r c d w v k o p opens on faulty is gives lines looks finds sent = absurd gives
+fault_given turn (Some answer) conn old new s after moment fault (next.Fault other) f g h l r c d w v k o p opens on faulty is gives lines looks finds sent =
+    let asked = asked_none sent.0 sent.1 answer.reply (error_reply (code_of_session_fault other)) o p gives.0 sent.3 in
+    fault_sent sent.0 turn conn old new s after other answer.reply f h l r c d w v k o p is (ap bytes_of gives.0) gives.2 lines
+    (grows_trans f g h (true ∷ []) (true ∷ []) looks finds) sent.2 asked.1
+    (sent.4 ∙ ap (λ (b : Bool). turn_after sent.0 b answer.last) asked.0 ∙ ap (λ (b : Bool). turn_after sent.0 false b) gives.1)
+fault_given turn (Some answer) conn old new s after moment fault next.More f g h l r c d w v k o p opens on faulty is gives lines looks finds sent = absurd gives
+fault_given turn None conn old new s after moment fault next.More f g h l r c d w v k o p opens on faulty is gives lines looks finds sent =
+    waits turn (true ∷ true ∷ []) conn old new s after f h l r c d w v k o p opens is gives lines two_found
+    (grows_trans f g h (true ∷ []) (true ∷ []) looks finds) sent.1 sent.2 sent.3 sent.0
+fault_given turn answer conn old new s after moment fault next.Ended f g h l r c d w v k o p opens on faulty is gives lines looks finds sent =
     absurd (false≢true (sym on ∙ is.0))
 
 fault_at : (turn : Turn) (conn : Conn) (old new : FrontState) (s : Stream) (moment : ℤ) (fault : SessionFault)
-    (f g h : Option (List Bool)) (l : Option (List ℕ)) (r : Option (List ReadEnd)) (c d : Option (List ℕ)) (w v : Option (List WriteEnd)) (k : Option (List (Option ℤ)))
-    → IsOpen conn old.lines s → s.ended ≡ false → IsFaulty s.held fault → Grows f g (true ∷ []) → IsAnsweredAt turn conn moment old new g h c d w v
-    → IsTurn turn conn old new s (known f l r c w k) (known h l r d v k)
-fault_at turn conn old new s moment fault f g h l r c d w v k opens on faulty looks (inl (answer, given, is, finds, sent)) =
-    fault_given turn answer conn old new s is.1 moment fault given f g h l r c d w v k opens on faulty
+    (f g h : Option (List Bool)) (l : Option (List ℕ)) (r : Option (List ReadEnd)) (c d : Option (List ℕ)) (w v : Option (List WriteEnd)) (k : Option (List (Option ℤ))) (o p : Option (List Bool))
+    → IsOpen conn old.lines s → s.ended ≡ false → IsFaulty s.held fault → Grows f g (true ∷ []) → IsAnsweredAt turn conn moment old new g h c d w v o p
+    → IsTurn turn conn old new s (known f l r c w k o) (known h l r d v k p)
+fault_at turn conn old new s moment fault f g h l r c d w v k o p opens on faulty looks (inl (answer, given, is, finds, sent)) =
+    fault_given turn answer conn old new s is.1 moment fault given f g h l r c d w v k o p opens on faulty
     (subst (λ (u : Stream). IsNext u given is.1) (same_stream conn old.lines is.0 s is.2 opens) is.3) is.4 is.5 looks finds sent
-fault_at turn conn old new s moment fault f g h l r c d w v k opens on faulty looks (inr (inl (turns, same, finds, contents, writes))) =
-    wanted turn (true ∷ []) [] conn old new s f h l r c d w v k k opens same one_found (grows_trans f g h (true ∷ []) (false ∷ []) looks finds)
-    contents writes (grows_none k) (inl refl) turns
-fault_at turn conn old new s moment fault f g h l r c d w v k opens on faulty looks (inr (inr closed)) = absurd (not_closed conn old.lines s opens closed)
+fault_at turn conn old new s moment fault f g h l r c d w v k o p opens on faulty looks (inr (inl (turns, same, finds, contents, writes, saying))) =
+    wanted turn (true ∷ []) [] conn old new s f h l r c d w v k k o p opens same one_found (grows_trans f g h (true ∷ []) (false ∷ []) looks finds)
+    contents writes saying (grows_none k) (inl refl) turns
+fault_at turn conn old new s moment fault f g h l r c d w v k o p opens on faulty looks (inr (inr closed)) = absurd (not_closed conn old.lines s opens closed)
 
 -- ---- by what stands at the front
 
 pub message_turn : (turn : Turn) (conn : Conn) (old mid new : FrontState) (s : Stream)
-    (f g h : Option (List Bool)) (l : Option (List ℕ)) (r : Option (List ReadEnd)) (c d : Option (List ℕ)) (w v : Option (List WriteEnd)) (k j : Option (List (Option ℤ)))
-    → IsOpen conn old.lines s → IsLooked conn old.lines (Ok look.Message) → mid ≡ old → Grows f g (true ∷ []) → IsAnsweredNow turn conn mid new g h c d w v k j
-    → IsTurn turn conn old new s (known f l r c w k) (known h l r d v j)
-message_turn turn conn old mid new s f g h l r c d w v k j opens looks same finds is =
+    (f g h : Option (List Bool)) (l : Option (List ℕ)) (r : Option (List ReadEnd)) (c d : Option (List ℕ)) (w v : Option (List WriteEnd)) (k j : Option (List (Option ℤ))) (n o p : Option (List Bool))
+    → IsOpen conn old.lines s → IsLooked conn old.lines (Ok look.Message) → mid ≡ old → o ≡ n → Grows f g (true ∷ [])
+    → IsAnsweredNow turn conn mid new g h c d w v k j o p → IsTurn turn conn old new s (known f l r c w k n) (known h l r d v j p)
+message_turn turn conn old mid new s f g h l r c d w v k j n o p opens looks same saying finds is =
     let seen = looked conn old.lines s look.Message opens looks in
     let message : Message = seen.1.0 in
-    message_now turn conn old new s (record { held = seen.1.1; ended = message.close }) message f g h l r c d w v k j opens (seen.0, seen.1.2, refl) finds
-    (subst (λ (m : FrontState). IsAnsweredNow turn conn m new g h c d w v k j) same is)
+    subst (λ (z : Option (List Bool)). IsTurn turn conn old new s (known f l r c w k z) (known h l r d v j p)) saying
+    (message_now turn conn old new s (record { held = seen.1.1; ended = message.close }) message f g h l r c d w v k j o p opens (seen.0, seen.1.2, refl) finds
+    (subst (λ (m : FrontState). IsAnsweredNow turn conn m new g h c d w v k j o p) same is))
 
 pub fault_turn : (turn : Turn) (conn : Conn) (moment : ℤ) (old mid new : FrontState) (s : Stream) (fault : SessionFault)
-    (f g h : Option (List Bool)) (l : Option (List ℕ)) (r : Option (List ReadEnd)) (c d : Option (List ℕ)) (w v : Option (List WriteEnd)) (k : Option (List (Option ℤ)))
-    → IsOpen conn old.lines s → IsLooked conn old.lines (Ok (look.Fault fault)) → mid ≡ old → Grows f g (true ∷ []) → IsAnsweredAt turn conn moment mid new g h c d w v
-    → IsTurn turn conn old new s (known f l r c w k) (known h l r d v k)
-fault_turn turn conn moment old mid new s fault f g h l r c d w v k opens looks same finds is =
+    (f g h : Option (List Bool)) (l : Option (List ℕ)) (r : Option (List ReadEnd)) (c d : Option (List ℕ)) (w v : Option (List WriteEnd)) (k : Option (List (Option ℤ))) (n o p : Option (List Bool))
+    → IsOpen conn old.lines s → IsLooked conn old.lines (Ok (look.Fault fault)) → mid ≡ old → o ≡ n → Grows f g (true ∷ [])
+    → IsAnsweredAt turn conn moment mid new g h c d w v o p → IsTurn turn conn old new s (known f l r c w k n) (known h l r d v k p)
+fault_turn turn conn moment old mid new s fault f g h l r c d w v k n o p opens looks same saying finds is =
     let seen = looked conn old.lines s (look.Fault fault) opens looks in
-    fault_at turn conn old new s moment fault f g h l r c d w v k opens seen.0 seen.1 finds
-    (subst (λ (m : FrontState). IsAnsweredAt turn conn moment m new g h c d w v) same is)
+    subst (λ (z : Option (List Bool)). IsTurn turn conn old new s (known f l r c w k z) (known h l r d v k p)) saying
+    (fault_at turn conn old new s moment fault f g h l r c d w v k o p opens seen.0 seen.1 finds
+    (subst (λ (m : FrontState). IsAnsweredAt turn conn moment m new g h c d w v o p) same is))
 
 pub more_turn : (conn : Conn) (old new : FrontState) (s : Stream) (f g : Option (List Bool)) (l : Option (List ℕ)) (r : Option (List ReadEnd)) (c : Option (List ℕ))
-    (w : Option (List WriteEnd)) (k : Option (List (Option ℤ))) → IsOpen conn old.lines s → IsLooked conn old.lines (Ok look.More) → new ≡ old → Grows f g (true ∷ [])
-    → IsTurn Waits conn old new s (known f l r c w k) (known g l r c w k)
-more_turn conn old new s f g l r c w k opens looks same finds =
+    (w : Option (List WriteEnd)) (k : Option (List (Option ℤ))) (o p : Option (List Bool)) → IsOpen conn old.lines s → IsLooked conn old.lines (Ok look.More) → new ≡ old → p ≡ o → Grows f g (true ∷ [])
+    → IsTurn Waits conn old new s (known f l r c w k o) (known g l r c w k p)
+more_turn conn old new s f g l r c w k o p opens looks same saying finds =
     let seen = looked conn old.lines s look.More opens looks in
-    waits Waits (true ∷ []) conn old new s s f g l r c c w w k opens (seen.0, seen.1, refl) (still old new same) (kept conn old new s opens same) one_found finds refl refl refl
+    waits Waits (true ∷ []) conn old new s s f g l r c c w w k o p opens (seen.0, seen.1, refl) (still old new same) (kept conn old new s opens same) one_found finds refl refl saying refl
 
 pub ended_turn : (conn : Conn) (old new : FrontState) (s : Stream) (f g : Option (List Bool)) (l : Option (List ℕ)) (r : Option (List ReadEnd)) (c : Option (List ℕ))
-    (w : Option (List WriteEnd)) (k : Option (List (Option ℤ))) → IsOpen conn old.lines s → IsLooked conn old.lines (Ok look.Ended) → new ≡ old → Grows f g (true ∷ [])
-    → IsTurn (Ends Ended) conn old new s (known f l r c w k) (known g l r c w k)
-ended_turn conn old new s f g l r c w k opens looks same finds =
+    (w : Option (List WriteEnd)) (k : Option (List (Option ℤ))) (o p : Option (List Bool)) → IsOpen conn old.lines s → IsLooked conn old.lines (Ok look.Ended) → new ≡ old → p ≡ o → Grows f g (true ∷ [])
+    → IsTurn (Ends Ended) conn old new s (known f l r c w k o) (known g l r c w k p)
+ended_turn conn old new s f g l r c w k o p opens looks same saying finds =
     let seen = looked conn old.lines s look.Ended opens looks in
-    ends_idle Ended conn old new s s None (true ∷ []) [] [] (known f l r c w k) (known g l r c w k)
-    (made_unread (true ∷ []) [] [] f g l r c c w w k k finds (appends_none c) (grows_none w) (grows_none k))
-    (still old new same) (kept conn old new s opens same) (inr (seen, refl)) (inl (All-nil IsReadOn, seen)) refl refl one_found
+    ends_idle Ended conn old new s s None (true ∷ []) [] [] (known f l r c w k o) (known g l r c w k p)
+    (made_unread (true ∷ []) [] [] [] f g l r c c w w k k o p finds (appends_none c) (grows_none w) (grows_none k) (says_same o p saying))
+    (still old new same) (kept conn old new s opens same) (inr (seen, refl)) (inl (All-nil IsReadOn, seen)) refl refl one_found refl
 
 pub memory_turn : (error : FrontError) (conn : Conn) (old new : FrontState) (s : Stream) (f g : Option (List Bool)) (l : Option (List ℕ)) (r : Option (List ReadEnd))
-    (c : Option (List ℕ)) (w : Option (List WriteEnd)) (k : Option (List (Option ℤ))) → IsOpen conn old.lines s → IsLooked conn old.lines (Err error) → new ≡ old
-    → Grows f g (found_memory {X = Look} (Err error) ∷ []) → IsTurn (Ends Memory) conn old new s (known f l r c w k) (known g l r c w k)
-memory_turn error.Memory conn old new s f g l r c w k opens looks same finds =
-    wanted (Ends Memory) [] [] conn old new s f g l r c c w w k k opens same (All-nil HadMemory) finds refl refl (grows_none k) (inl refl) refl
-memory_turn error.NoSuchConnection conn old new s f g l r c w k opens looks same finds = absurd (not_closed conn old.lines s opens looks)
-memory_turn error.TooManyConnections conn old new s f g l r c w k opens looks same finds = absurd looks
-memory_turn error.Full conn old new s f g l r c w k opens looks same finds = absurd looks
+    (c : Option (List ℕ)) (w : Option (List WriteEnd)) (k : Option (List (Option ℤ))) (o p : Option (List Bool)) → IsOpen conn old.lines s → IsLooked conn old.lines (Err error) → new ≡ old
+    → p ≡ o → Grows f g (found_memory {X = Look} (Err error) ∷ []) → IsTurn (Ends Memory) conn old new s (known f l r c w k o) (known g l r c w k p)
+memory_turn error.Memory conn old new s f g l r c w k o p opens looks same saying finds =
+    wanted (Ends Memory) [] [] conn old new s f g l r c c w w k k o p opens same (All-nil HadMemory) finds refl refl saying (grows_none k) (inl refl) refl
+memory_turn error.NoSuchConnection conn old new s f g l r c w k o p opens looks same saying finds = absurd (not_closed conn old.lines s opens looks)
+memory_turn error.TooManyConnections conn old new s f g l r c w k o p opens looks same saying finds = absurd looks
+memory_turn error.Full conn old new s f g l r c w k o p opens looks same saying finds = absurd looks

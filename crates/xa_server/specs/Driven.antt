@@ -10,9 +10,11 @@ use Rattle.xa_http.specs.declared.session.Next.TheVariants as next
 use Rattle.xa_http.specs.Messages.{Cuts, IsFirst, IsNext}
 use Rattle.xa_http.specs.Stream.{Stream, fed}
 use Rattle.xa_server.specs.declared.driven.Driven.{Driven}
-use Rattle.xa_server.specs.declared.driven.Driven.TheVariants.{Ended, ReadFault, WriteFault, NoClock, TooManyReads, Memory}
+use Rattle.xa_server.specs.declared.driven.Driven.TheVariants.{Ended, ReadFault, WriteFault, NoClock, TooManyReads, Memory, Shut}
 use Rattle.xa_server.specs.declared.lines.Conn.{Conn}
+use Rattle.xa_records.specs.declared.refusal.Failure.TheVariants.{Store}
 use Rattle.xa_server.specs.declared.replies.Reply.{Reply}
+use Rattle.xa_server.specs.declared.replies.Reply.TheVariants.{Refused}
 use Rattle.xa_server.specs.Alone.{Event}
 use Rattle.xa_server.specs.Connection.{StopsBy, all_replies, messages_of, moments_of}
 use Rattle.xa_server.specs.Front.{FrontState}
@@ -24,12 +26,14 @@ use Rattle.xa_server.specs.Work.{IsWorkOfRun}
 
 -- ---- the calls
 
--- how calls ended, one after another: whether those of the front found memory; the reads; the writes and flushes; what the clock told
+-- how calls ended, one after another: whether those of the front found memory; the reads; the writes and flushes; what the clock told; and what the front said
+-- of its keeper, whether that can go on
 pub record Calls : Type 0 where
   pub memory : List Bool
   pub reads : List ReadEnd
   pub writes : List WriteEnd
   pub told : List (Option ℤ)
+  pub said : List Bool
 
 -- what is known of such calls so far, and of the bytes that the reader has left and the writer holds
 pub record Known : Type 0 where
@@ -39,11 +43,12 @@ pub record Known : Type 0 where
   pub contents : Option (List ℕ)
   pub writes : Option (List WriteEnd)
   pub told : Option (List (Option ℤ))
+  pub said : Option (List Bool)
 
 -- of these, in this order
-abbrev pub known : Option (List Bool) → Option (List ℕ) → Option (List ReadEnd) → Option (List ℕ) → Option (List WriteEnd) → Option (List (Option ℤ)) → Known
-known found left reads contents writes told =
-    record { memory = found; left = left; reads = reads; contents = contents; writes = writes; told = told }
+abbrev pub known : Option (List Bool) → Option (List ℕ) → Option (List ReadEnd) → Option (List ℕ) → Option (List WriteEnd) → Option (List (Option ℤ)) → Option (List Bool) → Known
+known found left reads contents writes told said =
+    record { memory = found; left = left; reads = reads; contents = contents; writes = writes; told = told; said = said }
 
 -- these calls came to what was known, and no others
 pub record AreMade (calls : Calls) (before now : Known) : Type 0 where
@@ -53,6 +58,7 @@ pub record AreMade (calls : Calls) (before now : Known) : Type 0 where
   pub contents : Appends before.contents now.contents (bytes_taken calls.writes)
   pub writes : Grows before.writes now.writes calls.writes
   pub told : Grows before.told now.told calls.told
+  pub said : Grows before.said now.said calls.said
 
 -- ---- what each end of a connection says of them
 
@@ -105,8 +111,20 @@ abbrev pub HaveMemory : Driven → List Bool → Type 0
 HaveMemory Memory calls = (before : List Bool) × All HadMemory before × (calls ≡ before ++ false ∷ [])
 HaveMemory _ calls = All HadMemory calls
 
+-- that it can go on, once after each message that was refused for want of storage
+abbrev pub goes_on_after : List Reply → List Bool
+goes_on_after [] = []
+goes_on_after (Refused Store ∷ replies) = true ∷ goes_on_after replies
+goes_on_after (_ ∷ replies) = goes_on_after replies
+
+-- what the front said: after each such message whose reply was written, that its keeper can go on; but for the last, where it can't, and that ended the connection
+abbrev pub HaveSaid : Driven → Option SessionFault → List Reply → List Bool → Type 0
+HaveSaid Shut fault run said = (before : List Reply) × (run ≡ before ++ Refused Store ∷ []) × (said ≡ goes_on_after before ++ false ∷ [])
+HaveSaid WriteFault None run said = (before : List Reply) × (last : Reply) × (run ≡ before ++ last ∷ []) × (said ≡ goes_on_after before)
+HaveSaid _ fault run said = said ≡ goes_on_after run
+
 -- why no message after the last is answered: the stream holds none that is whole, or there was no moment for the next, which is whole, or a write
--- failed, or memory was wanted, maybe for the piece that was read last. `fault` is that to which there is a reply, the last of all
+-- failed, or the keeper can't go on, or memory was wanted, maybe for the piece that was read last. `fault` is that to which there is a reply, the last of all
 abbrev pub StopsAfter : Driven → Option SessionFault → List ReadEnd → Stream → Stream → Type 0
 StopsAfter Ended fault reads last after = StopsBy fault last after
 StopsAfter ReadFault None reads last after = IsNext last next.More after
@@ -114,6 +132,7 @@ StopsAfter TooManyReads None reads last after = IsNext last next.More after
 StopsAfter NoClock None reads last after = (message : Message) × (rest : Stream) × IsFirst last message rest × (after ≡ last)
 StopsAfter WriteFault (Some fault) reads last after = IsNext last (next.Fault fault) after
 StopsAfter WriteFault None reads last after = after ≡ last
+StopsAfter Shut None reads last after = after ≡ last
 StopsAfter Memory None reads last after =
     (after ≡ last)
     ⊎ ((before : List ReadEnd) × (piece : List ℕ) × (reads ≡ before ++ gave 65_536 piece ∷ []) × (last ≡ fed after piece))
@@ -142,6 +161,7 @@ pub record IsDriven (driven : Driven) (conn : Conn) (old new : FrontState) (stre
   pub told : HasTold driven (moments_of events) calls.told
   pub written : AreWritten driven (all_replies run fault) calls.writes
   pub memory : HaveMemory driven calls.memory
+  pub said : HaveSaid driven fault run calls.said
 
 -- so it was, with no more reads than `most`
 abbrev pub IsDrivenWithin : ℕ → Driven → Conn → FrontState → FrontState → Stream → Known → Known → Type 0

@@ -16,10 +16,12 @@ use Rattle.xa_server.specs.declared.event.Outcome.TheVariants as outcome
 use Rattle.xa_server.specs.declared.front_error.FrontError.{FrontError}
 use Rattle.xa_server.specs.declared.front_error.FrontError.TheVariants.{Memory}
 use Rattle.xa_server.specs.declared.lines.Conn.{Conn}
+use Rattle.xa_records.specs.declared.refusal.Failure.TheVariants.{Store}
 use Rattle.xa_server.specs.declared.replies.Reply.{Reply}
+use Rattle.xa_server.specs.declared.replies.Reply.TheVariants.{Refused}
 use Rattle.xa_server.specs.Alone as messages
 use Rattle.xa_server.specs.Connection.{messages_of, moments_of}
-use Rattle.xa_server.specs.Driven.{AreMade, AreSent, Calls, HadMemory, IsDrivenWithin, Known}
+use Rattle.xa_server.specs.Driven.{AreMade, AreSent, Calls, HadMemory, IsDrivenWithin, Known, goes_on_after}
 use Rattle.xa_server.specs.Front.{FrontState, IsAnswered}
 use Rattle.xa_server.specs.Fronting.{DoesEvent}
 use Rattle.xa_server.specs.Lines.{IsOpen, line_at, with_line}
@@ -65,31 +67,39 @@ FeedsOne conn piece old new found finding (Err _) =
 
 -- ---- one reply
 
--- by whether it was written whole, and whether it is the last
-abbrev pub turn_after : Bool → Bool → Turn
-turn_after false last = Ends driven.WriteFault
-turn_after true true = Ends driven.Ended
-turn_after true false = Answered
+-- by whether it was written whole, whether the keeper can't go on then, and whether it is the last
+abbrev pub turn_after : Bool → Bool → Bool → Turn
+turn_after false shut last = Ends driven.WriteFault
+turn_after true true last = Ends driven.Shut
+turn_after true false true = Ends driven.Ended
+turn_after true false false = Answered
+
+-- what the front is asked after a reply that was written whole, and says: whether its keeper can go on, where the message was refused for want of storage
+abbrev pub IsAsked : Bool → Reply → Bool → Option (List Bool) → Option (List Bool) → Type 0
+IsAsked true (Refused Store) true said saying = Grows said saying (false ∷ [])
+IsAsked true (Refused Store) false said saying = Grows said saying (true ∷ [])
+IsAsked _ reply shut said saying = (shut ≡ false) × (saying ≡ said)
 
 -- an answer was written, or a part of it; without one there is no turn yet
-abbrev pub IsSentAs : Turn → Option Answer → Option (List ℕ) → Option (List ℕ) → Option (List WriteEnd) → Option (List WriteEnd) → Type 0
-IsSentAs turn (Some answer) before now written writing =
-    (whole : Bool) × IsWritten whole (bytes_of answer.reply) before now written writing × (turn ≡ turn_after whole answer.last)
-IsSentAs turn None before now written writing = (turn ≡ Waits) × (now ≡ before) × (writing ≡ written)
+abbrev pub IsSentAs : Turn → Option Answer → Option (List ℕ) → Option (List ℕ) → Option (List WriteEnd) → Option (List WriteEnd) → Option (List Bool) → Option (List Bool) → Type 0
+IsSentAs turn (Some answer) before now written writing said saying =
+    (whole : Bool) × (shut : Bool) × IsWritten whole (bytes_of answer.reply) before now written writing × IsAsked whole answer.reply shut said saying
+    × (turn ≡ turn_after whole shut answer.last)
+IsSentAs turn None before now written writing said saying = (turn ≡ Waits) × (now ≡ before) × (writing ≡ written) × (saying ≡ said)
 
 -- the next of a connection was answered at that moment, and the reply was written; or there was no memory
-abbrev pub IsAnsweredAt : Turn → Conn → ℤ → FrontState → FrontState → Option (List Bool) → Option (List Bool) → Option (List ℕ) → Option (List ℕ) → Option (List WriteEnd) → Option (List WriteEnd) → Type 0
-IsAnsweredAt turn conn moment old new found finding before now written writing =
+abbrev pub IsAnsweredAt : Turn → Conn → ℤ → FrontState → FrontState → Option (List Bool) → Option (List Bool) → Option (List ℕ) → Option (List ℕ) → Option (List WriteEnd) → Option (List WriteEnd) → Option (List Bool) → Option (List Bool) → Type 0
+IsAnsweredAt turn conn moment old new found finding before now written writing said saying =
     ((answer : Option Answer) × (given : Next) × IsAnswered conn moment old (Some given) (Ok answer) new × Grows found finding (true ∷ [])
-    × IsSentAs turn answer before now written writing)
-    ⊎ (((turn ≡ Ends driven.Memory) × (new ≡ old) × Grows found finding (false ∷ []) × (now ≡ before) × (writing ≡ written))
+    × IsSentAs turn answer before now written writing said saying)
+    ⊎ (((turn ≡ Ends driven.Memory) × (new ≡ old) × Grows found finding (false ∷ []) × (now ≡ before) × (writing ≡ written) × (saying ≡ said))
     ⊎ (line_at conn old.lines ≡ None))
 
 -- so it was at the clock's moment, where there was one
-abbrev pub IsAnsweredNow : Turn → Conn → FrontState → FrontState → Option (List Bool) → Option (List Bool) → Option (List ℕ) → Option (List ℕ) → Option (List WriteEnd) → Option (List WriteEnd) → Option (List (Option ℤ)) → Option (List (Option ℤ)) → Type 0
-IsAnsweredNow turn conn old new found finding before now written writing told telling =
-    ((moment : ℤ) × Grows told telling (Some moment ∷ []) × IsAnsweredAt turn conn moment old new found finding before now written writing)
-    ⊎ ((turn ≡ Ends driven.NoClock) × Grows told telling (None ∷ []) × (new ≡ old) × (finding ≡ found) × (now ≡ before) × (writing ≡ written))
+abbrev pub IsAnsweredNow : Turn → Conn → FrontState → FrontState → Option (List Bool) → Option (List Bool) → Option (List ℕ) → Option (List ℕ) → Option (List WriteEnd) → Option (List WriteEnd) → Option (List (Option ℤ)) → Option (List (Option ℤ)) → Option (List Bool) → Option (List Bool) → Type 0
+IsAnsweredNow turn conn old new found finding before now written writing told telling said saying =
+    ((moment : ℤ) × Grows told telling (Some moment ∷ []) × IsAnsweredAt turn conn moment old new found finding before now written writing said saying)
+    ⊎ ((turn ≡ Ends driven.NoClock) × Grows told telling (None ∷ []) × (new ≡ old) × (finding ≡ found) × (now ≡ before) × (writing ≡ written) × (saying ≡ said))
 
 -- ---- messages
 
@@ -113,6 +123,7 @@ pub record GoesOn (count : ℕ) (conn : Conn) (old new : FrontState) (stream aft
   pub told : calls.told ≡ map Some (moments_of events)
   pub written : AreSent (map bytes_of run) calls.writes
   pub memory : All HadMemory calls.memory
+  pub said : calls.said ≡ goes_on_after run
 
 -- what became of what a connection holds: a message was answered, or there is none yet, or the connection has ended
 abbrev pub IsTurn : Turn → Conn → FrontState → FrontState → Stream → Known → Known → Type 0

@@ -11,6 +11,10 @@ use Rattle.xa_server.specs.Front.{Fronted}
 abbrev pub front_is_sound : {R : Type 0} → (R → Custody) → Fronted R → Type 0
 front_is_sound custody front = (custody front.server.records).sound
 
+-- and goes on where that can
+abbrev pub front_goes_on : {R : Type 0} → (R → Custody) → Fronted R → Bool
+front_goes_on custody front = (custody front.server.records).is_open
+
 -- whether a call has found memory, by its result
 abbrev pub found_memory : {X : Type 0} → Result X FrontError → Bool
 found_memory (Err Memory) = false

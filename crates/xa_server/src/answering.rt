@@ -1,8 +1,10 @@
 //! The messages that a connection holds, one after another, each with its reply.
-ghost use Rattle.std.specs.Prelude.{◌≡◌, ℕ, List, MatchResult, Option, Some, pos};
+ghost use Rattle.std.specs.Prelude.{◌≡◌, ℕ, false, true, IsTrue, List, MatchResult, Option, Some, pos};
 ghost use Rattle.xa_http.specs.Stream.{Stream};
 ghost use Rattle.xa_server.specs.Driven.{KeepsOpen, known};
-ghost use Rattle.xa_server.specs.Driving.{AnswersOne, IsAnsweredAt, IsAnsweredNow, IsHeldAnswered, IsSentAs, IsTurn, PlaysOne, answer_of};
+ghost use Rattle.xa_server.specs.declared.answering.Turn.TheVariants as turn;
+ghost use Rattle.xa_server.specs.declared.driven.Driven.TheVariants as driven;
+ghost use Rattle.xa_server.specs.Driving.{AnswersOne, IsAnsweredAt, IsAnsweredNow, IsAsked, IsHeldAnswered, IsSentAs, IsTurn, PlaysOne, answer_of};
 ghost use Rattle.xa_server.specs.Fronting.{DoesLines};
 ghost use Rattle.xa_server.specs.Lines.{IsOpen, line_at};
 ghost use Rattle.xa_server.specs.Transfers.{ReadEnd};
@@ -13,11 +15,13 @@ use crate::event::{Answer, Event, Outcome};
 use crate::front_error::FrontError;
 use crate::lines::Conn;
 use crate::multiplexer::Multiplexer;
+use crate::replies::Reply;
 use crate::sending::send_whole;
 use crate::writer::Writer;
 use std::alloc::AllocError;
 use std::slice;
 use xa_http::Look;
+use xa_records::Failure;
 use xa_value::Moment;
 
 /// What became of what a connection holds.
@@ -38,6 +42,7 @@ pub(crate) fn play_one<F: Multiplexer>(
     ensures played { F.is_sound front.new → PlaysOne event.now (F.state front.old) (F.state front.new) (F.had_memory front.old) (F.had_memory front.new) result }
     ensures lines { MatchResult result (λ outcome. DoesLines event.now (F.state front.old).lines outcome (F.state front.new).lines)
         (λ _. (F.state front.new).lines ≡ (F.state front.old).lines) }
+    ensures said { F.said front.new ≡ F.said front.old }
     ensures sound { F.is_sound front.new → F.is_sound front.old }
 {
     let mut outcomes = front.play(slice::from_ref(event))?;
@@ -66,6 +71,7 @@ fn play_answer<F: Multiplexer>(
 ) -> Result<Option<Answer>, FrontError>
     ensures answered { F.is_sound front.new → AnswersOne conn moment (F.state front.old) (F.state front.new) (F.had_memory front.old) (F.had_memory front.new) result }
     ensures stays_open { KeepsOpen conn (F.state front.old).lines (F.state front.new).lines }
+    ensures said { F.said front.new ≡ F.said front.old }
     ensures sound { F.is_sound front.new → F.is_sound front.old }
 {
     match play_one(front, &Event::Answer(conn, moment)) {
@@ -74,12 +80,35 @@ fn play_answer<F: Multiplexer>(
     }
 }
 
+/// Whether the keeper behind a front can't go on: that is asked after a message that was refused for want of storage.
+#[tactic(auto, using(crate::proofs::AskedLemmas::asked_so))]
+fn is_shut<F: Multiplexer>(front: &mut F, reply: &Reply) -> bool
+    ensures asked { IsAsked true reply.now result (F.said front.old) (F.said front.new) }
+    ensures shut { IsTrue result → F.goes_on front.new ≡ false }
+    ensures same { F.state front.new ≡ F.state front.old }
+    ensures memory { F.had_memory front.new ≡ F.had_memory front.old }
+    ensures sound { F.is_sound front.new → F.is_sound front.old }
+{
+    match reply {
+        Reply::Refused(Failure::Store) => !front.can_go_on(),
+        Reply::Refused(Failure::Memory) => false,
+        Reply::Sent(_) => false,
+    }
+}
+
 /// Sends the reply of an answer.
-fn send_answer<W: Writer>(writer: &mut W, answer: &Answer) -> Turn
-    ensures { IsSentAs result (Some answer.now) (W.contents writer.old) (W.contents writer.new) (W.writes writer.old) (W.writes writer.new) }
+fn send_answer<F: Multiplexer, W: Writer>(front: &mut F, writer: &mut W, answer: &Answer) -> Turn
+    ensures sent { IsSentAs result (Some answer.now) (W.contents writer.old) (W.contents writer.new) (W.writes writer.old) (W.writes writer.new) (F.said front.old) (F.said front.new) }
+    ensures shut { result ≡ turn.Ends driven.Shut → F.goes_on front.new ≡ false }
+    ensures same { F.state front.new ≡ F.state front.old }
+    ensures memory { F.had_memory front.new ≡ F.had_memory front.old }
+    ensures sound { F.is_sound front.new → F.is_sound front.old }
 {
     if !send_whole(writer, answer.reply.bytes()) {
         return Turn::Ends(Driven::WriteFault);
+    }
+    if is_shut(front, &answer.reply) {
+        return Turn::Ends(Driven::Shut);
     }
     if answer.last {
         Turn::Ends(Driven::Ended)
@@ -96,12 +125,13 @@ fn answer_at<F: Multiplexer, W: Writer>(
     writer: &mut W,
 ) -> Turn
     ensures answered { F.is_sound front.new → IsAnsweredAt result conn moment (F.state front.old) (F.state front.new) (F.had_memory front.old) (F.had_memory front.new)
-        (W.contents writer.old) (W.contents writer.new) (W.writes writer.old) (W.writes writer.new) }
+        (W.contents writer.old) (W.contents writer.new) (W.writes writer.old) (W.writes writer.new) (F.said front.old) (F.said front.new) }
     ensures stays_open { KeepsOpen conn (F.state front.old).lines (F.state front.new).lines }
+    ensures shut { result ≡ turn.Ends driven.Shut → F.goes_on front.new ≡ false }
     ensures sound { F.is_sound front.new → F.is_sound front.old }
 {
     match play_answer(front, conn, moment) {
-        Ok(Some(answer)) => send_answer(writer, &answer),
+        Ok(Some(answer)) => send_answer(front, writer, &answer),
         Ok(None) => Turn::Waits,
         Err(_) => Turn::Ends(Driven::Memory),
     }
@@ -116,8 +146,9 @@ fn answer_message<F: Multiplexer, W: Writer, C: Clock>(
     clock: &mut C,
 ) -> Turn
     ensures answered { F.is_sound front.new → IsAnsweredNow result conn (F.state front.old) (F.state front.new) (F.had_memory front.old) (F.had_memory front.new)
-        (W.contents writer.old) (W.contents writer.new) (W.writes writer.old) (W.writes writer.new) (C.told clock.old) (C.told clock.new) }
+        (W.contents writer.old) (W.contents writer.new) (W.writes writer.old) (W.writes writer.new) (C.told clock.old) (C.told clock.new) (F.said front.old) (F.said front.new) }
     ensures stays_open { KeepsOpen conn (F.state front.old).lines (F.state front.new).lines }
+    ensures shut { result ≡ turn.Ends driven.Shut → F.goes_on front.new ≡ false }
     ensures sound { F.is_sound front.new → F.is_sound front.old }
 {
     let Some(moment) = clock.now() else {
@@ -129,8 +160,9 @@ fn answer_message<F: Multiplexer, W: Writer, C: Clock>(
 /// Answers the fault by which the stream of a connection ends, and sends the reply. No moment is in it.
 fn answer_fault<F: Multiplexer, W: Writer>(front: &mut F, conn: Conn, writer: &mut W) -> Turn
     ensures answered { F.is_sound front.new → IsAnsweredAt result conn (pos 0) (F.state front.old) (F.state front.new) (F.had_memory front.old) (F.had_memory front.new)
-        (W.contents writer.old) (W.contents writer.new) (W.writes writer.old) (W.writes writer.new) }
+        (W.contents writer.old) (W.contents writer.new) (W.writes writer.old) (W.writes writer.new) (F.said front.old) (F.said front.new) }
     ensures stays_open { KeepsOpen conn (F.state front.old).lines (F.state front.new).lines }
+    ensures shut { result ≡ turn.Ends driven.Shut → F.goes_on front.new ≡ false }
     ensures sound { F.is_sound front.new → F.is_sound front.old }
 {
     let Some(moment) = Moment::new(0) else {
@@ -151,9 +183,10 @@ fn answer_next<F: Multiplexer, W: Writer, C: Clock>(
     ensures turn { F.is_sound front.new → (stream : Stream) (left : Option (List ℕ)) (reads : Option (List ReadEnd))
         → IsOpen conn (F.state front.old).lines stream
         → IsTurn result conn (F.state front.old) (F.state front.new) stream
-        (known (F.had_memory front.old) left reads (W.contents writer.old) (W.writes writer.old) (C.told clock.old))
-        (known (F.had_memory front.new) left reads (W.contents writer.new) (W.writes writer.new) (C.told clock.new)) }
+        (known (F.had_memory front.old) left reads (W.contents writer.old) (W.writes writer.old) (C.told clock.old) (F.said front.old))
+        (known (F.had_memory front.new) left reads (W.contents writer.new) (W.writes writer.new) (C.told clock.new) (F.said front.new)) }
     ensures stays_open { KeepsOpen conn (F.state front.old).lines (F.state front.new).lines }
+    ensures shut { result ≡ turn.Ends driven.Shut → F.goes_on front.new ≡ false }
     ensures sound { F.is_sound front.new → F.is_sound front.old }
 {
     match front.look(conn) {
@@ -175,9 +208,10 @@ pub(crate) fn answer_held<F: Multiplexer, W: Writer, C: Clock>(
 ) -> Option<Driven>
     ensures held { F.is_sound front.new → (left : Option (List ℕ)) (reads : Option (List ReadEnd))
         → IsHeldAnswered result (line_at conn (F.state front.old).lines) conn (F.state front.old) (F.state front.new)
-        (known (F.had_memory front.old) left reads (W.contents writer.old) (W.writes writer.old) (C.told clock.old))
-        (known (F.had_memory front.new) left reads (W.contents writer.new) (W.writes writer.new) (C.told clock.new)) }
+        (known (F.had_memory front.old) left reads (W.contents writer.old) (W.writes writer.old) (C.told clock.old) (F.said front.old))
+        (known (F.had_memory front.new) left reads (W.contents writer.new) (W.writes writer.new) (C.told clock.new) (F.said front.new)) }
     ensures stays_open { KeepsOpen conn (F.state front.old).lines (F.state front.new).lines }
+    ensures shut { result ≡ Some driven.Shut → F.goes_on front.new ≡ false }
     ensures sound { F.is_sound front.new → F.is_sound front.old }
 {
     let Some(held) = front.held(conn) else {

@@ -1,7 +1,8 @@
 //! A connection, from its first byte to its end.
-ghost use Rattle.std.specs.Prelude.{◌≡◌, ◌≤◌, List, Option};
+ghost use Rattle.std.specs.Prelude.{◌≡◌, ◌≤◌, false, List, Option, Some};
 ghost use Rattle.xa_http.specs.Stream.{Stream};
 ghost use Rattle.xa_server.specs.Driven.{IsConnection, KeepsOpen, known};
+ghost use Rattle.xa_server.specs.declared.driven.Driven.TheVariants as driven;
 ghost use Rattle.xa_server.specs.Driving.{FeedsOne, IsRead, IsWaiting, piece_of};
 ghost use Rattle.xa_server.specs.Lines.{IsOpen, line_at};
 
@@ -37,6 +38,7 @@ fn piece_of(outcome: Outcome) -> Result<(), FrontError>
 fn play_piece<F: Multiplexer>(front: &mut F, conn: Conn, piece: &[u8]) -> Result<(), FrontError>
     ensures fed { F.is_sound front.new → FeedsOne conn piece.now (F.state front.old) (F.state front.new) (F.had_memory front.old) (F.had_memory front.new) result }
     ensures stays_open { KeepsOpen conn (F.state front.old).lines (F.state front.new).lines }
+    ensures said { F.said front.new ≡ F.said front.old }
     ensures sound { F.is_sound front.new → F.is_sound front.old }
 {
     match play_one(front, &Event::Piece(conn, piece)) {
@@ -58,9 +60,10 @@ fn read_on<F: Multiplexer, I: Reader, W: Writer, C: Clock>(
 ) -> Option<Driven>
     ensures read { F.is_sound front.new → (stream : Stream) → IsOpen conn (F.state front.old).lines stream → IsWaiting stream
         → IsRead result conn (F.state front.old) (F.state front.new) stream
-        (known (F.had_memory front.old) (I.remaining reader.old) (I.reads reader.old) (W.contents writer.old) (W.writes writer.old) (C.told clock.old))
-        (known (F.had_memory front.new) (I.remaining reader.new) (I.reads reader.new) (W.contents writer.new) (W.writes writer.new) (C.told clock.new)) }
+        (known (F.had_memory front.old) (I.remaining reader.old) (I.reads reader.old) (W.contents writer.old) (W.writes writer.old) (C.told clock.old) (F.said front.old))
+        (known (F.had_memory front.new) (I.remaining reader.new) (I.reads reader.new) (W.contents writer.new) (W.writes writer.new) (C.told clock.new) (F.said front.new)) }
     ensures stays_open { KeepsOpen conn (F.state front.old).lines (F.state front.new).lines }
+    ensures shut { result ≡ Some driven.Shut → F.goes_on front.new ≡ false }
     ensures sound { F.is_sound front.new → F.is_sound front.old }
 {
     let count = match reader.receive(piece) {
@@ -89,9 +92,10 @@ pub fn drive<F: Multiplexer, I: Reader, W: Writer, C: Clock>(
     clock: &mut C,
 ) -> Driven
     ensures connection { F.is_sound front.new → IsConnection result (line_at conn (F.state front.old).lines) conn (F.state front.old) (F.state front.new)
-        (known (F.had_memory front.old) (I.remaining reader.old) (I.reads reader.old) (W.contents writer.old) (W.writes writer.old) (C.told clock.old))
-        (known (F.had_memory front.new) (I.remaining reader.new) (I.reads reader.new) (W.contents writer.new) (W.writes writer.new) (C.told clock.new)) }
+        (known (F.had_memory front.old) (I.remaining reader.old) (I.reads reader.old) (W.contents writer.old) (W.writes writer.old) (C.told clock.old) (F.said front.old))
+        (known (F.had_memory front.new) (I.remaining reader.new) (I.reads reader.new) (W.contents writer.new) (W.writes writer.new) (C.told clock.new) (F.said front.new)) }
     ensures stays_open { KeepsOpen conn (F.state front.old).lines (F.state front.new).lines }
+    ensures shut { result ≡ driven.Shut → F.goes_on front.new ≡ false }
     ensures sound { F.is_sound front.new → F.is_sound front.old }
 {
     if let Some(driven) = answer_held(front, conn, writer, clock) {

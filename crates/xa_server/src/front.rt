@@ -107,6 +107,13 @@ impl<R: Records> Front<R> {
         }
     }
 
+    /// Whether the server's keeper can go on: one that can't refuses every message for want of storage.
+    pub(crate) fn is_open(&self) -> bool
+        ensures { result ≡ (R.custody self.now.server.records).is_open }
+    {
+        self.server.is_open()
+    }
+
     /// What stands at the front of the connection's stream. Nothing is changed.
     pub(crate) fn look(&mut self, conn: Conn) -> Result<Look, FrontError>
         ensures look { IsLooked conn self.old.lines result }

@@ -3,7 +3,7 @@ ghost use Rattle.std.specs.Prelude.{◌≡◌, [], ◌∷◌, Bool, false, List,
 ghost use Rattle.xa_server.specs.Front.{FrontState, IsPlayed, front_state};
 ghost use Rattle.xa_server.specs.Fronting.{PlaysLines};
 ghost use Rattle.xa_server.specs.Lines.{IsLooked, held_at};
-ghost use Rattle.xa_server.specs.Multiplexer.{front_is_sound, found_memory, outcome_found_memory};
+ghost use Rattle.xa_server.specs.Multiplexer.{front_goes_on, front_is_sound, found_memory, outcome_found_memory};
 ghost use Rattle.xa_server.specs.Transfers.{Grows};
 
 use crate::event::{Event, Outcome};
@@ -26,6 +26,12 @@ pub trait Multiplexer {
     /// Whether its calls have found memory, one after another, where that is known.
     ghost had_memory: { Self → Option (List Bool) } = { λ _. None };
 
+    /// Whether its keeper can go on.
+    ghost goes_on: { Self → Bool };
+
+    /// What it has said of that, each time that it was asked, where that is known.
+    ghost said: { Self → Option (List Bool) } = { λ _. None };
+
     /// How many bytes the connection holds, if it is open.
     fn held(&self, conn: Conn) -> Option<usize>
         ensures { result ≡ held_at conn (state self.now).lines };
@@ -35,7 +41,16 @@ pub trait Multiplexer {
         ensures look { IsLooked conn (state self.old).lines result }
         ensures same { state self.new ≡ state self.old }
         ensures sound { is_sound self.new → is_sound self.old }
-        ensures memory { Grows (had_memory self.old) (had_memory self.new) (found_memory result ∷ []) };
+        ensures memory { Grows (had_memory self.old) (had_memory self.new) (found_memory result ∷ []) }
+        ensures said { said self.new ≡ said self.old };
+
+    /// Whether its keeper can go on: one that can't refuses every message for want of storage. Nothing is changed.
+    fn can_go_on(&mut self) -> bool
+        ensures truth { result ≡ goes_on self.new }
+        ensures same { state self.new ≡ state self.old }
+        ensures sound { is_sound self.new → is_sound self.old }
+        ensures memory { had_memory self.new ≡ had_memory self.old }
+        ensures said { Grows (said self.old) (said self.new) (result ∷ []) };
 
     /// Plays the events, one after another. Without memory for all outcomes nothing is done.
     fn play(&mut self, events: &[Event<'_>]) -> Result<Vec<Outcome>, AllocError>
@@ -45,7 +60,8 @@ pub trait Multiplexer {
         ensures sound { is_sound self.new → is_sound self.old }
         ensures memory { MatchResult result
             (λ outcomes. Grows (had_memory self.old) (had_memory self.new) (map outcome_found_memory outcomes.items))
-            (λ _. Grows (had_memory self.old) (had_memory self.new) (false ∷ [])) };
+            (λ _. Grows (had_memory self.old) (had_memory self.new) (false ∷ [])) }
+        ensures said { said self.new ≡ said self.old };
 }
 
 impl<R: Records> Multiplexer for Front<R> {
@@ -53,12 +69,18 @@ impl<R: Records> Multiplexer for Front<R> {
 
     ghost state = { front_state R.custody };
 
+    ghost goes_on = { front_goes_on R.custody };
+
     fn held(&self, conn: Conn) -> Option<usize> {
         self.held_len(conn)
     }
 
     fn look(&mut self, conn: Conn) -> Result<Look, FrontError> {
         Front::look(self, conn)
+    }
+
+    fn can_go_on(&mut self) -> bool {
+        self.is_open()
     }
 
     fn play(&mut self, events: &[Event<'_>]) -> Result<Vec<Outcome>, AllocError> {

@@ -207,6 +207,13 @@ impl<R: Records> Server<R> {
         self.resources.shelf.readings()
     }
 
+    /// Whether the keeper can go on: one that can't answers `Store` to every call, so that every message that wants it is refused.
+    pub fn is_open(&self) -> bool
+        ensures { result ≡ (R.custody self.now.records).is_open }
+    {
+        self.records.is_open()
+    }
+
     /// The keeper, as the messages so far have left it.
     pub fn into_records(self) -> R
         ensures { result ≡ self.records }
