@@ -28,6 +28,7 @@ mod references;
 mod requests;
 mod runs;
 mod server;
+mod stops;
 mod stores;
 mod tripped;
 mod tripping;
@@ -114,6 +115,7 @@ fn answer_first(answer: &mut Answer, kind: &str, fields: &[&str]) -> Result<(), 
         "opened" => stores::opening(answer, first, fields),
         "keeper_with" => keeper::keeper_with(answer, first, fields),
         "tripped_after" => tripped::tripped_after(answer, first, fields),
+        "stops" => stops::stops(answer, first, fields),
         _ => Err(NoAnswer::Malformed),
     }
 }
