@@ -69,7 +69,8 @@ impl<'a> IndividualContext<'a> {
         units_of_look_up(category, id).saturating_add(self.objects.units_of_search())
     }
 
-    /// The units of asking the source for an attribute of the entity, which is looked for among the objects before.
+    /// The units of asking the source for an attribute of the entity, which is looked for among the
+    /// objects before.
     fn units_of_asking_source(&self, entity: &str, id: &str) -> u64 {
         units_of_look_up(entity, id)
             .saturating_add(self.objects.units_of_search())

@@ -45,8 +45,8 @@ struct Outcome {
     timeless: bool,
 }
 
-/// What is decided by the tree: NotApplicable without one, and Indeterminate where it is too large. Policies and policy sets are named where
-/// they are asked for.
+/// What is decided by the tree: NotApplicable without one, and Indeterminate where it is too large.
+/// Policies and policy sets are named where they are asked for.
 #[tactic(auto, using(crate::proofs::NamedLemmas::nothing_asked))]
 fn by_tree<C: Context>(
     alloc: Global,
@@ -93,8 +93,9 @@ fn one_outcome(alloc: Global, fault: Fault) -> Result<Outcome, AllocError>
     })
 }
 
-/// What the individual requests of a request are decided by: a view, whether policies and policy sets are to be named, the Category objects of the
-/// request, and a moment; and the work that all of them together may ask for.
+/// What the individual requests of a request are decided by: a view, whether policies and policy sets are
+/// to be named, the Category objects of the request, and a moment. Beside these it has the work that all
+/// of them together may ask for.
 #[derive(Drop)]
 struct Deciding<'a> {
     view: &'a View,

@@ -34,7 +34,8 @@ impl<'a> Keying for ByCategory<'a> {
     }
 }
 
-/// The Category objects of an individual request, to be found by their categories; and how much it is to find an attribute of one of them.
+/// The Category objects of an individual request, to be found by their categories; and how much it is to
+/// find an attribute of one of them.
 #[derive(Drop)]
 pub(crate) struct IndividualObjects<'a> {
     objects: Vec<&'a IndexedObject<'a>>,

@@ -19,12 +19,17 @@ fn halvings(count: usize) -> u64 {
     u64::from(64u32.saturating_sub(count.leading_zeros()))
 }
 
-/// The units of a search among so many items in order: a step each time that they are halved. A look at a few is a part of the look-up.
+/// The units of each halving of items in order: its bounds are looked for from both ends, by keys of
+/// several texts.
+const HALVING: u64 = STEP + STEP / 2;
+
+/// The units of a search among so many items in order: the same each time that they are halved. A look at
+/// a few is a part of the look-up.
 pub(crate) fn units_of_search(count: usize) -> u64 {
     if count <= FEW {
         return 0;
     }
-    STEP.saturating_mul(halvings(count))
+    HALVING.saturating_mul(halvings(count))
 }
 
 /// The units of putting so many items in order: for each as much as half a search.

@@ -104,9 +104,10 @@ fn places_of_all(trees: &[Linked]) -> usize
 }
 
 impl View {
-    /// A view of these documents, this root and these rows. The documents to which the root leads are read, the tree is linked and the rows are put in order here,
-    /// once for all requests. Where the reader's limit is reached, it is answered as if memory were wanting. The work of a message has no limit, nor has
-    /// its response.
+    /// A view of these documents, this root and these rows. The documents to which the root leads are
+    /// read, the tree is linked and the rows are put in order here, once for all requests. Where the
+    /// reader's limit is reached, it is answered as if memory were wanting. The work of a message has no
+    /// limit, nor has its response.
     pub fn new(
         alloc: Global,
         reader: &mut TextReader<'_>,

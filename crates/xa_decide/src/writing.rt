@@ -37,10 +37,11 @@ impl Writing {
     /// A text.
     pub(crate) fn of_text(text: &Text) -> Writing {
         let bytes = text.as_bytes();
-        let count = (bytes.len() as u64).saturating_add(escapes_in(bytes));
+        let count = bytes.len() as u64;
+        let escapes = escapes_in(bytes);
         Writing {
-            units: count,
-            bytes: count,
+            units: count.saturating_add(ESCAPED.saturating_mul(escapes)),
+            bytes: count.saturating_add(escapes),
         }
     }
 
@@ -58,7 +59,7 @@ impl Writing {
         Writing {
             units: units_of(value)
                 .saturating_add(units_of_printing(value.data_type()))
-                .saturating_add(widening),
+                .saturating_add(units_of_widening(value, widening)),
             bytes: length_of(value).saturating_add(widening),
         }
     }
@@ -82,6 +83,9 @@ impl Writing {
         all
     }
 }
+
+/// The units of each byte that escapes add to a text: what is escaped is written by itself.
+const ESCAPED: u64 = 5;
 
 /// Whether JSON has an escape for the byte.
 fn is_escaped(byte: u8) -> bool {
@@ -120,6 +124,14 @@ fn widening(value: &Value) -> u64 {
         Value::HexBinary(bytes) => bytes.as_slice().len() as u64,
         Value::Base64Binary(bytes) => bytes.as_slice().len() as u64 / 3,
         _ => 0,
+    }
+}
+
+/// The units of so many bytes that a value takes more than it has.
+fn units_of_widening(value: &Value, widening: u64) -> u64 {
+    match value {
+        Value::HexBinary(_) | Value::Base64Binary(_) => widening,
+        _ => ESCAPED.saturating_mul(widening),
     }
 }
 

@@ -11,13 +11,14 @@ struct Rate {
     times: u64,
 }
 
-/// What a call of the function costs. A substring is made of a list of characters. A search of a text in a text begins with tables of the first.
+/// What a call of the function costs. A substring is made of a list of characters. A search of a text in a text begins with tables of the first, and
+/// may go back at each byte.
 fn rate_of(function: FuncId) -> Rate {
     match function {
         FuncId::Text(TextFunction::Substring) => Rate { call: 0, times: 3 },
         FuncId::Part(TextPart::Contains, _) => Rate {
             call: 4 * STEP,
-            times: 3,
+            times: 4,
         },
         FuncId::StringFrom(printed) => Rate {
             call: units_of_printing(printed.data_type()),

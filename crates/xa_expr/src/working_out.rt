@@ -81,6 +81,26 @@ fn next_outcome<C: Context>(
     }
 }
 
+/// The same. The values of a bag of many are lent from now on, so that what names the variable takes no time to copy them.
+fn lent(given: ValueOrBag) -> Result<ValueOrBag, AllocError>
+    ensures { IfOk result (λ lent. lent ≡ given) }
+{
+    match given {
+        ValueOrBag::Value(value) => Ok(ValueOrBag::Value(value)),
+        ValueOrBag::Bag(bag) => Ok(ValueOrBag::Bag(bag.lent()?)),
+    }
+}
+
+/// The same outcome, whose values are lent.
+fn lent_outcome(outcome: Result<ValueOrBag, Fault>) -> Result<Result<ValueOrBag, Fault>, AllocError>
+    ensures { IfOk result (λ lent. lent ≡ outcome) }
+{
+    match outcome {
+        Ok(given) => Ok(Ok(lent(given)?)),
+        Err(fault) => Ok(Err(fault)),
+    }
+}
+
 /// Works out the variables up to that at the place. Without memory, what was worked out stays.
 pub(crate) fn work_out<C: Context>(
     alloc: Global,
@@ -96,6 +116,7 @@ pub(crate) fn work_out<C: Context>(
 {
     while results.len() < definitions.len() && results.len() <= place {
         let outcome = next_outcome(alloc, context, definitions, results.as_slice())?;
+        let outcome = lent_outcome(outcome)?;
         results.push(outcome)?;
     }
     Ok(())

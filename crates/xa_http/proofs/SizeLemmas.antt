@@ -58,7 +58,7 @@ body_within fields n same =
     (by_test _ _ _ n 524_288 (err_is_not TransferCoding n 524_288) (agreed_within (values_of (codes "Content-Length") fields) n)) same
 
 -- what is no whole message yet is short
-pub waiting_short : (held : List ℕ) → IsUnfinished held → length held < 278_528
+pub waiting_short : (held : List ℕ) → IsUnfinished held → length held < 540_672
 unfolding IsUnfinished
 waiting_short held (inl opened) = omega (arith, opened.1)
 waiting_short held (inr (h, after, n, begins, agreed, less)) =

@@ -6,6 +6,13 @@ use Rattle.xa_link.specs.Resolution.{resolve}
 use Rattle.xa_link.proofs.PlacedLemmas.{right_put, right_same}
 use Rattle.xa_link.proofs.resolved.Resolved.document_at.Goals as goal
 
+-- reading documents leaves the index and what was read before
+pub invariant_of-self-in_err-document-3 : goal.invariant_of-self-in_err-document-3
+invariant_of-self-in_err-document-3 c = rw c.in_ok-document-2.ensures.kept c.self.invariant
+
+pub invariant_of-self-in_err-clone : goal.invariant_of-self-in_err-clone
+invariant_of-self-in_err-clone c = rw c.in_ok-document-2.ensures.kept c.self.invariant
+
 pub invariant_of-self-in_err-keep : goal.invariant_of-self-in_err-keep
 invariant_of-self-in_err-keep c =
     rw c.in_ok-document-2.ensures.kept (right_same c.self.inside.index _ _ c.self.invariant c.in_err-keep.ensures.err)
