@@ -60,11 +60,11 @@ parts false b h = absurd h
 -- what is below all keys isn't found
 none_below : {K X : Type 0} (R : K → K → Ordering) (k : K) (es : List (K × X)) → T (below_all R k es) → find R k es ≡ None
 none_below R k [] h = refl
-none_below R k (e ∷ es) h = by_place (R k e.0) refl h where
-  by_place : (o : Ordering) → R k e.0 ≡ o → T (is_lt o && below_all R k es) → find R k (e ∷ es) ≡ None
-  by_place Less at h = ap (λ o. cond (is_eq o) (Some e.1) (find R k es)) at ∙ none_below R k es h
-  by_place Equal at h = absurd h
-  by_place Greater at h = absurd h
+none_below R k (e ∷ es) h = by_place (R k e.0) refl h (λ below. none_below R k es below) where
+  by_place : (o : Ordering) → R k e.0 ≡ o → T (is_lt o && below_all R k es) → (T (below_all R k es) → find R k es ≡ None) → find R k (e ∷ es) ≡ None
+  by_place Less at h rest = ap (λ o. cond (is_eq o) (Some e.1) (find R k es)) at ∙ rest h
+  by_place Equal at h rest = absurd h
+  by_place Greater at h rest = absurd h
 
 module _ {K X : Type 0} {R : K → K → Ordering} (o : IsTotalOrder R) (P : K × X → Type 0) where
   all_found : (es : List (K × X)) → T (is_sorted R es) → ((q : K) (v : X) → find R q es ≡ Some v → P (q, v)) → AllByRecursion P es

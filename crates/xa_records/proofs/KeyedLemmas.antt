@@ -132,7 +132,7 @@ keeps_root root = keeps_within (root_set root) (λ state after given is.
 pub keeps_source : (rows : List SourceRow) → Keeps (within (source_set rows))
 keeps_source rows = keeps_within (source_set rows) (λ state after given is.
     same_keyed state after given (ap (λ (x : DomainState). x.documents)
-    (made (nat_le (length rows) 1_024) (record { tokens = state.tokens; documents = state.documents; root = state.root; source = rows }) after Quota is)))
+    (made (nat_le (length rows) 4_096) (record { tokens = state.tokens; documents = state.documents; root = state.root; source = rows }) after Quota is)))
 
 -- a text is put in under its key
 one_document : (a b : StoredDocument) → Some a ≡ Some b → a ≡ b
@@ -153,7 +153,7 @@ keeps_upload key text its = keeps_within (uploaded key text) (λ state after giv
   by_there : (state after : DomainState) → AreKeyed state → (o : Option StoredDocument) → uploaded_over key text state o ≡ Ok after → AreKeyed after
   by_there state after given (Some document) is = subst AreKeyed (made (bytes_eq document.text text) state after SameVersionOtherText is) given
   by_there state after given None is =
-      subst AreKeyed (made (nat_lt (len state.documents) 256) (with_document key text false state) after Quota is) (put_keyed state key text false given (key_is key text its))
+      subst AreKeyed (made (nat_lt (len state.documents) 1_024) (with_document key text false state) after Quota is) (put_keyed state key text false given (key_is key text its))
 
 pub keeps_activity : (key : DocumentKey) (active : Bool) → Keeps (within (activity_set key active))
 keeps_activity key active = keeps_within (activity_set key active) (λ state after given is. by_there state after given (get state.documents key) refl is) where

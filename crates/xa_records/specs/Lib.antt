@@ -4,5 +4,6 @@ pub mod Changes
 pub mod Kept
 pub mod Readings
 pub mod Keeper
+pub mod Keyed
 pub mod Listing
 pub mod Plain

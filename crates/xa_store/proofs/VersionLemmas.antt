@@ -54,7 +54,7 @@ member_has d = after (needed_member member.Version d) version IsVersion version_
 
 -- ---- a document
 
-policy_has : (d : Data) → IfOk (written_policy d) (λ w. IsVersion w.version)
+policy_has : (d : Data) → IfOk (written_policy d) (λ w. IsVersion w.key.version)
 unfolding written_policy
 policy_has d =
     after (fits _ d) _ _ (λ _. after (needed_member member.PolicyId d >>= id) _ _ (λ _.
@@ -63,7 +63,7 @@ policy_has d =
     after (written_target (at member.Target d)) _ _ (λ _. after (items_if_any (at member.VariableDefinition d) >>= written_variables []) _ _ (λ _.
     after (items_if_any (at member.Rule d) >>= each written_rule) _ _ (λ _. after (written_duties d) _ _ (λ _. is)))))))))
 
-set_has : (child : _) (d : Data) → IfOk (written_set_of child d) (λ w. IsVersion w.version)
+set_has : (child : _) (d : Data) → IfOk (written_set_of child d) (λ w. IsVersion w.set.key.version)
 unfolding written_set_of
 set_has child d =
     after (fits _ d) _ _ (λ _. after (needed_member member.PolicySetId d >>= id) _ _ (λ _.
@@ -72,24 +72,24 @@ set_has child d =
     after (written_target (at member.Target d)) _ _ (λ _. after (items_if_any (at member.Children d) >>= each child) _ _ (λ _.
     after (written_duties d) _ _ (λ _. is))))))))
 
-named_has : (name : Member) (d : Data) → IfOk (document_named name d) (λ w. IsVersion w.version)
+named_has : (name : Member) (d : Data) → IfOk (document_named name d) (λ w. IsVersion w.key.version)
 unfolding written_set_within
-named_has member.Policy d = policy_has d
-named_has member.PolicySet d = set_has (written_child (written_set_within 7)) d
+named_has member.Policy d = chains (written_policy d) _ _ _ (policy_has d) (λ p is. is)
+named_has member.PolicySet d = chains (written_set_of (written_child (written_set_within 7)) d) _ _ _ (set_has (written_child (written_set_within 7)) d) (λ s is. is)
 named_has _ d = tt
 
-written_has : (d : Data) → IfOk (written_document d) (λ w. IsVersion w.version)
+written_has : (d : Data) → IfOk (written_document d) (λ w. IsVersion w.key.version)
 unfolding written_document
 written_has d = after (chosen_member _ d) _ _ (λ name. after (needed_member name d) _ _ (λ inner. named_has name inner))
 
-typed_has : (w : _) → IfOk (typed_document w) (λ p. w.version ≡ p.version)
+typed_has : (w : _) → IfOk (typed_document w) (λ p. w.key.version ≡ p.version)
 typed_has w = after (or_ill_typed (typed_tree w.tree)) _ _ (λ document. refl)
 
 weaker : {X E : Type 0} (r : Result X E) (P Q : X → Type 0) → ((x : X) → P x → Q x) → IfOk r P → IfOk r Q
 weaker (Ok x) P Q f h = f x h
 weaker (Err e) P Q f h = tt
 
-as_written_has : (body : List ℕ) → IfOk (document_as_written body) (λ w. IsVersion w.version)
+as_written_has : (body : List ℕ) → IfOk (document_as_written body) (λ w. IsVersion w.key.version)
 as_written_has body = after (json body) written_document _ written_has
 
 document_has : (body : List ℕ) → IfOk (document_of body) (λ p. IsVersion p.version)

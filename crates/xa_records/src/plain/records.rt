@@ -3,6 +3,7 @@ ghost use Rattle.std.specs.Prelude.{◌≡◌, ◌≤◌, ◌^◌, ◌⊎◌, If
 ghost use Rattle.xa_records.specs.declared.refusal.ChangeError.TheVariants.{Failed};
 ghost use Rattle.xa_records.specs.declared.refusal.Failure.TheVariants.{Store};
 ghost use Rattle.xa_records.specs.Changes.{activity_set, created, deleted, removed, root_set, source_set, token_dropped, token_put, upload_of, uploaded, within};
+ghost use Rattle.xa_records.specs.DomainState.{IsDocumentOf};
 ghost use Rattle.xa_records.specs.Keeper.{Changing, Reading, in_memory};
 ghost use Rattle.xa_records.specs.Kept.{CantRaise, IsGreatest, IsNumbered, names_of, nothing_kept, one_kept, state_of};
 ghost use Rattle.xa_records.specs.Keyed.{KeepsDocuments};
@@ -173,6 +174,7 @@ impl Records for PlainRecords {
         key: DocumentKey,
         text: &[u8],
     ) -> Result<Upload, ChangeError>
+        requires { IsDocumentOf key text.now }
         ensures does { Changing (in_memory self.old.domains self.old.faults) (in_memory self.new.domains self.new.faults)
             result name.now (within (uploaded key text.now)) }
         ensures which { IfOk result (λ u. u ≡ upload_of key (state_of name.now self.old.domains)) }
