@@ -1,4 +1,5 @@
-//! The command line, and the variables PDPD_WORK, PDPD_REPLY, PDPD_READING, PDPD_VIEWS and PDPD_IDLE of the environment.
+//! The command line, and the variables PDPD_WORK, PDPD_REPLY, PDPD_READING, PDPD_VIEWS and PDPD_IDLE of
+//! the environment.
 ghost use Rattle.std.specs.Prelude.{◌≡◌, map, option_map, string_bytes};
 ghost use Rattle.pdpd.specs.CommandLine as spec;
 
@@ -8,7 +9,8 @@ use xa_value::{TextRef, number_up_to};
 /// At most this many connections are served.
 const MAX_CONNECTIONS: usize = 1_000_000;
 
-/// The limit of work for one message where PDPD_WORK isn't set: some 0.3 seconds, in which everybody else waits. The dearest honest ask measured takes 3,000,000.
+/// The limit of work for one message where PDPD_WORK isn't set: some 0.3 seconds, in which everybody else
+/// waits. The dearest honest ask measured takes 3,400,000.
 const WORK: usize = 150_000_000;
 
 /// How many bytes the body of a response may have where PDPD_REPLY isn't set: 16 MiB.
@@ -17,7 +19,8 @@ const REPLY: usize = 16_777_216;
 /// How many bytes of policies may be read for one message where PDPD_READING isn't set.
 const READING: usize = 16_000_000;
 
-/// How many bytes of memory the views of domains may take that are kept ready where PDPD_VIEWS isn't set: 256 MiB.
+/// How many bytes of memory the views of domains may take that are kept ready where PDPD_VIEWS isn't set:
+/// 256 MiB.
 const VIEWS: usize = 268_435_456;
 
 /// For how many seconds a connection may give nothing, or take nothing, where PDPD_IDLE isn't set.
@@ -148,7 +151,8 @@ pub fn reading_of(set: Option<&str>) -> Option<usize>
     }
 }
 
-/// How many bytes of memory the views of domains may take that are kept ready, by what PDPD_VIEWS is set to; by 0 none is kept.
+/// How many bytes of memory the views of domains may take that are kept ready, by what PDPD_VIEWS is set
+/// to; by 0 none is kept.
 pub fn views_of(set: Option<&str>) -> Option<usize>
     ensures { result ≡ spec.views_of (option_map (λ text. text.now) set.entry) }
 {

@@ -21,6 +21,7 @@ mod help;
 mod piece;
 mod replay;
 mod serve;
+mod settings;
 mod stack;
 mod store;
 mod telling;

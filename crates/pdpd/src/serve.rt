@@ -15,17 +15,17 @@ ghost use Rattle.pdpd.specs.Token.{IsOperator};
 
 use crate::command_line::{Serving, idle_of, reading_of, reply_of, views_of, work_of};
 use crate::fault::Fault;
+use crate::settings::{Settings, front_of_tables};
 use crate::store::{FileRecords, records_in_file};
 use crate::token::operator_of_file;
 use crate::wall_clock::WallClock;
-use std::alloc::Global;
 use std::env::{self, VarError};
 use std::io::{self, ErrorKind};
 use std::net::{SocketAddr, TcpListener, TcpStream};
 use std::thread;
 use std::time::Duration;
-use xa_records::{Digest, Records};
-use xa_server::{Clock, Driven, Front, Reader, Server, Writer, drive};
+use xa_records::Records;
+use xa_server::{Clock, Driven, Front, Reader, Writer, drive};
 
 /// How often in a row a connection may fail as it is taken: a peer that closed it first doesn't end the program.
 const MAX_FAILURES: u32 = 1_000;
@@ -197,36 +197,6 @@ fn serve_connections<R: Records, C: Clock>(
     serve_connection(front, &mut &stream, &mut &stream, clock)
 }
 
-/// The server with that limit of work for one message; 0 for none.
-fn with_limit<R: Records>(server: Server<R>, work: usize) -> Server<R>
-    ensures { result ≡ server }
-{
-    if work == 0 {
-        return server;
-    }
-    server.with_limit(work as u64)
-}
-
-/// The server with that limit of bytes for the body of a response; 0 for none.
-fn with_reply_limit<R: Records>(server: Server<R>, bytes: usize) -> Server<R>
-    ensures { result ≡ server }
-{
-    if bytes == 0 {
-        return server;
-    }
-    server.with_reply_limit(bytes as u64)
-}
-
-/// The server that has so many bytes of policies read for one message; 0 for any number.
-fn with_reading<R: Records>(server: Server<R>, bytes: usize) -> Server<R>
-    ensures { result ≡ server }
-{
-    if bytes == 0 {
-        return server;
-    }
-    server.with_reading(bytes as u64)
-}
-
 /// Takes connections at the address, says so, and serves them.
 #[tactic(auto, using(crate::proofs::ServingLemmas::connections_are_served))]
 fn serve_at<R: Records>(
@@ -333,36 +303,11 @@ fn idle(rt: &HostRuntime) -> Result<usize, Fault>
     idle.ok_or(Fault::Idle)
 }
 
-/// A server over the keeper, for that operator and with these limits of work, of a response and of reading and with that room for views, and its connections, none of which is open.
-fn front_over<R: Records + Drop>(
-    alloc: Global,
-    records: R,
-    operator: Digest,
-    work: usize,
-    reply: usize,
-    reading: usize,
-    views: usize,
-) -> Result<Front<R>, Fault>
-    ensures operator { IfOk result (λ front. front.server.operator ≡ operator) }
-    ensures records { IfOk result (λ front. front.server.records ≡ records) }
-    ensures tally { IfOk result (λ front. front.server.tally ≡ nothing_held) }
-    ensures closed { IfOk result (λ front. front.lines ≡ none_open) }
-    ensures err { IfErr result (λ fault. fault ≡ Memory) }
-{
-    let server = Server::new(alloc, records, operator)?;
-    let server = with_reply_limit(with_limit(server, work), reply);
-    let server = with_reading(server, reading).with_room(views);
-    Ok(Front::new(alloc, server)?)
-}
-
 /// The front of a server over the store in the file, for the operator whose token is the first line of the token file.
 fn front_of_files(
     rt: &HostRuntime,
     serving: &Serving<'_>,
-    work: usize,
-    reply: usize,
-    reading: usize,
-    views: usize,
+    settings: Settings,
 ) -> Result<Front<FileRecords>, Fault>
     ensures operator { IfOk result (λ front. IsOperator front.server.operator) }
     ensures tally { IfOk result (λ front. front.server.tally ≡ nothing_held) }
@@ -371,12 +316,13 @@ fn front_of_files(
 {
     let operator = operator_of_file(rt, serving.token_file.as_str())?;
     let records = records_in_file(rt, serving.database.as_str())?;
-    front_over(rt.alloc(), records, operator, work, reply, reading, views)
+    front_of_tables(rt.alloc(), records, operator, settings)
 }
 
-/// Serves connections over the store in the file, for the operator whose token is the first line of the token file, and gives back the front as they have left it.
-/// Faults are looked for in this order: the address, PDPD_WORK, PDPD_REPLY, PDPD_READING, PDPD_VIEWS, PDPD_IDLE, the token file, the store,
-/// the socket.
+/// Serves connections over the store in the file, for the operator whose token is the first line of the
+/// token file. Gives back the front as they have left it. Faults are looked for in this order: the
+/// address, PDPD_WORK, PDPD_REPLY, PDPD_READING, PDPD_VIEWS, PDPD_IDLE, the token file, the store, the
+/// socket.
 #[tactic(auto, using(crate::proofs::ServingLemmas::setting_not_address, crate::proofs::ServingLemmas::files_not_address, crate::proofs::ServingLemmas::serving_not_address, crate::proofs::ServingLemmas::address_found))]
 pub fn serve(rt: &HostRuntime, serving: &Serving<'_>) -> Result<Front<FileRecords>, Fault>
     ensures served { IfOk result (λ front. (custody_by over_files front.server.records).sound → (old : FrontState) × IsOperator old.server.world.operator
@@ -389,7 +335,13 @@ pub fn serve(rt: &HostRuntime, serving: &Serving<'_>) -> Result<Front<FileRecord
     let reading = reading(rt)?;
     let views = views(rt)?;
     let idle = idle(rt)?;
-    let mut front = front_of_files(rt, serving, work, reply, reading, views)?;
+    let settings = Settings {
+        work,
+        reply,
+        reading,
+        views,
+    };
+    let mut front = front_of_files(rt, serving, settings)?;
     match serve_at(rt, &mut front, address, serving, idle) {
         Ok(()) => Ok(front),
         Err(fault) => Err(fault),

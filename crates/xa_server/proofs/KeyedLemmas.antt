@@ -38,12 +38,17 @@ active_are (one ∷ texts) keyed =
 abbrev IsKeyed : DocumentKey × StoredDocument → Type 0
 IsKeyed entry = key_in entry.1.text ≡ Some entry.0
 
-texts_keyed : (es : List (DocumentKey × StoredDocument)) → AllByRecursion IsKeyed es → AreKeyed (map active_text (filter (λ (e : DocumentKey × StoredDocument). e.1.active) es))
+abbrev AreActiveKeyed : List (DocumentKey × StoredDocument) → Type 0
+AreActiveKeyed es = AreKeyed (map active_text (filter (λ (e : DocumentKey × StoredDocument). e.1.active) es))
+
+one_keyed : (b : Bool) (e : DocumentKey × StoredDocument) (es : List (DocumentKey × StoredDocument)) → IsKeyed e → AreActiveKeyed es
+    → AreKeyed (map active_text (cond b (e ∷ filter (λ (x : DocumentKey × StoredDocument). x.1.active) es) (filter (λ (x : DocumentKey × StoredDocument). x.1.active) es)))
+one_keyed true e es one others = (one, others)
+one_keyed false e es one others = others
+
+texts_keyed : (es : List (DocumentKey × StoredDocument)) → AllByRecursion IsKeyed es → AreActiveKeyed es
 texts_keyed [] all = tt
-texts_keyed (e ∷ es) all = by_active e.1.active where
-  by_active : (b : Bool) → AreKeyed (map active_text (cond b (e ∷ filter (λ (x : DocumentKey × StoredDocument). x.1.active) es) (filter (λ (x : DocumentKey × StoredDocument). x.1.active) es)))
-  by_active true = (all.0, texts_keyed es all.1)
-  by_active false = texts_keyed es all.1
+texts_keyed (e ∷ es) all = one_keyed e.1.active e es all.0 (texts_keyed es all.1)
 
 -- what decides in a domain has documents of their keys alone
 pub keyed_view : (kept : Kept) (name : List ℕ) (view : KeptView) → KeepsDocuments kept → Some view ≡ view_of name kept → AreKeyed view.texts

@@ -80,7 +80,8 @@ fn play_answer<F: Multiplexer>(
     }
 }
 
-/// Whether the keeper behind a front can't go on: that is asked after a message that was refused for want of storage.
+/// Whether the keeper behind a front can't go on: that is asked after a message that was refused for want
+/// of storage.
 #[tactic(auto, using(crate::proofs::AskedLemmas::asked_so))]
 fn is_shut<F: Multiplexer>(front: &mut F, reply: &Reply) -> bool
     ensures asked { IsAsked true reply.now result (F.said front.old) (F.said front.new) }

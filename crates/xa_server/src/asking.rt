@@ -24,17 +24,17 @@ use crate::ready::{Ready, bytes_of_tree, bytes_of_view};
 use crate::replies::decision_reply;
 use crate::resources::Resources;
 use crate::stop::Stop;
+use crate::unread::Unread;
 use crate::view::view_of_kept;
 use std::alloc::Global;
 use xa_cache::Key;
 use xa_decide::{Responded, View, asks_policies, respond};
 use xa_notation::NotationError;
 use xa_records::{Failure, KeptView, Records, Refusal};
-use xa_shelf::TextReader;
+use xa_shelf::{Shelf, TextReader};
 use xa_value::{Items, Moment, Text};
 
 /// What is kept of the domain that decides there, with texts that are documents of their keys.
-#[tactic(auto, using(crate::proofs::KeyedLemmas::keyed_view))]
 fn kept_view<R: Records>(alloc: Global, records: &mut R, name: &Text) -> Result<KeptView, Stop>
     ensures tells { (R.custody records.new).sound → Shows (R.custody records.old).kept (R.custody records.new).kept result (ok_or (view_of name.now (R.custody records.old).kept) (Refused Absent)) }
     ensures keyed { (R.custody records.new).sound → IfOk result (λ kept. AreKeyed kept.texts) }
@@ -51,8 +51,10 @@ fn kept_view<R: Records>(alloc: Global, records: &mut R, name: &Text) -> Result<
     Ok(kept)
 }
 
-/// What decides in the domain, made from what is kept of it, with what a decision may cost. What this costs grows with the texts of the active documents, which
-/// the keeper copies, with those of them to which the root leads, each of which is looked up on the shelf or read, and with the rows of attributes, which are put in order.
+/// What decides in the domain, made from what is kept of it, with what a decision may cost. What this
+/// costs grows with the texts of the active documents, which the keeper copies, and with the rows of
+/// attributes, which are put in order. It grows also with those of the documents to which the root leads,
+/// each of which is looked up on the shelf or read.
 #[tactic(auto, using(crate::proofs::ReadyLemmas::estimated))]
 fn ready_view<R: Records>(
     alloc: Global,
@@ -83,29 +85,27 @@ fn ready_view<R: Records>(
     })
 }
 
-/// The same, of no more text than may be read for a message. Where that is too little, it is remembered of the domain.
+/// The same, of no more text than may be read for a message. Where that is too little, it is remembered
+/// of the domain.
 fn ready_within<R: Records>(
     alloc: Global,
-    resources: &mut Resources,
+    shelf: &mut Shelf,
+    unread: &mut Unread,
+    limits: Limits,
     records: &mut R,
     name: &Text,
     opened: Opened,
 ) -> Result<Ready, Stop>
     ensures tells { (R.custody records.new).sound → MakesReady (R.custody records.old).kept (R.custody records.new).kept opened.epoch result (view_told (state_of name.now (R.custody records.old).kept)) }
-    ensures same { resources.new ≡ resources.old }
     ensures sound { (R.custody records.new).sound → (R.custody records.old).sound }
     ensures clean { (R.custody records.new).clean → (R.custody records.old).clean }
     ensures stays { (R.custody records.new).clean → (R.custody records.old).sound → IfTold result (R.custody records.new).sound }
     ensures leaves { (R.custody records.new).clean → (R.custody records.old).sound → LeavesNoMore (R.custody records.old).may_leave (R.custody records.new).may_leave }
     ensures counts { Counts (R.custody records.old).faults (R.custody records.new).faults result }
 {
-    let limits = resources.limits;
-    let mut reader = TextReader::new(&mut resources.shelf, limits.reading);
+    let mut reader = TextReader::new(shelf, limits.reading);
     let ready = ready_view(alloc, &mut reader, records, name, opened.epoch, limits);
-    let is_spent = reader.is_spent();
-    resources
-        .unread
-        .remember_if(is_spent, opened.number, opened.epoch);
+    unread.remember_if(reader.is_spent(), opened.number, opened.epoch);
     ready
 }
 
@@ -139,8 +139,9 @@ fn reply_by(
     Ok(reply)
 }
 
-/// The reply by what is kept of the domain. What decides there is kept ready once the reply is made; without success it isn't. Where it is known that the domain's
-/// policies take too much to read, they aren't read again.
+/// The reply by what is kept of the domain. What decides there is kept ready once the reply is made;
+/// without success it isn't. Where it is known that the domain's policies take too much to read, they
+/// aren't read again.
 #[tactic(auto, using(crate::proofs::AskingLemmas::replied, crate::proofs::AskingLemmas::works_by, crate::proofs::AskingLemmas::absent_reply, crate::proofs::AskingLemmas::absent_worked))]
 fn reply_by_kept<R: Records>(
     alloc: Global,
@@ -166,7 +167,15 @@ fn reply_by_kept<R: Records>(
     if resources.unread.has(opened.number, opened.epoch) {
         return Err(Stop::Failed(Failure::Memory));
     }
-    let ready = ready_within(alloc, resources, records, name, opened)?;
+    let ready = ready_within(
+        alloc,
+        &mut resources.shelf,
+        &mut resources.unread,
+        resources.limits,
+        records,
+        name,
+        opened,
+    )?;
     let reply = reply_by(
         alloc,
         &mut resources.decisions,

@@ -17,6 +17,7 @@ pub enum Driven {
     TooManyReads,
     /// There was no memory. Whole messages may be left unanswered.
     Memory,
-    /// A message was refused for want of storage, and its keeper can't go on. Its reply was written; whole messages may be left unanswered.
+    /// A message was refused for want of storage, and its keeper can't go on. Its reply was written;
+    /// whole messages may be left unanswered.
     Shut,
 }

@@ -107,7 +107,8 @@ impl<R: Records> Front<R> {
         }
     }
 
-    /// Whether the server's keeper can go on: one that can't refuses every message for want of storage.
+    /// Whether the server's keeper can go on: one that can't answers `Store` to every call, so that every
+    /// message that wants it is refused. A message that wants nothing of it may still be answered.
     pub(crate) fn is_open(&self) -> bool
         ensures { result ≡ (R.custody self.now.server.records).is_open }
     {

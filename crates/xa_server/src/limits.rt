@@ -3,14 +3,16 @@ ghost use Rattle.std.specs.Prelude.{◌≡◌};
 
 use xa_decide::View;
 
-/// What the decision on one message may cost. These are numbers, and each message begins anew: none finds less for another's use.
+/// What the decision on one message may cost. These are numbers, and each message begins anew: none finds
+/// less for another's use.
 #[derive(Clone, Copy)]
 pub(crate) struct Limits {
     /// The work, in units.
     pub(crate) work: u64,
     /// The bytes of the response's body.
     pub(crate) reply: u64,
-    /// The bytes of the texts of policies that are read for it. They are counted whether their documents are held or not.
+    /// The bytes of the texts of policies that are read for it. They are counted whether their documents
+    /// are held or not.
     pub(crate) reading: u64,
 }
 

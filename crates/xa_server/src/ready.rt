@@ -4,14 +4,16 @@ ghost use Rattle.xa_server.specs.Views.{added, bytes_of_tree, bytes_of_view, tim
 
 use xa_decide::View;
 
-/// The bytes that any view takes: twice the 262,144 of the longest body that gives a domain its rows of attributes, so that the texts of these rows find room there, and the
-/// boxes of the 1,000 sets that a tree may have.
+/// The bytes that any view takes: the 524,288 of the longest body that gives a domain its rows of
+/// attributes. So the texts of these rows find room there. The boxes of the 1,000 sets that a tree may
+/// have, some 50,000 bytes, find room beside them unless that body is nearly all texts.
 const VIEW_BYTES: usize = 524_288;
 
 /// The bytes that a row of attributes takes beside its texts.
 const ROW_BYTES: usize = 512;
 
-/// The bytes that a document takes for each byte of its text: by its shape 1 to 6.4, as they were measured (`bench/views`).
+/// The bytes that a document takes for each byte of its text: by its shape 1 to 6.4, as they were
+/// measured (`bench/views`).
 const BYTES_OF_A_TEXT_BYTE: usize = 8;
 
 /// The bytes that a place of the linked tree takes: a set's list has room for its children and no more.
@@ -26,7 +28,8 @@ pub(crate) struct Ready {
     pub(crate) bytes: usize,
 }
 
-/// An estimate of the memory that a view takes but for its tree, for which so many bytes of texts were read, with so many rows.
+/// An estimate of the memory that a view takes but for its tree, for which so many bytes of texts were
+/// read, with so many rows.
 pub(crate) fn bytes_of_view(read: usize, rows: usize) -> usize
     ensures { result ≡ bytes_of_view read rows }
 {

@@ -80,12 +80,14 @@ impl<R: Records> Server<R> {
         })
     }
 
-    /// The same server, which from now on refuses each message whose decision asks for more work than so many units. A unit is a byte of a
-    /// text or of a value that is made, copied or compared; a step, such as an expression, a match or a rule that is looked at, is 32
-    /// (`xa_expr::Budget`). Work is counted and not timed, and each message begins anew: the same message on the same state is refused, or
-    /// is not, on every machine, whatever other domains ask. Reading (`with_reading`) and linking policies, administration, and decisions that are held
-    /// aren't counted. A refusal is `Reply::Refused` as for want of memory: nothing has changed, and the reply is the fixed 503. A server that
-    /// is new has no limit.
+    /// The same server, which from now on refuses each message whose decision asks for more work than so
+    /// many units. A unit is a byte of a text or of a value that is made, copied or compared. A step,
+    /// such as an expression, a match or a rule that is looked at, is 32 units (`xa_expr::Budget`). Work
+    /// is counted and not timed, and each message begins anew. So the same message on the same state is
+    /// refused, or is not, on every machine, whatever other domains ask. Reading (`with_reading`) and
+    /// linking policies, administration, and decisions that are held aren't counted. A refusal is
+    /// `Reply::Refused` as for want of memory: nothing has changed, and the reply is the fixed 503. A
+    /// server that is new has no limit.
     pub fn with_limit(self, units: u64) -> Server<R>
         ensures { result ≡ self }
     {
@@ -112,10 +114,13 @@ impl<R: Records> Server<R> {
         self.with_limits(limits)
     }
 
-    /// The same server, which from now on refuses each message that asks policies whose texts have more than so many bytes together: those to which the domain's root
-    /// leads, each once. They are counted whether their documents are held or not, and each message begins anew: whether it is refused depends on the domain's
-    /// documents and its root alone. A body that doesn't ask the policies, a domain without a root, and a decision that is held have nothing read. A refusal is
-    /// `Reply::Refused` as for want of memory: nothing has changed, and the reply is the fixed 503. A server that is new has no limit.
+    /// The same server, which from now on refuses each message that asks policies whose texts have more
+    /// than so many bytes together. These are the policies to which the domain's root leads, each once.
+    /// Their texts are counted whether their documents are held or not, and each message begins anew. So
+    /// whether it is refused depends on the domain's documents and its root alone. A body that doesn't
+    /// ask the policies, a domain without a root, and a decision that is held have nothing read. A
+    /// refusal is `Reply::Refused` as for want of memory: nothing has changed, and the reply is the fixed
+    /// 503. A server that is new has no limit.
     pub fn with_reading(self, bytes: u64) -> Server<R>
         ensures { result ≡ self }
     {
@@ -167,8 +172,9 @@ impl<R: Records> Server<R> {
         }
     }
 
-    /// The same server with room for views that are kept ready of so many bytes together, by an estimate of the memory that each takes; none is kept yet. One of them
-    /// may take all. A server that is new has room for 256 MiB. What it answers doesn't depend on them.
+    /// The same server with room for views that are kept ready of so many bytes together, by an estimate
+    /// of the memory that each takes. None is kept yet. One of them may take all. A server that is new
+    /// has room for 256 MiB. What it answers doesn't depend on them.
     pub fn with_room(self, bytes: usize) -> Server<R>
         ensures { result ≡ self }
     {
@@ -207,7 +213,8 @@ impl<R: Records> Server<R> {
         self.resources.shelf.readings()
     }
 
-    /// Whether the keeper can go on: one that can't answers `Store` to every call, so that every message that wants it is refused.
+    /// Whether the keeper can go on: one that can't answers `Store` to every call, so that every message
+    /// that wants it is refused.
     pub fn is_open(&self) -> bool
         ensures { result ≡ (R.custody self.now.records).is_open }
     {

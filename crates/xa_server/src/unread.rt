@@ -6,8 +6,10 @@ use std::num::NonZeroUsize;
 /// The most domains that are remembered.
 const MAX_DOMAINS: usize = 512;
 
-/// Domains whose root leads to more text than a message may have read, each by its number, with the epoch at which that was found: a message that asks such a policy
-/// is refused at once, and not read for again. No clause speaks of them, since such a message is answered as if memory were wanting, which may be answered to any.
+/// Domains whose root leads to more text than a message may have read, each by its number, with the epoch
+/// at which that was found. A message that asks such policies is refused at once, and they aren't read
+/// for it again. No clause speaks of these domains, since such a message is answered as if memory were
+/// wanting, which may be answered to any.
 #[derive(Drop)]
 pub(crate) struct Unread {
     epochs: LruCache<u64, u64>,

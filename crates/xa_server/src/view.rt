@@ -35,8 +35,9 @@ fn all_active(alloc: Global, texts: Items<ActiveText>) -> Result<Items<Active>, 
     Ok(active)
 }
 
-/// What decides. A text is read where the root leads to it, by the keys under which the texts are kept, and no other is looked at. What this costs grows with the
-/// number of the texts, and with those that are read.
+/// What decides. A text is read where the root leads to it, by the keys under which the texts are kept,
+/// and no other is looked at. What this costs grows with the number of the texts, and with those that are
+/// read.
 pub(crate) fn view_of_kept(
     alloc: Global,
     reader: &mut TextReader<'_>,

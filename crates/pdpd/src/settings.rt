@@ -1,0 +1,91 @@
+//! What an operator has set of a server, and the front of one that is so.
+
+ghost use Rattle.std.specs.Prelude.{◌≡◌, IfErr, IfOk};
+ghost use Rattle.xa_server.specs.Lines.{none_open};
+ghost use Rattle.xa_server.specs.Tally.{nothing_held};
+ghost use Rattle.pdpd.specs.declared.fault.Fault.TheVariants.{Memory};
+
+use crate::fault::Fault;
+use sqlite::Alter;
+use std::alloc::Global;
+use xa_records::{Digest, Records};
+use xa_server::{Front, Server};
+use xa_store::SqlRecords;
+
+/// What an operator has set of the limits of a message, each 0 for none, and of the room for views.
+#[derive(Clone, Copy)]
+pub struct Settings {
+    /// The units of work of a decision.
+    pub work: usize,
+    /// The bytes of a response.
+    pub reply: usize,
+    /// The bytes of policies that may be read.
+    pub reading: usize,
+    /// The bytes of memory that the views of domains may take, which are kept ready.
+    pub views: usize,
+}
+
+/// The server with that limit of work for one message; 0 for none.
+fn with_limit<R: Records>(server: Server<R>, work: usize) -> Server<R>
+    ensures { result ≡ server }
+{
+    if work == 0 {
+        return server;
+    }
+    server.with_limit(work as u64)
+}
+
+/// The server with that limit of bytes for the body of a response; 0 for none.
+fn with_reply_limit<R: Records>(server: Server<R>, bytes: usize) -> Server<R>
+    ensures { result ≡ server }
+{
+    if bytes == 0 {
+        return server;
+    }
+    server.with_reply_limit(bytes as u64)
+}
+
+/// The server that has so many bytes of policies read for one message; 0 for any number.
+fn with_reading<R: Records>(server: Server<R>, bytes: usize) -> Server<R>
+    ensures { result ≡ server }
+{
+    if bytes == 0 {
+        return server;
+    }
+    server.with_reading(bytes as u64)
+}
+
+/// A server over the keeper, for that operator and by these settings, and its connections, none of which is open.
+fn front_over<R: Records + Drop>(
+    alloc: Global,
+    records: R,
+    operator: Digest,
+    settings: Settings,
+) -> Result<Front<R>, Fault>
+    ensures operator { IfOk result (λ front. front.server.operator ≡ operator) }
+    ensures records { IfOk result (λ front. front.server.records ≡ records) }
+    ensures tally { IfOk result (λ front. front.server.tally ≡ nothing_held) }
+    ensures closed { IfOk result (λ front. front.lines ≡ none_open) }
+    ensures err { IfErr result (λ fault. fault ≡ Memory) }
+{
+    let server = Server::new(alloc, records, operator)?;
+    let server = with_reply_limit(with_limit(server, settings.work), settings.reply);
+    let server = with_reading(server, settings.reading).with_room(settings.views);
+    Ok(Front::new(alloc, server)?)
+}
+
+/// The same over a keeper of tables. It is made for any store: that such a keeper is what a server asks
+/// for is shown once here, and would be shown at great length where the store is known.
+pub fn front_of_tables<S: Alter + Drop>(
+    alloc: Global,
+    records: SqlRecords<S>,
+    operator: Digest,
+    settings: Settings,
+) -> Result<Front<SqlRecords<S>>, Fault>
+    ensures operator { IfOk result (λ front. front.server.operator ≡ operator) }
+    ensures tally { IfOk result (λ front. front.server.tally ≡ nothing_held) }
+    ensures closed { IfOk result (λ front. front.lines ≡ none_open) }
+    ensures err { IfErr result (λ fault. fault ≡ Memory) }
+{
+    front_over(alloc, records, operator, settings)
+}
