@@ -21,11 +21,13 @@ STEP, LOOK, VALUE = 32, 8, 16
 CALL, CHILD, ASSIGNMENT = 64, 64, 64
 # beside its texts and values: an attribute, a Category object, an obligation and a result
 MEMBERS = 128
+# a byte that an escape adds to a text
+ESCAPED = 5
 # what is printed takes so much beside its value, by its type
 PRINTING = {"dateTime": 192, "dayTimeDuration": 192, "time": 128, "date": 96, "yearMonthDuration": 64, "hexBinary": 64, "base64Binary": 64, "boolean": 32, "integer": 32,
             "string": 0, "anyURI": 0}
-# how many items are looked at one after another where one is searched for; more are in order, and each halving of them is a step
-FEW = 8
+# how many items are looked at one after another where one is searched for; more are in order, and what each halving of them takes
+FEW, HALVING = 8, 48
 # a policy or a set that is named, beside its id and version, and each number of its version
 NAME, NUMBER = 32, 10
 # with how many others a value is compared at most that is searched for; and in a large bag that is put in order
@@ -39,7 +41,7 @@ def rate(function):
     if name == "string-substring":
         return 0, 3
     if name.endswith("-contains"):
-        return 128, 3
+        return 128, 4
     if name.startswith("string-from-"):
         return PRINTING[name.removeprefix("string-from-")], 1
     return (64, 1) if name.startswith(("dateTime-add-", "dateTime-subtract-", "date-add-", "date-subtract-")) else (0, 1)
@@ -53,7 +55,7 @@ def of_calls(function, count, arguments):
 
 def of_search(count):
     """The units of a search among so many items."""
-    return STEP * count.bit_length() if count > FEW else 0
+    return HALVING * count.bit_length() if count > FEW else 0
 
 
 class Refused(Exception):
@@ -83,11 +85,11 @@ def units(values):
 
 
 def escaped(text):
-    """The bytes of a text in JSON."""
+    """What it is to write a text: its bytes, and five for each byte that its escapes add in JSON."""
     if text is None:
         return 0
     short = sum(text.count(one) for one in '"\\\b\f\n\r\t')
-    return length(text) + short + 5 * sum(ord(one) < 32 and one not in "\b\f\n\r\t" for one in text)
+    return length(text) + ESCAPED * (short + 5 * sum(ord(one) < 32 and one not in "\b\f\n\r\t" for one in text))
 
 
 def written(value):

@@ -68,7 +68,7 @@ impl<R: Records + Drop> Driving<R> {
 }
 
 /// Lets the events happen to a front over the keeper.
-fn happenings<R: Records + Drop>(
+pub fn happenings<R: Records + Drop>(
     answer: &mut Answer,
     records: R,
     events: &[&str],

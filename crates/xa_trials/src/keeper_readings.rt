@@ -68,8 +68,8 @@ pub fn view<R: Records>(answer: &mut Answer, records: &mut R, name: &Text) -> Re
     let Some(view) = finding_of(answer, read) else {
         return Ok(());
     };
-    for text in view.texts.as_slice() {
-        answer.field("active:", text.as_slice());
+    for active in view.texts.as_slice() {
+        answer.field("active:", active.text.as_slice());
     }
     push_root(answer, "root:", &view.root)?;
     push_rows(answer, "source:", view.source.as_slice())

@@ -114,8 +114,21 @@ fn answer_first(answer: &mut Answer, kind: &str, fields: &[&str]) -> Result<(), 
         "link" => linking::tree(answer, first, fields),
         "opened" => stores::opening(answer, first, fields),
         "keeper_with" => keeper::keeper_with(answer, first, fields),
+        _ => answer_failing(answer, kind, first, fields),
+    }
+}
+
+/// Answers a row of what fails, where the first field says.
+fn answer_failing(
+    answer: &mut Answer,
+    kind: &str,
+    first: &str,
+    fields: &[&str],
+) -> Result<(), NoAnswer> {
+    match kind {
         "tripped_after" => tripped::tripped_after(answer, first, fields),
         "stops" => stops::stops(answer, first, fields),
+        "frozen" => stops::frozen(answer, first, fields),
         _ => Err(NoAnswer::Malformed),
     }
 }

@@ -1,8 +1,13 @@
-//! Rows of messages: what a server answers to a stream, on a connection of a front. First come `made:BYTES`, messages that have to succeed and aren't answered,
-//! `views:COUNT`, for how many views the server has room, where that isn't 128, `limit:UNITS`, which limits the work for each message, `reply:BYTES`, which
-//! limits the body of each response, and `reading:BYTES`, which limits the texts that are read for each message, and `room:BYTES`, how many bytes the views that are kept may take. An event is `moment:SECONDS`, which dates what follows, `piece:BYTES`, the next piece of the stream, `close:`, after which the stream is another, `restart:`, after which
-//! the server is another, too, over the keeper that the one before gave back, or `readings:`, `evaluations:` and `unkept:`, which ask how often the server has done
-//! that, and after which the stream is another.
+//! Rows of messages: what a server answers to a stream, on a connection of a front. First come
+//! `made:BYTES`, messages that have to succeed and aren't answered, and what is set of the server.
+//! `views:COUNT` says for how many views it has room, where that isn't 128, and `room:BYTES` how many
+//! bytes the views that are kept may take. `limit:UNITS` limits the work for each message, `reply:BYTES`
+//! the body of each response, and `reading:BYTES` the texts that are read for each message.
+//!
+//! An event is one of these. `moment:SECONDS` dates what follows, and `piece:BYTES` is the next piece of
+//! the stream. After `close:` the stream is another. After `restart:` the server is another, too, over
+//! the keeper that the one before gave back. `readings:`, `evaluations:` and `unkept:` ask how often the
+//! server has done that; after them the stream is another.
 use crate::answer::Answer;
 use crate::decisions::moment_of;
 use crate::field::{bytes_of, number_of};

@@ -1,22 +1,28 @@
-//! Rows of stops: a script of messages over tables in two files, of which one is frozen at another call in each run. A run ends with the first message that is
-//! refused, the one that the stop has struck. Then a crash is taken, the files are opened again, and the rest of the script is answered from what was left.
+//! Rows of stops: a script of messages over tables in two files, of which one is frozen at another call
+//! in each run. A run ends with the first message that is refused, the one that the stop has struck. Then
+//! a crash is taken, the files are opened again, and the rest of the script is answered from what was
+//! left. And rows of connections that are driven over such files.
 use crate::answer::Answer;
-use crate::files::{File, after_crash, files_under, keeper_of, new_files};
+use crate::driven::happenings;
+use crate::field::number_of;
+use crate::files::{File, Store, after_crash, files_under, keeper_of, new_files};
 use crate::no_answer::NoAnswer;
-use crate::server::server_over;
+use crate::server::{answered, server_over};
 use crate::tripped::messages_of;
-use sqlite::Files;
+use sqlite::{Alter, Files};
 use sqlite_disk::Disk;
 use std::alloc::Global;
 use xa_http::Message;
 use xa_records::{PlainRecords, Records};
 use xa_server::{Reply, Server};
+use xa_store::SqlRecords;
 use xa_value::Moment;
 
 /// What has become of a run of the script.
 #[derive(Drop)]
 enum Run {
-    /// A stop has struck the message of this number, from 1; or 0, before the first, where the store wasn't opened. These are the files.
+    /// A stop has struck the message of this number, from 1; or 0, before the first, where the store
+    /// wasn't opened. These are the files.
     Stopped(usize, Files<File>),
     /// All messages were answered.
     Ended,
@@ -31,6 +37,34 @@ fn files_of(alloc: Global, word: &str, calls: u64) -> Result<Files<File>, NoAnsw
     }
 }
 
+/// The keeper of tables over the files of which one passes on so many calls, as `FILE CALLS` says.
+fn frozen_keeper(alloc: Global, text: &str) -> Result<SqlRecords<Store>, NoAnswer> {
+    let Some((word, calls)) = text.split_once(' ') else {
+        return Err(NoAnswer::Malformed);
+    };
+    let files = files_of(alloc, word, number_of(calls)?)?;
+    match keeper_of(alloc, files) {
+        Ok(records) => Ok(records),
+        Err(_) => Err(NoAnswer::Malformed),
+    }
+}
+
+/// Lets the events happen to a front over the keeper of tables.
+fn happenings_over<S: Alter + Drop>(
+    answer: &mut Answer,
+    records: SqlRecords<S>,
+    events: &[&str],
+) -> Result<(), NoAnswer> {
+    answered(happenings(answer, records, events))
+}
+
+/// What becomes of driven connections over the keeper of tables in two files, of which one is frozen
+/// behind so many calls.
+pub fn frozen(answer: &mut Answer, text: &str, events: &[&str]) -> Result<(), NoAnswer> {
+    let records = frozen_keeper(answer.alloc(), text)?;
+    happenings_over(answer, records, events)
+}
+
 /// The number of the first message that is refused, from 1; 0 if none is.
 fn first_refused<R: Records>(server: &mut Server<R>, messages: &[(Moment, Message)]) -> usize {
     let mut number = 0usize;
@@ -41,6 +75,17 @@ fn first_refused<R: Records>(server: &mut Server<R>, messages: &[(Moment, Messag
         }
     }
     0
+}
+
+/// The same of a server over the keeper, which is given back.
+fn first_refused_over<S: Alter + Drop>(
+    alloc: Global,
+    records: SqlRecords<S>,
+    messages: &[(Moment, Message)],
+) -> Result<(usize, SqlRecords<S>), NoAnswer> {
+    let mut server = server_over(alloc, records)?;
+    let refused = first_refused(&mut server, messages);
+    Ok((refused, server.into_records()))
 }
 
 /// Whether a file is frozen, as far as its next call tells.
@@ -58,9 +103,8 @@ fn run_of(
         Ok(records) => records,
         Err(files) => return Ok(Run::Stopped(0, files)),
     };
-    let mut server = server_over(alloc, records)?;
-    let refused = first_refused(&mut server, messages);
-    let mut files = files_under(server.into_records().into_connection());
+    let (refused, records) = first_refused_over(alloc, records, messages)?;
+    let mut files = files_under(records.into_connection());
     if refused > 0 {
         return Ok(Run::Stopped(refused, files));
     }
@@ -83,7 +127,8 @@ fn server_after(
     Ok(server)
 }
 
-/// Whether the server answers the messages behind that one as if it had never come, or as if it had been answered.
+/// Whether the server answers the messages behind that one as if it had never come, or as if it had been
+/// answered.
 fn goes_on<R: Records>(
     alloc: Global,
     server: &mut Server<R>,
@@ -105,6 +150,17 @@ fn goes_on<R: Records>(
     Ok(is_without || is_with)
 }
 
+/// Whether a server over the keeper goes on behind that message.
+fn keeper_goes_on<S: Alter + Drop>(
+    alloc: Global,
+    records: SqlRecords<S>,
+    messages: &[(Moment, Message)],
+    struck: usize,
+) -> Result<bool, NoAnswer> {
+    let mut server = server_over(alloc, records)?;
+    goes_on(alloc, &mut server, messages, struck)
+}
+
 /// Whether the store in the files is opened, and a server over it goes on behind that message.
 fn is_resumed(
     alloc: Global,
@@ -113,72 +169,179 @@ fn is_resumed(
     struck: usize,
 ) -> Result<bool, NoAnswer> {
     match keeper_of(alloc, files) {
-        Ok(records) => goes_on(alloc, &mut server_over(alloc, records)?, messages, struck),
+        Ok(records) => keeper_goes_on(alloc, records, messages, struck),
         Err(_) => Ok(false),
     }
 }
 
-/// Whether that is so at both ends of a crash.
-fn is_resumed_after_crash(
-    alloc: Global,
+/// A stop: behind how many calls it came, and which message it has struck.
+#[derive(Clone, Copy)]
+struct Stop {
+    calls: u64,
+    struck: usize,
+}
+
+/// Takes the files up behind the stop. That the rest of the script isn't answered as it has to be is the
+/// row's whole answer.
+fn resume(
+    answer: &mut Answer,
     files: Files<File>,
     messages: &[(Moment, Message)],
+    stop: Stop,
+) -> Result<(), NoAnswer> {
+    if is_resumed(answer.alloc(), files, messages, stop.struck)? {
+        return Ok(());
+    }
+    answer.name("!Differs ", &stop.calls);
+    Err(NoAnswer::Answered)
+}
+
+/// Which messages were struck, and what a crash has left the last time.
+#[derive(Drop)]
+struct Sweep {
+    /// How many stops have struck each message, and how many came before the first.
+    counts: Vec<u64>,
+    /// The number of the message that was struck the last time.
     struck: usize,
-) -> Result<bool, NoAnswer> {
+    /// All bytes of the files then, at both ends of the crash.
+    left: Vec<u8>,
+}
+
+impl Sweep {
+    /// No stop has come yet to so many messages.
+    fn new(alloc: Global, messages: usize) -> Result<Sweep, NoAnswer> {
+        let mut counts = Vec::new(alloc);
+        counts.resize(messages.saturating_add(1), 0u64)?;
+        Ok(Sweep {
+            counts,
+            struck: usize::MAX,
+            left: Vec::new(alloc),
+        })
+    }
+
+    /// Counts a stop that has struck that message.
+    fn count(&mut self, struck: usize) {
+        if let Some(count) = self.counts.get_mut(struck) {
+            *count = count.saturating_add(1);
+        }
+    }
+
+    /// Whether a crash left the same the last time, behind the same message.
+    fn has_left(&self, struck: usize, left: &[u8]) -> bool {
+        self.struck == struck && self.left.as_slice() == left
+    }
+
+    /// Notes what a crash has left behind that message.
+    fn note(&mut self, struck: usize, left: Vec<u8>) {
+        self.struck = struck;
+        self.left = left;
+    }
+
+    /// How many stops there were.
+    fn stops(&self) -> u64 {
+        let mut stops = 0u64;
+        for count in &self.counts {
+            stops = stops.saturating_add(*count);
+        }
+        stops
+    }
+
+    /// Adds how many stops there were, and how many have struck each message, as `NUMBER COUNT`; 0 is
+    /// before the first.
+    fn push(&self, answer: &mut Answer) {
+        answer.name("stops ", &self.stops());
+        for (number, count) in self.counts.iter().enumerate() {
+            answer.name("", &number);
+            answer.append(" ", count);
+        }
+    }
+}
+
+/// Adds the bytes of a file, behind their number.
+fn push_file(all: &mut Vec<u8>, file: &File) -> Result<(), NoAnswer> {
+    let bytes = file.inner().bytes();
+    all.extend_from_slice(&bytes.len().to_le_bytes())?;
+    all.extend_from_slice(bytes)?;
+    Ok(())
+}
+
+/// Adds the bytes of both files.
+fn push_files(all: &mut Vec<u8>, files: &Files<File>) -> Result<(), NoAnswer> {
+    push_file(all, &files.log)?;
+    push_file(all, &files.db)
+}
+
+/// Takes a crash of the files, and takes up what it leaves at both of its ends. What a crash has left the
+/// last time isn't asked again.
+fn resume_after_crash(
+    answer: &mut Answer,
+    files: Files<File>,
+    messages: &[(Moment, Message)],
+    stop: Stop,
+    sweep: &mut Sweep,
+) -> Result<(), NoAnswer> {
+    let alloc = answer.alloc();
     let (synced, written) = after_crash(alloc, files)?;
-    Ok(
-        is_resumed(alloc, synced, messages, struck)?
-            && is_resumed(alloc, written, messages, struck)?,
-    )
+    let mut left = Vec::new(alloc);
+    push_files(&mut left, &synced)?;
+    push_files(&mut left, &written)?;
+    if sweep.has_left(stop.struck, left.as_slice()) {
+        return Ok(());
+    }
+    sweep.note(stop.struck, left);
+    resume(answer, synced, messages, stop)?;
+    resume(answer, written, messages, stop)
 }
 
-/// Adds how many stops there were, how many before the first message, and how many have struck each, as `NUMBER COUNT`.
-fn push_counts(answer: &mut Answer, counts: &[u64]) {
-    let mut all = 0u64;
-    for count in counts {
-        all = all.saturating_add(*count);
-    }
-    answer.name("stops ", &all);
-    for (number, count) in counts.iter().enumerate() {
-        answer.name("", &number);
-        answer.append(" ", count);
+/// Freezes the file that the word names behind so many calls. Whether a stop has come.
+fn is_stopped(
+    answer: &mut Answer,
+    word: &str,
+    calls: u64,
+    messages: &[(Moment, Message)],
+    sweep: &mut Sweep,
+) -> Result<bool, NoAnswer> {
+    let alloc = answer.alloc();
+    let files = files_of(alloc, word, calls)?;
+    match run_of(alloc, files, messages)? {
+        Run::Stopped(struck, files) => {
+            sweep.count(struck);
+            let stop = Stop { calls, struck };
+            resume_after_crash(answer, files, messages, stop, sweep)?;
+            Ok(true)
+        }
+        Run::Ended => Ok(false),
     }
 }
 
-/// Freezes the file that the word names at each of its calls in turn, until a run meets no stop. How many stops each message was struck by; or `!Differs` and the number
-/// of calls before the first stop after which the rest is answered otherwise.
+/// Freezes the file that the word names at each of its calls in turn, until a run meets no stop.
 fn each_in_turn(
     answer: &mut Answer,
     word: &str,
     messages: &[(Moment, Message)],
-) -> Result<Vec<u64>, NoAnswer> {
-    let alloc = answer.alloc();
-    let mut counts = Vec::new(alloc);
-    counts.resize(messages.len().saturating_add(1), 0u64)?;
+    sweep: &mut Sweep,
+) -> Result<(), NoAnswer> {
     for calls in 0..u64::MAX {
-        let files = files_of(alloc, word, calls)?;
-        let Run::Stopped(struck, files) = run_of(alloc, files, messages)? else {
-            return Ok(counts);
-        };
-        if !is_resumed_after_crash(alloc, files, messages, struck)? {
-            answer.name("!Differs ", &calls);
-            return Err(NoAnswer::Answered);
-        }
-        if let Some(count) = counts.get_mut(struck) {
-            *count = count.saturating_add(1);
+        if !is_stopped(answer, word, calls, messages, sweep)? {
+            return Ok(());
         }
     }
-    Ok(counts)
+    Ok(())
 }
 
-/// How many stops come, and which messages they strike; after each the rest of the script is answered as it has to be, and so is all of it where none comes.
+/// How many stops come where the file that the word names is frozen at each of its calls in turn, and
+/// which messages they strike. After each the rest of the script is answered as it has to be, and so is
+/// all of it where none comes.
 pub fn stops(answer: &mut Answer, word: &str, events: &[&str]) -> Result<(), NoAnswer> {
     let alloc = answer.alloc();
     let messages = messages_of(alloc, events)?;
-    let counts = each_in_turn(answer, word, &messages)?;
-    push_counts(answer, &counts);
-    if !is_resumed(alloc, new_files(alloc, u64::MAX, u64::MAX), &messages, 0)? {
-        answer.word("!Differs");
-    }
-    Ok(())
+    let mut sweep = Sweep::new(alloc, messages.len())?;
+    each_in_turn(answer, word, &messages, &mut sweep)?;
+    sweep.push(answer);
+    let files = new_files(alloc, u64::MAX, u64::MAX);
+    let stop = Stop {
+        calls: u64::MAX,
+        struck: 0,
+    };
+    resume(answer, files, &messages, stop)
 }
