@@ -63,7 +63,7 @@ author-test: ## tests the policy author's desk (author/policy); proves and build
 	author/policy build
 	author/test
 
-bench: pdpd ## proves and builds pdpd, and runs all benchmarks but bench/heads and bench/casbin
+bench: pdpd ## proves and builds pdpd, and runs all benchmarks but bench/heads, bench/units, bench/deploy and bench/casbin
 	bench/all
 
 dist: ## packs the proved program, the kit for several of them behind HAProxy, and their pages: build/pdpd-VERSION.tar.gz

@@ -294,7 +294,7 @@ class Words(DeployTest):
 
     def test_a_full_domain(self) -> None:
         full = [serving.message("POST", f"/domains/{self.name}/pap/policies", ADMIN,
-                                policy("urn:x", f"1.{number}", "x")) for number in range(254)]
+                                policy("urn:x", f"1.{number}", "x")) for number in range(1_022)]
         self.running.sent(*full)
         written = self.deployed(self.written(files(P1), "urn:p"), status=4)
         self.assertIn("are its room", " ".join(written.split()))

@@ -13,7 +13,7 @@ FILE = pathlib.Path(os.environ.get("PDPD_SETTINGS", "/etc/pdpd/shards.conf"))
 # the least and the most of each number
 NUMBERS = {
     "SHARDS": (1, 64), "FIRST_PORT": (1, 65_000), "KEEP_BACKUPS": (1, 100_000), "CONNECTIONS": (1, 1_000_000),
-    "WORK": (0, 2 ** 63), "IDLE": (0, 86_400), "THREADS": (1, 64), "KEEP": (0, 1), "RETRY": (0, 1),
+    "WORK": (0, 2 ** 63), "READING": (0, 2 ** 63), "IDLE": (0, 86_400), "THREADS": (1, 64), "KEEP": (0, 1), "RETRY": (0, 1),
     "MAXCONN": (1, 128), "RATE": (0, 1_000_000),
 }
 # the signals to end, as of a terminal that is closed
