@@ -87,8 +87,7 @@ def killed(machine, checks):
         one, other = (place + turn) % 4, (place + turn + 1) % 4
         begun = subprocess.Popen(["pdpd-shards", "move", "mover", str(one), str(other)],
                                  stdout=subprocess.DEVNULL, stderr=subprocess.DEVNULL)
-        # (one that is over before it is looked at has begun, too)
-        wait_until(lambda: is_begun() or begun.poll() is not None, "a move doesn't begin")
+        wait_until(is_begun, "a move doesn't begin")
         time.sleep(delay)
         begun.send_signal(how)
         found.append(begun.wait())
