@@ -1,5 +1,5 @@
-//! Inner functions whose calls are counted: a higher-order function calls one for each choice of its arguments, of which there are as many
-//! as the product of its bags' lengths.
+//! Inner functions whose calls are counted: a higher-order function calls one for each choice of its
+//! arguments, of which there are as many as the product of its bags' lengths.
 ghost use Rattle.xa_func.specs.Application.{applied};
 ghost use Rattle.xa_func.specs.Signature.{TakesKinds, signature_of, result_type_of};
 

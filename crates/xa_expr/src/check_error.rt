@@ -5,7 +5,8 @@ ghost use Rattle.xa_value.specs.declared.or_memory.OrMemory.TheVariants.{Error};
 use thiserror::Error;
 use xa_value::OrMemory;
 
-/// Why an expression or a match has no type: the first fault found, from the outside to the inside and from the first argument to the last.
+/// Why an expression or a match has no type: the first fault found, from the outside to the inside and
+/// from the first argument to the last.
 #[derive(Clone, Copy, Debug, PartialEq, Eq, Error)]
 pub enum CheckError {
     /// No function has this name, or none that may stand here.

@@ -22,9 +22,10 @@ use xa_value::{DataType, Items, OrMemory, Text};
 /// How many expressions may stand inside one another.
 const MAX_DEPTH: usize = 24;
 
-/// The expression with its functions and variables found, or its first fault (core, sections 5.25, 5.27 to 5.29, 5.31 and appendix A.3): of an
-/// Apply that its function is unknown, then the faults of its arguments from the first to the last, then their number, then their
-/// kinds. At most 24 expressions may stand inside one another. Clause `typed`: what passes has its kind under those of the variables;
+/// The expression with its functions and variables found, or its first fault (core, sections 5.25, 5.27
+/// to 5.29, 5.31 and appendix A.3): of an Apply that its function is unknown, then the faults of its
+/// arguments from the first to the last, then their number, then their kinds. At most 24 expressions may
+/// stand inside one another. Clause `typed`: what passes has its kind under those of the variables;
 /// `unknown`: that the function of an Apply is unknown is told whatever memory there is.
 pub fn check(
     alloc: Global,
@@ -238,7 +239,8 @@ fn is_higher_counted(function: HigherOrder, inner: FuncId, count: usize) -> bool
     }
 }
 
-/// Whether the inner function is one of values, and the arguments after it are what the higher-order function takes.
+/// Whether the inner function is one of values, and the arguments after it are what the higher-order
+/// function takes.
 fn is_accepted(function: HigherOrder, inner: FuncId, arguments: &[Typed]) -> bool
     ensures { result ≡ is_scalar inner && higher_accepted function inner (map kind_of_typed arguments.now) }
 {

@@ -1,4 +1,5 @@
-//! The values of checked expressions (XACML 3.0, core, section 7.4), where the results of variables are given.
+//! The values of checked expressions (XACML 3.0, core, section 7.4), where the results of variables are
+//! given.
 ghost use Rattle.std.specs.Prelude.{◌≡◌, map, if◌then◌else◌, Some, IfOk};
 ghost use Rattle.xa_value.specs.Gives.{Gives};
 ghost use Rattle.xa_func.specs.declared.func_id.FuncId.TheVariants as function_id;
@@ -20,14 +21,14 @@ use crate::fault::Fault;
 use crate::function::{of_bags, of_function, of_values};
 use crate::scope::{Scope, attribute};
 use crate::typed::Typed;
-use crate::work::{STEP, units_of};
+use crate::work::{LIST, STEP, units_of};
 use std::alloc::{AllocError, Global};
 use xa_bag::ValueOrBag;
 use xa_func::{BagFunction, FuncId, HigherOrder, Logic};
 use xa_value::{DataType, Items, OrMemory, Value};
 
-/// What the expression comes to, where the variables come to the results. Each expression that is evaluated takes a step from the work
-/// that the message may ask for, before anything is done.
+/// What the expression comes to, where the variables come to the results. Each expression that is
+/// evaluated takes a step from the work that the message may ask for, before anything is done.
 #[cycle(evaluation)]
 pub(crate) fn evaluate<'a, C: Context>(
     alloc: Global,
@@ -145,7 +146,8 @@ fn value_in(given: ValueOrBag) -> Value
     }
 }
 
-/// Or, where `stop` is true, and and, where it is false: no argument is evaluated after one that gives `stop` or a fault.
+/// Or, where `stop` is true, and and, where it is false: no argument is evaluated after one that gives
+/// `stop` or a fault.
 #[cycle(evaluation)]
 fn decide<'a, C: Context>(
     alloc: Global,
@@ -188,8 +190,8 @@ fn n_of<'a, C: Context>(
     n_among(alloc, scope, wanted.unsigned_abs() as usize, booleans)
 }
 
-/// Whether this many of the booleans are True, where there are this many: no argument is evaluated after the last of these, after
-/// the one with which too few are left, and after a fault.
+/// Whether this many of the booleans are True, where there are this many: no argument is evaluated after
+/// the last of these, after the one with which too few are left, and after a fault.
 #[cycle(evaluation)]
 fn n_among<'a, C: Context>(
     alloc: Global,
@@ -282,7 +284,8 @@ fn apply_higher_order<'a, C: Context>(
     of_function(alloc, scope.context, function, inner, given.as_slice())
 }
 
-/// What the arguments come to, none of which is a bag, from the first to the last.
+/// What the arguments come to, none of which is a bag, from the first to the last. The list is counted
+/// before it is made.
 #[cycle(evaluation)]
 fn all_values<'a, C: Context>(
     alloc: Global,
@@ -295,6 +298,7 @@ fn all_values<'a, C: Context>(
     ensures value { Gives result (collected (map value_result (map (outcome (C.values_of scope.now.context.now) scope.now.results.now) arguments.now))) }
     ensures typed { IfOk result (λ values. map kind_of values ≡ map kind_of_typed arguments.now) }
 {
+    scope.context.spend(LIST)?;
     let mut values = Items::new(alloc);
     for argument in arguments {
         let given = evaluate(alloc, scope, argument)?;
@@ -303,7 +307,7 @@ fn all_values<'a, C: Context>(
     Ok(values)
 }
 
-/// What the arguments come to, from the first to the last.
+/// What the arguments come to, from the first to the last. The list is counted before it is made.
 #[cycle(evaluation)]
 fn all_given<'a, C: Context>(
     alloc: Global,
@@ -315,6 +319,7 @@ fn all_given<'a, C: Context>(
     ensures value { Gives result (collected (map (outcome (C.values_of scope.now.context.now) scope.now.results.now) arguments.now)) }
     ensures typed { IfOk result (λ given. map kind_of_argument given ≡ map kind_of_typed arguments.now) }
 {
+    scope.context.spend(LIST)?;
     let mut all = Items::new(alloc);
     for argument in arguments {
         let given = evaluate(alloc, scope, argument)?;

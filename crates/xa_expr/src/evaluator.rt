@@ -20,8 +20,9 @@ use std::marker::Model;
 use xa_bag::ValueOrBag;
 use xa_value::OrMemory;
 
-/// Expressions are evaluated in a context under the variables of a policy, each of which is worked out when an expression first
-/// names it or a later one, and once at most. Clauses see the context and the definitions.
+/// Expressions are evaluated in a context under the variables of a policy, each of which is worked out
+/// when an expression first names it or a later one, and once at most. Clauses see the context and the
+/// definitions.
 #[derive(Drop)]
 pub struct Evaluator<'a, C: Context> {
     context: &'a C,
@@ -45,7 +46,8 @@ impl<'a, C: Context> Model for Evaluator<'a, C> {
     ghost invariant = { λ e. AreFirst (C.values_of e.context.now) e.variables.now e.results.items };
 }
 
-/// Works out the variables that the expression names and those before them. Where all were worked out, nobody looks at the expression.
+/// Works out the variables that the expression names and those before them. Where all were worked out,
+/// nobody looks at the expression.
 fn prepare<C: Context>(
     alloc: Global,
     context: &C,
@@ -108,8 +110,8 @@ impl<'a, C: Context> Evaluator<'a, C> {
         self.context.spend(units)
     }
 
-    /// What the expression comes to. After want of memory nothing that was worked out is lost. Clause `fits`: no wrong type is met, neither
-    /// in the expression nor in the definitions of the variables.
+    /// What the expression comes to. After want of memory nothing that was worked out is lost. Clause
+    /// `fits`: no wrong type is met, neither in the expression nor in the definitions of the variables.
     pub fn value(
         &mut self,
         alloc: Global,

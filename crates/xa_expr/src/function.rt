@@ -1,5 +1,6 @@
-//! Functions of arguments that were worked out. Each takes from the work that the message may ask for before it is called, by the sizes of
-//! its arguments: what functions give is no larger than these together.
+//! Functions of arguments that were worked out. Each takes from the work that the message may ask for
+//! before it is called, by the sizes of its arguments: what functions give is no larger than these
+//! together.
 ghost use Rattle.std.specs.Prelude.{◌≡◌, map, IfOk};
 ghost use Rattle.xa_value.specs.Gives.{Gives};
 ghost use Rattle.xa_func.specs.Application as func;

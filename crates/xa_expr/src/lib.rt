@@ -1,4 +1,5 @@
-//! Expressions with their types and values, and targets (XACML 3.0, core, sections 5.6 to 5.9, 5.23 to 5.25, 5.27 to 5.29, 5.31 and 7.3 to 7.8).
+//! Expressions with their types and values, and targets (XACML 3.0, core, sections 5.6 to 5.9, 5.23 to
+//! 5.25, 5.27 to 5.29, 5.31 and 7.3 to 7.8).
 #![tactic(auto)]
 
 mod answering;

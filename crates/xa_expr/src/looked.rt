@@ -7,7 +7,8 @@ use crate::matching::Matching;
 use xa_bag::{Bag, Members, is_in};
 use xa_value::Value;
 
-/// What a look for a value among those of a bag comes to. Of looks at parts of the bag, one after another, `and` makes that at all of it.
+/// What a look for a value among those of a bag comes to. Of looks at parts of the bag, one after
+/// another, `and` makes that at all of it.
 #[derive(Clone, Copy, Debug, PartialEq, Eq)]
 pub enum Looked {
     /// There are no values.

@@ -16,8 +16,8 @@ use std::alloc::{AllocError, Global};
 use xa_func::{FuncId, HasKind, Kind, Signature};
 use xa_value::{DataType, OrMemory, Value};
 
-/// A match (core, section 5.9): whether the function is true of the literal and some value of the designator's bag. The function takes
-/// two such values and gives a boolean.
+/// A match (core, section 5.9): whether the function is true of the literal and some value of the
+/// designator's bag. The function takes two such values and gives a boolean.
 #[derive(Debug, Drop)]
 pub struct Match {
     function: FuncId,
@@ -34,8 +34,9 @@ impl Match {
     ghost use Rattle.xa_expr.specs.Match.{matched, matched_by};
     ghost use Rattle.xa_expr.specs.Target.{answer, match_value, some_match};
 
-    /// The match of the function of that name (core, sections 5.9 and 7.6). The literal is the function's first argument, each value of the bag its
-    /// second. UnknownFunction where no function has the name; WrongType of one that doesn't take the two, or gives no boolean.
+    /// The match of the function of that name (core, sections 5.9 and 7.6). The literal is the
+    /// function's first argument, each value of the bag its second. UnknownFunction where no function
+    /// has the name; WrongType of one that doesn't take the two, or gives no boolean.
     pub fn new(function: &str, literal: Value, designator: Designator) -> Result<Match, CheckError>
         ensures { result ≡ matched function.now literal designator }
     {
@@ -67,8 +68,8 @@ impl Match {
         &self.designator
     }
 
-    /// The value of the match (core, section 7.6). Equality looks at the values where they are; every other function is called with a copy
-    /// of each.
+    /// The value of the match (core, section 7.6). Equality looks at the values where they are; every
+    /// other function is called with a copy of each.
     #[tactic(auto, using(crate::proofs::MatchLemmas::found_answers))]
     pub(crate) fn matching<C: Context>(
         &self,
@@ -83,8 +84,8 @@ impl Match {
         }
     }
 
-    /// What a look for the literal says of the match. It takes two steps, as asking for the bag and looking at it do, and one where a value is
-    /// missing.
+    /// What a look for the literal says of the match. It takes two steps, as asking for the bag and
+    /// looking at it do, and one where a value is missing.
     fn literal_in<C: Context>(&self, alloc: Global, context: &C) -> Result<Matching, AllocError>
         ensures { IfOk result (λ m. m ≡ match_by self.now.designator.must_be_present (looked self.now.literal (C.values_of context.now self.now.designator))) }
     {
@@ -107,7 +108,8 @@ impl Match {
         }
     }
 
-    /// Whether the function is true of one of the values. What it takes to call it for all of them is counted before.
+    /// Whether the function is true of one of the values. What it takes to call it for all of them is
+    /// counted before.
     fn found_in<C: Context>(
         &self,
         alloc: Global,
@@ -170,8 +172,8 @@ impl Match {
     }
 }
 
-/// Whether the function may stand in a match: it is a function of values that takes the literal and a value of the type, and gives a
-/// boolean.
+/// Whether the function may stand in a match: it is a function of values that takes the literal and a
+/// value of the type, and gives a boolean.
 fn may_ask(function: FuncId, literal: &Value, data_type: DataType) -> bool
     ensures { result ≡ may_ask function (argument_kinds literal.now data_type) }
 {

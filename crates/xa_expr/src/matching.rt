@@ -4,8 +4,8 @@ ghost use Rattle.xa_expr.specs.Target.{all_match, some_match};
 
 use crate::fault::Fault;
 
-/// What a target or a part of it comes to (core, sections 7.6 and 7.7). Of a single match the standard calls the first two True and
-/// False.
+/// What a target or a part of it comes to (core, sections 7.6 and 7.7). Of a single match the standard
+/// calls the first two True and False.
 #[derive(Clone, Copy, Debug, PartialEq, Eq)]
 pub enum Matching {
     /// It matches.

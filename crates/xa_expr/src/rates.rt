@@ -1,6 +1,7 @@
-//! What a call of a function of values costs more than a step and its arguments. A unit is to take no more than some nanosecond and a half wherever it
-//! is spent: what was measured to take longer is charged more (`bench/units` measures all of it).
-use crate::work::STEP;
+//! What a call of a function of values costs more than a step and its arguments. A unit is to take no
+//! more than some nanosecond and a half wherever it is spent: what was measured to take longer is
+//! charged more (`bench/units` measures all of it).
+use crate::work::{STEP, VALUE};
 use xa_func::{FuncId, TextFunction, TextPart};
 use xa_value::DataType;
 
@@ -11,17 +12,29 @@ struct Rate {
     times: u64,
 }
 
-/// What a call of the function costs. A substring is made of a list of characters. A search of a text in a text begins with tables of the first, and
-/// may go back at each byte.
+/// What a call of the function costs. A text that a function gives is a value that is made, and a
+/// substring is made of a list of characters. A search of a text in a text begins with tables of the
+/// first, and may go back at each byte.
 fn rate_of(function: FuncId) -> Rate {
     match function {
-        FuncId::Text(TextFunction::Substring) => Rate { call: 0, times: 3 },
+        FuncId::Text(TextFunction::Substring) => Rate {
+            call: VALUE,
+            times: 3,
+        },
+        FuncId::Text(TextFunction::NormalizeSpace | TextFunction::Concatenate) => Rate {
+            call: VALUE,
+            times: 1,
+        },
         FuncId::Part(TextPart::Contains, _) => Rate {
             call: 4 * STEP,
             times: 4,
         },
         FuncId::StringFrom(printed) => Rate {
-            call: units_of_printing(printed.data_type()),
+            call: VALUE.saturating_add(units_of_printing(printed.data_type())),
+            times: 1,
+        },
+        FuncId::FromString(_) => Rate {
+            call: STEP,
             times: 1,
         },
         FuncId::Move(..) => Rate {
@@ -44,7 +57,8 @@ pub fn units_of_printing(data_type: DataType) -> u64 {
     }
 }
 
-/// The units of so many calls of the function, beside a step for each, whose arguments have these units together.
+/// The units of so many calls of the function, beside a step for each, whose arguments have these units
+/// together.
 pub(crate) fn units_of_calls(function: FuncId, count: u64, arguments: u64) -> u64 {
     let rate = rate_of(function);
     rate.call

@@ -1,4 +1,5 @@
-//! Where an expression is evaluated: its context, the variables that it may name, and what was worked out of them.
+//! Where an expression is evaluated: its context, the variables that it may name, and what was worked
+//! out of them.
 ghost use Rattle.std.specs.Prelude.{◌≡◌, slice_get, Some, IfOk};
 ghost use Rattle.xa_value.specs.Gives.{Gives};
 ghost use Rattle.xa_func.specs.declared.signature.Kind.TheVariants as kind;
@@ -16,7 +17,8 @@ use std::alloc::{AllocError, Global};
 use xa_bag::ValueOrBag;
 use xa_value::OrMemory;
 
-/// Where an expression is evaluated: its context, the variables that it may name, and what was worked out of them, from the first on.
+/// Where an expression is evaluated: its context, the variables that it may name, and what was worked
+/// out of them, from the first on.
 #[derive(Drop)]
 pub(crate) struct Scope<'a, C> {
     pub(crate) context: &'a C,
@@ -24,8 +26,9 @@ pub(crate) struct Scope<'a, C> {
     pub(crate) results: &'a [Result<ValueOrBag, Fault>],
 }
 
-/// What the designator gives (core, section 7.3.5): its bag, or a fault where that is empty and must not be. It takes a step and the
-/// bag's units; the context counts by itself what it looks at before the bag is there.
+/// What the designator gives (core, section 7.3.5): its bag, or a fault where that is empty and must not
+/// be. It takes a step and the bag's units; the context counts by itself what it looks at before the bag
+/// is there.
 pub(crate) fn attribute<C: Context>(
     alloc: Global,
     context: &C,

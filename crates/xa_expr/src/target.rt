@@ -1,4 +1,5 @@
-//! Targets: to what a policy or a rule applies. Each part that is looked at is counted, whether or not it has matches.
+//! Targets: to what a policy or a rule applies. Each part that is looked at is counted, whether or not
+//! it has matches.
 ghost use Rattle.std.specs.Prelude.{◌≡◌, [], Ok, IfOk};
 ghost use Rattle.xa_expr.specs.declared.matching.Matching.TheVariants as matching;
 ghost use Rattle.xa_expr.specs.Target.{all_of_value, any_of_value, target_value};
@@ -69,8 +70,9 @@ impl AnyOf {
 }
 
 impl Target {
-    /// Whether every part of the target matches (core, section 7.7). The first that does not settles it. An empty target matches, whatever
-    /// memory there is. Clause `fits`: no wrong type is met, in any part of the target.
+    /// Whether every part of the target matches (core, section 7.7). The first that does not settles it.
+    /// An empty target matches, whatever memory there is. Clause `fits`: no wrong type is met, in any
+    /// part of the target.
     #[tactic(auto, using(crate::proofs::TargetLemmas::all_match_joined, crate::proofs::TargetLemmas::all_match_single))]
     pub fn matching<C: Context>(&self, alloc: Global, context: &C) -> Result<Matching, AllocError>
         ensures value { IfOk result (λ m. m ≡ target_value (C.values_of context.now) self.now) }

@@ -55,7 +55,8 @@ fn is_some_clock_id(id: &str) -> bool
         || is_clock_id(DataType::DateTime, id)
 }
 
-/// Whether the id is that of the environment's attribute that the clock gives as a value of the type (core, appendix B.7).
+/// Whether the id is that of the environment's attribute that the clock gives as a value of the type
+/// (core, appendix B.7).
 #[tactic(auto, unfolding(crate::specs::Timeless::is_clock_id))]
 pub fn is_clock_id(data_type: DataType, id: &str) -> bool
     ensures { result ≡ is_clock_id data_type id.now }
@@ -76,7 +77,8 @@ impl HasDesignators for Typed {
     }
 }
 
-/// Whether no designator in the expression names the clock. Those of its variables stand in their definitions.
+/// Whether no designator in the expression names the clock. Those of its variables stand in their
+/// definitions.
 #[cycle(timeless)]
 fn expression_is_timeless(expression: &Typed) -> bool
     ensures { result ≡ is_timeless (designators expression.now) }

@@ -82,8 +82,9 @@ impl Variables {
         Ok(Typed::Variable(*place, kind))
     }
 
-    /// Checks the expression under the variables so far, and puts its definition behind them. Where a variable of the name is
-    /// there already, the answer is false, whatever the expression. Then, and where the expression has a fault, nothing changes.
+    /// Checks the expression under the variables so far, and puts its definition behind them. Where a
+    /// variable of the name is there already, the answer is false, whatever the expression. Then, and
+    /// where the expression has a fault, nothing changes.
     pub fn define(
         &mut self,
         alloc: Global,

@@ -1,6 +1,7 @@
-//! How much work one message may ask for. One thread answers every domain, and the tenants write the policies and the requests: work is
-//! counted where it is done, and a message that asks for too much is left, so that the others are not kept waiting. Work is counted and
-//! not timed: the same message on the same state is left, or is not, on every machine.
+//! How much work one message may ask for. One thread answers every domain, and the tenants write the
+//! policies and the requests: work is counted where it is done, and a message that asks for too much is
+//! left, so that the others are not kept waiting. Work is counted and not timed: the same message on the
+//! same state is left, or is not, on every machine.
 use std::alloc::AllocError;
 use std::cell::Cell;
 use xa_bag::{Bag, ValueOrBag};
@@ -13,19 +14,23 @@ pub const STEP: u64 = 32;
 /// The units of a call of an inner function, for which a list of copies of its arguments is made.
 pub(crate) const CALL: u64 = 2 * STEP;
 
-/// The units of a look at something that costs less than a step: a value that is compared where it is, or a part of a target or of an
-/// expression that is passed on the way to others.
+/// The units of the list that is made of a call's arguments.
+pub(crate) const LIST: u64 = STEP / 2;
+
+/// The units of a look at something that costs less than a step: a value that is compared where it is,
+/// or a part of a target or of an expression that is passed on the way to others.
 pub const LOOK: u64 = STEP / 4;
 
 /// The units of a value that is made, copied or compared, beside the bytes of its text.
-const VALUE: u64 = 16;
+pub(crate) const VALUE: u64 = 16;
 
-/// With how many values of a bag another is compared at most where it is searched for: from that many on they are ordered, and then it is
-/// compared with as many as the logarithm of their number.
+/// With how many values of a bag another is compared at most where it is searched for: from that many on
+/// they are ordered, and then it is compared with as many as the logarithm of their number.
 const COMPARISONS: u64 = 32;
 
-/// What is left of the work that a message may ask for, in units: a byte of text or of a value that is made, copied or compared.
-/// No clause speaks of it: a message that asks for too much is answered like one for which memory is wanting.
+/// What is left of the work that a message may ask for, in units: a byte of text or of a value that is
+/// made, copied or compared. No clause speaks of it: a message that asks for too much is answered like
+/// one for which memory is wanting.
 #[derive(Drop)]
 pub struct Budget {
     left: Cell<u64>,
@@ -39,8 +44,8 @@ impl Budget {
         }
     }
 
-    /// Takes the units from what is left. Where they are more than that, nothing is left afterwards, so that no smaller work is done
-    /// after one that was refused.
+    /// Takes the units from what is left. Where they are more than that, nothing is left afterwards, so
+    /// that no smaller work is done after one that was refused.
     ///
     /// # Errors
     ///
@@ -122,7 +127,8 @@ pub(crate) fn units_of_arguments(arguments: &[ValueOrBag]) -> u64 {
     units
 }
 
-/// The units of what a bag function does with its arguments. The set functions search for the values of one bag in another.
+/// The units of what a bag function does with its arguments. The set functions search for the values of
+/// one bag in another.
 pub(crate) fn units_of_bag_function(function: BagFunction, arguments: &[ValueOrBag]) -> u64 {
     units_of_arguments(arguments).saturating_mul(comparisons_in(function, arguments))
 }
@@ -144,8 +150,8 @@ fn comparisons_among(count: usize) -> u64 {
     (count as u64).max(1).min(COMPARISONS)
 }
 
-/// With how many others each value is compared at most where the values of one of two bags are searched for in the other: with those of
-/// the shorter one.
+/// With how many others each value is compared at most where the values of one of two bags are searched
+/// for in the other: with those of the shorter one.
 fn comparisons_of_both(arguments: &[ValueOrBag]) -> u64 {
     match arguments {
         [first, second] => comparisons_among(first.values().len().min(second.values().len())),
@@ -162,8 +168,8 @@ fn comparisons_of_all(arguments: &[ValueOrBag]) -> u64 {
     comparisons_among(count)
 }
 
-/// The units of what a higher-order function does beside the calls of its inner function, which are counted one by one. With equality
-/// of the values of two bags it searches, and calls nothing.
+/// The units of what a higher-order function does beside the calls of its inner function, which are
+/// counted one by one. With equality of the values of two bags it searches, and calls nothing.
 pub(crate) fn units_of_higher_order(
     function: HigherOrder,
     inner: FuncId,
@@ -177,8 +183,9 @@ pub(crate) fn units_of_higher_order(
     }
 }
 
-/// The units of the choices of arguments that are begun and for which the inner function is not called: where one of the bags is empty,
-/// each choice of the values of those before it. Where none is, those of the arguments alone, for each beginning leads to a call.
+/// The units of the choices of arguments that are begun and for which the inner function is not called:
+/// where one of the bags is empty, each choice of the values of those before it. Where none is, those of
+/// the arguments alone, for each beginning leads to a call.
 fn units_of_choices(arguments: &[ValueOrBag]) -> u64 {
     if arguments
         .iter()
@@ -190,7 +197,8 @@ fn units_of_choices(arguments: &[ValueOrBag]) -> u64 {
     }
 }
 
-/// The units of all beginnings of choices of the arguments: of the values of the first, of those of the second for each of these, and so on.
+/// The units of all beginnings of choices of the arguments: of the values of the first, of those of the
+/// second for each of these, and so on.
 fn units_of_beginnings(arguments: &[ValueOrBag]) -> u64 {
     let mut units = 0u64;
     let mut choices = 1u64;

@@ -1,5 +1,6 @@
-//! Variables are worked out in the order of their definitions, each of which names those before it alone (XACML 3.0, core, section
-//! 7.8): each is evaluated once, and long chains of variables take no native stack.
+//! Variables are worked out in the order of their definitions, each of which names those before it alone
+//! (XACML 3.0, core, section 7.8): each is evaluated once, and long chains of variables take no native
+//! stack.
 ghost use Rattle.std.specs.Prelude.{◌≡◌, ◌<◌, suc, max, min, [], ◌∷◌, ◌++◌, map, length, IfOk};
 ghost use Rattle.xa_expr.specs.Results.{AreFirst, greatest, reach, up_to};
 ghost use Rattle.xa_expr.specs.Variables.{AreTyped};
@@ -15,8 +16,8 @@ use std::alloc::{AllocError, Global};
 use xa_bag::ValueOrBag;
 use xa_value::OrMemory;
 
-/// The place of the last variable that the expression names. Its cost is the expression's size, and counted: more may be looked at here
-/// than is evaluated afterwards.
+/// The place of the last variable that the expression names. Its cost is the expression's size, and
+/// counted: more may be looked at here than is evaluated afterwards.
 #[cycle(last_variable)]
 pub(crate) fn last_variable<C: Context>(
     context: &C,
@@ -81,7 +82,8 @@ fn next_outcome<C: Context>(
     }
 }
 
-/// The same. The values of a bag of many are lent from now on, so that what names the variable takes no time to copy them.
+/// The same. The values of a bag of many are lent from now on, so that what names the variable takes no
+/// time to copy them.
 fn lent(given: ValueOrBag) -> Result<ValueOrBag, AllocError>
     ensures { IfOk result (λ lent. lent ≡ given) }
 {

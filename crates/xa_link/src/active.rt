@@ -2,7 +2,8 @@
 use xa_policy::{DocumentKind, Version};
 use xa_value::{Items, Text};
 
-/// An active document, to which a reference may resolve, by its kind, its id and its version alone. A policy or a set inside a document isn't one.
+/// An active document, to which a reference may resolve, by its kind, its id and its version alone. A
+/// policy or a set inside a document isn't one.
 #[derive(Debug, Drop)]
 pub struct Active {
     /// Whether it is a policy or a policy set.

@@ -4,13 +4,14 @@ ghost use Rattle.xa_link.specs.Order.{IsOrder, IsOrderIfAny, IsFalling, fits_at}
 ghost use Rattle.xa_link.specs.Resolution.{resolve};
 
 use crate::active::Active;
-use crate::order::{places_in_order, standing};
+use crate::order::{places_in_order, standing_at};
 use crate::resolution::{fits, resolve};
 use std::alloc::{AllocError, Global};
 use std::marker::Model;
 use xa_policy::Reference;
 
-/// For so many references the documents are looked at one after another, since to put them in order would take longer.
+/// For so many references the documents are looked at one after another, since to put them in order
+/// would take longer.
 const FEW: usize = 24;
 
 /// Whether the document at the place fits.
@@ -32,24 +33,25 @@ fn first_that_fits(active: &[Active], places: &[usize], reference: &Reference) -
         if fits_at(active, *place, reference) {
             return Some(*place);
         }
-        if standing(active, *place, reference).is_gt() {
+        if standing_at(active, *place, reference).is_gt() {
             return None;
         }
     }
     None
 }
 
-/// The place of the document for which the reference stands. Of n documents some log n are compared, and each that has the kind, the id
-/// and the first numbers that are wanted may be looked at.
+/// The place of the document for which the reference stands. Of n documents some log n are compared, and
+/// each that has the kind, the id and the first numbers that are wanted may be looked at.
 fn resolve_in_order(active: &[Active], order: &[usize], reference: &Reference) -> Option<usize>
     requires { IsOrder active.now order.now }
     ensures { result ≡ resolve active.now reference.now }
 {
-    let start = order.partition_point(|place| standing(active, *place, reference).is_lt());
+    let start = order.partition_point(|place| standing_at(active, *place, reference).is_lt());
     first_that_fits(active, order.split_at(start).1, reference)
 }
 
-/// Active documents, which are put in order when so many references are to be resolved that this pays. Clauses see the documents.
+/// Active documents, which are put in order when so many references are to be resolved that this pays.
+/// Clauses see the documents.
 #[derive(Debug, Drop)]
 pub(crate) struct Index<'a> {
     active: &'a [Active],

@@ -1,4 +1,5 @@
-//! The documents that references stand for, and the trees that they are linked to (XACML 3.0, core, sections 5.10 to 5.13).
+//! The documents that references stand for, and the trees that they are linked to (XACML 3.0, core,
+//! sections 5.10 to 5.13).
 #![tactic(auto)]
 
 mod active;

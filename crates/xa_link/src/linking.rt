@@ -19,16 +19,20 @@ use xa_policy::{Linked, Policy, PolicySet, Reference};
 use xa_shelf::TextReader;
 use xa_value::{Boxed, Items, OrMemory, Shared};
 
-/// How many documents may stand on a path, the first one too. The standard sets no bound; linking recurses once for each.
+/// How many documents may stand on a path, the first one too. The standard sets no bound; linking
+/// recurses once for each.
 const MAX_DOCUMENTS: usize = 17;
 
-/// How many policies and policy sets a tree may have. The standard sets no bound; 17 sets that each name the next one twice make 2^17.
+/// How many policies and policy sets a tree may have. The standard sets no bound; 17 sets that each name
+/// the next one twice make 2^17.
 const MAX_SIZE: usize = 1_000;
 
-/// The tree that the reference leads to among the active documents (XACML 3.0, core, sections 5.10, 5.11 and 7.15). A reference that
-/// leads to no document, back to one on its path, or past 17 documents is left unresolved. Rules are shared with the documents. A document is read, and
-/// its references are resolved, once, however often the tree holds it, and not at all where the root doesn't lead to it; then a reference in the tree
-/// costs its leaf alone. Where the reader's limit is reached, it is answered as if memory were wanting.
+/// The tree that the reference leads to among the active documents (XACML 3.0, core, sections 5.10, 5.11
+/// and 7.15). A reference that leads to no document, back to one on its path, or past 17 documents is
+/// left unresolved. Rules are shared with the documents. A document is read, and its references are
+/// resolved, once, however often the tree holds it, and not at all where the root doesn't lead to it;
+/// then a reference in the tree costs its leaf alone. Where the reader's limit is reached, it is
+/// answered as if memory were wanting.
 #[tactic(auto, using(crate::proofs::LinkingLemmas::link_is_led))]
 pub fn link(
     alloc: Global,
@@ -39,13 +43,13 @@ pub fn link(
     ensures value { Gives result (link active.now root.now) }
     ensures exact { resolve active.now root.now ≡ None → result ≡ answered (link active.now root.now) }
 {
-    let mut resolved = Resolved::new(alloc, active);
+    let mut resolved = Resolved::new(alloc, reader, active);
     let place = resolve(active, root);
     let path = Path {
         places: &[],
         more: MAX_DOCUMENTS,
     };
-    let fitted = linked_reference(alloc, &mut resolved, reader, &path, place, MAX_SIZE)?;
+    let fitted = linked_reference(&mut resolved, &path, place, MAX_SIZE)?;
     Ok(fitted.part)
 }
 
@@ -69,8 +73,9 @@ fn unless_circular(path: &[usize], place: Option<usize>) -> Option<usize>
     Some(place)
 }
 
-/// Whether the part of a document is a reference that leads to nothing at the end of the path: to no document, back to one on the path, or one too far. That
-/// such a part is unresolved is all that is proved: where this says false, a part that leads to nothing is linked as any other, to the same leaf.
+/// Whether the part of a document is a reference that leads to nothing at the end of the path: to no
+/// document, back to one on the path, or one too far. That such a part is unresolved is all that is
+/// proved: where this says false, a part that leads to nothing is linked as any other, to the same leaf.
 #[tactic(auto, using(crate::proofs::LinkingLemmas::no_further, crate::proofs::LinkingLemmas::nowhere))]
 fn leads_nowhere(path: &Path<'_>, part: &Placed) -> bool
     ensures { IsTrue result → (active : List Document) → linked (led_within path.now.more active path.now.places.now) part.now ≡ Unresolved }
@@ -123,10 +128,8 @@ fn linked_policy(
 /// What a reference leads to that stands for the document at the place, at the end of the path.
 #[cycle(linking)]
 #[tactic(auto, using(crate::proofs::RoomLemmas::unresolved_fits))]
-fn linked_reference<'a>(
-    alloc: Global,
-    resolved: &mut Resolved<'a>,
-    reader: &mut TextReader<'_>,
+fn linked_reference(
+    resolved: &mut Resolved<'_, '_>,
     path: &Path<'_>,
     place: Option<usize>,
     room: usize,
@@ -139,17 +142,15 @@ fn linked_reference<'a>(
         return Ok(leaf(room));
     }
     match unless_circular(path.places, place) {
-        Some(place) => linked_active(alloc, resolved, reader, path, place, room),
+        Some(place) => linked_active(resolved, path, place, room),
         None => Ok(leaf(room)),
     }
 }
 
 /// The tree of the active document at the place, which is one more on the path.
 #[cycle(linking)]
-fn linked_active<'a>(
-    alloc: Global,
-    resolved: &mut Resolved<'a>,
-    reader: &mut TextReader<'_>,
+fn linked_active(
+    resolved: &mut Resolved<'_, '_>,
     path: &Path<'_>,
     place: usize,
     room: usize,
@@ -158,23 +159,21 @@ fn linked_active<'a>(
     ensures value { Gives result (fitted room (replaced_in (tree_within (path.now.more - 1) resolved.old (place ∷ path.now.places.now)) (document_at resolved.old place))) }
     ensures kept { resolved.new ≡ resolved.old }
 {
-    let Some(document) = resolved.document_at(alloc, reader, place)? else {
+    let Some(document) = resolved.document_at(place)? else {
         return Ok(leaf(room));
     };
-    let places = longer_path(alloc, place, path.places)?;
+    let places = longer_path(resolved.alloc(), place, path.places)?;
     let longer = Path {
         places: places.as_slice(),
         more: path.more - 1,
     };
-    linked_document(alloc, resolved, reader, &longer, document.get(), room)
+    linked_document(resolved, &longer, document.get(), room)
 }
 
 /// The document, or a part of one, in which each reference is replaced.
 #[cycle(linking)]
-fn linked_document<'a>(
-    alloc: Global,
-    resolved: &mut Resolved<'a>,
-    reader: &mut TextReader<'_>,
+fn linked_document(
+    resolved: &mut Resolved<'_, '_>,
     path: &Path<'_>,
     document: &Placed,
     room: usize,
@@ -185,27 +184,17 @@ fn linked_document<'a>(
     match document {
         Placed::Policy(policy) => linked_policy(policy, room),
         Placed::PolicySet(set, children) => {
-            linked_set(
-                alloc,
-                resolved,
-                reader,
-                path,
-                set,
-                children.as_slice(),
-                room,
-            )
+            linked_set(resolved, path, set, children.as_slice(), room)
         }
-        Placed::Reference(place) => linked_reference(alloc, resolved, reader, path, *place, room),
+        Placed::Reference(place) => linked_reference(resolved, path, *place, room),
     }
 }
 
 /// The policy set, shared with its document, and its children.
 #[cycle(linking)]
 #[tactic(auto, unfolding(crate::specs::Room::set_fitted))]
-fn linked_set<'a>(
-    alloc: Global,
-    resolved: &mut Resolved<'a>,
-    reader: &mut TextReader<'_>,
+fn linked_set(
+    resolved: &mut Resolved<'_, '_>,
     path: &Path<'_>,
     set: &Shared<PolicySet>,
     children: &[Placed],
@@ -215,9 +204,9 @@ fn linked_set<'a>(
     ensures kept { resolved.new ≡ resolved.old }
 {
     let room = less_one(room)?;
-    let children = linked_children(alloc, resolved, reader, path, children, room)?;
+    let children = linked_children(resolved, path, children, room)?;
     Ok(Fitted {
-        part: Linked::PolicySet(set.clone()?, Boxed::new(alloc, children.part)?),
+        part: Linked::PolicySet(set.clone()?, Boxed::new(resolved.alloc(), children.part)?),
         room: children.room,
     })
 }
@@ -225,10 +214,8 @@ fn linked_set<'a>(
 /// The children in which each reference is replaced, one after another.
 #[cycle(linking)]
 #[tactic(auto, using(crate::proofs::RoomLemmas::part_behind))]
-fn linked_children<'a>(
-    alloc: Global,
-    resolved: &mut Resolved<'a>,
-    reader: &mut TextReader<'_>,
+fn linked_children(
+    resolved: &mut Resolved<'_, '_>,
     path: &Path<'_>,
     children: &[Placed],
     room: usize,
@@ -236,13 +223,13 @@ fn linked_children<'a>(
     ensures value { Gives result (all_fitted room (map (linked (led_within path.now.more resolved.old path.now.places.now)) children.now)) }
     ensures kept { resolved.new ≡ resolved.old }
 {
-    let mut parts = Items::from_vec(Vec::with_capacity(alloc, children.len())?);
+    let mut parts = Items::from_vec(Vec::with_capacity(resolved.alloc(), children.len())?);
     let mut room = room;
     for child in children {
         if leads_nowhere(path, child) {
             parts.push(Linked::Unresolved)?;
         } else {
-            let fitted = linked_document(alloc, resolved, reader, path, child, room)?;
+            let fitted = linked_document(resolved, path, child, room)?;
             parts.push(fitted.part)?;
             room = fitted.room;
         }

@@ -50,15 +50,16 @@ fn compare_found(active: &[Active], first: usize, second: usize) -> Ordering
     }
 }
 
-/// How the place of a document compares with that of another: the greater document comes first, and of like ones the first.
+/// How the place of a document compares with that of another: the greater document comes first, and of
+/// like ones the first.
 fn compare_places(active: &[Active], first: usize, second: usize) -> Ordering
     ensures { result ≡ compare_places active.now first second }
 {
     compare_found(active, second, first).then_with(|| first.cmp(&second))
 }
 
-/// The places of the documents in that order. Documents that are in it already, or the other way round, take one comparison each, and
-/// else n documents some n log n.
+/// The places of the documents in that order. Documents that are in it already, or the other way round,
+/// take one comparison each, and else n documents some n log n.
 pub(crate) fn places_in_order(alloc: Global, active: &[Active]) -> Result<Vec<usize>, AllocError>
     ensures { IfOk result (λ order. IsOrder active.now order.items) }
 {
@@ -123,7 +124,8 @@ fn is_too_early(reference: &Reference, version: &Version) -> bool
     is_before_pattern(&reference.version, version) || !not_before(&reference.earliest, version)
 }
 
-/// Whether the version stands before those that may do, among them or behind them, where the newest is the first.
+/// Whether the version stands before those that may do, among them or behind them, where the newest is
+/// the first.
 fn by_version(reference: &Reference, version: &Version) -> Ordering
     ensures { result ≡ by_version reference.now version.now }
 {
@@ -144,8 +146,9 @@ fn standing_of(reference: &Reference, document: &Active) -> Ordering
     )
 }
 
-/// Whether the document at the place stands before those that may fit the reference, among them or behind them.
-pub(crate) fn standing(active: &[Active], place: usize, reference: &Reference) -> Ordering
+/// Whether the document at the place stands before those that may fit the reference, among them or
+/// behind them.
+pub(crate) fn standing_at(active: &[Active], place: usize, reference: &Reference) -> Ordering
     ensures { result ≡ standing reference.now (slice_get active.now place) }
 {
     match active.get(place) {

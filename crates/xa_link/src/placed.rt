@@ -9,7 +9,8 @@ use xa_notation::Document;
 use xa_policy::{Policy, PolicySet};
 use xa_value::{Items, Shared};
 
-/// A document, or a part of one, in which each reference has given way to the place of the document for which it stands.
+/// A document, or a part of one, in which each reference has given way to the place of the document for
+/// which it stands.
 #[derive(Debug, Drop)]
 pub(crate) enum Placed {
     /// A policy.

@@ -78,8 +78,8 @@ fn is_later(active: &[Active], document: &Active, found: Option<usize>) -> bool
     }
 }
 
-/// The place of the document for which the reference stands: of those that fit the one of the latest version, and the first of
-/// several of that version (XACML 3.0, sections 5.10 and 5.11).
+/// The place of the document for which the reference stands: of those that fit the one of the latest
+/// version, and the first of several of that version (XACML 3.0, sections 5.10 and 5.11).
 pub fn resolve(active: &[Active], reference: &Reference) -> Option<usize>
     ensures { result ≡ resolve active.now reference.now }
 {
@@ -92,7 +92,8 @@ pub fn resolve(active: &[Active], reference: &Reference) -> Option<usize>
     found
 }
 
-/// Law: documents can be told apart by their places, since `resolve` gives one place alone to each kind, id and version.
+/// Law: documents can be told apart by their places, since `resolve` gives one place alone to each kind,
+/// id and version.
 pub fn one_place_for_each_version()
     ensures { OnePlaceForEachVersion }
 {}

@@ -1,4 +1,5 @@
-//! Active documents, each of which is read, and its references resolved, when it is first wanted, and once at most.
+//! Active documents, each of which is read, and its references resolved, when it is first wanted, and
+//! once at most.
 ghost use Rattle.std.specs.Prelude.{◌≡◌, ◌<◌, length, slice_get, option_map, Some, None, IfOk, OnErr};
 ghost use Rattle.xa_notation.specs.Document.{document_of};
 ghost use Rattle.xa_link.specs.Linking.{document_at, if_read};
@@ -14,14 +15,17 @@ use xa_notation::Parsed;
 use xa_shelf::TextReader;
 use xa_value::{OrMemory, Shared};
 
-/// Active documents, and those of them that were read and whose references have been resolved, by their places. Clauses see the documents.
-#[derive(Debug, Drop)]
-pub(crate) struct Resolved<'a> {
+/// Active documents with what reads them, and those of them that were read and whose references have
+/// been resolved, by their places. Clauses see the active documents.
+#[derive(Drop)]
+pub(crate) struct Resolved<'a, 't> {
+    alloc: Global,
+    reader: &'a mut TextReader<'t>,
     index: Index<'a>,
     documents: Vec<Option<Shared<Placed>>>,
 }
 
-impl<'a> Model for Resolved<'a> {
+impl<'a, 't> Model for Resolved<'a, 't> {
     ghost use Rattle.std.specs.Prelude.{List};
     ghost use Rattle.xa_link.specs.declared.active.Active.{Active as Document};
     ghost use Rattle.xa_link.specs.Placed.{AreRight};
@@ -59,7 +63,7 @@ fn keep(
 }
 
 /// The document at the place, where its references have been resolved.
-fn kept(
+fn resolved_at(
     documents: &[Option<Shared<Placed>>],
     place: usize,
 ) -> Result<Option<Shared<Placed>>, AllocError>
@@ -96,36 +100,43 @@ fn read_at(
     }
 }
 
-impl<'a> Resolved<'a> {
+impl<'a, 't> Resolved<'a, 't> {
     /// No reference is resolved yet, and nothing allocated.
-    pub(crate) fn new(alloc: Global, active: &'a [Active]) -> Resolved<'a>
+    pub(crate) fn new(
+        alloc: Global,
+        reader: &'a mut TextReader<'t>,
+        active: &'a [Active],
+    ) -> Resolved<'a, 't>
         ensures { result ≡ active.now }
     {
         Resolved {
+            alloc,
+            reader,
             index: Index::new(alloc, active),
             documents: Vec::new(alloc),
         }
     }
 
-    /// The document at the place, with places for its references. It is read when it is first wanted, and once.
-    pub(crate) fn document_at(
-        &mut self,
-        alloc: Global,
-        reader: &mut TextReader<'_>,
-        place: usize,
-    ) -> Result<Option<Shared<Placed>>, AllocError>
+    /// The document at the place, with places for its references. It is read when it is first wanted,
+    /// and once.
+    pub(crate) fn document_at(&mut self, place: usize) -> Result<Option<Shared<Placed>>, AllocError>
         ensures value { IfOk result (λ document. document ≡ placed_at self.old place) }
         ensures kept { self.new ≡ self.old }
     {
-        if let Some(document) = kept(self.documents.as_slice(), place)? {
+        if let Some(document) = resolved_at(self.documents.as_slice(), place)? {
             return Ok(Some(document));
         }
-        let Some(parsed) = read_at(self.index.active(), reader, place)? else {
+        let Some(parsed) = read_at(self.index.active(), self.reader, place)? else {
             return Ok(None);
         };
-        let document = with_places(alloc, &mut self.index, parsed.get().document())?;
-        let document = Shared::new(alloc, document)?;
+        let document = with_places(self.alloc, &mut self.index, parsed.get().document())?;
+        let document = Shared::new(self.alloc, document)?;
         keep(&mut self.documents, place, document.clone()?)?;
         Ok(Some(document))
+    }
+
+    /// The allocator.
+    pub(crate) fn alloc(&self) -> Global {
+        self.alloc
     }
 }

@@ -1,6 +1,5 @@
--- What the loop of first-applicable goes by.
+-- What the walk over the children goes by under first-applicable.
 use Rattle.std.proofs.Common.{◌≡◌, true, false, not, List, [], ◌∷◌, refl}
-use Rattle.std.proofs.lemmas.Grind.{common_steps}
 use Rattle.xa_policy.specs.declared.decision.Decision.{Decision}
 use Rattle.xa_policy.specs.declared.decision.Decision.TheVariants.{Permit, Deny, NotApplicable, IndeterminatePermit, IndeterminateDeny, IndeterminateDenyPermit}
 use Rattle.xa_policy.specs.Combining.{is, first_applicable}
@@ -26,6 +25,3 @@ first_applicable_passed IndeterminateDenyPermit ds h = cc
 pub first_applicable_none : first_applicable [] ≡ NotApplicable
 unfolding first_applicable
 first_applicable_none = refl
-
--- what the loop goes by
-pub ruleset first_applicable_steps = (common_steps, first_applicable_settled, first_applicable_passed, first_applicable_none)

@@ -1,6 +1,5 @@
--- What the loops over the children go by, in the algorithms that prefer an effect.
+-- What the walk over the children goes by, in the algorithms that prefer an effect.
 use Rattle.std.proofs.Common.{◌≡◌, true, false, List, [], ◌∷◌, map, refl, ap, sym, ◌∙◌}
-use Rattle.std.proofs.lemmas.Grind.{common_steps}
 use Rattle.xa_policy.specs.declared.decision.Decision.{Decision}
 use Rattle.xa_policy.specs.declared.decision.Decision.TheVariants.{Permit, Deny, NotApplicable, IndeterminatePermit, IndeterminateDeny, IndeterminateDenyPermit}
 use Rattle.xa_policy.specs.declared.decision.Effect.{Effect}
@@ -8,7 +7,7 @@ use Rattle.xa_policy.specs.declared.decision.Effect.TheVariants as effect
 use Rattle.xa_policy.specs.Combining.{is, deny_overrides, permit_overrides, deny_unless_permit, permit_unless_deny}
 use Rattle.xa_policy.specs.Mirror.{mirrored}
 use Rattle.xa_policy.specs.Effect.{decision_with}
-use Rattle.xa_policy.specs.Overriding.{overrides, otherwise}
+use Rattle.xa_policy.specs.Overriding.{overrides}
 use Rattle.xa_policy.proofs.CombiningLemmas.{deny_overrides_joined, deny_overrides_single}
 use Rattle.xa_policy.proofs.MirrorLemmas.{mirrored_twice, permit_overrides_mirrors}
 
@@ -33,43 +32,10 @@ pub overrides_single : (e : Effect) (d : Decision) → overrides e (d ∷ []) �
 overrides_single effect.Permit d = permit_overrides_single d
 overrides_single effect.Deny d = deny_overrides_single d
 
-pub overrides_after_none : (e : Effect) (ds : List Decision) → overrides e (NotApplicable ∷ ds) ≡ overrides e ds
-unfolding deny_overrides permit_overrides
-overrides_after_none effect.Permit ds = refl
-overrides_after_none effect.Deny ds = refl
-
-pub overrides_settled : (e : Effect) (d : Decision) (ds : List Decision) → is (decision_with e) d ≡ true → overrides e (d ∷ ds) ≡ decision_with e
-unfolding deny_overrides permit_overrides
-overrides_settled effect.Permit Permit ds h = refl
-overrides_settled effect.Permit Deny ds h = cc
-overrides_settled effect.Permit NotApplicable ds h = cc
-overrides_settled effect.Permit IndeterminatePermit ds h = cc
-overrides_settled effect.Permit IndeterminateDeny ds h = cc
-overrides_settled effect.Permit IndeterminateDenyPermit ds h = cc
-overrides_settled effect.Deny Permit ds h = cc
-overrides_settled effect.Deny Deny ds h = refl
-overrides_settled effect.Deny NotApplicable ds h = cc
-overrides_settled effect.Deny IndeterminatePermit ds h = cc
-overrides_settled effect.Deny IndeterminateDeny ds h = cc
-overrides_settled effect.Deny IndeterminateDenyPermit ds h = cc
-
--- what the loop of deny-overrides and permit-overrides goes by
-pub ruleset overrides_steps = (common_steps, overrides_joined, overrides_single, overrides_after_none, overrides_settled)
-
-pub otherwise_settled : (e : Effect) (d : Decision) (ds : List Decision) → is (decision_with e) d ≡ true → otherwise e (d ∷ ds) ≡ decision_with e
-unfolding deny_unless_permit permit_unless_deny
-otherwise_settled effect.Permit Permit ds h = refl
-otherwise_settled effect.Permit Deny ds h = cc
-otherwise_settled effect.Permit NotApplicable ds h = cc
-otherwise_settled effect.Permit IndeterminatePermit ds h = cc
-otherwise_settled effect.Permit IndeterminateDeny ds h = cc
-otherwise_settled effect.Permit IndeterminateDenyPermit ds h = cc
-otherwise_settled effect.Deny Permit ds h = cc
-otherwise_settled effect.Deny Deny ds h = refl
-otherwise_settled effect.Deny NotApplicable ds h = cc
-otherwise_settled effect.Deny IndeterminatePermit ds h = cc
-otherwise_settled effect.Deny IndeterminateDeny ds h = cc
-otherwise_settled effect.Deny IndeterminateDenyPermit ds h = cc
+-- deny-unless-permit, and its mirror
+abbrev pub otherwise : Effect → List Decision → Decision
+otherwise effect.Permit = deny_unless_permit
+otherwise effect.Deny = permit_unless_deny
 
 pub otherwise_passed : (e : Effect) (d : Decision) (ds : List Decision) → is (decision_with e) d ≡ false → otherwise e (d ∷ ds) ≡ otherwise e ds
 unfolding deny_unless_permit permit_unless_deny
@@ -90,6 +56,3 @@ pub otherwise_none : (e : Effect) → otherwise e [] ≡ mirrored (decision_with
 unfolding deny_unless_permit permit_unless_deny
 otherwise_none effect.Permit = refl
 otherwise_none effect.Deny = refl
-
--- what the loop of deny-unless-permit and permit-unless-deny goes by
-pub ruleset otherwise_steps = (common_steps, otherwise_settled, otherwise_passed, otherwise_none)

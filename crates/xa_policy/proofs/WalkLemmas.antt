@@ -6,13 +6,14 @@ use Rattle.xa_func.specs.declared.status.Status.TheVariants.{Ok}
 use Rattle.xa_policy.specs.declared.combination.Combination.{Combination}
 use Rattle.xa_policy.specs.declared.combining.Alg.{Alg}
 use Rattle.xa_policy.specs.declared.combining.Alg.TheVariants.{DenyOverrides, PermitOverrides, OrderedDenyOverrides, OrderedPermitOverrides, DenyUnlessPermit, PermitUnlessDeny, FirstApplicable, OnlyOneApplicable}
+use Rattle.xa_policy.specs.declared.combining.Child.{Child}
 use Rattle.xa_policy.specs.declared.decision.Decision.{Decision}
 use Rattle.xa_policy.specs.declared.verdict.Verdict.{Verdict}
-use Rattle.xa_policy.specs.Combining.{decision_of, deny_overrides, permit_overrides, is, is_indeterminate}
+use Rattle.xa_policy.specs.Combining.{combined_decision, decision_of, deny_overrides, permit_overrides, is, is_indeterminate}
 use Rattle.xa_policy.specs.Duties.{Found, and_then, effect_of, no_duties}
 use Rattle.xa_policy.specs.Evaluation.{child_of, combination, duties_of_all, ends, up_to}
 use Rattle.xa_policy.specs.Status.{EvaluatedChild, fault_of, status_of}
-use Rattle.xa_policy.specs.Walk.{IsByDecisions, decided, ended, ending_decision, fault_in, joined, joined_decision, of_none, walked, with_next}
+use Rattle.xa_policy.specs.Walk.{IsByDecisions, decided, decision_of_none, ended, ending_decision, fault_in, joined, joined_decision, of_none, walked, walked_decision, with_next}
 use Rattle.xa_policy.proofs.DutyLemmas.{and_then_none, and_then_assoc}
 use Rattle.xa_policy.proofs.WalkCases.{IsOpen, decision_with_ending, decision_with_more, decision_with_next, decision_with_no_more, ending_same, ending_status, first_fault_joined, is_itself, is_not_other, is_the_effect, next_open, none_open, open_not_ended}
 
@@ -140,6 +141,33 @@ with_all OnlyOneApplicable children by = absurd by
 -- one after another they come to what the algorithm makes of them all
 pub walk_is_combination : (a : Alg) (children : List EvaluatedChild) → IsByDecisions a → walked (of_none a) children ≡ combination a children
 walk_is_combination a children by = walked_with_more (of_none a) children by (none_open a by) ∙ with_all a children by
+
+-- children alone come to the same decision as with a status and duties
+abbrev plain : Child → EvaluatedChild
+plain child = record { value = made child.decision Ok no_duties; target = child.target }
+
+as_children : (children : List Child) → map child_of (map plain children) ≡ children
+as_children [] = refl
+as_children (c ∷ children) = ap (λ cs. c ∷ cs) (as_children children)
+
+decision_step : (b : Bool) (v w : Verdict) (d e : Decision) → v.decision ≡ d → w.decision ≡ e → (if b then v else w).decision ≡ (if b then d else e)
+decision_step true v w d e same behind = same
+decision_step false v w d e same behind = behind
+
+decision_walked : (so_far : Combination) (children : List Child) →
+    (walked so_far (map plain children)).decision ≡ walked_decision so_far.algorithm so_far.decision (map decision_of children)
+decision_walked so_far [] = refl
+decision_walked so_far (c ∷ children) =
+    decision_step (ends so_far.algorithm c.decision) _ _ _ _ refl (decision_walked (joined so_far (plain c).value) children)
+
+-- their decisions one after another come to what the algorithm makes of them all
+pub walked_decisions : (a : Alg) (children : List Child) → IsByDecisions a →
+    walked_decision a (decision_of_none a) (map decision_of children) ≡ combined_decision a children
+unfolding combination
+walked_decisions a children by =
+    sym (decision_walked (of_none a) children)
+    ∙ ap (λ v. v.decision) (walk_is_combination a (map plain children) by)
+    ∙ ap (combined_decision a) (as_children children)
 
 -- each step of the way
 pub walked_ended : (so_far : Combination) (c : EvaluatedChild) (children : List EvaluatedChild) → ends so_far.algorithm c.value.decision ≡ true →

@@ -3,14 +3,9 @@ use Rattle.std.specs.Prelude.{List}
 use Rattle.xa_policy.specs.declared.decision.Decision.{Decision}
 use Rattle.xa_policy.specs.declared.decision.Effect.{Effect}
 use Rattle.xa_policy.specs.declared.decision.Effect.TheVariants.{Permit, Deny}
-use Rattle.xa_policy.specs.Combining.{deny_overrides, permit_overrides, deny_unless_permit, permit_unless_deny}
+use Rattle.xa_policy.specs.Combining.{deny_overrides, permit_overrides}
 
 -- permit-overrides or deny-overrides
 abbrev pub overrides : Effect → List Decision → Decision
 overrides Permit = permit_overrides
 overrides Deny = deny_overrides
-
--- the algorithm that gives this effect if some decision is it, and else the other one
-abbrev pub otherwise : Effect → List Decision → Decision
-otherwise Permit = deny_unless_permit
-otherwise Deny = permit_unless_deny

@@ -56,6 +56,12 @@ abbrev pub ending_decision : Alg → Decision → Decision
 ending_decision FirstApplicable d = first_applicable (d ∷ [])
 ending_decision _ d = d
 
+-- the decision so far with those of the children behind, one after another
+abbrev pub walked_decision : Alg → Decision → List Decision → Decision
+walked_decision algorithm so_far [] = so_far
+walked_decision algorithm so_far (d ∷ ds) =
+    if ends algorithm d then ending_decision algorithm d else walked_decision algorithm (joined_decision algorithm so_far d) ds
+
 -- the children with the one that ends it
 abbrev pub ended : Combination → Verdict → Combination
 ended so_far child = record {

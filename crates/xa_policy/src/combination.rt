@@ -22,7 +22,7 @@ pub(crate) struct Combination {
 
 impl Alg {
     /// Whether no child after one of this decision is evaluated.
-    fn ends(self, decision: Decision) -> bool
+    pub(crate) fn ends(self, decision: Decision) -> bool
         ensures { result ≡ ends self decision }
     {
         match self {
@@ -38,7 +38,7 @@ impl Alg {
     }
 
     /// The decision of no children.
-    fn decision_of_none(self) -> Decision
+    pub(crate) fn decision_of_none(self) -> Decision
         ensures { result ≡ decision_of_none self }
     {
         match self {
@@ -49,7 +49,7 @@ impl Alg {
     }
 
     /// The decision so far with that of a child that doesn't end it.
-    fn joined_decision(self, so_far: Decision, decision: Decision) -> Decision
+    pub(crate) fn joined_decision(self, so_far: Decision, decision: Decision) -> Decision
         ensures { result ≡ joined_decision self so_far decision }
     {
         match self {
@@ -64,7 +64,7 @@ impl Alg {
     }
 
     /// The decision of a child that ends it.
-    fn ending_decision(self, decision: Decision) -> Decision
+    pub(crate) fn ending_decision(self, decision: Decision) -> Decision
         ensures { result ≡ ending_decision self decision }
     {
         match self {
@@ -98,7 +98,8 @@ impl Combination {
         }
     }
 
-    /// Takes the next child, and answers whether it ends the evaluation: whatever comes behind it changes nothing.
+    /// Takes the next child, and answers whether it ends the evaluation: whatever comes behind it
+    /// changes nothing.
     pub(crate) fn add(&mut self, child: Verdict) -> Result<bool, AllocError>
         ensures ok { OnOk result (self.new ≡ with_next self.old child) }
         ensures ended { IfOk result (λ end. end ≡ ends self.old.algorithm child.decision) }

@@ -2,13 +2,15 @@
 ghost use Rattle.std.specs.Prelude.{◌≡◌, [], ◌∷◌, map};
 ghost use Rattle.xa_expr.specs.declared.matching.Matching.TheVariants as target;
 ghost use Rattle.xa_policy.specs.Combining.{applies, combined_decision, decision_of, deny_overrides, first_applicable, may_apply, only_one_applicable, permit_overrides};
-ghost use Rattle.xa_policy.specs.Overriding.{otherwise, overrides};
+ghost use Rattle.xa_policy.specs.Overriding.{overrides};
+ghost use Rattle.xa_policy.specs.Walk.{decision_of_none, walked_decision};
 
 use crate::decision::{Decision, Effect};
 use xa_expr::Matching;
 
 /// A combining algorithm (XACML 3.0, appendix C). In the names, RULE stands for
-/// `urn:oasis:names:tc:xacml:3.0:rule-combining-algorithm` and POLICY for `urn:oasis:names:tc:xacml:3.0:policy-combining-algorithm`.
+/// `urn:oasis:names:tc:xacml:3.0:rule-combining-algorithm` and POLICY for
+/// `urn:oasis:names:tc:xacml:3.0:policy-combining-algorithm`.
 #[derive(Clone, Copy, Debug, PartialEq, Eq)]
 pub enum Alg {
     /// `RULE:deny-overrides`, `POLICY:deny-overrides` (appendix C.2).
@@ -56,30 +58,26 @@ impl Child {
 }
 
 /// The decision that the algorithm makes of the children, in their order.
+#[tactic(auto, using(crate::proofs::WalkLemmas::walked_decisions))]
 pub fn combine(algorithm: Alg, children: &[Child]) -> Decision
     ensures { result ≡ combined_decision algorithm children.now }
 {
     match algorithm {
-        Alg::DenyOverrides | Alg::OrderedDenyOverrides => overrides(Effect::Deny, children),
-        Alg::PermitOverrides | Alg::OrderedPermitOverrides => overrides(Effect::Permit, children),
-        Alg::DenyUnlessPermit => effect_or_other(Effect::Permit, children),
-        Alg::PermitUnlessDeny => effect_or_other(Effect::Deny, children),
-        Alg::FirstApplicable => first_applicable(children),
         Alg::OnlyOneApplicable => only_one_applicable(children),
+        _ => combine_decisions(algorithm, children),
     }
 }
 
-/// Deny-overrides or permit-overrides. The first decision with the effect settles it.
-#[tactic(auto, using(crate::proofs::OverridingLemmas::overrides_steps))]
-fn overrides(effect: Effect, children: &[Child]) -> Decision
-    ensures { result ≡ overrides effect (map decision_of children.now) }
+/// What an algorithm that goes by decisions makes of the children, by the steps that evaluation takes.
+fn combine_decisions(algorithm: Alg, children: &[Child]) -> Decision
+    ensures { result ≡ walked_decision algorithm (decision_of_none algorithm) (map decision_of children.now) }
 {
-    let mut so_far = Decision::NotApplicable;
+    let mut so_far = algorithm.decision_of_none();
     for child in children {
-        so_far = overrides_of_two(effect, so_far, child.decision);
-        if so_far.is(effect) {
-            return effect.decision();
+        if algorithm.ends(child.decision) {
+            return algorithm.ending_decision(child.decision);
         }
+        so_far = algorithm.joined_decision(so_far, child.decision);
     }
     so_far
 }
@@ -127,33 +125,8 @@ fn permit_overrides_of_two(first: Decision, second: Decision) -> Decision
     deny_overrides_of_two(first.mirror_of(), second.mirror_of()).mirror_of()
 }
 
-/// Deny-unless-permit or permit-unless-deny. The first decision with the effect settles it.
-#[tactic(auto, using(crate::proofs::OverridingLemmas::otherwise_steps))]
-fn effect_or_other(effect: Effect, children: &[Child]) -> Decision
-    ensures { result ≡ otherwise effect (map decision_of children.now) }
-{
-    for child in children {
-        if child.decision.is(effect) {
-            return effect.decision();
-        }
-    }
-    effect.decision().mirror_of()
-}
-
-/// First-applicable.
-#[tactic(auto, using(crate::proofs::FirstApplicableLemmas::first_applicable_steps))]
-fn first_applicable(children: &[Child]) -> Decision
-    ensures { result ≡ first_applicable (map decision_of children.now) }
-{
-    for child in children {
-        if child.decision.is_applicable() {
-            return first_applicable_of_one(child.decision);
-        }
-    }
-    Decision::NotApplicable
-}
-
-/// First-applicable of one. The algorithm doesn't track extended Indeterminates, so its own is {DP} (appendix C.1).
+/// First-applicable of one. The algorithm doesn't track extended Indeterminates, so its own is {DP}
+/// (appendix C.1).
 #[tactic(auto, unfolding(crate::specs::Combining::first_applicable))]
 pub(crate) fn first_applicable_of_one(decision: Decision) -> Decision
     ensures { result ≡ first_applicable (decision ∷ []) }
@@ -168,7 +141,8 @@ pub(crate) fn first_applicable_of_one(decision: Decision) -> Decision
     }
 }
 
-/// Only-one-applicable, by the targets in their order. The first that isn't No match leaves it to the others, or settles it.
+/// Only-one-applicable, by the targets in their order. The first that isn't No match leaves it to the
+/// others, or settles it.
 #[tactic(auto, using(crate::proofs::OnlyOneLemmas::only_one_steps))]
 fn only_one_applicable(children: &[Child]) -> Decision
     ensures { result ≡ only_one_applicable children.now }
@@ -184,7 +158,8 @@ fn only_one_applicable(children: &[Child]) -> Decision
     Decision::NotApplicable
 }
 
-/// Only-one-applicable of an applicable child and the others behind it. The first target that isn't No match settles it.
+/// Only-one-applicable of an applicable child and the others behind it. The first target that isn't No
+/// match settles it.
 #[tactic(auto, using(crate::proofs::OnlyOneLemmas::only_one_steps))]
 fn unless_another_applies(decision: Decision, others: &[Child]) -> Decision
     ensures { result ≡ only_one_applicable (record { decision = decision; target = target.Match } ∷ others.now) }

@@ -10,14 +10,14 @@ use crate::policy_set::PolicySet;
 use crate::rule::Rule;
 use xa_expr::{HasDesignators, Typed, all_timeless};
 
-/// Law: two contexts that give each designator of a tree the same values get the same decision of it, with the same status, obligations
-/// and advice.
+/// Law: two contexts that give each designator of a tree the same values get the same decision of it,
+/// with the same status, obligations and advice.
 pub fn decisions_rest_on_designators()
     ensures { DecisionsRestOnDesignators }
 {}
 
-/// Whether no designator of the tree names an attribute that the clock gives (XACML 3.0, core, appendix B.7), used or not: then the
-/// tree decides the same at every moment.
+/// Whether no designator of the tree names an attribute that the clock gives (XACML 3.0, core, appendix
+/// B.7), used or not: then the tree decides the same at every moment.
 pub fn timeless(linked: &Linked) -> bool
     ensures value { result ≡ is_timeless (designators_of_linked linked.now) }
     ensures steady { IsTrue result → IsSteady linked.now }

@@ -9,8 +9,9 @@ use crate::version::Version;
 use std::cmp::Ordering;
 use xa_value::Text;
 
-/// What tells a document from all others of its domain: its kind, its id and its version (XACML 3.0, core, sections 5.1, 5.12 and 5.14).
-/// Keys are in the order of their kinds, policies first, then of the bytes of their ids, then of the numbers of their versions.
+/// What tells a document from all others of its domain: its kind, its id and its version (XACML 3.0,
+/// core, sections 5.1, 5.12 and 5.14). Keys are in the order of their kinds, policies first, then of the
+/// bytes of their ids, then of the numbers of their versions.
 #[derive(Clone, Debug, Drop, PartialEq, Eq)]
 pub struct DocumentKey {
     /// Whether it is a policy or a policy set.

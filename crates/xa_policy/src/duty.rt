@@ -8,8 +8,8 @@ use std::marker::Model;
 use xa_expr::STEP;
 use xa_value::{Items, Text, Value};
 
-/// An attribute that an obligation or a piece of advice carries, as a policy states it (XACML 3.0, core, section 5.41). `E` is how
-/// expressions stand there: as read, or checked.
+/// An attribute that an obligation or a piece of advice carries, as a policy states it (XACML 3.0, core,
+/// section 5.41). `E` is how expressions stand there: as read, or checked.
 #[derive(Debug, Drop)]
 pub struct AttributeAssignmentExpression<E> {
     /// The attribute's id.
@@ -146,8 +146,8 @@ impl Duties {
     }
 }
 
-/// Puts the others behind those that there are. Where there are none yet the others are taken as they are, so that what is carried up
-/// through nested sets isn't moved once more at each of them.
+/// Puts the others behind those that there are. Where there are none yet the others are taken as they
+/// are, so that what is carried up through nested sets isn't moved once more at each of them.
 fn put_behind(duties: &mut Vec<Duty>, mut others: Vec<Duty>) -> Result<(), AllocError>
     ensures { OnOk result (duties.new.items ≡ duties.old.items ++ others.items) }
 {

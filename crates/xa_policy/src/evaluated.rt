@@ -12,8 +12,8 @@ use xa_expr::Fault;
 use xa_func::Status;
 use xa_value::{Items, Shared};
 
-/// What a tree decides: a decision with its status, its obligations and its advice, and the policies and policy sets that are named with it
-/// (XACML 3.0, core, sections 5.48 and 5.49).
+/// What a tree decides: a decision with its status, its obligations and its advice, and the policies and
+/// policy sets that are named with it (XACML 3.0, core, sections 5.48 and 5.49).
 #[derive(Debug, Drop)]
 pub struct Evaluated {
     /// The decision.
@@ -22,7 +22,8 @@ pub struct Evaluated {
     pub status: Status,
     /// What comes with a Permit or a Deny.
     pub duties: Duties,
-    /// The policies and policy sets that are named with a Permit or a Deny, in order; none where they weren't asked for.
+    /// The policies and policy sets that are named with a Permit or a Deny, in order; none where they
+    /// weren't asked for.
     pub ids: Items<Shared<DocumentKey>>,
 }
 
@@ -51,7 +52,8 @@ impl Evaluated {
         Evaluated::new(Verdict::not_applicable(alloc), Items::new(alloc))
     }
 
-    /// Indeterminate, whether Deny or Permit, for the fault's reason, with no obligations, no advice and nothing named. Nothing is allocated.
+    /// Indeterminate, whether Deny or Permit, for the fault's reason, with no obligations, no advice and
+    /// nothing named. Nothing is allocated.
     pub fn undecided(alloc: Global, fault: Fault) -> Evaluated
         ensures { result ≡ without_ids (undecided fault) }
     {

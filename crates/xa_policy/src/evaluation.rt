@@ -22,10 +22,12 @@ use crate::verdict::Verdict;
 use std::alloc::{AllocError, Global};
 use xa_expr::{Context, Evaluator, Fault, Matching, STEP, Typed, Variables};
 
-/// What the tree decides (XACML 3.0, core, sections 7.9 to 7.15 and 7.18), why where that is Indeterminate, its obligations and advice, and where
-/// `asked` says so the policies and policy sets that are named with it (5.49). No child is evaluated after the one that settles its parent,
-/// and none where its parent's target is No match. Want of memory is the only error; it is also what comes where the context refuses more
-/// work. Each policy, set and rule that is looked at is counted, beside what expressions count: tenants nest and repeat them as they like.
+/// What the tree decides (XACML 3.0, core, sections 7.9 to 7.15 and 7.18), why where that is
+/// Indeterminate, its obligations and advice, and where `asked` says so the policies and policy sets
+/// that are named with it (5.49). No child is evaluated after the one that settles its parent, and none
+/// where its parent's target is No match. Want of memory is the only error; it is also what comes where
+/// the context refuses more work. Each policy, set and rule that is looked at is counted, beside what
+/// expressions count: tenants nest and repeat them as they like.
 #[tactic(auto, using(crate::proofs::IdLemmas::asked_from_none))]
 pub fn evaluate<C: Context>(
     alloc: Global,
@@ -42,10 +44,10 @@ pub fn evaluate<C: Context>(
 }
 
 /// The units of a policy, a set or a rule that is looked at, and of what becomes of it behind its target.
-const CHILD: u64 = 2 * STEP;
+const CHILD: u64 = 2 * STEP + STEP / 2;
 
-/// What the target of the tree's root comes to; that of a reference that leads to nothing is Indeterminate. Each root that is looked at
-/// is counted.
+/// What the target of the tree's root comes to; that of a reference that leads to nothing is
+/// Indeterminate. Each root that is looked at is counted.
 fn target_of<C: Context>(
     alloc: Global,
     linked: &Linked,
@@ -174,7 +176,8 @@ fn walk_rules<'a, C: Context>(
     Ok(so_far.result_so_far(alloc))
 }
 
-/// What only-one-applicable makes of the rules. The first target that isn't No match leaves it to the others, or settles it.
+/// What only-one-applicable makes of the rules. The first target that isn't No match leaves it to the
+/// others, or settles it.
 #[tactic(auto, using(crate::proofs::TidyLemmas::applicable_steps))]
 fn only_applicable_rule<'a, C: Context>(
     alloc: Global,
@@ -200,7 +203,8 @@ fn only_applicable_rule<'a, C: Context>(
     Ok(Verdict::not_applicable(alloc))
 }
 
-/// What only-one-applicable makes of an applicable rule and the others behind it. The first target that isn't No match settles it.
+/// What only-one-applicable makes of an applicable rule and the others behind it. The first target that
+/// isn't No match settles it.
 #[tactic(auto, using(crate::proofs::TidyLemmas::applicable_steps))]
 fn rule_unless_another<'a, C: Context>(
     alloc: Global,
@@ -224,6 +228,10 @@ fn rule_unless_another<'a, C: Context>(
     }
     evaluate_rule(alloc, evaluator, rule, Matching::Match)
 }
+
+// The loops over children are those over rules once more. One that is generic in what it evaluates
+// would get a function of this cycle of calls through its bound, and the toolchain makes no proof of a
+// cycle that leads through a bound.
 
 /// What the policy set decides of its children, where its target comes to this.
 #[cycle(evaluation)]
@@ -299,7 +307,8 @@ fn walk_children<C: Context>(
     Ok(so_far.result_so_far(alloc))
 }
 
-/// What only-one-applicable makes of the children. The first target that isn't No match leaves it to the others, or settles it.
+/// What only-one-applicable makes of the children. The first target that isn't No match leaves it to the
+/// others, or settles it.
 #[cycle(evaluation)]
 #[tactic(auto, using(crate::proofs::TidyLemmas::applicable_steps))]
 fn only_applicable_child<C: Context>(
@@ -324,7 +333,8 @@ fn only_applicable_child<C: Context>(
     Ok(Verdict::not_applicable(alloc))
 }
 
-/// What only-one-applicable makes of an applicable child and the others behind it. The first target that isn't No match settles it.
+/// What only-one-applicable makes of an applicable child and the others behind it. The first target that
+/// isn't No match settles it.
 #[cycle(evaluation)]
 #[tactic(auto, using(crate::proofs::TidyLemmas::applicable_steps))]
 fn child_unless_another<C: Context>(

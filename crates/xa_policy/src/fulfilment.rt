@@ -1,5 +1,6 @@
-//! The obligations and advice that come with a decision, with the values of their expressions. What is made is counted before it is made:
-//! a bag makes an assignment of each of its values, each with the attribute's id, category and issuer.
+//! The obligations and advice that come with a decision, with the values of their expressions. What is
+//! made is counted before it is made: a bag makes an assignment of each of its values, each with the
+//! attribute's id, category and issuer.
 ghost use Rattle.std.specs.Prelude.{◌≡◌, ◌++◌, map, IfOk, OnOk};
 ghost use Rattle.std.specs.Result.{result_map_both};
 ghost use Rattle.xa_value.specs.Gives.{Gives};
@@ -126,7 +127,8 @@ fn duty<'a, C: Context>(
     })
 }
 
-/// The obligations, or the advice, that belong to the effect. No expression of another is evaluated; a look at each is counted.
+/// The obligations, or the advice, that belong to the effect. No expression of another is evaluated; a
+/// look at each is counted.
 fn duties_with<'a, C: Context>(
     alloc: Global,
     evaluator: &mut Evaluator<'a, C>,
@@ -163,7 +165,8 @@ fn own_duties<'a, C: Context>(
     Ok(Duties::of(obligations, advice))
 }
 
-/// What is decided, with the own obligations and advice of the effect behind those that it has; a fault in them leaves the effect open.
+/// What is decided, with the own obligations and advice of the effect behind those that it has; a fault
+/// in them leaves the effect open.
 fn with_own_of<'a, C: Context>(
     alloc: Global,
     evaluator: &mut Evaluator<'a, C>,

@@ -9,9 +9,10 @@ use std::alloc::{AllocError, Global};
 use std::marker::Model;
 use xa_value::{Items, Shared};
 
-/// The keys of the policies and policy sets that are named so far, in order. Where they aren't asked for there are never any. One list serves
-/// the whole tree: a policy set puts itself there before its children, and takes all of them away again where it decides neither Permit nor
-/// Deny. So each key is put there once, and taken away once at most.
+/// The keys of the policies and policy sets that are named so far, in order. Where they aren't asked for
+/// there are never any. One list serves the whole tree: a policy set puts itself there before its
+/// children, and takes all of them away again where it decides neither Permit nor Deny. So each key is
+/// put there once, and taken away once at most.
 #[derive(Debug, Drop)]
 pub(crate) struct Identifiers {
     asked: bool,
@@ -69,7 +70,8 @@ impl Identifiers {
         }
     }
 
-    /// Keeps all where the policy set that found those from this place on decides Permit or Deny, and else those before it alone.
+    /// Keeps all where the policy set that found those from this place on decides Permit or Deny, and
+    /// else those before it alone.
     pub(crate) fn keep_by(&mut self, decision: Decision, count: usize)
         ensures { self.new ≡ kept_by decision count self.old }
     {

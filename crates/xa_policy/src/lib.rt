@@ -1,4 +1,5 @@
-//! Policies, and what they decide (XACML 3.0, core, sections 7.9 to 7.15 and 7.18, appendix C), and their versions (5.10 to 5.13).
+//! Policies, and what they decide (XACML 3.0, core, sections 7.9 to 7.15 and 7.18, appendix C), and
+//! their versions (5.10 to 5.13).
 #![tactic(auto)]
 
 mod checking;

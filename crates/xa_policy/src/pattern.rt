@@ -47,8 +47,9 @@ impl Model for Pattern {
 }
 
 impl Pattern {
-    /// The pattern that the text writes: numbers and `*` with dots between, where `+` may stand last (XACML 3.0, core, section 5.13). Leading zeros
-    /// are dropped. BadText of any other shape; TooLong of more than eight parts, or of a number of more than nine digits.
+    /// The pattern that the text writes: numbers and `*` with dots between, where `+` may stand last
+    /// (XACML 3.0, core, section 5.13). Leading zeros are dropped. BadText of any other shape; TooLong
+    /// of more than eight parts, or of a number of more than nine digits.
     pub fn read(text: &str) -> Result<Pattern, VersionError>
         ensures { result ≡ read_pattern text.now }
     {
@@ -90,7 +91,8 @@ impl Pattern {
     pub fn reads_back(self)
         ensures { read_pattern (pattern_text self) ≡ Ok self }
     {
-        // Nothing is done: by the call's clause `valid` the prover knows that these are the parts of a pattern, which the law needs.
+        // Nothing is done: by the call's clause `valid` the prover knows that these are the parts of a
+        // pattern, which the law needs.
         let _ = self.parts();
     }
 

@@ -52,7 +52,8 @@ impl Verdict {
         Verdict::without_duties(alloc, effect.left_open(), fault.status())
     }
 
-    /// What a policy or a policy set decides whose children come to this, by the value of its target (core, section 7.14).
+    /// What a policy or a policy set decides whose children come to this, by the value of its target
+    /// (core, section 7.14).
     pub(crate) fn by_target(self, alloc: Global, target: Matching) -> Verdict
         ensures { result ≡ by_target target self }
     {

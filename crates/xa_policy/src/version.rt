@@ -49,8 +49,9 @@ impl Model for Version {
 }
 
 impl Version {
-    /// The version that the text writes: numbers with dots between (XACML 3.0, core, section 5.12). Leading zeros are dropped. BadText of any other
-    /// shape; TooLong of more than eight numbers, or of one of more than nine digits.
+    /// The version that the text writes: numbers with dots between (XACML 3.0, core, section 5.12).
+    /// Leading zeros are dropped. BadText of any other shape; TooLong of more than eight numbers, or of
+    /// one of more than nine digits.
     pub fn read(text: &str) -> Result<Version, VersionError>
         ensures { result ≡ read_version text.now }
     {
@@ -92,7 +93,8 @@ impl Version {
     pub fn reads_back(self)
         ensures { read_version (version_text self) ≡ Ok self }
     {
-        // Nothing is done: by the call's clause `valid` the prover knows that these are the numbers of a version, which the law needs.
+        // Nothing is done: by the call's clause `valid` the prover knows that these are the numbers of a
+        // version, which the law needs.
         let _ = self.numbers();
     }
 

@@ -79,7 +79,7 @@ pub all_values-returns-in_err-given-clause-value : goal.all_values-returns-in_er
 all_values-returns-in_err-given-clause-value g t c =
     fault_passed c.in_err-given.field-0.0 _ ((outcome (g.C.Context.values_of c.args.scope.now.context.now) c.args.scope.now.results.now) c.argument-item.result) _
     (λ f at. next_fault value_result c.loop-argument.values _ _ _ _ (ap (map (outcome (g.C.Context.values_of c.args.scope.now.context.now) c.args.scope.now.results.now)) (walked _ _ _ c.argument-item.is c.loop-argument-test.true)) c.loop-argument.invariant.0 f (ap value_result at))
-    c.from_residual.ensures.1 c.in_err-given.ensures.value
+    c.from_residual-in_err-given.ensures.1 c.in_err-given.ensures.value
 
 pub all_values-loop-argument-preserved : goal.all_values-loop-argument-preserved
 all_values-loop-argument-preserved g t c =
@@ -101,7 +101,7 @@ pub all_given-returns-in_err-given-clause-value : goal.all_given-returns-in_err-
 all_given-returns-in_err-given-clause-value g t c =
     fault_passed c.in_err-given.field-0.0 _ ((outcome (g.C.Context.values_of c.args.scope.now.context.now) c.args.scope.now.results.now) c.argument-item.result) _
     (λ f at. next_fault (outcome (g.C.Context.values_of c.args.scope.now.context.now) c.args.scope.now.results.now) c.loop-argument.all _ _ _ _ (walked _ _ _ c.argument-item.is c.loop-argument-test.true) c.loop-argument.invariant.0 f at)
-    c.from_residual.ensures.1 c.in_err-given.ensures.value
+    c.from_residual-in_err-given.ensures.1 c.in_err-given.ensures.value
 
 pub all_given-loop-argument-preserved : goal.all_given-loop-argument-preserved
 all_given-loop-argument-preserved g t c =
