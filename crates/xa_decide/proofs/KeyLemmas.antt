@@ -14,13 +14,14 @@ use Rattle.xa_value.specs.Order.{type_of}
 use Rattle.xa_value.specs.Types.{place_of}
 use Rattle.xa_value.specs.Types.{same_type}
 use Rattle.xa_expr.specs.declared.designator.Designator.{Designator}
+use Rattle.xa_expr.proofs.KindLemmas.{same_type_decides}
 use Rattle.xa_profile.specs.declared.attribute.Attribute.{Attribute}
 use Rattle.xa_profile.specs.declared.category_object.CategoryObject.{CategoryObject}
 use Rattle.xa_decide.proofs.IndexLemmas.{compare_total, filter_within}
 use Rattle.xa_decide.specs.Context.{is_issuer, is_named, is_named_by, is_row}
 use Rattle.xa_decide.specs.declared.source_row.SourceRow.{SourceRow}
 use Rattle.xa_decide.specs.indexing.Index.{Sought, compare_keys, sought, with_key}
-use Rattle.xa_decide.specs.indexing.Keys.{category_key, if_valued, issuer_key, issuer_key_of, name_key, name_key_of, object_key_of, row_key, row_key_of}
+use Rattle.xa_decide.specs.indexing.Keys.{category_key, if_valued, issued_row_key, issued_row_key_of, issuer_key, issuer_key_of, name_key, name_key_of, object_key_of, row_key, row_key_of}
 
 pub same_text : (a b : List ℕ) → bytes_eq a b ≡ true → a ≡ b
 same_text a b e = (bytes_eq-Decides a b).0 e
@@ -93,7 +94,7 @@ issued_name : (id : List ℕ) (t : DataType) (issuer : List ℕ) (a : Attribute)
 issued_name id t issuer a e =
     let parts = named_parts id t (Some issuer) a e in
     ap (λ o. issuer_key a.id a.values.data_type o) (same_issuer issuer a.issuer parts.2)
-    ∙ ap (λ n. sought (11 + n) a.id issuer []) parts.1 ∙ ap (λ i. sought (11 + place_of t) i issuer []) parts.0
+    ∙ ap (λ n. sought (11 + n) a.id issuer [] []) parts.1 ∙ ap (λ i. sought (11 + place_of t) i issuer [] []) parts.0
 
 name_found : (id : List ℕ) (t : DataType) (issuer : Option (List ℕ)) (all found : List Attribute) → issuer ≡ None
     → with_key name_key_of (issuer_key id t issuer) found ≡ with_key name_key_of (issuer_key id t issuer) all
@@ -122,22 +123,60 @@ issued_found d all found some e = issuer_found d.attribute_id d.data_type d.issu
 
 -- ---- rows
 
-row_keyed : (entity : List ℕ) (d : Designator) (row : SourceRow) → is_row entity d row ≡ true
-    → row_key_of row ≡ row_key d.category entity d.attribute_id d.data_type
-row_keyed entity d row e =
+row_parts : (entity : List ℕ) (d : Designator) (row : SourceRow) → is_row entity d row ≡ true
+    → (row.category ≡ d.category) × (row.entity ≡ entity) × (row.attribute_id ≡ d.attribute_id) × (type_of row.value ≡ d.data_type)
+    × (is_issuer d.issuer row.issuer ≡ true)
+row_parts entity d row e =
     let by_category = and_parts (bytes_eq row.category d.category) _ e in
     let by_entity = and_parts (bytes_eq row.entity entity) _ by_category.1 in
     let by_id = and_parts (bytes_eq row.attribute_id d.attribute_id) _ by_entity.1 in
-    let one = same_text row.category d.category by_category.0 in
-    let two = same_text row.entity entity by_entity.0 in
-    let three = same_text row.attribute_id d.attribute_id by_id.0 in
-    let type = eqb-true (place_of (type_of row.value)) (place_of d.data_type) by_id.1 in cc
+    let by_type = and_parts (same_type (type_of row.value) d.data_type) _ by_id.1 in (
+      same_text row.category d.category by_category.0,
+      same_text row.entity entity by_entity.0,
+      same_text row.attribute_id d.attribute_id by_id.0,
+      (same_type_decides (type_of row.value) d.data_type).0 by_type.0,
+      by_type.1,
+    )
 
-pub rows_found : (entity : List ℕ) (d : Designator) (rows found : List SourceRow)
-    → with_key row_key_of (row_key d.category entity d.attribute_id d.data_type) found ≡ with_key row_key_of (row_key d.category entity d.attribute_id d.data_type) rows
+row_keyed : (entity : List ℕ) (d : Designator) (row : SourceRow) → is_row entity d row ≡ true
+    → row_key_of row ≡ row_key d.category entity d.attribute_id d.data_type
+row_keyed entity d row e =
+    let parts = row_parts entity d row e in
+    let one = parts.0 in
+    let two = parts.1 in
+    let three = parts.2 in
+    let type = parts.3 in cc
+
+own_issuer : (named own : Option (List ℕ)) → is_some named ≡ true → is_issuer named own ≡ true → own ≡ named
+own_issuer None own some e = absurd (true≢false (sym some))
+own_issuer (Some issuer) own some e = same_issuer issuer own e
+
+issued_row_keyed : (entity : List ℕ) (d : Designator) (row : SourceRow) → is_some d.issuer ≡ true → is_row entity d row ≡ true
+    → issued_row_key_of row ≡ issued_row_key d.category entity d.attribute_id d.data_type d.issuer
+issued_row_keyed entity d row some e =
+    let parts = row_parts entity d row e in
+    ap (λ c. issued_row_key c row.entity row.attribute_id (type_of row.value) row.issuer) parts.0
+    ∙ ap (λ n. issued_row_key d.category n row.attribute_id (type_of row.value) row.issuer) parts.1
+    ∙ ap (λ i. issued_row_key d.category entity i (type_of row.value) row.issuer) parts.2
+    ∙ ap (λ t. issued_row_key d.category entity d.attribute_id t row.issuer) parts.3
+    ∙ ap (λ o. issued_row_key d.category entity d.attribute_id d.data_type o) (own_issuer d.issuer row.issuer some parts.4)
+
+pub rows_found : (entity : List ℕ) (d : Designator) (rows found : List SourceRow) → d.issuer ≡ None
+    → with_key row_key_of (issued_row_key d.category entity d.attribute_id d.data_type d.issuer) found
+    ≡ with_key row_key_of (issued_row_key d.category entity d.attribute_id d.data_type d.issuer) rows
     → filter (is_row entity d) found ≡ filter (is_row entity d) rows
-rows_found entity d rows found e =
-    kept_among (is_row entity d) row_key_of (row_key d.category entity d.attribute_id d.data_type) (row_keyed entity d) found rows e
+rows_found entity d rows found none e =
+    kept_among (is_row entity d) row_key_of (row_key d.category entity d.attribute_id d.data_type) (row_keyed entity d) found rows
+    (subst (λ o. with_key row_key_of (issued_row_key d.category entity d.attribute_id d.data_type o) found
+    ≡ with_key row_key_of (issued_row_key d.category entity d.attribute_id d.data_type o) rows) none e)
+
+pub issued_rows_found : (entity : List ℕ) (d : Designator) (rows found : List SourceRow) → is_some d.issuer ≡ true
+    → with_key issued_row_key_of (issued_row_key d.category entity d.attribute_id d.data_type d.issuer) found
+    ≡ with_key issued_row_key_of (issued_row_key d.category entity d.attribute_id d.data_type d.issuer) rows
+    → filter (is_row entity d) found ≡ filter (is_row entity d) rows
+issued_rows_found entity d rows found some e =
+    kept_among (is_row entity d) issued_row_key_of (issued_row_key d.category entity d.attribute_id d.data_type d.issuer)
+    (λ row h. issued_row_keyed entity d row some h) found rows e
 
 -- ---- Category objects
 

@@ -5,5 +5,6 @@ mod LookLemmas
 mod NamedLemmas
 mod NamingLemmas
 pub mod PlacesLemmas
+mod RowLemmas
 pub mod TimelessLemmas
 mod TypeLemmas

@@ -11,18 +11,15 @@ use Rattle.xa_expr.proofs.LookedLemmas.{joined_behind}
 use Rattle.xa_decide.specs.Context.{or_else}
 
 -- what the looks come to, at the values of the request and at the others
-abbrev pub or_look : Looked → Bool → Looked → Looked
-or_look Nothing true outside = outside
-or_look Nothing false outside = Nothing
-or_look Found unissued outside = Found
-or_look NotFound unissued outside = NotFound
+abbrev pub or_look : Looked → Looked → Looked
+or_look Nothing outside = outside
+or_look Found outside = Found
+or_look NotFound outside = NotFound
 
-pub looked_or_outside : (sought : Value) (own : List Value) (unissued : Bool) (others : List Value)
-    → looked sought (or_else own (cond unissued others [])) ≡ or_look (looked sought own) unissued (looked sought others)
-looked_or_outside sought [] true others = refl
-looked_or_outside sought [] false others = refl
-looked_or_outside sought (v ∷ own) unissued others = by_case (list_any (same sought) (v ∷ own)) where
-  by_case : (b : Bool) → cond b Found NotFound ≡ or_look (cond b Found NotFound) unissued (looked sought others)
+pub looked_or_outside : (sought : Value) (own others : List Value) → looked sought (or_else own others) ≡ or_look (looked sought own) (looked sought others)
+looked_or_outside sought [] others = refl
+looked_or_outside sought (v ∷ own) others = by_case (list_any (same sought) (v ∷ own)) where
+  by_case : (b : Bool) → cond b Found NotFound ≡ or_look (cond b Found NotFound) (looked sought others)
   by_case true = refl
   by_case false = refl
 

@@ -60,22 +60,22 @@ no_clock_value moment id t e = by_type t where
 
 clock_silent : (moment : ℤ) (d : Designator) → names_the_clock d ≡ false → clock_value_in moment d ≡ None
 unfolding names_the_clock
-clock_silent moment d = by_category (bytes_eq d.category (uri_of Environment)) where
-  by_category : (b : Bool) → (b && is_some_clock_id d.attribute_id) ≡ false → cond b (clock_value moment d.attribute_id d.data_type) None ≡ None
-  by_category true e = no_clock_value moment d.attribute_id d.data_type e
-  by_category false e = refl
+clock_silent moment d = by_issuer (is_none d.issuer) (bytes_eq d.category (uri_of Environment)) where
+  by_issuer : (unissued b : Bool) → (b && is_some_clock_id d.attribute_id) ≡ false
+      → cond (unissued && b) (clock_value moment d.attribute_id d.data_type) None ≡ None
+  by_issuer false b e = refl
+  by_issuer true true e = no_clock_value moment d.attribute_id d.data_type e
+  by_issuer true false e = refl
 
 -- ---- one individual request
 
 -- what a context gives to a designator that doesn't name the clock
 without_clock : (objects : List CategoryObject) (source : List SourceRow) (moment : ℤ) (d : Designator) → names_the_clock d ≡ false
     → values_of (record { objects = objects; source = source; moment = moment }) d
-    ≡ or_else (request_values objects d)
-    (cond (is_none d.issuer) (source_values source (entity objects d.category) d) [])
+    ≡ or_else (request_values objects d) (source_values source (entity objects d.category) d)
 unfolding values_of outside_values
 without_clock objects source moment d e =
-    ap (λ given. or_else (request_values objects d)
-    (cond (is_none d.issuer) (or_else (if_any given) (source_values source (entity objects d.category) d)) [])) (clock_silent moment d e)
+    ap (λ given. or_else (request_values objects d) (or_else (if_any given) (source_values source (entity objects d.category) d))) (clock_silent moment d e)
 
 -- it differs at two moments in the clock's attributes alone
 pub same_but_for_the_clock : ContextsDifferInTheClock

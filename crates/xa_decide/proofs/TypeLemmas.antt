@@ -1,6 +1,6 @@
 -- The values that a designator has in the context of a decision are of its data type.
 use Rattle.std.proofs.Common.{◌≡◌, refl, subst, ℕ, Bool, true, false, cond, List, [], ◌∷◌, ◌++◌, map}
-use Rattle.std.specs.Prelude.{ℤ, bytes_eq, filter, is_none, None}
+use Rattle.std.specs.Prelude.{ℤ, ◌&&◌, bytes_eq, filter, is_none, None}
 use Rattle.std.specs.List.{All, flat_map}
 use Rattle.std.proofs.lemmas.Bool.{and_parts}
 use Rattle.std.proofs.lemmas.List.Elements.{All-head, All-tail}
@@ -57,7 +57,8 @@ row_type : (entity : List ℕ) (d : Designator) (row : SourceRow) → is_row ent
 row_type entity d row e =
     let by_entity = and_parts (bytes_eq row.category d.category) _ e in
     let by_id = and_parts (bytes_eq row.entity entity) _ by_entity.1 in
-    (same_type_decides (type_of row.value) d.data_type).0 (and_parts (bytes_eq row.attribute_id d.attribute_id) _ by_id.1).1
+    let by_type = and_parts (bytes_eq row.attribute_id d.attribute_id) _ by_id.1 in
+    (same_type_decides (type_of row.value) d.data_type).0 (and_parts (same_type (type_of row.value) d.data_type) _ by_type.1).0
 
 rows_of_type : (rows : List SourceRow) (entity : List ℕ) (d : Designator) → OfType d.data_type (map (λ row. row.value) (filter (is_row entity d) rows))
 rows_of_type [] entity d = tt
@@ -87,7 +88,7 @@ moment_of_type moment type.HexBinary = tt
 moment_of_type moment type.Base64Binary = tt
 
 clock_of_type : (moment : ℤ) (d : Designator) → OfType d.data_type (if_any (clock_value_in moment d))
-clock_of_type moment d = by_category (bytes_eq d.category (uri_of Environment)) where
+clock_of_type moment d = by_category (is_none d.issuer && bytes_eq d.category (uri_of Environment)) where
   by_id : (b : Bool) → OfType d.data_type (if_any (cond b (moment_as moment d.data_type) None))
   by_id true = moment_of_type moment d.data_type
   by_id false = tt
@@ -107,12 +108,6 @@ unfolding outside_values
 outside_of_type c d =
     first_of_type d.data_type (if_any (clock_value_in c.moment d)) _ (clock_of_type c.moment d) (source_of_type c.source (entity c.objects d.category) d)
 
-unissued_of_type : (t : DataType) (b : Bool) (vs : List Value) → OfType t vs → OfType t (cond b vs [])
-unissued_of_type t true vs typed = typed
-unissued_of_type t false vs typed = tt
-
 pub keeps_types : (c : AskContext) → All IsOfTypes c.objects → KeepsTypes (values_of c)
 unfolding values_of
-keeps_types c all d =
-    first_of_type d.data_type (request_values c.objects d) _ (request_of_type c.objects d all)
-    (unissued_of_type d.data_type (is_none d.issuer) (outside_values c d) (outside_of_type c d))
+keeps_types c all d = first_of_type d.data_type (request_values c.objects d) _ (request_of_type c.objects d all) (outside_of_type c d)

@@ -100,10 +100,10 @@ naming_id_of (Some category) = naming_id category
 unfoldable pub entity : List CategoryObject → List ℕ → List ℕ
 entity objects category = named_entity objects category (naming_id_of (category_of category))
 
--- a row of the entity's attribute that the designator names
+-- a row of the entity's attribute that the designator names, by an issuer that will do
 abbrev pub is_row : List ℕ → Designator → SourceRow → Bool
 is_row entity d row =
-    bytes_eq row.category d.category && (bytes_eq row.entity entity && (bytes_eq row.attribute_id d.attribute_id && same_type (type_of row.value) d.data_type))
+    bytes_eq row.category d.category && (bytes_eq row.entity entity && (bytes_eq row.attribute_id d.attribute_id && (same_type (type_of row.value) d.data_type && is_issuer d.issuer row.issuer)))
 
 -- the values of those rows, in their order
 unfoldable pub source_values : List SourceRow → List ℕ → Designator → List Value
@@ -121,14 +121,14 @@ abbrev pub if_any : Option Value → List Value
 if_any None = []
 if_any (Some v) = v ∷ []
 
--- the clock's attributes are the environment's
+-- the clock's attributes are the environment's, and nobody has issued them
 abbrev pub clock_value_in : ℤ → Designator → Option Value
-clock_value_in moment d = if bytes_eq d.category (uri_of Environment) then clock_value moment d.attribute_id d.data_type else None
+clock_value_in moment d = if is_none d.issuer && bytes_eq d.category (uri_of Environment) then clock_value moment d.attribute_id d.data_type else None
 
 -- those that are not in the request: the one that the clock gives, else those that the source has
 unfoldable pub outside_values : AskContext → Designator → List Value
 outside_values c d = or_else (if_any (clock_value_in c.moment d)) (source_values c.source (entity c.objects d.category) d)
 
--- the values of a designator's bag: those that the request has, else the others, where no issuer is named
+-- the values of a designator's bag: those that the request has, else the others
 unfoldable pub values_of : AskContext → Designator → List Value
-values_of c d = or_else (request_values c.objects d) (if is_none d.issuer then outside_values c d else [])
+values_of c d = or_else (request_values c.objects d) (outside_values c d)

@@ -5,3 +5,4 @@ pub mod indexing
 pub mod Places
 pub mod Rows
 pub mod Timeless
+pub mod writing

@@ -1,5 +1,5 @@
 -- The body that holds the rows of a source of attributes, as it is read and as it is written. The rows stand in order.
-use Rattle.std.specs.Prelude.{ℕ, List, map, Result, Ok}
+use Rattle.std.specs.Prelude.{ℕ, List, map, Option, Some, None, Result, Ok}
 use Rattle.serde_json.specs.Data.{Data, string, object, Members, no_members, member as put_member}
 use Rattle.serde_json.specs.Written.{compact_text}
 use Rattle.xa_value.specs.Gives.{◌>>=◌}
@@ -8,7 +8,7 @@ use Rattle.xa_notation.specs.declared.member.Member.{Member}
 use Rattle.xa_notation.specs.declared.member.Member.TheVariants as member
 use Rattle.xa_notation.specs.declared.notation_error.NotationError.{NotationError}
 use Rattle.xa_notation.specs.declared.tables.Object.TheVariants as table
-use Rattle.xa_notation.specs.Json.{each, fits, items, json, needed_member, text}
+use Rattle.xa_notation.specs.Json.{at, each, fits, items, json, needed_member, optional, text}
 use Rattle.xa_notation.specs.Shape.{category, data_type, literal}
 use Rattle.xa_notation.specs.Tables.{name_of}
 use Rattle.xa_profile.specs.Response.{listing, type_data, value_data}
@@ -25,7 +25,8 @@ row d = do
   attribute_id ← needed_member member.AttributeId d >>= text
   type ← needed_member member.DataType d >>= data_type
   value ← needed_member member.Value d >>= literal type
-  Ok (record { category = category; entity = entity; attribute_id = attribute_id; value = value })
+  issuer ← optional text (at member.Issuer d)
+  Ok (record { category = category; entity = entity; attribute_id = attribute_id; value = value; issuer = issuer })
 
 -- all rows
 unfoldable pub rows : Data → Result (List SourceRow) NotationError
@@ -44,11 +45,17 @@ rows_of body = json body >>= rows
 abbrev pub with_member : Member → Data → Members → Members
 with_member name d others = put_member (name_of name) d others
 
+-- a text that may be left out, and those behind it
+abbrev pub with_text_if_any : Member → Option (List ℕ) → Members → Members
+with_text_if_any name None others = others
+with_text_if_any name (Some text) others = with_member name (string text) others
+
 -- a row, with the value as responses have it
 unfoldable pub row_data : SourceRow → Data
 row_data r =
     object (with_member member.AttributeId (string r.attribute_id) (with_member member.Category (string r.category)
-    (with_member member.DataType (type_data (type_of r.value)) (with_member member.Entity (string r.entity) (with_member member.Value (value_data r.value) no_members)))))
+    (with_member member.DataType (type_data (type_of r.value)) (with_member member.Entity (string r.entity)
+    (with_text_if_any member.Issuer r.issuer (with_member member.Value (value_data r.value) no_members))))))
 
 -- all rows
 unfoldable pub rows_data : List SourceRow → Data

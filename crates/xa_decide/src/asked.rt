@@ -2,11 +2,13 @@
 ghost use Rattle.std.specs.Prelude.{◌≡◌, IfOk};
 ghost use Rattle.xa_decide.specs.Asked.{OthersAreAnsweredAlike, asks_policies, request_asks};
 
+use crate::request_body::RequestBody;
 use std::alloc::{AllocError, Global};
 use xa_profile::Request;
 use xa_value::OrMemory;
 
-/// Whether a request asks the policies: not where one decision for all individual requests is wanted, nor where there are more than 64 of them.
+/// Whether a request asks the policies: not where one decision for all individual requests is wanted,
+/// nor where there are more than 64 of them.
 fn request_asks(alloc: Global, request: &Request) -> Result<bool, AllocError>
     ensures { IfOk result (λ asks. asks ≡ request_asks request.now) }
 {
@@ -20,17 +22,16 @@ fn request_asks(alloc: Global, request: &Request) -> Result<bool, AllocError>
     }
 }
 
-/// Whether the body of a request asks the policies. One that is no JSON or no request doesn't, nor does one for all of whose individual requests one result stands:
-/// what it is answered is the same whatever decides (`others_are_answered_alike`), so that nothing of a domain need be read for it. What this costs grows with the
-/// body.
+/// Whether the body of a request asks the policies. One that is no JSON or no request doesn't, nor does
+/// one for all of whose individual requests one result stands: what it is answered is the same whatever
+/// decides (`others_are_answered_alike`), so that nothing of a domain need be read for it.
 #[tactic(auto, unfolding(crate::specs::Asked::asks_policies))]
-pub fn asks_policies(alloc: Global, body: &[u8]) -> Result<bool, AllocError>
+pub fn asks_policies(alloc: Global, body: &RequestBody<'_>) -> Result<bool, AllocError>
     ensures { IfOk result (λ asks. asks ≡ asks_policies body.now) }
 {
-    match Request::read(alloc, body) {
-        Ok(request) => request_asks(alloc, &request),
-        Err(OrMemory::Memory) => Err(AllocError),
-        Err(OrMemory::Error(_)) => Ok(false),
+    match body.request() {
+        Ok(request) => request_asks(alloc, request),
+        Err(_) => Ok(false),
     }
 }
 

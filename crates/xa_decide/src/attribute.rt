@@ -11,7 +11,7 @@ use xa_profile::Attribute;
 use xa_value::{DataType, Text};
 
 /// Whether the issuer will do: any, where none is named.
-fn is_issuer(named: &Option<Text>, own: &Option<Text>) -> bool
+pub(crate) fn is_issuer(named: &Option<Text>, own: &Option<Text>) -> bool
     ensures { result ≡ is_issuer named.now own.now }
 {
     match (named, own) {
@@ -43,7 +43,8 @@ pub(crate) fn is_named_by(designator: &Designator, attribute: &Attribute) -> boo
     is_named(id, designator.data_type, &designator.issuer, attribute)
 }
 
-/// Puts the values of the attribute at the end of the bag, if the designator names it. They are paid for before they are copied.
+/// Puts the values of the attribute at the end of the bag, if the designator names it. They are paid for
+/// before they are copied.
 pub(crate) fn push_attribute(
     budget: &Budget,
     bag: &mut Bag,

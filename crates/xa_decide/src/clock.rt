@@ -6,12 +6,13 @@ ghost use Rattle.xa_decide.specs.Context.{clock_value, clock_value_in, moment_as
 use xa_expr::{Designator, is_clock_id};
 use xa_value::{Category, DataType, Moment, Value};
 
-/// The value that the clock gives to the designator's attribute (XACML 3.0, core, section 7.3.6).
+/// The value that the clock gives to the designator's attribute (XACML 3.0, core, section 7.3.6):
+/// nobody has issued it.
 pub(crate) fn clock_value_in(moment: Moment, designator: &Designator) -> Option<Value>
     ensures value { result ≡ clock_value_in moment designator.now }
     ensures of_type { IfSome result (λ v. type_of v ≡ designator.now.data_type) }
 {
-    if designator.category.as_str() == Category::Environment.uri() {
+    if designator.issuer.is_none() && designator.category.as_str() == Category::Environment.uri() {
         clock_value(
             moment,
             designator.attribute_id.as_str(),

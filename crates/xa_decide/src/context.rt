@@ -16,7 +16,7 @@ use std::alloc::{AllocError, Global};
 use std::marker::Model;
 use xa_bag::Bag;
 use xa_expr::{Context, Designator, Looked, STEP};
-use xa_value::{Moment, Value};
+use xa_value::{Moment, Text, Value};
 
 /// The context of the decision on an individual request.
 #[derive(Drop)]
@@ -35,10 +35,20 @@ impl<'a> Model for IndividualContext<'a> {
     ghost view = { λ c. record { objects = c.objects; source = c.source.now; moment = c.moment } };
 }
 
-/// The units of looking up by two texts: a step, and their bytes.
-fn units_of_look_up(first: &str, second: &str) -> u64 {
+/// The bytes of a text that may be left out.
+fn bytes_if_any(text: &Option<Text>) -> u64 {
+    match text {
+        Some(text) => text.as_str().len() as u64,
+        None => 0,
+    }
+}
+
+/// The units of looking up an attribute by two texts, and by its issuer where one is named: a step, and
+/// their bytes.
+fn units_of_look_up(first: &str, designator: &Designator) -> u64 {
     STEP.saturating_add(first.len() as u64)
-        .saturating_add(second.len() as u64)
+        .saturating_add(designator.attribute_id.as_str().len() as u64)
+        .saturating_add(bytes_if_any(&designator.issuer))
 }
 
 impl<'a> IndividualContext<'a> {
@@ -65,14 +75,13 @@ impl<'a> IndividualContext<'a> {
     /// The units of asking the request for an attribute.
     fn units_of_asking(&self, designator: &Designator) -> u64 {
         let category = designator.category.as_str();
-        let id = designator.attribute_id.as_str();
-        units_of_look_up(category, id).saturating_add(self.objects.units_of_search())
+        units_of_look_up(category, designator).saturating_add(self.objects.units_of_search())
     }
 
     /// The units of asking the source for an attribute of the entity, which is looked for among the
     /// objects before.
-    fn units_of_asking_source(&self, entity: &str, id: &str) -> u64 {
-        units_of_look_up(entity, id)
+    fn units_of_asking_source(&self, entity: &str, designator: &Designator) -> u64 {
+        units_of_look_up(entity, designator)
             .saturating_add(self.objects.units_of_search())
             .saturating_add(self.source.units_of_search())
     }
@@ -86,8 +95,8 @@ impl<'a> IndividualContext<'a> {
             return Ok(Bag::new(alloc, designator.data_type));
         }
         let entity = self.objects.entity(designator.category.as_str());
-        let id = designator.attribute_id.as_str();
-        self.work.spend(self.units_of_asking_source(entity, id))?;
+        self.work
+            .spend(self.units_of_asking_source(entity, designator))?;
         self.source
             .bag(alloc, self.work.budget(), entity, designator)
     }
@@ -112,8 +121,8 @@ impl<'a> IndividualContext<'a> {
             return Ok(Looked::Nothing);
         }
         let entity = self.objects.entity(look.designator.category.as_str());
-        let id = look.designator.attribute_id.as_str();
-        self.work.spend(self.units_of_asking_source(entity, id))?;
+        self.work
+            .spend(self.units_of_asking_source(entity, look.designator))?;
         look.at_source(self.source, entity)
     }
 
@@ -136,7 +145,7 @@ impl<'a> Context for IndividualContext<'a> {
     fn bag(&self, alloc: Global, designator: &Designator) -> Result<Bag, AllocError> {
         self.work.spend(self.units_of_asking(designator))?;
         let own = self.objects.bag(alloc, self.work.budget(), designator)?;
-        if own.is_empty() && designator.issuer.is_none() {
+        if own.is_empty() {
             self.outside_bag(alloc, designator)
         } else {
             Ok(own)
@@ -162,7 +171,7 @@ impl<'a> Context for IndividualContext<'a> {
             sought,
         };
         let found = look.at_objects(&self.objects)?;
-        if found == Looked::Nothing && designator.issuer.is_none() {
+        if found == Looked::Nothing {
             self.look_outside(&look)
         } else {
             Ok(found)

@@ -10,6 +10,7 @@ ghost use Rattle.xa_decide.specs.Timeless.{is_timeless_answer, is_timeless_reque
 use crate::context::IndividualContext;
 use crate::indexed_object::IndexedObject;
 use crate::order::units_of_order;
+use crate::request_body::RequestBody;
 use crate::response_work::writing_of_result;
 use crate::view::View;
 use crate::work::Work;
@@ -123,7 +124,8 @@ impl<'a> Deciding<'a> {
         IndividualContext::new(alloc, self.objects, places, source, self.moment, self.work)
     }
 
-    /// The result of the individual request that has the objects at these places, which is paid for before it is written.
+    /// The result of the individual request that has the objects at these places, which is paid for
+    /// before it is written.
     #[tactic(auto, unfolding(crate::specs::Decision::decision))]
     fn result_at(&self, alloc: Global, places: Items<usize>) -> Result<ResultObject, AllocError>
         ensures { IfOk result (λ r. r ≡ result_of self.now.view.now self.now.asks_for_policies self.now.objects.now self.now.moment (Places places)) }
@@ -227,8 +229,9 @@ fn outcome_by(
     }
 }
 
-/// What comes of the request. Where its large bags are searched so often that it takes no longer to put their values in order, that is done, and the
-/// request is decided again from the start, with what is left of the work.
+/// What comes of the request. Where its large bags are searched so often that it takes no longer to put
+/// their values in order, that is done, and the request is decided again from the start, with what is
+/// left of the work.
 fn outcome_of_request(
     alloc: Global,
     view: &View,
@@ -247,8 +250,9 @@ fn outcome_of_request(
     }
 }
 
-/// The response to the request at the moment: a result for each of its individual requests, by the tree that the view's root stands for,
-/// or one result where these aren't decided. Want of memory is the only error; it is also what comes where one of the view's limits is reached.
+/// The response to the request at the moment: a result for each of its individual requests, by the tree
+/// that the view's root stands for, or one result where these aren't decided. Want of memory is the only
+/// error; it is also what comes where one of the view's limits is reached.
 pub fn decide<'a>(
     alloc: Global,
     view: &View,
@@ -303,25 +307,23 @@ fn respond_to_request(
     })
 }
 
-/// The body of the response to the body of a request, at the moment, and whether it is the same at every moment; none, where the body of
-/// the request is no JSON. JSON that is no request of the JSON Profile has a response, of the status syntax-error.
+/// The body of the response to the body of a request, at the moment, and whether it is the same at every
+/// moment; none, where the body of the request is no JSON. JSON that is no request of the JSON Profile
+/// has a response, of the status syntax-error.
 #[tactic(auto, unfolding(crate::specs::Decision::answer, crate::specs::Timeless::is_timeless_answer))]
 pub fn respond(
     alloc: Global,
     view: &View,
-    body: &[u8],
+    body: &RequestBody<'_>,
     moment: Moment,
 ) -> Result<Option<Responded>, AllocError>
     ensures body { IfOk result (λ sent. option_map (λ r. r.body) sent ≡ option_map body_of (answer view.now body.now moment)) }
     ensures timeless { IfOk result (λ sent. IfSome sent (λ r. r.timeless ≡ is_timeless_answer view.now body.now)) }
 {
-    match Request::read(alloc, body) {
-        Ok(request) => Ok(Some(respond_to_request(alloc, view, &request, moment)?)),
-        Err(OrMemory::Memory) => Err(AllocError),
-        Err(OrMemory::Error(RequestError::NotJson)) => Ok(None),
-        Err(OrMemory::Error(RequestError::NotProfile)) => {
-            Ok(Some(respond_to_no_request(alloc, view)?))
-        },
+    match body.request() {
+        Ok(request) => Ok(Some(respond_to_request(alloc, view, request, moment)?)),
+        Err(RequestError::NotJson) => Ok(None),
+        Err(RequestError::NotProfile) => Ok(Some(respond_to_no_request(alloc, view)?)),
     }
 }
 
@@ -334,7 +336,8 @@ pub fn answer(
 ) -> Result<Option<Vec<u8>>, AllocError>
     ensures { IfOk result (λ sent. option_map (λ b. b.items) sent ≡ option_map body_of (answer view.now body.now moment)) }
 {
-    match respond(alloc, view, body, moment)? {
+    let body = RequestBody::read(alloc, body)?;
+    match respond(alloc, view, &body, moment)? {
         Some(responded) => Ok(Some(responded.body.into_vec())),
         None => Ok(None),
     }

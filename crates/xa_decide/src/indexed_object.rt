@@ -19,9 +19,10 @@ use xa_bag::{Bag, Members};
 use xa_expr::{Budget, Designator};
 use xa_profile::{Attribute, CategoryObject};
 
-/// A Category object, with its attributes to be found by their ids and types, and by their issuers as well, with their values to be searched
-/// where that is asked for often, with what names its entity, and with what it is to write what stands of it in a result. It is made
-/// once for an object, whatever the number of the individual requests that have it.
+/// A Category object, with its attributes to be found by their ids and types, and by their issuers as
+/// well, with their values to be searched where that is asked for often, with what names its entity, and
+/// with what it is to write what stands of it in a result. It is made once for an object, whatever the
+/// number of the individual requests that have it.
 #[derive(Drop)]
 pub(crate) struct IndexedObject<'a> {
     object: &'a CategoryObject,
@@ -118,7 +119,8 @@ impl<'a> IndexedObject<'a> {
         self.object.attributes.as_slice()
     }
 
-    /// The values of the attribute, which has the place, to be searched; none, where they are looked at one by one.
+    /// The values of the attribute, which has the place, to be searched; none, where they are looked at
+    /// one by one.
     pub(crate) fn members(&self, place: usize, attribute: &Attribute) -> Option<&Members<'a>>
         requires { Some attribute.now ≡ slice_get self.now.attributes place }
         ensures { IfSome result (λ members. members.now ≡ attribute.now.values) }

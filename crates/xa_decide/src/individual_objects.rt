@@ -185,7 +185,8 @@ impl<'a> IndividualObjects<'a> {
     }
 }
 
-/// Puts the values of the object's attributes that the designator names at the end of the bag, if it is of the designator's category.
+/// Puts the values of the object's attributes that the designator names at the end of the bag, if it is
+/// of the designator's category.
 fn push_of_category(
     budget: &Budget,
     bag: &mut Bag,

@@ -1,4 +1,4 @@
-//! The keys of an index: a number and three texts, and their order.
+//! The keys of an index: a number and four texts, and their order.
 ghost use Rattle.std.specs.Prelude.{◌≡◌};
 ghost use Rattle.std.specs.Cmp.{partial_order_from_own_ties};
 ghost use Rattle.std.specs.Cmp.Rules.{comparing};
@@ -15,6 +15,7 @@ pub(crate) struct Key<'a> {
     first: &'a str,
     second: &'a str,
     third: &'a str,
+    fourth: &'a str,
 }
 
 impl<'a> Model for Key<'a> {
@@ -22,21 +23,28 @@ impl<'a> Model for Key<'a> {
 
     ghost Value = { Sought };
 
-    ghost view = { λ k. record { number = k.number; first = k.first.now; second = k.second.now; third = k.third.now } };
+    ghost view = { λ k. record { number = k.number; first = k.first.now; second = k.second.now; third = k.third.now; fourth = k.fourth.now } };
 }
 
 impl<'a> Key<'a> {
     ghost use Rattle.xa_decide.specs.indexing.Index.{sought};
 
     /// The key of this number and these texts.
-    pub(crate) fn new(number: usize, first: &'a str, second: &'a str, third: &'a str) -> Key<'a>
-        ensures { result ≡ sought number first.now second.now third.now }
+    pub(crate) fn new(
+        number: usize,
+        first: &'a str,
+        second: &'a str,
+        third: &'a str,
+        fourth: &'a str,
+    ) -> Key<'a>
+        ensures { result ≡ sought number first.now second.now third.now fourth.now }
     {
         Key {
             number,
             first,
             second,
             third,
+            fourth,
         }
     }
 }
@@ -53,6 +61,7 @@ impl<'a> PartialEq for Key<'a> {
             && self.first == other.first
             && self.second == other.second
             && self.third == other.third
+            && self.fourth == other.fourth
     }
 }
 
@@ -65,7 +74,7 @@ impl<'a> Ord for Key<'a> {
 
     ghost cmp = { compare_keys };
 
-    ghost total = { Prim.search (comparing, rules) };
+    ghost total = { Prim.search (comparing, rules) depth 7 };
 
     ghost matches_partial_cmp = { Prim.search (comparing, rules) };
 
@@ -77,6 +86,7 @@ impl<'a> Ord for Key<'a> {
             .then_with(|| self.first.cmp(other.first))
             .then_with(|| self.second.cmp(other.second))
             .then_with(|| self.third.cmp(other.third))
+            .then_with(|| self.fourth.cmp(other.fourth))
     }
 }
 
@@ -85,7 +95,7 @@ impl<'a> PartialOrd for Key<'a> {
 
     ghost partial_cmp = { as_partial_cmp compare_keys };
 
-    ghost laws = { partial_order_from_own_ties (Prim.search (comparing, rules) depth 9) (Prim.search (comparing, rules) depth 9) };
+    ghost laws = { partial_order_from_own_ties (Prim.search (comparing, rules) depth 11) (Prim.search (comparing, rules) depth 11) };
 
     fn partial_cmp(&self, other: &Key<'a>) -> Option<Ordering> {
         Some(self.cmp(other))

@@ -1,6 +1,6 @@
 //! The keys by which attributes, Category objects and rows of the source are found.
 ghost use Rattle.std.specs.Prelude.{◌≡◌};
-ghost use Rattle.xa_decide.specs.indexing.Keys.{unsought, name_key, issuer_key, name_key_of, issuer_key_of, category_key, row_key, row_key_of};
+ghost use Rattle.xa_decide.specs.indexing.Keys.{unsought, name_key, issuer_key, name_key_of, issuer_key_of, category_key, row_key, issued_row_key, row_key_of, issued_row_key_of};
 
 use crate::key::Key;
 use crate::order::Keying;
@@ -11,18 +11,19 @@ use xa_value::{DataType, Text};
 /// How many data types there are.
 const TYPES: usize = 11;
 
-/// A key that nobody asks for, past those of all types. Attributes without values have it: they give nothing to a bag, and would be in the way.
+/// A key that nobody asks for, past those of all types. Attributes without values have it: they give
+/// nothing to a bag, and would be in the way.
 fn unsought_key<'a>() -> Key<'a>
     ensures { result ≡ unsought }
 {
-    Key::new(2 * TYPES, "", "", "")
+    Key::new(2 * TYPES, "", "", "", "")
 }
 
 /// The key of an attribute's id and type.
 pub(crate) fn name_key(id: &str, data_type: DataType) -> Key<'_>
     ensures { result ≡ name_key id.now data_type }
 {
-    Key::new(usize::from(data_type.number()), id, "", "")
+    Key::new(usize::from(data_type.number()), id, "", "", "")
 }
 
 /// The key of an attribute's id, type and issuer, where it has one.
@@ -33,7 +34,7 @@ pub(crate) fn issuer_key<'a>(id: &'a str, data_type: DataType, issuer: &'a Optio
         None => name_key(id, data_type),
         Some(issuer) => {
             let number = TYPES + usize::from(data_type.number());
-            Key::new(number, id, issuer.as_str(), "")
+            Key::new(number, id, issuer.as_str(), "", "")
         },
     }
 }
@@ -42,7 +43,7 @@ pub(crate) fn issuer_key<'a>(id: &'a str, data_type: DataType, issuer: &'a Optio
 pub(crate) fn category_key(category: &str) -> Key<'_>
     ensures { result ≡ category_key category.now }
 {
-    Key::new(0, category, "", "")
+    Key::new(0, category, "", "", "")
 }
 
 /// The key of a row's category, entity, id and type.
@@ -54,7 +55,27 @@ pub(crate) fn row_key<'a>(
 ) -> Key<'a>
     ensures { result ≡ row_key category.now entity.now id.now data_type }
 {
-    Key::new(usize::from(data_type.number()), category, entity, id)
+    let number = usize::from(data_type.number());
+    Key::new(number, category, entity, id, "")
+}
+
+/// The key of a row's category, entity, id, type and issuer, where it has one.
+pub(crate) fn issued_row_key<'a>(
+    category: &'a str,
+    entity: &'a str,
+    id: &'a str,
+    data_type: DataType,
+    issuer: &'a Option<Text>,
+) -> Key<'a>
+    ensures { result ≡ issued_row_key category.now entity.now id.now data_type issuer.now }
+{
+    match issuer {
+        None => row_key(category, entity, id, data_type),
+        Some(issuer) => {
+            let number = TYPES + usize::from(data_type.number());
+            Key::new(number, category, entity, id, issuer.as_str())
+        },
+    }
 }
 
 /// Attributes by their ids and types.
@@ -102,5 +123,21 @@ impl Keying for ByRow {
         let id = row.attribute_id.as_str();
         let data_type = row.value.data_type();
         row_key(row.category.as_str(), row.entity.as_str(), id, data_type)
+    }
+}
+
+/// Rows of the source by their categories, entities, ids, types and issuers.
+pub(crate) struct ByIssuedRow;
+
+impl Keying for ByIssuedRow {
+    type Item = SourceRow;
+
+    ghost key_of = { issued_row_key_of };
+
+    fn key(row: &SourceRow) -> Key<'_> {
+        let category = row.category.as_str();
+        let id = row.attribute_id.as_str();
+        let data_type = row.value.data_type();
+        issued_row_key(category, row.entity.as_str(), id, data_type, &row.issuer)
     }
 }

@@ -1,4 +1,5 @@
-//! The decision on a request: each of its individual requests in its context, by the tree of policies that the root stands for.
+//! The decision on a request: each of its individual requests in its context, by the tree of policies
+//! that the root stands for.
 #![tactic(auto)]
 
 mod asked;
@@ -15,6 +16,7 @@ mod keys;
 mod look;
 mod naming;
 mod order;
+mod request_body;
 mod response_work;
 mod rows;
 mod source;
@@ -26,6 +28,7 @@ mod writing;
 
 pub use asked::{asks_policies, others_are_answered_alike};
 pub use decision::{Decided, Responded, answer, decide, respond};
+pub use request_body::RequestBody;
 pub use rows::{read_rows, write_rows};
 pub use source_row::SourceRow;
 pub use timeless::timeless_answers_stay;

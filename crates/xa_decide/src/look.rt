@@ -16,8 +16,9 @@ use xa_expr::{Designator, LOOK, Looked, units_of, units_of_bag};
 use xa_profile::Attribute;
 use xa_value::Value;
 
-/// A look for a value among those of a designator. It takes the units of the values that it comes to twice, as the designator's bag does,
-/// once where it is made and once where it is given, and those of a look at each; where the values are in order, those of a search.
+/// A look for a value among those of a designator. It takes the units of the values that it comes to
+/// twice, as the designator's bag does, once where it is made and once where it is given, and those of a
+/// look at each; where the values are in order, those of a search.
 #[derive(Drop)]
 pub(crate) struct Look<'a> {
     pub(crate) work: &'a Work,
@@ -51,7 +52,8 @@ impl<'a> Look<'a> {
         Ok(Looked::among(self.sought, members))
     }
 
-    /// A look at the values of the attribute: by their order, where they are many and are put in order, and else at one after another.
+    /// A look at the values of the attribute: by their order, where they are many and are put in order,
+    /// and else at one after another.
     fn at_values(
         &self,
         attribute: &Attribute,

@@ -116,7 +116,8 @@ fn few_places(count: usize) -> &'static [usize]
     PLACES.split_at(count).0
 }
 
-/// Places among which are those of all items of that key, in their own order: all places where there are few, and else those of the key.
+/// Places among which are those of all items of that key, in their own order: all places where there are
+/// few, and else those of the key.
 #[tactic(auto, using(crate::proofs::IndexLemmas::found_twice))]
 pub(crate) fn places_among<'o, K: Keying>(
     items: &[K::Item],

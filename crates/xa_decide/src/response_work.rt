@@ -1,12 +1,13 @@
-//! What it is to write a result. It is asked before anything is written, so that a small request for a large response is refused early.
+//! What it is to write a result. It is asked before anything is written, so that a small request for a
+//! large response is refused early.
 use crate::indexed_object::IndexedObject;
 use crate::writing::Writing;
 use xa_policy::{AttributeAssignment, DocumentKey, Duties, Duty, Evaluated};
 use xa_profile::{Attribute, CategoryObject};
 use xa_value::Shared;
 
-/// An attribute beside its texts and values: names of members, marks and the URI of a data type, which are at most so many bytes, and at least half as
-/// many.
+/// An attribute beside its texts and values: names of members, marks and the URI of a data type, which
+/// are at most so many bytes, and at least half as many.
 const ATTRIBUTE: Writing = Writing {
     units: 128,
     bytes: 64,
@@ -61,7 +62,8 @@ fn writing_of_attributes(object: &CategoryObject) -> Writing {
     all
 }
 
-/// What stands of the object in each result that has it; nothing, where none of its attributes is to stand there.
+/// What stands of the object in each result that has it; nothing, where none of its attributes is to
+/// stand there.
 pub(crate) fn writing_of_object(object: &CategoryObject) -> Writing {
     let attributes = writing_of_attributes(object);
     if attributes.units == 0 {

@@ -5,8 +5,9 @@ ghost use Rattle.xa_value.specs.Order.{type_of};
 ghost use Rattle.xa_bag.specs.Bag.{bag_of};
 ghost use Rattle.xa_decide.specs.Context.{is_row, source_values};
 
+use crate::attribute::is_issuer;
 use crate::bag::push_value;
-use crate::keys::{ByRow, row_key};
+use crate::keys::{ByIssuedRow, ByRow, issued_row_key};
 use crate::order::{item_at, order_of, places_among, units_of_search};
 use crate::source_row::SourceRow;
 use std::alloc::{AllocError, Global};
@@ -15,24 +16,26 @@ use xa_bag::Bag;
 use xa_expr::{Budget, Designator, units_of};
 use xa_value::Items;
 
-/// The rows of the source, to be found by their categories, entities, ids and types.
+/// The rows of the source, to be found by their categories, entities, ids and types, and by their
+/// issuers as well.
 #[derive(Debug, Drop)]
 pub(crate) struct Source {
     rows: Items<SourceRow>,
-    order: Vec<usize>,
+    by_row: Vec<usize>,
+    by_issued_row: Vec<usize>,
 }
 
 impl Model for Source {
     ghost use Rattle.std.specs.Prelude.{List};
     ghost use Rattle.xa_decide.specs.declared.source_row.SourceRow.{SourceRow as Row};
     ghost use Rattle.xa_decide.specs.indexing.Index.{IsOrder};
-    ghost use Rattle.xa_decide.specs.indexing.Keys.{row_key_of};
+    ghost use Rattle.xa_decide.specs.indexing.Keys.{row_key_of, issued_row_key_of};
 
     ghost Value = { List Row };
 
     ghost view = { λ s. s.rows };
 
-    ghost invariant = { λ s. IsOrder row_key_of s.rows s.order.items };
+    ghost invariant = { λ s. IsOrder row_key_of s.rows s.by_row.items × IsOrder issued_row_key_of s.rows s.by_issued_row.items };
 }
 
 impl Source {
@@ -40,8 +43,13 @@ impl Source {
     pub(crate) fn new(alloc: Global, rows: Items<SourceRow>) -> Result<Source, AllocError>
         ensures { IfOk result (λ source. source ≡ rows) }
     {
-        let order = order_of::<ByRow>(alloc, rows.as_slice())?;
-        Ok(Source { rows, order })
+        let by_row = order_of::<ByRow>(alloc, rows.as_slice())?;
+        let by_issued_row = order_of::<ByIssuedRow>(alloc, rows.as_slice())?;
+        Ok(Source {
+            rows,
+            by_row,
+            by_issued_row,
+        })
     }
 
     /// Whether there is no row at all.
@@ -64,14 +72,19 @@ impl Source {
     }
 
     /// Places among which are those of all rows of the entity's attribute that the designator names.
-    #[tactic(auto, using(crate::proofs::KeyLemmas::rows_found))]
+    #[tactic(auto, using(crate::proofs::KeyLemmas::rows_found, crate::proofs::KeyLemmas::issued_rows_found))]
     pub(crate) fn places(&self, entity: &str, designator: &Designator) -> &[usize]
         ensures { filter (is_row entity.now designator.now) (filter_map (slice_get self.now) result.now) ≡ filter (is_row entity.now designator.now) self.now }
     {
         let category = designator.category.as_str();
         let id = designator.attribute_id.as_str();
-        let key = row_key(category, entity, id, designator.data_type);
-        places_among::<ByRow>(self.rows.as_slice(), self.order.as_slice(), &key)
+        let data_type = designator.data_type;
+        let key = issued_row_key(category, entity, id, data_type, &designator.issuer);
+        let rows = self.rows.as_slice();
+        match &designator.issuer {
+            None => places_among::<ByRow>(rows, self.by_row.as_slice(), &key),
+            Some(_) => places_among::<ByIssuedRow>(rows, self.by_issued_row.as_slice(), &key),
+        }
     }
 
     /// The bag of the values that the source has of the entity's attribute.
@@ -97,7 +110,8 @@ impl Source {
     }
 }
 
-/// Puts the row's value at the end of the bag, if it is a row of the entity's attribute that the designator names. It is paid for before it is copied.
+/// Puts the row's value at the end of the bag, if it is a row of the entity's attribute that the
+/// designator names. It is paid for before it is copied.
 fn push_row(
     budget: &Budget,
     bag: &mut Bag,
@@ -115,7 +129,7 @@ fn push_row(
     Ok(())
 }
 
-/// Whether it is a row of the entity's attribute that the designator names.
+/// Whether it is a row of the entity's attribute that the designator names, by an issuer that will do.
 pub(crate) fn is_row(entity: &str, designator: &Designator, row: &SourceRow) -> bool
     ensures value { result ≡ is_row entity.now designator.now row.now }
     ensures of_type { result ≡ true → type_of row.now.value ≡ designator.now.data_type }
@@ -124,4 +138,5 @@ pub(crate) fn is_row(entity: &str, designator: &Designator, row: &SourceRow) -> 
         && row.entity.as_str() == entity
         && row.attribute_id.as_str() == designator.attribute_id.as_str()
         && row.value.data_type().is_same(designator.data_type)
+        && is_issuer(&designator.issuer, &row.issuer)
 }

@@ -2,8 +2,9 @@
 
 use xa_value::{Text, Value};
 
-/// A value that the source has of an entity's attribute (XACML 3.0, core, section 7.3.5). The attribute's data type is the value's. Rows are
-/// equal where they are kept and shown alike: values of one instant under two zones differ.
+/// A value that the source has of an entity's attribute (XACML 3.0, core, section 7.3.5). The
+/// attribute's data type is the value's. Rows are equal where they are kept and shown alike: values of
+/// one instant under two zones differ, and so do rows of two issuers.
 #[derive(Clone, Debug, Drop, PartialEq, Eq)]
 pub struct SourceRow {
     /// The category's URI.
@@ -14,4 +15,6 @@ pub struct SourceRow {
     pub attribute_id: Text,
     /// The value, whose data type is the attribute's.
     pub value: Value,
+    /// Who says so, where one is named.
+    pub issuer: Option<Text>,
 }

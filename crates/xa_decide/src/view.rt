@@ -16,10 +16,12 @@ use xa_policy::{Linked, Reference};
 use xa_shelf::TextReader;
 use xa_value::{Items, OrMemory};
 
-/// What a domain's decisions depend on: the tree that its root stands for among its active documents, if it has one, and its source rows; made ready for any number of
-/// requests: the tree is linked, and the rows are in order. Of the documents it holds what the tree shares with them, and nothing of those to which the root doesn't
-/// lead. Beside these stands how much work a message may ask for, and how many bytes the body of its response may have. Neither decides anything: a message that asks
-/// for more is answered as if memory were wanting.
+/// What a domain's decisions depend on: the tree that its root stands for among its active documents, if
+/// it has one, and its source rows; made ready for any number of requests: the tree is linked, and the
+/// rows are in order. Of the documents it holds what the tree shares with them, and nothing of those to
+/// which the root doesn't lead. Beside these stands how much work a message may ask for, and how many
+/// bytes the body of its response may have. Neither decides anything: a message that asks for more is
+/// answered as if memory were wanting.
 #[derive(Debug, Drop)]
 pub struct View {
     tree: Option<Result<Linked, LinkError>>,
@@ -76,7 +78,8 @@ fn tree_of(
     }
 }
 
-/// How many places the tree has: its policies and policy sets, and the references that lead nowhere. What this costs grows with them, as linking did.
+/// How many places the tree has: its policies and policy sets, and the references that lead nowhere.
+/// What this costs grows with them, as linking did.
 #[cycle(places)]
 #[tactic(auto, using(crate::proofs::PlacesLemmas::one_counted))]
 fn places_of(tree: &Linked) -> usize
@@ -194,8 +197,9 @@ impl View {
         self.timeless
     }
 
-    /// How many places the linked tree has: its policies and policy sets, and the references that lead nowhere, of which a set may have many; 0 where there is no
-    /// tree. The memory of a view grows with them beside its documents and rows.
+    /// How many places the linked tree has: its policies and policy sets, and the references that lead
+    /// nowhere, of which a set may have many; 0 where there is no tree. The memory of a view grows with
+    /// them beside its documents and rows.
     pub fn places(&self) -> usize
         ensures { result ≡ places_of_tree self.now.tree }
     {

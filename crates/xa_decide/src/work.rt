@@ -1,4 +1,5 @@
-//! The work of one message: how much it may ask for, how many bytes its response may have, and how the large bags of its request are searched.
+//! The work of one message: how much it may ask for, how many bytes its response may have, and how the
+//! large bags of its request are searched.
 ghost use Rattle.std.specs.Prelude.{◌≡◌, map, IfOk, IfSome};
 
 use crate::view::View;
@@ -10,18 +11,21 @@ use xa_expr::{Budget, LOOK, units_of, units_of_bag};
 use xa_profile::{Attribute, CategoryObject};
 use xa_value::Value;
 
-/// From how many values on a bag is large: a smaller one is looked at value by value, which takes some two microseconds.
+/// From how many values on a bag is large: a smaller one is looked at value by value, which takes some
+/// two microseconds.
 const LARGE: usize = 256;
 
-/// How often all large bags of a request may be gone through, value by value, before their values are put in order, which takes about as long.
+/// How often all large bags of a request may be gone through, value by value, before their values are
+/// put in order, which takes about as long.
 const SCANS: u64 = 16;
 
-/// With how many values another is compared at most that is searched for among values in order, and each where they are put in order: a request
-/// has fewer than two to this.
+/// With how many values another is compared at most that is searched for among values in order, and each
+/// where they are put in order: a request has fewer than two to this.
 const COMPARISONS: u64 = 18;
 
-/// How many more values of large bags may be looked at one after another, and whether more were asked for. No clause speaks of it: a look that is
-/// refused ends the decision like want of memory, and then the request is decided again with the values in order.
+/// How many more values of large bags may be looked at one after another, and whether more were asked
+/// for. No clause speaks of it: a look that is refused ends the decision like want of memory, and then
+/// the request is decided again with the values in order.
 #[derive(Drop)]
 struct Scans {
     values: Budget,
@@ -66,7 +70,8 @@ pub(crate) struct Work {
 }
 
 impl Work {
-    /// The work of a message, by the view's limits, whose request has these objects: at first their large bags are searched value by value.
+    /// The work of a message, by the view's limits, whose request has these objects: at first their
+    /// large bags are searched value by value.
     pub(crate) fn new(view: &View, objects: &[CategoryObject]) -> Work {
         let values = large_values(objects).saturating_mul(SCANS);
         Work {
@@ -103,7 +108,8 @@ impl Work {
         self.budget.spend(units)
     }
 
-    /// Takes what it is to write a result: the units from what the message may ask for, and the bytes from what its response may have.
+    /// Takes what it is to write a result: the units from what the message may ask for, and the bytes
+    /// from what its response may have.
     pub(crate) fn spend_on_result(&self, writing: Writing) -> Result<(), AllocError> {
         self.budget.spend(writing.units)?;
         self.reply.spend(writing.bytes)

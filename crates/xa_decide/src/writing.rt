@@ -1,6 +1,7 @@
-//! What it is to write a part of a response: how much work, and how many bytes. It is asked before anything is written, so that neither is done nor
-//! given room where there is too little left. A text counts by the bytes that JSON has for it: a quotation mark, a backslash and a control character
-//! take two or six (RFC 8259, section 7).
+//! What it is to write a part of a response: how much work, and how many bytes. It is asked before
+//! anything is written, so that neither is done nor given room where there is too little left. A text
+//! counts by the bytes that JSON has for it: a quotation mark, a backslash and a control character take
+//! two or six (RFC 8259, section 7).
 use xa_bag::Bag;
 use xa_expr::{is_of_one_size, units_of, units_of_printing};
 use xa_value::{Text, Value};
@@ -10,7 +11,8 @@ use xa_value::{Text, Value};
 pub(crate) struct Writing {
     /// The work, in units.
     pub(crate) units: u64,
-    /// The bytes, or some fewer: those of texts and binary values as they are written, and the least that stands beside them.
+    /// The bytes, or some fewer: those of texts and binary values as they are written, and the least
+    /// that stands beside them.
     pub(crate) bytes: u64,
 }
 
@@ -116,7 +118,8 @@ fn escapes_in(text: &[u8]) -> u64 {
         .fold(0u64, |count, byte| count.saturating_add(escaping(*byte)))
 }
 
-/// How many bytes a value takes more than it has: its escapes, a second digit for each byte, or a third more in base64.
+/// How many bytes a value takes more than it has: its escapes, a second digit for each byte, or a third
+/// more in base64.
 fn widening(value: &Value) -> u64 {
     match value {
         Value::String(text) => escapes_in(text.as_bytes()),

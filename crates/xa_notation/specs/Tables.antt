@@ -90,7 +90,7 @@ members_of object.AttributeAssignmentExpression = Required member.AttributeId �
 members_of object.NewToken = Required member.Role ∷ Required member.Token ∷ []
 members_of object.OldToken = Required member.Token ∷ []
 members_of object.Source = Required member.Row ∷ []
-members_of object.SourceRow = Required member.Category ∷ Required member.Entity ∷ Required member.AttributeId ∷ Required member.DataType ∷ Required member.Value ∷ []
+members_of object.SourceRow = Required member.Category ∷ Required member.Entity ∷ Required member.AttributeId ∷ Required member.DataType ∷ Required member.Value ∷ Optional member.Issuer ∷ []
 
 -- the alternatives of which an object has exactly one
 unfoldable pub alternatives_of : Choice → List Member

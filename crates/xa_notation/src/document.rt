@@ -1,5 +1,5 @@
 //! Documents: policies and policy sets whose expressions are checked.
-ghost use Rattle.std.specs.Prelude.{◌≡◌, nat_lt, length, IsTrue};
+ghost use Rattle.std.specs.Prelude.{◌≡◌, nat_lt, length, IfOk, IsTrue};
 ghost use Rattle.xa_value.specs.Gives.{Gives, answered};
 ghost use Rattle.xa_notation.specs.Document.{document_as_written, document_of, or_ill_typed, typed_document};
 ghost use Rattle.xa_notation.specs.Typing.{typed_tree as tree_typed};
@@ -9,14 +9,15 @@ use crate::notation_error::NotationError;
 use crate::policy_set::written_document;
 use crate::typing::typed_tree;
 use crate::written::{WrittenDocument, WrittenTree};
-use std::alloc::Global;
+use std::alloc::{AllocError, Global};
 use xa_policy::{DocumentKey, DocumentKind, Policy, PolicySet, Reference, Version};
 use xa_value::{Items, OrMemory, Shared, Text};
 
 /// The most bytes of a document: a bound of this project's own.
 const MAX_DOCUMENT_BYTES: usize = 65_536;
 
-/// A document, or a part of one. Its expressions are checked. Policies, and policy sets without their children, can be shared.
+/// A document, or a part of one. Its expressions are checked. Policies, and policy sets without their
+/// children, can be shared.
 #[derive(Debug, Drop)]
 pub enum Document {
     /// A policy.
@@ -37,8 +38,8 @@ pub struct Parsed {
 }
 
 impl Parsed {
-    /// The document that the text is (XACML 3.0, core, section 5), or its first fault: its size, then its JSON, then its shape from the
-    /// outside to the inside, and then its types.
+    /// The document that the text is (XACML 3.0, core, section 5), or its first fault: its size, then
+    /// its JSON, then its shape from the outside to the inside, and then its types.
     #[tactic(auto, unfolding(crate::specs::Document::document_of))]
     pub fn read(alloc: Global, text: &[u8]) -> Result<Parsed, OrMemory<NotationError>>
         ensures value { Gives result (document_of text.now) }
@@ -69,6 +70,17 @@ impl Parsed {
         ensures { result.now ≡ self.now.version }
     {
         &self.version
+    }
+
+    /// Its key.
+    pub fn key(&self) -> Result<DocumentKey, AllocError>
+        ensures { IfOk result (λ key. key ≡ record { kind = self.now.kind; id = self.now.id; version = self.now.version }) }
+    {
+        Ok(DocumentKey {
+            kind: self.kind,
+            id: self.id.clone()?,
+            version: self.version,
+        })
     }
 
     /// The policy, or the policy set with its children.

@@ -58,7 +58,8 @@ fn written_assignments(
     each(alloc, &AssignmentReader, values)
 }
 
-/// Reads an obligation or a piece of advice (core, sections 5.39 and 5.40), by its object and by its members for the id and the effect.
+/// Reads an obligation or a piece of advice (core, sections 5.39 and 5.40), by its object and by its
+/// members for the id and the effect.
 #[derive(Drop)]
 struct DutyReader {
     object: Object,

@@ -57,7 +57,8 @@ fn expressions(
     Ok(expressions)
 }
 
-/// A function of arguments (core, section 5.27), in which at most `depth` expressions stand inside one another.
+/// A function of arguments (core, section 5.27), in which at most `depth` expressions stand inside one
+/// another.
 #[cycle(expressions)]
 #[tactic(auto, unfolding(crate::specs::Shape::apply))]
 fn apply(alloc: Global, value: &Json, depth: usize) -> Result<Expr, OrMemory<NotationError>>

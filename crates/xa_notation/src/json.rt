@@ -17,7 +17,8 @@ use serde_json::{Map, Value as Json};
 use std::alloc::Global;
 use xa_value::{Items, OrMemory, Text};
 
-/// The JSON that a text is (RFC 8259); the fault is NotJson. Of several members of one name the last one counts.
+/// The JSON that a text is (RFC 8259); the fault is NotJson. Of several members of one name the last one
+/// counts.
 #[tactic(auto, unfolding(crate::specs::Json::json))]
 pub fn json(alloc: Global, text: &[u8]) -> Result<Json, OrMemory<NotationError>>
     ensures { MatchResult result (λ v. json text.now ≡ Ok (view v)) (λ e. Gives (Err e) (json text.now)) }
@@ -30,7 +31,7 @@ pub fn json(alloc: Global, text: &[u8]) -> Result<Json, OrMemory<NotationError>>
 }
 
 /// The member, where it is there.
-pub(crate) fn member_at(value: &Json, name: Member) -> Option<&Json>
+pub fn member_at(value: &Json, name: Member) -> Option<&Json>
     ensures { option_map (λ v. view v.now) result ≡ at name (view value.now) }
 {
     value.get(name.name())
@@ -114,8 +115,8 @@ fn check_needed(value: &Json, entries: &[Entry]) -> Result<(), NotationError>
     Ok(())
 }
 
-/// Nothing, of an object whose members are those of its table. The faults are, in this order, BadValue of what is no object, UnknownMember, and
-/// MissingMember in table order.
+/// Nothing, of an object whose members are those of its table. The faults are, in this order, BadValue
+/// of what is no object, UnknownMember, and MissingMember in table order.
 #[tactic(auto, unfolding(crate::specs::Json::fits))]
 pub fn check_members(value: &Json, object: Object) -> Result<(), NotationError>
     ensures { result ≡ fits object (view value.now) }
@@ -184,8 +185,8 @@ pub fn text_copy(alloc: Global, value: &Json) -> Result<Text, OrMemory<NotationE
     Ok(Text::new(alloc, text(value)?)?)
 }
 
-/// A copy of a text that may be left out.
-pub(crate) fn optional_text(
+/// A copy of a text that may be left out; the fault is BadValue.
+pub fn optional_text(
     alloc: Global,
     value: Option<&Json>,
 ) -> Result<Option<Text>, OrMemory<NotationError>>

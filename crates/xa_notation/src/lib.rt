@@ -1,4 +1,5 @@
-//! Policy documents, read from their JSON notation (XACML 3.0, core, section 5), and the bodies of messages that administer a domain.
+//! Policy documents, read from their JSON notation (XACML 3.0, core, section 5), and the bodies of
+//! messages that administer a domain.
 #![tactic(auto)]
 
 mod algorithm;

@@ -4,8 +4,8 @@ ghost use Rattle.xa_notation.specs.Tables.{name_of};
 
 use std::fmt;
 
-/// A member of an object in a document, or in the body of a message that administers a domain. Those of documents are named as in the XML
-/// schema of XACML 3.0 (core, section 5).
+/// A member of an object in a document, or in the body of a message that administers a domain. Those of
+/// documents are named as in the XML schema of XACML 3.0 (core, section 5).
 #[derive(Clone, Copy, Debug, PartialEq, Eq)]
 pub enum Member {
     /// `Policy`.

@@ -7,8 +7,8 @@ use thiserror::Error;
 use xa_expr::CheckError;
 use xa_value::OrMemory;
 
-/// Why a text is no document: the first fault, of the text, then of the members of its objects from the outside to the inside, and then of
-/// the types of its expressions.
+/// Why a text is no document: the first fault, of the text, then of the members of its objects from the
+/// outside to the inside, and then of the types of its expressions.
 #[derive(Clone, Copy, Debug, PartialEq, Eq, Error)]
 pub enum NotationError {
     /// The text is not JSON.

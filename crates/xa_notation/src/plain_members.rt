@@ -13,7 +13,8 @@ use std::alloc::Global;
 use xa_policy::{Alg, Effect, Pattern, Version};
 use xa_value::{DataType, OrMemory, Text, category_uri};
 
-/// The most bytes of the id of a policy or a policy set: a bound of this project's own, so that ids fit a path.
+/// The most bytes of the id of a policy or a policy set: a bound of this project's own, so that ids fit
+/// a path.
 const MAX_ID_BYTES: usize = 512;
 
 /// A copy of the id of a policy or a policy set.

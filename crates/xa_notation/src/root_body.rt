@@ -49,9 +49,10 @@ fn root(alloc: Global, value: &Json) -> Result<Option<Reference>, OrMemory<Notat
     Ok(Some(chosen_root(alloc, value)?))
 }
 
-/// The root that a body sets, `{"PolicyIdReference":..}` or `{"PolicySetIdReference":..}` with a reference as documents have it (XACML 3.0,
-/// core, sections 5.10 and 5.11), and none of `{}`; or its first fault: NotJson, then UnknownMember, also of a second member, then the first
-/// fault of the reference. A body that is no object is a BadValue.
+/// The root that a body sets, `{"PolicyIdReference":..}` or `{"PolicySetIdReference":..}` with a
+/// reference as documents have it (XACML 3.0, core, sections 5.10 and 5.11), and none of `{}`; or its
+/// first fault: NotJson, then UnknownMember, also of a second member, then the first fault of the
+/// reference. A body that is no object is a BadValue.
 #[tactic(auto, unfolding(crate::specs::Bodies::root_of))]
 pub fn read_root(alloc: Global, body: &[u8]) -> Result<Option<Reference>, OrMemory<NotationError>>
     ensures { Gives result (root_of body.now) }

@@ -172,6 +172,7 @@ impl Object {
                 Entry::Required(Member::AttributeId),
                 Entry::Required(Member::DataType),
                 Entry::Required(Member::Value),
+                Entry::Optional(Member::Issuer),
             ],
         }
     }

@@ -86,7 +86,8 @@ fn is_one_kind(kinds: &[DataType]) -> bool
     }
 }
 
-/// The type of an attribute's values: the one that is named, else that of their kind, and string where there is no value either.
+/// The type of an attribute's values: the one that is named, else that of their kind, and string where
+/// there is no value either.
 fn type_of_values(named: Option<DataType>, kinds: &[DataType]) -> DataType
     ensures { result ≡ type_of_values named kinds.now }
 {

@@ -201,7 +201,8 @@ fn individual_of_all(alloc: Global, count: usize) -> Result<Items<Individual>, A
     Ok(Items::from_vec(individuals))
 }
 
-/// The individuals of all combinations of one object a category. Few objects of different categories are the only combination.
+/// The individuals of all combinations of one object a category. Few objects of different categories are
+/// the only combination.
 #[tactic(auto, unfolding(crate::specs::Individuals::all_combinations), using(crate::proofs::CombinationLemmas::combined_few, crate::proofs::CombinationLemmas::combined_many))]
 fn individuals_combined(
     alloc: Global,
@@ -223,8 +224,9 @@ fn individuals_combined(
 }
 
 impl Request {
-    /// The individual requests that the request stands for: those that references name, or without any one for each combination of
-    /// one object a category; or TooMany, of more than 64. They hold the places of their objects, and copy none.
+    /// The individual requests that the request stands for: those that references name, or without any
+    /// one for each combination of one object a category; or TooMany, of more than 64. They hold the
+    /// places of their objects, and copy none.
     #[tactic(auto, unfolding(crate::specs::Individuals::individuals))]
     pub fn individuals(&self, alloc: Global) -> Result<Items<Individual>, OrMemory<TooMany>>
         ensures value { Gives result (individuals self.now) }

@@ -16,7 +16,8 @@ fn unsigned(numeral: &Numeral<'_>) -> Option<Number>
     }
 }
 
-/// The number behind a minus: whole where it fits 64 bits and isn't zero, else the nearest float if that is finite.
+/// The number behind a minus: whole where it fits 64 bits and isn't zero, else the nearest float if that
+/// is finite.
 fn negative(numeral: &Numeral<'_>) -> Option<Number>
     ensures { option_map number_view result ≡ number_from true numeral.now }
 {

@@ -24,9 +24,11 @@ pub struct Request {
     pub return_policy_id_list: bool,
     /// Whether one decision is asked for that stands for all individual ones.
     pub combined_decision: bool,
-    /// The Category objects: those of the member Category, and then those under shorthands, in the order of these.
+    /// The Category objects: those of the member Category, and then those under shorthands, in the order
+    /// of these.
     pub objects: Items<CategoryObject>,
-    /// The requests of MultiRequests, each by the ids of its objects; none where there is no such member, or no item in it.
+    /// The requests of MultiRequests, each by the ids of its objects; none where there is no such
+    /// member, or no item in it.
     pub references: Items<Items<Text>>,
 }
 
@@ -130,8 +132,9 @@ fn request_from(alloc: Global, value: &Json<'_>) -> Result<Request, OrMemory<Req
 }
 
 impl Request {
-    /// The request that a body is (JSON Profile, section 4): NotJson of what is no JSON in UTF-8, and NotProfile of JSON that is no object with
-    /// a member Request, or whose Request is none of the Profile: it has another shape, or two objects of one Id.
+    /// The request that a body is (JSON Profile, section 4): NotJson of what is no JSON in UTF-8, and
+    /// NotProfile of JSON that is no object with a member Request, or whose Request is none of the
+    /// Profile: it has another shape, or two objects of one Id.
     #[tactic(auto, unfolding(crate::specs::Request::request_of))]
     pub fn read(alloc: Global, body: &[u8]) -> Result<Request, OrMemory<RequestError>>
         ensures { Gives result (request_of body.now) }

@@ -19,8 +19,8 @@ use xa_value::Items;
 pub struct ResultObject {
     /// The decision, why, what comes with it, and the policies and policy sets that are named.
     pub evaluated: Evaluated,
-    /// The places of its Category objects among those of the request; none where it stands for a request whose individual requests
-    /// aren't decided, or for a bad reference.
+    /// The places of its Category objects among those of the request; none where it stands for a request
+    /// whose individual requests aren't decided, or for a bad reference.
     pub places: Items<usize>,
 }
 
@@ -90,7 +90,8 @@ impl ToJson for Duty {
     }
 }
 
-/// Writes the member Category of a result: the objects at the places that have an attribute that is to stand there.
+/// Writes the member Category of a result: the objects at the places that have an attribute that is to
+/// stand there.
 fn write_included_objects(
     alloc: Global,
     out: &mut Writer,
@@ -159,8 +160,8 @@ impl<'a> Response<'a> {
         out.end_object()
     }
 
-    /// The body that the response is sent as: its JSON, with no space. Each text is written where it is to stand, with no tree of JSON
-    /// before.
+    /// The body that the response is sent as: its JSON, with no space. Each text is written where it is
+    /// to stand, with no tree of JSON before.
     #[tactic(auto, unfolding(crate::specs::Response::response_body), using(crate::proofs::TokenLemmas::text_of_tokens))]
     pub fn to_body(&self, alloc: Global) -> Result<Vec<u8>, AllocError>
         ensures { IfOk result (λ body. body.items ≡ response_body self.now.objects.now self.now.results) }

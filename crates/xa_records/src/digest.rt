@@ -58,7 +58,8 @@ impl PartialEq for Digest {
 
     ghost laws = { partial_equiv_from_equiv nat_list_eq_equiv };
 
-    // It may end at the first byte that differs: these are SHA-256 digests, and how far two of them agree doesn't help to find a token.
+    // It may end at the first byte that differs: these are SHA-256 digests, and how far two of them
+    // agree doesn't help to find a token.
     fn eq(&self, other: &Digest) -> bool {
         self.bytes.as_slice() == other.bytes.as_slice()
     }

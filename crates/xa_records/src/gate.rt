@@ -12,7 +12,8 @@ pub struct Token {
     pub role: Role,
 }
 
-/// A domain's tokens, and which state it is in: as long as its number and its epoch stay, so do its documents, its root and its source rows.
+/// A domain's tokens, and which state it is in: as long as its number and its epoch stay, so do its
+/// documents, its root and its source rows.
 #[derive(Debug, Drop)]
 pub struct Gate {
     /// The domain's number, from 1 on, which no other domain ever has, nor a later one of its name.

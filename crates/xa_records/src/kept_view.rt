@@ -4,7 +4,8 @@ use xa_decide::SourceRow;
 use xa_policy::Reference;
 use xa_value::Items;
 
-/// What decides in a domain: the texts of its active documents, its root and the rows of its source of attributes.
+/// What decides in a domain: the texts of its active documents, its root and the rows of its source of
+/// attributes.
 #[derive(Debug, Drop)]
 pub struct KeptView {
     /// The texts of the active documents, in the order of their keys.

@@ -58,7 +58,8 @@ fn write_texts(out: &mut Writer, texts: &[Text]) -> Result<(), AllocError>
     out.end_array()
 }
 
-/// The body that lists documents: `{"Policy":[{"Active","Id","Kind","Version"}]}`, JSON with no space, in the order in which they are given.
+/// The body that lists documents: `{"Policy":[{"Active","Id","Kind","Version"}]}`, JSON with no space,
+/// in the order in which they are given.
 pub fn write_listing(alloc: Global, documents: &[Listed]) -> Result<Vec<u8>, AllocError>
     ensures { IfOk result (λ body. body.items ≡ listing_body documents.now) }
 {
@@ -70,7 +71,8 @@ pub fn write_listing(alloc: Global, documents: &[Listed]) -> Result<Vec<u8>, All
     Ok(out.into_inner())
 }
 
-/// The body that lists the names of domains, `{"Domain":[..]}`: JSON with no space, in the order in which they are given.
+/// The body that lists the names of domains, `{"Domain":[..]}`: JSON with no space, in the order in
+/// which they are given.
 pub fn write_names(alloc: Global, names: &[Text]) -> Result<Vec<u8>, AllocError>
     ensures { IfOk result (λ body. body.items ≡ names_body names.now) }
 {

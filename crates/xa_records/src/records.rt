@@ -20,11 +20,13 @@ use xa_notation::Role;
 use xa_policy::{DocumentKey, Reference};
 use xa_value::{Items, Text};
 
-/// A keeper of domains. Its meaning is a finite map from the names of domains to their states, each with a number and an epoch, and the next number.
+/// A keeper of domains. Its meaning is a finite map from the names of domains to their states, each with
+/// a number and an epoch, and the next number.
 ///
-/// Each method reads that map or makes one change of it, for the domain named and no other; nothing has changed after a refusal or a failure, but that after
-/// `Store` a stop may leave the change made: it is there, or it isn't, when the storage is opened again. What the clauses say of the map they say where the
-/// keeper is `sound` after the call, and then it was sound before.
+/// Each method reads that map or makes one change of it, for the domain named and no other; nothing has
+/// changed after a refusal or a failure, but that after `Store` a stop may leave the change made: it is
+/// there, or it isn't, when the storage is opened again. What the clauses say of the map they say where
+/// the keeper is `sound` after the call, and then it was sound before.
 pub trait Records {
     /// What is told of the keeper: what it keeps, and whether it does.
     ghost custody: { Self → Custody };
@@ -33,8 +35,9 @@ pub trait Records {
     fn faults(&self) -> u64
         ensures { result ≡ (custody self.now).faults };
 
-    /// Whether it can go on. A keeper that is shut answers `Store` to each call, now and for ever: its storage has to be opened again. It is told to be shut
-    /// only where that was found, after a call that answered `Store`.
+    /// Whether it can go on. A keeper that is shut answers `Store` to each call, now and for ever: its
+    /// storage has to be opened again. It is told to be shut only where that was found, after a call
+    /// that answered `Store`.
     fn is_open(&self) -> bool
         ensures told { result ≡ (custody self.now).is_open }
         ensures sound { (custody self.now).sound → IsTrue result };
@@ -64,7 +67,8 @@ pub trait Records {
     fn domains(&mut self, alloc: Global) -> Result<Items<Text>, Failure>
         ensures { Reading (custody self.old) (custody self.new) result (names_of (custody self.old).kept) };
 
-    /// Makes a domain in which nothing has been put yet. It gets the next number, the first being 1. Refused with `Exists`.
+    /// Makes a domain in which nothing has been put yet. It gets the next number, the first being 1.
+    /// Refused with `Exists`.
     fn create(&mut self, alloc: Global, name: &Text) -> Result<(), ChangeError>
         requires { IsTrue (is_domain_name name.now) }
         ensures { Changing (custody self.old) (custody self.new) result name.now created };
@@ -73,7 +77,8 @@ pub trait Records {
     fn remove(&mut self, alloc: Global, name: &Text) -> Result<(), ChangeError>
         ensures { Changing (custody self.old) (custody self.new) result name.now removed };
 
-    /// Adds a token with its role, or replaces the role of one that is there. Refused with `Absent`, and with `Quota` where the domain has 32 others.
+    /// Adds a token with its role, or replaces the role of one that is there. Refused with `Absent`, and
+    /// with `Quota` where the domain has 32 others.
     fn put_token(
         &mut self,
         alloc: Global,
@@ -87,8 +92,8 @@ pub trait Records {
     fn drop_token(&mut self, alloc: Global, name: &Text, digest: Digest) -> Result<(), ChangeError>
         ensures { Changing (custody self.old) (custody self.new) result name.now (within (token_dropped digest)) };
 
-    /// Adds a document, which isn't active at first. The very text again changes nothing. Refused with `Absent`, with `SameVersionOtherText`, and
-    /// with `Quota` where the domain has 1,024 others.
+    /// Adds a document, which isn't active at first. The very text again changes nothing. Refused with
+    /// `Absent`, with `SameVersionOtherText`, and with `Quota` where the domain has 1,024 others.
     fn upload(
         &mut self,
         alloc: Global,
@@ -100,7 +105,8 @@ pub trait Records {
         ensures does { Changing (custody self.old) (custody self.new) result name.now (within (uploaded key text.now)) }
         ensures which { (custody self.new).sound → IfOk result (λ u. u ≡ upload_of key (state_of name.now ((custody self.old).kept))) };
 
-    /// Makes the document active, so that references may resolve to it, or inactive. Refused with `Absent`, also where there is no such document.
+    /// Makes the document active, so that references may resolve to it, or inactive. Refused with
+    /// `Absent`, also where there is no such document.
     fn set_active(
         &mut self,
         alloc: Global,
@@ -110,7 +116,8 @@ pub trait Records {
     ) -> Result<(), ChangeError>
         ensures { Changing (custody self.old) (custody self.new) result name.now (within (activity_set key.now active)) };
 
-    /// Deletes a document. Refused with `Absent`, also where there is no such document, and with `StillActive`.
+    /// Deletes a document. Refused with `Absent`, also where there is no such document, and with
+    /// `StillActive`.
     fn delete(&mut self, alloc: Global, name: &Text, key: &DocumentKey) -> Result<(), ChangeError>
         ensures { Changing (custody self.old) (custody self.new) result name.now (within (deleted key.now)) };
 
@@ -123,7 +130,8 @@ pub trait Records {
     ) -> Result<(), ChangeError>
         ensures { Changing (custody self.old) (custody self.new) result name.now (within (root_set root)) };
 
-    /// Puts these rows into the source of attributes, in place of all that were there. Refused with `Absent`, and with `Quota` where there are more than 4,096.
+    /// Puts these rows into the source of attributes, in place of all that were there. Refused with
+    /// `Absent`, and with `Quota` where there are more than 4,096.
     fn set_source(
         &mut self,
         alloc: Global,
@@ -132,7 +140,8 @@ pub trait Records {
     ) -> Result<(), ChangeError>
         ensures { Changing (custody self.old) (custody self.new) result name.now (within (source_set rows)) };
 
-    /// Law: each text is a document of the key under which it is kept, so that it need not be read in order to know its key. It does nothing.
+    /// Law: each text is a document of the key under which it is kept, so that it need not be read in
+    /// order to know its key. It does nothing.
     fn keeps_documents(&self)
         ensures { (custody self.now).sound → KeepsDocuments (custody self.now).kept };
 

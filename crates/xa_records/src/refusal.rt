@@ -27,14 +27,15 @@ pub enum Refusal {
     StillActive,
 }
 
-/// Why a keeper gave no answer. Nothing has changed, but that after `Store` a stop may leave the change made: it is there, or it isn't, when the storage is
-/// opened again.
+/// Why a keeper gave no answer. Nothing has changed, but that after `Store` a stop may leave the change
+/// made: it is there, or it isn't, when the storage is opened again.
 #[derive(Clone, Copy, Debug, PartialEq, Eq, Error)]
 pub enum Failure {
     /// There was no memory for it.
     #[error("out of memory")]
     Memory,
-    /// The storage failed, or the next number or an epoch is the greatest already. The keeper counts these calls.
+    /// The storage failed, or the next number or an epoch is the greatest already. The keeper counts
+    /// these calls.
     #[error("the storage failed")]
     Store,
 }

@@ -12,6 +12,18 @@ fn is_same_text(one: &Text, other: &Text) -> bool
     one == other
 }
 
+/// Whether the two texts are one, if they are there.
+fn is_same_text_if_any(one: &Option<Text>, other: &Option<Text>) -> bool
+    ensures { IsTrue result ↔ (one.now ≡ other.now) }
+{
+    match (one, other) {
+        (Some(one), Some(other)) => is_same_text(one, other),
+        (None, None) => true,
+        (Some(_), None) => false,
+        (None, Some(_)) => false,
+    }
+}
+
 /// Whether the two kinds are one.
 fn is_same_kind(one: DocumentKind, other: DocumentKind) -> bool
     ensures { IsTrue result ↔ (one ≡ other) }
@@ -97,6 +109,7 @@ fn is_same_row(one: &SourceRow, other: &SourceRow) -> bool
         && is_same_text(&one.entity, &other.entity)
         && is_same_text(&one.attribute_id, &other.attribute_id)
         && is_same_value(&one.value, &other.value)
+        && is_same_text_if_any(&one.issuer, &other.issuer)
 }
 
 /// Whether the rows are the same, in the same order.

@@ -1,4 +1,5 @@
-//! Documents that were read and are shared: one text is read once for all who use it; and how much is read for one message.
+//! Documents that were read and are shared: one text is read once for all who use it; and how much is
+//! read for one message.
 #![tactic(auto)]
 
 mod shelf;

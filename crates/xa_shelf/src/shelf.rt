@@ -14,8 +14,8 @@ use xa_value::{OrMemory, Shared};
 /// The most documents that are kept: their texts, of at most 65,536 bytes each, come to 8 MiB at most.
 const MAX_DOCUMENTS: usize = 128;
 
-/// Documents, each under its whole text. Contracts see the texts, the one that was asked for last first, and the number of texts that were read and not
-/// found.
+/// Documents, each under its whole text. Contracts see the texts, the one that was asked for last first,
+/// and the number of texts that were read and not found.
 #[derive(Drop)]
 pub struct Shelf {
     alloc: Global,
@@ -47,20 +47,22 @@ impl Shelf {
         })
     }
 
-    /// A share of the text's document, or the text's first fault. A text that is found is neither read nor copied, and its document is now
-    /// the one that was asked for last. A fault isn't kept, nor a document for which there is no memory.
+    /// A share of the text's document, or the text's first fault. A text that is found is neither read
+    /// nor copied, and its document is now the one that was asked for last. A fault isn't kept, nor a
+    /// document for which there is no memory.
     pub fn get_or_read(&mut self, text: &[u8]) -> Result<Shared<Parsed>, OrMemory<NotationError>>
         ensures value { Gives result (document_of text.now) }
         ensures found { is_among text.now self.old.texts ≡ true → self.new ≡ found text.now self.old }
         ensures read { is_among text.now self.old.texts ≡ false → IsRead text.now self.old self.new }
         ensures faulty { IsErr (document_of text.now) → self.new ≡ record { texts = self.old.texts; readings = one_more self.old.readings } }
     {
-        // Nothing is done with the documents: by their keys, which are `String`s, the prover knows that each text that is held is UTF-8.
+        // Nothing is done with the documents: by their keys, which are `String`s, the prover knows that
+        // each text that is held is UTF-8.
         let _documents = &self.documents;
         let Ok(written) = str::from_utf8(text) else {
             return self.read(text);
         };
-        match shelved(&mut self.documents, written)? {
+        match share_under(&mut self.documents, written)? {
             Some(document) => Ok(document),
             None => self.read_and_keep(written),
         }
@@ -97,7 +99,7 @@ impl Shelf {
 }
 
 /// A share of the document that stands under the text.
-fn shelved(
+fn share_under(
     documents: &mut LruCache<String, Shared<Parsed>>,
     text: &str,
 ) -> Result<Option<Shared<Parsed>>, AllocError>

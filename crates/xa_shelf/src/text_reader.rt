@@ -10,8 +10,9 @@ use std::marker::Model;
 use xa_notation::{NotationError, Parsed};
 use xa_value::{OrMemory, Shared};
 
-/// Reads texts for one message, by a shelf: no more bytes of them together than a limit says, whether they are held or not, so that what others have had read makes
-/// no difference. Contracts see how many bytes are left, and whether more were asked for.
+/// Reads texts for one message, by a shelf: no more bytes of them together than a limit says, whether
+/// they are held or not, so that what others have had read makes no difference. Contracts see how many
+/// bytes are left, and whether more were asked for.
 #[derive(Drop)]
 pub struct TextReader<'a> {
     shelf: &'a mut Shelf,
@@ -39,8 +40,9 @@ impl<'a> TextReader<'a> {
         }
     }
 
-    /// A share of the text's document, or the text's first fault. Once more bytes were asked for than are left, it is answered as if memory were wanting, and so is
-    /// each text that has any bytes from then on.
+    /// A share of the text's document, or the text's first fault. Once more bytes were asked for than
+    /// are left, it is answered as if memory were wanting, and so is each text that has any bytes from
+    /// then on.
     pub fn read(&mut self, text: &[u8]) -> Result<Shared<Parsed>, OrMemory<NotationError>>
         ensures value { Gives result (document_of text.now) }
         ensures spends { self.new ≡ asked (length text.now) self.old }

@@ -25,7 +25,8 @@ use xa_notation::Role;
 use xa_policy::{DocumentKey, Reference};
 use xa_value::{Items, Text};
 
-/// A keeper in memory. What a call for one domain costs grows with what that domain keeps, and with the logarithm of the number of domains.
+/// A keeper in memory. What a call for one domain costs grows with what that domain keeps, and with the
+/// logarithm of the number of domains.
 #[derive(Drop)]
 pub struct PlainRecords {
     domains: Domains,
@@ -47,8 +48,9 @@ impl PlainRecords {
         }
     }
 
-    /// A keeper of one domain of that number and epoch, in which nothing has been put yet; the next gets the number after it. It is there for tests of the
-    /// greatest numbers, which no test reaches by calls. Answers `Store` where the next number or the epoch would be above 2^63 - 1.
+    /// A keeper of one domain of that number and epoch, in which nothing has been put yet; the next gets
+    /// the number after it. It is there for tests of the greatest numbers, which no test reaches by
+    /// calls. Answers `Store` where the next number or the epoch would be above 2^63 - 1.
     pub fn with_domain(
         alloc: Global,
         name: Text,

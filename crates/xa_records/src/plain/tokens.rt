@@ -49,7 +49,8 @@ impl Tokens {
         self.roles.contains_key(digest)
     }
 
-    /// Whether the token of that digest may be put in: it is there already, or there are fewer than a domain may have.
+    /// Whether the token of that digest may be put in: it is there already, or there are fewer than a
+    /// domain may have.
     pub(crate) fn has_room_for(&self, digest: &Digest) -> bool
         ensures { result ≡ (contains_key self.now digest.now || nat_lt (len self.now) 32) }
     {

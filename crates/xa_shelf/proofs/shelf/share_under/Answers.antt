@@ -4,7 +4,7 @@ use Rattle.xa_notation.specs.Document.{document_of}
 use Rattle.xa_shelf.specs.Readings.{AreDocuments, IsDocument, is_among, texts_of}
 use Rattle.xa_shelf.proofs.DocumentLemmas.{found_among, found_document, promoted_texts, at_failure}
 use Rattle.xa_shelf.proofs.EntryLemmas.{all_promoted}
-use Rattle.xa_shelf.proofs.shelf.shelved.Goals as goal
+use Rattle.xa_shelf.proofs.shelf.share_under.Goals as goal
 
 pub returns-in_err-clone-in-Some-clause-documents :
     goal.returns-in_err-clone-in-Some-clause-documents

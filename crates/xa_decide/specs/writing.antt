@@ -1,0 +1,2 @@
+-- How the code writes: words that only contracts of private functions cite.
+pub mod Tokens

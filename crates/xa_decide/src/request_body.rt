@@ -1,0 +1,52 @@
+//! The body of a request, read.
+ghost use Rattle.std.specs.Prelude.{◌≡◌, IfOk};
+ghost use Rattle.xa_profile.specs.Request.{request_of};
+
+use std::alloc::{AllocError, Global};
+use std::marker::Model;
+use xa_profile::{Request, RequestError};
+use xa_value::OrMemory;
+
+/// The body of a request, with what was read of it, so that it is read once whatever is asked of it. Contracts see its bytes.
+#[derive(Debug, Drop)]
+pub struct RequestBody<'a> {
+    bytes: &'a [u8],
+    request: Result<Request, RequestError>,
+}
+
+impl<'a> Model for RequestBody<'a> {
+    ghost use Rattle.std.specs.Prelude.{◌≡◌, ℕ, List};
+    ghost use Rattle.xa_profile.specs.Request.{request_of};
+
+    ghost Value = { List ℕ };
+
+    ghost view = { λ b. b.bytes.now };
+
+    ghost invariant = { λ b. b.request ≡ request_of b.bytes.now };
+}
+
+impl<'a> RequestBody<'a> {
+    /// Reads the body. Want of memory is the only error: what is no request is kept as such. What this costs grows with the body.
+    pub fn read(alloc: Global, bytes: &'a [u8]) -> Result<RequestBody<'a>, AllocError>
+        ensures { IfOk result (λ body. body ≡ bytes.now) }
+    {
+        match Request::read(alloc, bytes) {
+            Ok(request) => Ok(RequestBody {
+                bytes,
+                request: Ok(request),
+            }),
+            Err(OrMemory::Memory) => Err(AllocError),
+            Err(OrMemory::Error(error)) => Ok(RequestBody {
+                bytes,
+                request: Err(error),
+            }),
+        }
+    }
+
+    /// The request that it is, or why it is none.
+    pub(crate) fn request(&self) -> &Result<Request, RequestError>
+        ensures { result.now ≡ request_of self.now }
+    {
+        &self.request
+    }
+}
