@@ -13,10 +13,11 @@ use Rattle.sqlite.proofs.Callers.{command_of, runs_as}
 use Rattle.sqlite.proofs.StateLemmas.{survives_then, survives_weaker}
 use Rattle.sqlite_tied.specs.Compute.{everything}
 use Rattle.xa_store.specs.declared.open_error.OpenError.{OpenError}
+use Rattle.xa_store.specs.declared.opening.schema_version.SchemaVersion.{SchemaVersion}
 use Rattle.xa_store.specs.Judging.{Begun, Checked, Ended, IsIdle, Tested, Undone}
 use Rattle.xa_store.specs.Opening.{IsFailure, IsRefusal}
-use Rattle.xa_store.specs.Sound.{Rests, SameNow}
-use Rattle.xa_store.specs.Tables.{our_schema}
+use Rattle.xa_store.specs.Opened.{schema_of}
+use Rattle.xa_store.specs.Sound.{RestsIn, SameNow}
 
 -- ---- the two statements
 
@@ -122,12 +123,12 @@ fails_no_refusal e (inl is) (inr other) = absurd cc
 fails_no_refusal e (inr is) (inl other) = absurd cc
 fails_no_refusal e (inr is) (inr other) = absurd cc
 
-module _ (a : State) (quiet : IsIdle a) (other : a.now.schema ≢ our_schema) where
-  no_rest : ¬ Rests a
+module _ (version : SchemaVersion) (a : State) (quiet : IsIdle a) (other : a.now.schema ≢ schema_of version) where
+  no_rest : ¬ RestsIn (schema_of version) a
   no_rest rests = other rests.schema
 
-  -- of an answer that isn't one of the tables of a keeper alone
-  tested : (d : State) (r : Result Bool OpenError) → Survives a d (λ _. ⊥) → (HasCleanDisk d → IsTrue d.is_open → IfErr r (λ e. IsRefusal e → SameNow a d)) → (r ≡ Ok false) ⊎ ((e : OpenError) × (r ≡ Err e)) → Tested a d r
+  -- of an answer that isn't one of the tables of the schema alone
+  tested : (d : State) (r : Result Bool OpenError) → Survives a d (λ _. ⊥) → (HasCleanDisk d → IsTrue d.is_open → IfErr r (λ e. IsRefusal e → SameNow a d)) → (r ≡ Ok false) ⊎ ((e : OpenError) × (r ≡ Err e)) → Tested version a d r
   tested d (Ok true) survived refused (inl is) = absurd (let e = is in cc)
   tested d (Ok true) survived refused (inr is) = absurd (let e = is.1 in cc)
   tested d (Ok false) survived refused is = record {
@@ -137,7 +138,7 @@ module _ (a : State) (quiet : IsIdle a) (other : a.now.schema ≢ our_schema) wh
     opened = λ clean rests. absurd (no_rest rests);
     known = λ rests. absurd (no_rest rests);
     stays = λ clean rests. absurd (no_rest rests);
-    ours = λ clean own. absurd (true≢false (sym own));
+    sound = λ clean own. absurd (true≢false (sym own));
   }
   tested d (Err e) survived refused is = record {
     survives = survived;
@@ -146,13 +147,13 @@ module _ (a : State) (quiet : IsIdle a) (other : a.now.schema ≢ our_schema) wh
     opened = λ clean rests. absurd (no_rest rests);
     known = λ rests. tt;
     stays = λ clean rests. tt;
-    ours = λ clean. tt;
+    sound = λ clean. tt;
   }
 
-  pub not_apart : (b : State) (e : OpenError) → Begun a b (Err e) → Tested a b (Err e)
+  pub not_apart : (b : State) (e : OpenError) → Begun a b (Err e) → Tested version a b (Err e)
   not_apart b e begun = tested b (Err e) begun.survives (λ clean up refusal. absurd (fails_no_refusal e begun.fails refusal)) (inr (e, refl))
 
-  module _ (b c d : State) (x : Unit {0}) (first : Begun a b (Ok x)) (r : Result (Unit {0}) OpenError) (check : Checked b c r) where
+  module _ (b c d : State) (x : Unit {0}) (first : Begun a b (Ok x)) (r : Result (Unit {0}) OpenError) (check : Checked version b c r) where
     inside : HasCleanDisk b → IsTrue b.in_transaction
     inside clean = (first.begins clean).mode
 
@@ -180,11 +181,11 @@ module _ (a : State) (quiet : IsIdle a) (other : a.now.schema ≢ our_schema) wh
           idle = back.idle;
         }
 
-    pub apart_unended : (e : OpenError) → Ended c d (Err e) → Tested a d (Err e)
+    pub apart_unended : (e : OpenError) → Ended c d (Err e) → Tested version a d (Err e)
     apart_unended e last = tested d (Err e) (survived (Err e) last) (λ clean up refusal. absurd (fails_no_refusal e last.fails refusal)) (inr (e, refl))
 
-    pub apart_sound : (y : Unit {0}) → Ended c d (Ok y) → Tested a d (Ok false)
+    pub apart_sound : (y : Unit {0}) → Ended c d (Ok y) → Tested version a d (Ok false)
     apart_sound y last = tested d (Ok false) (survived (Ok y) last) (λ clean up. tt) (inl refl)
 
-    pub apart_refused : (e : OpenError) (y : Unit {0}) → Ended c d (Ok y) → Tested a d (Err e)
+    pub apart_refused : (e : OpenError) (y : Unit {0}) → Ended c d (Ok y) → Tested version a d (Err e)
     apart_refused e y last = tested d (Err e) (survived (Ok y) last) (λ clean up refusal. same y last clean up) (inr (e, refl))

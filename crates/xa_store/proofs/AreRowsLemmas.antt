@@ -1,7 +1,8 @@
--- The rows of a sound table are those that a keeper writes: for any table, and for domains and tokens.
+-- The rows of a sound table are those that a keeper writes: for any table, and for domains, tokens and the rows of sources.
 use Rattle.std.proofs.Common.{◌≡◌, ℕ, ℤ, Bool, true, false, List, [], ◌∷◌, map, drop, refl, subst, ◌∙◌}
 use Rattle.std.specs.List.{AllByRecursion}
 use Rattle.sqlite.specs.Order.{Row, column}
+use Rattle.sqlite.specs.Schema.{Schema}
 use Rattle.sqlite.specs.Table.{Table}
 use Rattle.sqlite.specs.Tree.{Trees}
 use Rattle.sqlite.specs.declared.types.Value.TheVariants.{Int}
@@ -10,18 +11,19 @@ use Rattle.sqlite_keyed.specs.Keyed.{IsKeyedBy}
 use Rattle.sqlite_keyed.specs.Rules.{AreApart}
 use Rattle.sqlite_keyed.proofs.ListLemmas.{all_both, all_from_test, all_of, all_unmap, all_weaker}
 use Rattle.sqlite_keyed.proofs.RuleLemmas.{first_of_both, second_of_both}
-use Rattle.sqlite_schema.specs.declared.schema.Constraint.TheVariants.{Datatype, Unique}
-use Rattle.sqlite_schema.specs.Rules.{agree, are_typed, clashes, passes}
+use Rattle.sqlite_schema.specs.declared.schema.Constraint.{Constraint}
+use Rattle.sqlite_schema.specs.declared.schema.Constraint.TheVariants.{Datatype, NotNull, Unique}
+use Rattle.sqlite_schema.specs.Rules.{agree, are_present, are_typed, clashes, passes}
 use Rattle.sqlite_sql.specs.declared.ops.CompareOp.TheVariants.{Eq}
 use Rattle.sqlite_typed.proofs.TestLemmas.{at_ints, at_texts, at_blobs, then_term, last_term}
 use Rattle.sqlite_value.specs.Keys.{first_key}
 use Rattle.xa_store.specs.declared.opening.kind.Kind.{Kind}
-use Rattle.xa_store.specs.declared.opening.kind.Kind.TheVariants.{Domains, Tokens}
+use Rattle.xa_store.specs.declared.opening.kind.Kind.TheVariants.{Domains, Tokens, Attributes, Sources}
 use Rattle.xa_store.specs.Opened.{as_read, is_sound_table, is_whole_row, row_number, tree_of}
-use Rattle.xa_store.specs.Rows.{DomainRow, TokenRow, domain_in, domain_row, token_in, token_row}
-use Rattle.xa_store.specs.Sound.{AreRows, same_name, same_token}
-use Rattle.xa_store.specs.Tables.{domains, our_schema, rising, tokens}
-use Rattle.xa_store.proofs.ShapedLemmas.{apart_from, domain_back, free_of, keyed_from, rows_ascend, token_back, written_from}
+use Rattle.xa_store.specs.Rows.{AttributeRow, DomainRow, TokenRow, attribute_in, attribute_row, domain_in, domain_row, token_in, token_row}
+use Rattle.xa_store.specs.Sound.{AreRows, same_name, same_place, same_token}
+use Rattle.xa_store.specs.Tables.{attributes, domains, first_schema, our_schema, rising, sources, tokens}
+use Rattle.xa_store.proofs.ShapedLemmas.{apart_from, domain_back, first_source_back, free_of, keyed_from, places_agree, rows_ascend, source_back, token_back, written_from}
 
 -- ---- any table
 
@@ -38,12 +40,19 @@ module _ (kind : Kind) (next : ℤ) (db : Trees) (sound : is_sound_table db next
     rise : IsKeyedBy rowid_of (map reads (db (tree_of kind)))
     rise = keyed_from rowid_of reads numbered (db (tree_of kind)) (rows_ascend kind (db (tree_of kind)) (second_of_both _ _ sound))
 
-    module _ (table : Table) (back : (r : Row) → are_typed table.key 0 table.columns (drop 1 r) ≡ true → IsWhole r → r ≡ write (reads r))
-        (typed : AllByRecursion (λ r. passes Datatype our_schema db table r ≡ true) (db (tree_of kind))) where
+    module _ (schema : Schema) (obeys : IsSound schema db) (table : Table) (its : table.tree ≡ tree_of kind) (pick : (P : Table → Type 0) → AllByRecursion P schema.tables → P table)
+        (back : (r : Row) → are_typed table.key 0 table.columns (drop 1 r) ≡ true → are_present table.key 0 table.columns r ≡ true → IsWhole r → r ≡ write (reads r)) where
+      its_rows : (rule : Constraint) → AllByRecursion (λ r. passes rule schema db table r ≡ true) (db (tree_of kind))
+      its_rows rule =
+          subst (λ t. AllByRecursion (λ r. passes rule schema db table r ≡ true) (db t)) its
+          (pick (λ t. AllByRecursion (λ r. passes rule schema db t r ≡ true) (db t.tree)) (obeys.obeys.rules rule))
+
       written : db (tree_of kind) ≡ map write (map reads (db (tree_of kind)))
       written =
           written_from write reads (db (tree_of kind))
-          (all_both (λ r. passes Datatype our_schema db table r ≡ true) IsWhole (λ r. r ≡ write (reads r)) (λ r t w. back r (first_of_both _ _ t) w) (db (tree_of kind)) typed whole)
+          (all_both (λ r. IsWhole r → r ≡ write (reads r)) IsWhole (λ r. r ≡ write (reads r)) (λ r f w. f w) (db (tree_of kind))
+          (all_both (λ r. passes Datatype schema db table r ≡ true) (λ r. passes NotNull schema db table r ≡ true) (λ r. IsWhole r → r ≡ write (reads r)) (λ r t p w. back r (first_of_both _ _ t) p w) (db (tree_of kind))
+          (its_rows Datatype) (its_rows NotNull)) whole)
 
       -- no key is asked for but the row's own
       pub rows_alone : ((a b : X) → same a b ≡ false) → AreRows write reads rowid_of same (db (tree_of kind))
@@ -55,13 +64,15 @@ module _ (kind : Kind) (next : ℤ) (db : Trees) (sound : is_sound_table db next
 
       -- no two rows agree at the places of a key
       pub rows_apart : ((x : X) → column (write x) 0 ≡ Int (rowid_of x)) → (at : List ℕ) → ((a b : X) → same a b ≡ true → agree rising at (write a) at (write b) ≡ true)
-          → AllByRecursion (λ r. clashes rising at (db (tree_of kind)) r ≡ false) (db (tree_of kind)) → AreRows write reads rowid_of same (db (tree_of kind))
-      rows_apart begins at agrees free = record {
-        written = written;
-        rise = rise;
-        apart = apart_from write rowid_of begins same at agrees (map reads (db (tree_of kind))) rise
-            (subst (λ l. AllByRecursion (λ r. clashes rising at l r ≡ false) l) written free);
-      }
+          → ((r : Row) → passes Unique schema db table r ≡ true → clashes rising at (db (tree_of kind)) r ≡ false) → AreRows write reads rowid_of same (db (tree_of kind))
+      rows_apart begins at agrees alone =
+          let free = all_weaker (λ r. passes Unique schema db table r ≡ true) (λ r. clashes rising at (db (tree_of kind)) r ≡ false) alone (db (tree_of kind)) (its_rows Unique) in
+          record {
+            written = written;
+            rise = rise;
+            apart = apart_from write rowid_of begins same at agrees (map reads (db (tree_of kind))) rise
+                (subst (λ l. AllByRecursion (λ r. clashes rising at l r ≡ false) l) written free);
+          }
 
 -- ---- domains, and tokens
 
@@ -76,12 +87,22 @@ digests_agree a b is = then_term (at_ints false Eq a.number b.number ∙ first_o
 module _ (db : Trees) (next : ℤ) (sound : IsSound our_schema db) where
   pub domains_are : is_sound_table db next Domains ≡ true → AreRows domain_row domain_in (λ d. d.number) same_name (db 1)
   domains_are h =
-      let unique = (sound.obeys.rules Unique).1.0 in
-      let free = all_weaker (λ r. passes Unique our_schema db domains r ≡ true) (λ r. clashes rising (2 ∷ []) (db 1) r ≡ false) (λ r u. free_of _ (first_of_both _ _ u)) (db 1) unique in
-      rows_apart Domains next db h domain_row domain_in (λ (d : DomainRow). d.number) same_name (λ r. refl) domains (domain_back next) (sound.obeys.rules Datatype).1.0 (λ d. refl) (2 ∷ []) names_agree free
+      rows_apart Domains next db h domain_row domain_in (λ (d : DomainRow). d.number) same_name (λ r. refl) our_schema sound domains refl (λ P all. all.1.0) (λ r t p w. domain_back next r t w)
+      (λ d. refl) (2 ∷ []) names_agree (λ r u. free_of _ (first_of_both _ _ u))
 
   pub tokens_are : is_sound_table db next Tokens ≡ true → AreRows token_row token_in (λ t. t.rowid) same_token (db 3)
   tokens_are h =
-      let unique = (sound.obeys.rules Unique).1.1.0 in
-      let free = all_weaker (λ r. passes Unique our_schema db tokens r ≡ true) (λ r. clashes rising (1 ∷ 2 ∷ []) (db 3) r ≡ false) (λ r u. free_of _ (first_of_both _ _ u)) (db 3) unique in
-      rows_apart Tokens next db h token_row token_in (λ (t : TokenRow). t.rowid) same_token (λ r. refl) tokens (token_back next) (sound.obeys.rules Datatype).1.1.0 (λ t. refl) (1 ∷ 2 ∷ []) digests_agree free
+      rows_apart Tokens next db h token_row token_in (λ (t : TokenRow). t.rowid) same_token (λ r. refl) our_schema sound tokens refl (λ P all. all.1.1.0) (λ r t p w. token_back next r t w)
+      (λ t. refl) (1 ∷ 2 ∷ []) digests_agree (λ r u. free_of _ (first_of_both _ _ u))
+
+-- ---- rows of sources, in both schemas
+
+pub sources_are : (db : Trees) (next : ℤ) → IsSound our_schema db → is_sound_table db next Sources ≡ true → AreRows attribute_row attribute_in (λ a. a.rowid) same_place (db 10)
+sources_are db next sound h =
+    rows_apart Sources next db h attribute_row attribute_in (λ (a : AttributeRow). a.rowid) same_place (λ r. refl) our_schema sound sources refl (λ P all. all.1.1.1.1.1.1.0) (source_back next)
+    (λ a. refl) (1 ∷ 2 ∷ []) (λ a b is. places_agree a b ∙ is) (λ r u. free_of _ (first_of_both _ _ u))
+
+pub first_sources_are : (db : Trees) (next : ℤ) → IsSound first_schema db → is_sound_table db next Attributes ≡ true → AreRows attribute_row attribute_in (λ a. a.rowid) same_place (db 8)
+first_sources_are db next sound h =
+    rows_apart Attributes next db h attribute_row attribute_in (λ (a : AttributeRow). a.rowid) same_place (λ r. refl) first_schema sound attributes refl (λ P all. all.1.1.1.1.1.0) (first_source_back next)
+    (λ a. refl) (1 ∷ 2 ∷ []) (λ a b is. places_agree a b ∙ is) (λ r u. free_of _ (first_of_both _ _ u))

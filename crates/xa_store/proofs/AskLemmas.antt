@@ -5,13 +5,15 @@ use Rattle.sqlite.specs.Order.{Row}
 use Rattle.sqlite.specs.declared.error.Error.{Error}
 use Rattle.sqlite.specs.Given.{IsPlain}
 use Rattle.sqlite.specs.Listing.{understood}
+use Rattle.sqlite.specs.Schema.{Schema}
 use Rattle.sqlite.specs.State.{State, Shown, ShowsRows, FailsToQuery, FailsToShow, IsNotRun, IsUnchanged, IsRolledBack, CommitsShowing}
 use Rattle.sqlite.specs.Tree.{Trees}
 use Rattle.sqlite_resolve.specs.declared.compiled.Compiled.{Compiled}
 use Rattle.sqlite_schema.specs.declared.command.Returning.{Returning}
+use Rattle.xa_store.specs.declared.opening.schema_version.SchemaVersion.{SchemaVersion}
 use Rattle.xa_store.specs.Judging.{GoesOn, HoldsBack}
-use Rattle.xa_store.specs.Sound.{Rests, SameNow}
-use Rattle.xa_store.specs.Tables.{our_schema}
+use Rattle.xa_store.specs.Opened.{schema_of}
+use Rattle.xa_store.specs.Sound.{RestsIn, SameNow}
 
 shows_open : (old new : State) (sql : List ℕ) (c : Compiled) (params : Row) (rows : List Row) (o : Option Returning) → ShowsRows old new sql c params rows o → IsTrue old.is_open × IsTrue new.is_open
 shows_open old new sql c params rows None h = (h.3.0.was_open, h.3.0.is_open)
@@ -32,39 +34,40 @@ failed_open sql params old new e (inl (inl h)) up = h.1.0.was_open
 failed_open sql params old new e (inl (inr h)) up = h.3.was_open up
 failed_open sql params old new e (inr h) up = fails_open old new sql h.0 _ e h.0.returning h.2 up
 
--- ---- of tables that are ours
+-- ---- of tables of a schema
 
-pub unchanged_same : (old new : State) → Rests old → IsUnchanged old new → SameNow old new
+pub unchanged_same : {under : Schema} (old new : State) → RestsIn under old → IsUnchanged old new → SameNow old new
 unchanged_same old new rests h = record { now = h.0.now_is; committed = h.0.committed_is; idle = h.0.mode ∙ rests.idle }
 
-pub rolled_same : (old new : State) → Rests old → IsRolledBack old new → IsTrue new.is_open → SameNow old new
+pub rolled_same : {under : Schema} (old new : State) → RestsIn under old → IsRolledBack old new → IsTrue new.is_open → SameNow old new
 rolled_same old new rests h up = record { now = (h.undone up).0 ∙ sym rests.settled; committed = (h.undone up).1; idle = h.autocommit }
 
-pub plain_at : (sql : List ℕ) (old : State) (c : Compiled) → old.now.schema ≡ our_schema → IsPlain (understood our_schema sql) → understood old.now.schema sql ≡ Ok c → c.returning ≡ None
+pub plain_at : {under : Schema} (sql : List ℕ) (old : State) (c : Compiled) → old.now.schema ≡ under → IsPlain (understood under sql) → understood old.now.schema sql ≡ Ok c → c.returning ≡ None
 plain_at sql old c ours plain is = (subst IsPlain (ap (λ s. understood s sql) (sym ours) ∙ is) plain).0
 
-pub shown_same : (sql : List ℕ) (params : Row) (old new : State) (rows : List Row) → Rests old → IsPlain (understood our_schema sql) → Shown sql params old new rows → SameNow old new
+pub shown_same : {under : Schema} (sql : List ℕ) (params : Row) (old new : State) (rows : List Row) → RestsIn under old → IsPlain (understood under sql) → Shown sql params old new rows → SameNow old new
 unfolding Shown
 shown_same sql params old new rows rests plain h = unchanged_same old new rests (subst (ShowsRows old new sql h.0 _ rows) (plain_at sql old h.0 rests.schema plain h.1.is) h.2).3
 
-pub failed_same : (sql : List ℕ) (params : Row) (old new : State) (e : Error) → Rests old → IsPlain (understood our_schema sql) → FailsToQuery sql params old new e → IsTrue new.is_open → SameNow old new
+pub failed_same : {under : Schema} (sql : List ℕ) (params : Row) (old new : State) (e : Error) → RestsIn under old → IsPlain (understood under sql) → FailsToQuery sql params old new e → IsTrue new.is_open → SameNow old new
 unfolding FailsToQuery IsNotRun
 failed_same sql params old new e rests plain (inl (inl h)) up = unchanged_same old new rests h.1
 failed_same sql params old new e rests plain (inl (inr h)) up = rolled_same old new rests h.3 up
 failed_same sql params old new e rests plain (inr h) up = unchanged_same old new rests (subst (FailsToShow old new sql h.0 _ e) (plain_at sql old h.0 rests.schema plain h.1.is) h.2).3
 
--- ---- of tables of any schema
+-- ---- of any tables
 
-pub goes_unchanged : (old new : State) → IsUnchanged old new → GoesOn old new
+pub goes_unchanged : {version : SchemaVersion} (old new : State) → IsUnchanged old new → GoesOn version old new
 goes_unchanged old new h = record { was_open = h.0.was_open; is_open = h.0.is_open; schema = λ ours. ap (λ (d : Database). d.schema) h.0.now_is ∙ ours; mode = h.0.mode }
 
-goes_shown : (old new : State) (sql : List ℕ) (c : Compiled) (params : Row) (rows : List Row) (o : Option Returning) → (old.now.schema ≡ our_schema → o ≡ None) → ShowsRows old new sql c params rows o → GoesOn old new
+goes_shown : {version : SchemaVersion} (old new : State) (sql : List ℕ) (c : Compiled) (params : Row) (rows : List Row) (o : Option Returning) → (old.now.schema ≡ schema_of version → o ≡ None)
+    → ShowsRows old new sql c params rows o → GoesOn version old new
 goes_shown old new sql c params rows None plain h = goes_unchanged old new h.3
 goes_shown old new sql c params rows (Some what) plain h =
     record { was_open = h.1.shown.was_open; is_open = h.1.shown.is_open; schema = λ ours. absurd (let e = plain ours in cc); mode = h.1.shown.mode }
 
 -- a query that is answered goes on
-pub shown_goes : (sql : List ℕ) (params : Row) (old new : State) (rows : List Row) → IsPlain (understood our_schema sql) → Shown sql params old new rows → GoesOn old new
+pub shown_goes : {version : SchemaVersion} (sql : List ℕ) (params : Row) (old new : State) (rows : List Row) → IsPlain (understood (schema_of version) sql) → Shown sql params old new rows → GoesOn version old new
 unfolding Shown
 shown_goes sql params old new rows plain h = goes_shown old new sql h.0 _ rows h.0.returning (λ ours. plain_at sql old h.0 ours plain h.1.is) h.2
 
@@ -107,7 +110,7 @@ commits_idle sql params s db h = h.3.0
 -- ---- one after another
 
 module _ (a b c : State) where
-  pub goes_then : GoesOn a b → GoesOn b c → GoesOn a c
+  pub goes_then : {version : SchemaVersion} → GoesOn version a b → GoesOn version b c → GoesOn version a c
   goes_then first second = record { was_open = first.was_open; is_open = second.is_open; schema = λ ours. second.schema (first.schema ours); mode = second.mode ∙ first.mode }
 
   pub holds_then : HoldsBack a b → HoldsBack b c → HoldsBack a c
@@ -120,7 +123,7 @@ module _ {X : Type 0} (items : X → List Row) (sql : List ℕ) (params : Row) (
   asked_open (Ok x) ok err up = (shown_open sql params old new (items x) ok).0
   asked_open (Err e) ok err up = failed_open sql params old new e err up
 
-  pub asked_same : (r : Result X Error) → Rests old → IsPlain (understood our_schema sql) → IfOk r (λ x. Shown sql params old new (items x)) → IfErr r (FailsToQuery sql params old new) → IsTrue new.is_open → SameNow old new
+  pub asked_same : {under : Schema} (r : Result X Error) → RestsIn under old → IsPlain (understood under sql) → IfOk r (λ x. Shown sql params old new (items x)) → IfErr r (FailsToQuery sql params old new) → IsTrue new.is_open → SameNow old new
   asked_same (Ok x) rests plain ok err up = shown_same sql params old new (items x) rests plain ok
   asked_same (Err e) rests plain ok err up = failed_same sql params old new e rests plain err up
 

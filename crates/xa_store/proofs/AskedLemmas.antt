@@ -6,6 +6,7 @@ use Rattle.sqlite.specs.Command.TheVariants.{Select, Rows}
 use Rattle.sqlite.specs.Given.{IsPlain}
 use Rattle.sqlite.specs.Listing.{understood}
 use Rattle.sqlite.specs.Order.{Row}
+use Rattle.sqlite.specs.Schema.{Schema}
 use Rattle.sqlite.specs.State.{State, HasCleanDisk, Shown, FailsToQuery, FailsToShow, IsNotRun, Survives, CommitsShowing, store_error}
 use Rattle.sqlite.specs.declared.error.Error.{Error}
 use Rattle.sqlite.specs.declared.error.Error.TheVariants.{SqliteFailure, SqlInputError}
@@ -16,10 +17,11 @@ use Rattle.sqlite_trees.specs.declared.error.StoreError.{StoreError}
 use Rattle.sqlite_trees.specs.declared.error.StoreError.TheVariants.{OutOfMemory, Io, Corrupt, Full, Broken, Unstorable}
 use Rattle.xa_store.specs.declared.open_error.OpenError.{OpenError}
 use Rattle.xa_store.specs.declared.open_error.OpenError.TheVariants.{NotThisSchema, Damaged}
+use Rattle.xa_store.specs.declared.opening.schema_version.SchemaVersion.{SchemaVersion}
 use Rattle.xa_store.specs.Judging.{Asks, GoesOn, IsUnguarded, is_misfit, refused_as}
 use Rattle.xa_store.specs.Opening.{IsFailure}
-use Rattle.xa_store.specs.Sound.{Rests, SameNow}
-use Rattle.xa_store.specs.Tables.{our_schema}
+use Rattle.xa_store.specs.Opened.{schema_of}
+use Rattle.xa_store.specs.Sound.{RestsIn, SameNow}
 use Rattle.xa_store.proofs.AskLemmas.{commits_idle, failed_held, failed_open, failed_same, goes_then, holds_then, plain_at, shown_goes, shown_held, shown_open, shown_same}
 use Rattle.xa_store.proofs.QuietLemmas.{rests_after}
 
@@ -43,8 +45,8 @@ refuses_fits limit (Select q names) db params e (inr (inr h)) = fit e _ h.0 refl
 refuses_fits limit (Rows values width names) db params e h = fit e _ h.0 refl
 refuses_fits limit _ db params e h = fit e _ h refl
 
--- a plain query of our tables is understood
-pub failed_fits : (sql : List ℕ) (params : Row) (old new : State) (e : Error) → Rests old → IsPlain (understood our_schema sql) → FailsToQuery sql params old new e → is_misfit e ≡ false
+-- a plain query of tables of a schema is understood
+pub failed_fits : {under : Schema} (sql : List ℕ) (params : Row) (old new : State) (e : Error) → RestsIn under old → IsPlain (understood under sql) → FailsToQuery sql params old new e → is_misfit e ≡ false
 unfolding FailsToQuery IsNotRun
 failed_fits sql params old new e rests plain (inl (inl (inl h, same))) = absurd (subst IsPlain (ap (λ s. understood s sql) (sym rests.schema) ∙ h.1) plain)
 failed_fits sql params old new e rests plain (inl (inl (inr (c, is, inl h), same))) = fit e _ h.1 refl
@@ -82,11 +84,11 @@ never_refused e fits is = fails_otherwise (subst IsFailure (sym is) (a_failure e
 
 -- ---- one query
 
-module _ (sql : List ℕ) (params : Row) (old new : State) (plain : IsPlain (understood our_schema sql)) (survived : Survives old new (CommitsShowing sql params old)) where
-  pub survives_asked : Survives old new (λ db. IsUnguarded old)
+module _ (sql : List ℕ) (params : Row) (old new : State) (version : SchemaVersion) (plain : IsPlain (understood (schema_of version) sql)) (survived : Survives old new (CommitsShowing sql params old)) where
+  pub survives_asked : Survives old new (λ db. IsUnguarded version old)
   survives_asked = survives_weaker old new _ _ (λ _ db commits. (λ ours. never_commits sql params old db (subst (λ s. IsPlain (understood s sql)) (sym ours) plain) commits, commits_idle sql params old db commits)) survived
 
-  pub asked : {X : Type 0} (x : X) (rows : List Row) → (HasCleanDisk new → Shown sql params old new rows) → Asks old new (Ok x)
+  pub asked : {X : Type 0} (x : X) (rows : List Row) → (HasCleanDisk new → Shown sql params old new rows) → Asks version old new (Ok x)
   asked x rows shown = record {
     survives = survives_asked;
     was_open = λ clean up. (shown_open sql params old new rows (shown clean)).0;
@@ -95,7 +97,7 @@ module _ (sql : List ℕ) (params : Row) (old new : State) (plain : IsPlain (und
     goes_on = λ clean. shown_goes sql params old new rows plain (shown clean);
   }
 
-  pub not_asked : {X : Type 0} (e : Error) (o : OpenError) → (HasCleanDisk new → FailsToQuery sql params old new e) → Asks {X = X} old new (Err o)
+  pub not_asked : {X : Type 0} (e : Error) (o : OpenError) → (HasCleanDisk new → FailsToQuery sql params old new e) → Asks {X = X} version old new (Err o)
   not_asked e o failed = record {
     survives = survives_asked;
     was_open = λ clean up. failed_open sql params old new e (failed clean) up;
@@ -110,23 +112,23 @@ pub same_then : (a b c : State) → SameNow a b → SameNow b c → SameNow a c
 same_then a b c p q = record { now = q.now ∙ p.now; committed = q.committed ∙ p.committed; idle = q.idle }
 
 -- what was asked first, of a connection that is still open
-module _ (a b c : State) {X : Type 0} (x : X) (first : Asks a b (Ok x)) where
-  pub same_before : HasCleanDisk b → Rests a → SameNow a b
+module _ {version : SchemaVersion} (a b c : State) {X : Type 0} (x : X) (first : Asks version a b (Ok x)) where
+  pub same_before : HasCleanDisk b → RestsIn (schema_of version) a → SameNow a b
   same_before clean rests = first.same clean rests (first.goes_on clean).is_open
 
-  pub rests_before : HasCleanDisk b → Rests a → Rests b
+  pub rests_before : HasCleanDisk b → RestsIn (schema_of version) a → RestsIn (schema_of version) b
   rests_before clean rests = rests_after a b rests (same_before clean rests)
 
-  unguarded_before : HasCleanDisk b → IsUnguarded b → IsUnguarded a
+  unguarded_before : HasCleanDisk b → IsUnguarded version b → IsUnguarded version a
   unguarded_before clean h = let on = first.goes_on clean in (λ ours. h.0 (on.schema ours), sym on.mode ∙ h.1)
 
-  goes_on_then : {Y : Type 0} (r : Result Y OpenError) → HasCleanDisk b → OnOk r (GoesOn b c) → OnOk r (GoesOn a c)
+  goes_on_then : {Y : Type 0} (r : Result Y OpenError) → HasCleanDisk b → OnOk r (GoesOn version b c) → OnOk r (GoesOn version a c)
   goes_on_then (Ok y) clean h = goes_then a b c (first.goes_on clean) h
   goes_on_then (Err e) clean h = tt
 
-  pub asks_then : {Y : Type 0} (r : Result Y OpenError) → Asks b c r → Asks a c r
+  pub asks_then : {Y : Type 0} (r : Result Y OpenError) → Asks version b c r → Asks version a c r
   asks_then r second = record {
-    survives = survives_then a b c _ _ (λ db. IsUnguarded a) (λ _ db h. h) (λ clean db h. unguarded_before (omega (arith, second.survives.clean)) h) first.survives second.survives;
+    survives = survives_then a b c _ _ (λ db. IsUnguarded version a) (λ _ db h. h) (λ clean db h. unguarded_before (omega (arith, second.survives.clean)) h) first.survives second.survives;
     was_open = λ clean up. (first.goes_on (omega (arith, second.survives.clean))).was_open;
     same = λ clean rests up.
         let middle : HasCleanDisk b = omega (arith, second.survives.clean) in
@@ -139,5 +141,10 @@ module _ (a b c : State) {X : Type 0} (x : X) (first : Asks a b (Ok x)) where
     goes_on = λ clean. goes_on_then r (omega (arith, second.survives.clean)) (second.goes_on clean);
   }
 
-pub as_failed : {X Y : Type 0} (old new : State) (e : OpenError) → Asks {X = X} old new (Err e) → Asks {X = Y} old new (Err e)
+pub as_failed : {version : SchemaVersion} {X Y : Type 0} (old new : State) (e : OpenError) → Asks {X = X} version old new (Err e) → Asks {X = Y} version old new (Err e)
 as_failed old new e h = record { survives = h.survives; was_open = h.was_open; same = h.same; held = h.held; goes_on = λ clean. tt }
+
+-- what is made of an answer asks for nothing more
+pub as_told : {version : SchemaVersion} {X Y : Type 0} (old new : State) (x : X) (r : Result Y OpenError) → Asks {X = X} version old new (Ok x) → Asks {X = Y} version old new r
+as_told old new x (Ok y) h = record { survives = h.survives; was_open = h.was_open; same = h.same; held = h.held; goes_on = h.goes_on }
+as_told old new x (Err e) h = record { survives = h.survives; was_open = h.was_open; same = h.same; held = h.held; goes_on = λ clean. tt }

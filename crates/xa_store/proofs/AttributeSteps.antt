@@ -1,24 +1,17 @@
 -- What the statements on the rows of sources make of the rows.
-use Rattle.std.proofs.Common.{◌≡◌, ℕ, ℤ, pos, List, [], ◌∷◌, ◌++◌, map, filter, Bool, false, not, refl, ap, subst, ◌∙◌, int_eq, to_z, of_z, w64, Ok}
-use Rattle.std.specs.List.{AllByRecursion}
-use Rattle.sqlite.specs.Order.{Row}
+use Rattle.std.proofs.Common.{◌≡◌, ℕ, ℤ, pos, List, [], ◌∷◌, ◌++◌, map, filter, Bool, true, false, refl, sym, ap, ◌∙◌, int_eq, to_z, of_z, w64, Ok}
 use Rattle.sqlite.specs.Rowids.TheVariants.{Chosen}
 use Rattle.sqlite.specs.State.{State, Executes}
 use Rattle.sqlite.specs.Term.{col}
 use Rattle.sqlite.specs.Tree.{Trees}
 use Rattle.sqlite.specs.declared.types.Value.TheVariants.{Null, Int, Text}
-use Rattle.sqlite_schema.specs.Names.{same_name}
-use Rattle.sqlite_schema.specs.declared.schema.Keys.TheVariants.{Enforced}
 use Rattle.sqlite_sql.specs.declared.ops.CompareOp.TheVariants.{Eq}
-use Rattle.sqlite_value.specs.Keys.{joined}
-use Rattle.sqlite_rules.specs.Action.{works}
 use Rattle.sqlite_rules.specs.Cast.{cast_row}
 use Rattle.sqlite_rules.specs.Edit.{with_rowid, next_rowid}
 use Rattle.sqlite_keyed.specs.Keyed.{next_key}
 use Rattle.sqlite_keyed.specs.Lists.{delete_where}
-use Rattle.sqlite_keyed.proofs.ListLemmas.{all_of, all-filter}
-use Rattle.sqlite_keyed.proofs.KeyedLemmas.{IsKeyedBy-delete_where}
-use Rattle.sqlite_keyed.proofs.RuleLemmas.{apart_delete}
+use Rattle.sqlite_keyed.proofs.ListLemmas.{all_of}
+use Rattle.sqlite_typed.specs.Columns.{or_null}
 use Rattle.sqlite_typed.proofs.TestLemmas.{at_ints, last_term}
 use Rattle.xa_value.specs.declared.data_type.DataType.{DataType}
 use Rattle.xa_value.specs.declared.data_type.DataType.TheVariants.{String, Boolean, Integer, Date, Time, DateTime, DayTimeDuration, YearMonthDuration, AnyUri, HexBinary, Base64Binary}
@@ -26,18 +19,17 @@ use Rattle.xa_value.specs.Types.{place_of}
 use Rattle.xa_decide.specs.declared.source_row.SourceRow.{SourceRow}
 use Rattle.xa_store.specs.declared.step.Step.TheVariants.{AddAttribute, DropSource}
 use Rattle.xa_store.specs.Rows.{AttributeRow, attribute_row, attribute_in, type_number, value_text}
-use Rattle.xa_store.specs.Sound.{AreTables, same_place}
+use Rattle.xa_store.specs.Sound.{AreTables}
 use Rattle.xa_store.specs.Steps.{ReadsBack, is_place}
-use Rattle.xa_store.specs.Tables.{our_schema, attributes}
+use Rattle.xa_store.specs.Tables.{our_schema, sources}
 use Rattle.xa_store.specs.Texts as text
 use Rattle.xa_store.proofs.ChangeLemmas.{none_pass}
-use Rattle.xa_store.proofs.HoldLemmas.{Back, attributes_now, written_back}
-use Rattle.xa_store.proofs.LastLemmas.{stands_last, keyed_last, all_last, apart_last}
+use Rattle.xa_store.proofs.HoldLemmas.{attributes_now, came_last, went_out}
 use Rattle.xa_store.proofs.SqlLemmas.{answered}
-use Rattle.xa_store.proofs.StepLemmas.{Stepped, cast_int, cast_null}
+use Rattle.xa_store.proofs.StepLemmas.{Stepped, cast_int, cast_null, cast_text, text_back}
 use Rattle.xa_store.proofs.TableLemmas.{deletes, inserts}
 use Rattle.xa_store.proofs.TextLemmas.{is, attribute_added_given, attribute_added_is, source_dropped_is, source_dropped_query}
-use Rattle.xa_store.proofs.WriteLemmas.{Wrote, next_rowid_is, row_added, rows_removed}
+use Rattle.xa_store.proofs.WriteLemmas.{next_rowid_is, row_added, rows_removed}
 
 -- a data type's number fits a column
 pub type_held : (t : DataType) → to_z w64 (of_z w64 (pos (place_of t))) ≡ pos (place_of t)
@@ -53,16 +45,18 @@ type_held AnyUri = refl
 type_held HexBinary = refl
 type_held Base64Binary = refl
 
-attribute_back : (a : AttributeRow) → ReadsBack a.row.value → attribute_in (attribute_row a) ≡ a
-attribute_back a reads = λ i. record { rowid = a.rowid; number = a.number; place = a.place; row = record { category = a.row.category; entity = a.row.entity; attribute_id = a.row.attribute_id; value = reads i } }
-
-works_of_attribute : (olds : List Row) (new : Row) → works our_schema Enforced 0 8 olds (new ∷ []) ≡ []
-unfolding same_name joined
-works_of_attribute olds new = refl
-
-works_of_no_attribute : (olds : List Row) → works our_schema Enforced 0 8 olds [] ≡ []
-unfolding same_name joined
-works_of_no_attribute olds = refl
+-- a row that the keeper writes has a column for its issuer
+attribute_back : (a : AttributeRow) → ReadsBack a.row.value → a.is_full ≡ true → attribute_in (attribute_row a) ≡ a
+attribute_back a reads full =
+    ap (λ b. attribute_in (attribute_row (record a { is_full = b }))) full
+    ∙ (λ i. record {
+      rowid = a.rowid;
+      number = a.number;
+      place = a.place;
+      row = record { category = a.row.category; entity = a.row.entity; attribute_id = a.row.attribute_id; value = reads i; issuer = text_back a.row.issuer i };
+      is_full = true;
+    })
+    ∙ ap (λ b. record a { is_full = b }) (sym full)
 
 module _ (old new : State) (has : old.now.schema ≡ our_schema) (count : ℕ) (was : AreTables old.now.trees) (n : ℤ) where
   abbrev db : Trees
@@ -72,37 +66,29 @@ module _ (old new : State) (has : old.now.schema ≡ our_schema) (count : ℕ) (
   next = new.now.trees
 
   abbrev xs : List AttributeRow
-  xs = map attribute_in (db 8)
+  xs = map attribute_in (db 10)
 
   abbrev rowid_of : AttributeRow → ℤ
   rowid_of a = a.rowid
 
-  backs : AllByRecursion (Back attribute_row attribute_in) xs
-  backs = written_back attribute_row attribute_in (db 8) was.attributes.written
-
   -- a row comes
   pub attribute_added_stepped : (place : ℤ) (source : SourceRow) → filter (is_place n place) xs ≡ [] → ReadsBack source.value
-      → Executes text.attribute_added (Int n ∷ Int place ∷ Text source.category ∷ Text source.entity ∷ Text source.attribute_id ∷ Int (type_number source.value) ∷ Text (value_text source.value) ∷ []) old new (Ok count)
+      → Executes text.attribute_added (Int n ∷ Int place ∷ Text source.category ∷ Text source.entity ∷ Text source.attribute_id ∷ Int (type_number source.value) ∷ Text (value_text source.value) ∷ or_null Text source.issuer ∷ []) old new (Ok count)
       → Stepped old new (AddAttribute n place source)
   attribute_added_stepped place source none reads h =
-      let given = Int n ∷ Int place ∷ Text source.category ∷ Text source.entity ∷ Text source.attribute_id ∷ Int (type_number source.value) ∷ Text (value_text source.value) ∷ [] in
-      let added : AttributeRow = record { rowid = next_key rowid_of xs; number = n; place = place; row = source } in
+      let given = Int n ∷ Int place ∷ Text source.category ∷ Text source.entity ∷ Text source.attribute_id ∷ Int (type_number source.value) ∷ Text (value_text source.value) ∷ or_null Text source.issuer ∷ [] in
+      let added : AttributeRow = record { rowid = next_key rowid_of xs; number = n; place = place; row = source; is_full = true } in
       let row = Null ∷ given in
-      let adds = inserts text.attribute_added given old new has 5 attributes refl count attribute_added_given 8 refl refl attribute_added_is h in
-      let bare : cast_row attributes row ≡ row =
-      λ i. cast_null i ∷ cast_int n i ∷ cast_int place i ∷ Text source.category ∷ Text source.entity ∷ Text source.attribute_id ∷ cast_int (type_number source.value) i ∷ Text (value_text source.value) ∷ [] in
-      let id : next_rowid (db 8) ≡ next_key rowid_of xs = ap next_rowid was.attributes.written ∙ next_rowid_is attribute_row rowid_of (λ _. refl) xs in
-      let put : with_rowid Chosen (db 8) (cast_row attributes row) ≡ attribute_row added = ap (with_rowid Chosen (db 8)) bare ∙ ap (λ k. Int k ∷ given) id in
-      let wrote = row_added attribute_row rowid_of (λ _. refl) attributes db next xs was.attributes.written was.attributes.rise added row put (works_of_attribute [] (attribute_row added)) adds.edited in
-      let last = stands_last rowid_of same_place (Back attribute_row attribute_in) xs added was.attributes.rise refl in
+      let adds = inserts text.attribute_added given old new has 6 sources refl count attribute_added_given 9 refl refl attribute_added_is h in
+      let bare : cast_row sources row ≡ row =
+      λ i. cast_null i ∷ cast_int n i ∷ cast_int place i ∷ Text source.category ∷ Text source.entity ∷ Text source.attribute_id ∷ cast_int (type_number source.value) i ∷ Text (value_text source.value) ∷ cast_text source.issuer i ∷ [] in
+      let id : next_rowid (db 10) ≡ next_key rowid_of xs = ap next_rowid was.attributes.written ∙ next_rowid_is attribute_row rowid_of (λ _. refl) xs in
+      let put : with_rowid Chosen (db 10) (cast_row sources row) ≡ attribute_row added = ap (with_rowid Chosen (db 10)) bare ∙ ap (λ k. Int k ∷ given) id in
+      let wrote = row_added attribute_row rowid_of (λ _. refl) sources db next xs was.attributes.written was.attributes.rise added row put adds.edited in
       record {
         schema = adds.schema;
         database = adds.database;
-        tables =
-            attributes_now db next was (xs ++ added ∷ []) (subst (λ l. Wrote db next 8 (map attribute_row l)) last wrote)
-            (all_last rowid_of same_place (Back attribute_row attribute_in) xs added was.attributes.rise refl backs (attribute_back added reads))
-            (keyed_last rowid_of same_place (Back attribute_row attribute_in) xs added was.attributes.rise refl)
-            (apart_last rowid_of same_place (Back attribute_row attribute_in) xs added was.attributes.rise refl was.attributes.apart (none_pass (is_place n place) xs none));
+        tables = attributes_now db next was (xs ++ added ∷ []) wrote (came_last added was.attributes refl wrote.rows (attribute_back added reads refl) (none_pass (is_place n place) xs none));
       }
 
   -- all rows go
@@ -110,15 +96,13 @@ module _ (old new : State) (has : old.now.schema ≡ our_schema) (count : ℕ) (
   source_dropped_stepped h =
       let p : AttributeRow → Bool = λ a. int_eq a.number n in
       let params = Int n ∷ [] in
-      let edits = deletes text.source_dropped params old new has 5 attributes refl count source_dropped_query source_dropped_is h in
-      let answer = answered 8 (is 1 0 ∷ []) (col 1 0 ∷ []) [] db refl params edits.rows edits.answer.answer in
+      let edits = deletes text.source_dropped params old new has 6 sources refl count source_dropped_query source_dropped_is h in
+      let answer = answered 10 (is 1 0 ∷ []) (col 1 0 ∷ []) [] db refl params edits.rows edits.answer.answer in
       let hit = all_of _ (λ (a : AttributeRow). last_term (at_ints false Eq a.number n)) xs in
-      let wrote = rows_removed attribute_row rowid_of (λ _. refl) attributes db next xs was.attributes.written was.attributes.rise (is 1 0 ∷ []) (col 1 0 ∷ []) refl params p hit
-      (λ _. refl) works_of_no_attribute edits.rows answer edits.edited in
+      let wrote = rows_removed attribute_row rowid_of (λ _. refl) sources db next xs was.attributes.written was.attributes.rise (is 1 0 ∷ []) (col 1 0 ∷ []) refl params p hit
+      (λ _. refl) refl edits.rows answer edits.edited in
       record {
         schema = edits.schema;
         database = edits.database;
-        tables =
-            attributes_now db next was (delete_where p xs) wrote (all-filter (Back attribute_row attribute_in) (λ a. not (p a)) xs backs)
-            (IsKeyedBy-delete_where rowid_of p xs was.attributes.rise) (apart_delete same_place p xs was.attributes.apart);
+        tables = attributes_now db next was (delete_where p xs) wrote (went_out p was.attributes wrote.rows);
       }

@@ -1,6 +1,7 @@
 -- What the actions of foreign keys take out, where the row of a domain goes.
-use Rattle.std.proofs.Common.{◌≡◌, ◌≢◌, inl, inr, ℕ, zero, suc, ℤ, ◌<ℤ◌, List, [], ◌∷◌, ◌++◌, map, filter, fold, length, Bool, true, false, not, ◌&&◌, ◌||◌, cond, Option, Some, None, Ok, refl, sym, ap, ap₂, subst, subst₂, ◌∙◌, arith, int_eq, append-nil, length-append}
-use Rattle.std.specs.List.{AllByRecursion, list_any, flat_map, filter_map}
+use Rattle.std.proofs.Common.{◌≡◌, ◌≢◌, inl, inr, ℕ, zero, suc, ℤ, ◌<ℤ◌, List, [], ◌∷◌, ◌++◌, map, filter, fold, length, Bool, true, false, not, ◌&&◌, ◌||◌, ◌==◌, cond, Option, Some, None, Ok, refl, sym, ap, ap₂, subst, subst₂, ◌∙◌, arith, int_eq, append-nil, length-append}
+use Rattle.std.specs.List.{AllByRecursion, list_all, list_any, flat_map, filter_map}
+use Rattle.std.proofs.lemmas.Bool.{and_parts}
 use Rattle.std.proofs.lemmas.Int.{ints}
 use Rattle.sqlite.specs.Ops.{binary}
 use Rattle.sqlite.specs.Order.{Row}
@@ -14,7 +15,6 @@ use Rattle.sqlite_schema.specs.declared.schema.Reference.{Reference}
 use Rattle.sqlite_sql.specs.declared.ops.CompareOp.TheVariants.{Eq}
 use Rattle.sqlite_trees.specs.Tree.{rowid}
 use Rattle.sqlite_value.specs.Keys.{joined, first_key}
-use Rattle.sqlite_value.specs.declared.keys.Order.{Order}
 use Rattle.sqlite_rules.specs.Action.{Work, action_edit, works, loses, is_child_of, AreChildren, Acts, ActsOn, Leads}
 use Rattle.sqlite_rules.specs.Edit.{IsNoIndex, taken_by, without_all}
 use Rattle.sqlite_rules.specs.Lists.{Has}
@@ -25,15 +25,14 @@ use Rattle.sqlite_keyed.proofs.ListLemmas.{all_of, filter_all}
 use Rattle.sqlite_typed.proofs.RowLemmas.{deletes-map}
 use Rattle.sqlite_typed.proofs.TestLemmas.{at_ints}
 use Rattle.xa_store.specs.Rows.{DomainRow, domain_row}
-use Rattle.xa_store.specs.Tables.{our_schema, of_domain, tokens, policies, roots, attributes}
+use Rattle.xa_store.specs.Tables.{our_schema, of_domain, tokens, policies, roots, attributes, sources}
+use Rattle.xa_store.proofs.ActionLemmas.{rowids_order, works_of_going}
 use Rattle.xa_store.proofs.FilterLemmas.{filter_alike}
+use Rattle.xa_store.proofs.HoldLemmas.{is_other, of_other}
 use Rattle.xa_store.proofs.KeyLemmas.{own_number}
 use Rattle.xa_store.proofs.LastLemmas.{not_true}
 
 -- ---- the actions
-
-abbrev pub rowids_order : Order
-rowids_order = record { digits = 0 }
 
 abbrev pub moves : DomainRow → List (Row × Row)
 moves d = (domain_row d, []) ∷ []
@@ -44,8 +43,25 @@ work_on d child ref = record { depth = 0; child = child; ref = ref; places = 0 �
 abbrev pub of_root : Reference
 of_root = record of_domain { columns = 0 ∷ [] }
 
-abbrev pub four : DomainRow → List Work
-four d = work_on d tokens of_domain ∷ work_on d policies of_domain ∷ work_on d roots of_root ∷ work_on d attributes of_domain ∷ []
+-- a table whose rows refer to domains
+pub record Child : Type 0 where
+  pub table : Table
+  pub ref : Reference
+
+abbrev pub by_number : Table → Child
+by_number table = record { table = table; ref = of_domain }
+
+abbrev pub its_root : Child
+its_root = record { table = roots; ref = of_root }
+
+-- all of them, in the order in which they are acted on
+abbrev pub all_children : List Child
+all_children = by_number sources ∷ by_number attributes ∷ its_root ∷ by_number policies ∷ by_number tokens ∷ []
+
+-- the actions, of which the last is the next
+abbrev pub works_on : DomainRow → List Child → List Work
+works_on d [] = []
+works_on d (child ∷ more) = works_on d more ++ work_on d child.table child.ref ∷ []
 
 abbrev work_if : Bool → DomainRow → Table → Reference → Option Work
 work_if b d child ref = cond b (Some (work_on d child ref)) None
@@ -58,8 +74,12 @@ works_if : (d : DomainRow) → works our_schema Enforced 0 1 (domain_row d ∷ [
 unfolding same_name joined
 works_if d = refl
 
-pub works_of_drop : (d : DomainRow) → works our_schema Enforced 0 1 (domain_row d ∷ []) [] ≡ four d
+pub works_of_drop : (d : DomainRow) → works our_schema Enforced 0 1 (domain_row d ∷ []) [] ≡ works_on d all_children
 works_of_drop d = works_if d ∙ ap (λ b. flat_map (λ child. filter_map (work_if (b || false) d child) child.references) our_schema.tables) (loses_its_key d)
+
+-- none of them is that of domains, so nothing refers to them
+abbrev pub AreOthers : List Child → Type 0
+AreOthers = AllByRecursion (λ (child : Child). (1 == child.table.tree) ≡ false)
 
 tidy : (b : Bool) → ((true && (b && true)) || false) ≡ b
 tidy true = refl
@@ -130,6 +150,25 @@ module _ (next : Trees) where
           steps = k;
           later = subst (Settle k went.0) (ap (λ more. below ++ more) (quiet (taken_by db (action_edit db (work_on d child ref) (id ∷ ids)))) ∙ append-nil below) went.2;
         }
+
+  module _ (d : DomainRow) where
+    -- the actions on these children, one after another, to the end
+    abbrev pub ActedOnAll : List Child → Trees → Type 0
+    ActedOnAll [] db = next ≡ db
+    ActedOnAll (child ∷ more) db = (mid : Trees) × (ids : List ℤ) × AreChildren db (work_on d child.table child.ref) ids × Cleared db mid child.table ids × ActedOnAll more mid
+
+    pub all_acted : (more : List Child) → AreOthers more → (m : ℕ) (db : Trees) → Settle m db (works_on d more) → ActedOnAll more db
+    all_acted [] others m db h = settled m db h
+    all_acted (child ∷ more) others m db h =
+        let one = acted d child.table child.ref (works_of_going child.table.tree others.0 1) m db (works_on d more) h in
+        (one.mid, one.ids, one.children, one.cleared, all_acted more others.1 one.steps one.mid one.later)
+
+    -- a tree that is none of theirs is as it was
+    pub untouched : (more : List Child) (db : Trees) → ActedOnAll more db → (t : ℕ) → list_all (λ (child : Child). is_other child.table.tree t) more ≡ true → next t ≡ db t
+    untouched [] db h t free = ap (λ (f : Trees). f t) h
+    untouched (child ∷ more) db h t free =
+        let both = and_parts _ _ free in
+        untouched more h.0 h.4 t both.1 ∙ of_other child.table.tree (λ t. h.0 t ≡ db t) h.3.others t both.0
 
 -- ---- the rows that an action takes out
 
@@ -221,3 +260,15 @@ module _ {X : Type 0} (key : X → ℤ) where
     children_gone mid ids children cleared =
         cleared.rows ∙ ap (λ rows. without_all rows ids) are ∙ deletes-map key to_row keyed ids xs
         ∙ ap (map to_row) (without_each ids xs ∙ filter_alike (λ x. not (has_id ids (key x))) (λ x. not (own x)) xs (all_having (λ x. not (has_id ids (key x)) ≡ not (own x)) xs (λ x here. ap not (same_test ids children x here))))
+
+  module _ (to_row : X → Row) (keyed : (x : X) → rowid (to_row x) ≡ Int (key x)) (d : DomainRow) (child : Child) (number : X → ℤ)
+      (linked : (x : X) → list_any (is_child_of (work_on d child.table child.ref) (to_row x)) (moves d) ≡ int_eq (number x) d.number) (xs : List X) (up : IsKeyedBy key xs) where
+    -- and they still are when the actions on the other children, before it and behind, are done
+    pub gone : (next : Trees) (before more : List Child) (db : Trees) → db child.table.tree ≡ map to_row xs → ActedOnAll next d (before ++ child ∷ more) db
+        → list_all (λ (other : Child). is_other other.table.tree child.table.tree) before ≡ true → list_all (λ (other : Child). is_other other.table.tree child.table.tree) more ≡ true
+        → next child.table.tree ≡ map to_row (delete_where (λ x. int_eq (number x) d.number) xs)
+    gone next [] more db are h free after =
+        untouched next d more h.0 h.4 child.table.tree after ∙ children_gone to_row keyed d child.table child.ref number linked db xs are up h.0 h.1 h.2 h.3
+    gone next (other ∷ before) more db are h free after =
+        let both = and_parts _ _ free in
+        gone next before more h.0 (of_other other.table.tree (λ t. h.0 t ≡ db t) h.3.others child.table.tree both.0 ∙ are) h.4 both.1 after

@@ -6,12 +6,12 @@ use Rattle.sqlite.specs.declared.types.Value.{Value}
 use Rattle.sqlite.specs.declared.types.Value.TheVariants.{Null, Int, Real, Text, Blob}
 use Rattle.sqlite_keyed.proofs.RuleLemmas.{first_of_both, second_of_both}
 use Rattle.sqlite_typed.specs.Columns.{int_of, bytes_of, or_null, unless_null}
-use Rattle.xa_store.specs.declared.opening.kind.Kind.TheVariants.{Attributes, Roots}
+use Rattle.xa_store.specs.declared.opening.kind.Kind.TheVariants.{Roots, Sources}
 use Rattle.xa_store.specs.Opened.{as_read, holds_text, holds_text_if_any, holds_value, is_pattern, is_version, is_whole_row}
 use Rattle.xa_store.specs.Rows.{attribute_in, root_in, text_at}
 use Rattle.xa_store.specs.Sound.{AreRootTexts, AreSourceTexts, is_if_any}
 use Rattle.xa_store.proofs.ShapeLemmas.{int_held, text_held}
-use Rattle.xa_store.proofs.ShapedLemmas.{value_back}
+use Rattle.xa_store.proofs.ShapedLemmas.{value_back, whole_source}
 
 -- ---- texts that there need not be
 
@@ -30,7 +30,7 @@ module _ (test : List ℕ → Bool) where
   text_read (v ∷ vs) zero h = if_any_held v h
   text_read (v ∷ vs) (suc i) h = text_read vs i h
 
-  held_if_any : (o : Option (List ℕ)) → is_if_any test o ≡ true → holds_text_if_any test (or_null Text o) ≡ true
+  pub held_if_any : (o : Option (List ℕ)) → is_if_any test o ≡ true → holds_text_if_any test (or_null Text o) ≡ true
   held_if_any None h = refl
   held_if_any (Some t) h = h
 
@@ -67,9 +67,10 @@ root_texts next row whole =
       text_read is_version (drop 4 row) 2 (ap (holds_text_if_any is_version) (sym (past row 2)) ∙ second_of_both _ _ rest),
     )
 
-pub source_texts : (next : ℤ) (row : Row) → is_whole_row Attributes next (as_read Attributes row) ≡ true → AreSourceTexts (attribute_in row).row
+pub source_texts : (next : ℤ) (row : Row) → is_whole_row Sources next (as_read Sources row) ≡ true → AreSourceTexts (attribute_in row).row
 source_texts next row whole =
-    let rest = second_of_both _ _ whole in
+    let both = whole_source next row whole in
+    let rest = second_of_both _ _ both.0 in
     let first4 = first_of_both _ _ rest in
     let first3 = first_of_both _ _ first4 in
     let first2 = first_of_both _ _ first3 in
@@ -80,4 +81,5 @@ source_texts next row whole =
       (text_held is_utf8 (column row 4) (second_of_both _ _ first3)).1,
       (text_held is_utf8 (column row 5) (second_of_both _ _ first4)).1,
       sym (λ i. holds_value (ap int_of value.0 i) (ap bytes_of value.1 i)) ∙ text.1,
+      if_any_held is_utf8 (column row 8) both.1,
     )

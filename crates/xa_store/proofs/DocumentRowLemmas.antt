@@ -6,10 +6,8 @@ use Rattle.sqlite.specs.declared.types.Value.{Value}
 use Rattle.sqlite.specs.declared.types.Value.TheVariants.{Int, Text}
 use Rattle.sqlite_catalog.specs.Listing.{IsSound}
 use Rattle.sqlite_keyed.proofs.KeyedLemmas.{same_int}
-use Rattle.sqlite_keyed.proofs.ListLemmas.{all_weaker}
 use Rattle.sqlite_keyed.proofs.RuleLemmas.{first_of_both, second_of_both}
-use Rattle.sqlite_schema.specs.declared.schema.Constraint.TheVariants.{Datatype, Unique}
-use Rattle.sqlite_schema.specs.Rules.{agree, are_typed, clashes, passes}
+use Rattle.sqlite_schema.specs.Rules.{agree, are_typed}
 use Rattle.sqlite_sql.specs.declared.ops.CompareOp.TheVariants.{Eq}
 use Rattle.sqlite_typed.specs.Columns.{int_of, bytes_of}
 use Rattle.sqlite_typed.proofs.TestLemmas.{at_ints, at_texts, then_term, last_term, bytes_eq_refl}
@@ -124,6 +122,5 @@ keys_agree a b h =
 
 pub documents_are : (db : Trees) (next : ℤ) → IsSound our_schema db → is_sound_table db next Documents ≡ true → AreRows document_row document_in (λ d. d.rowid) same_document (db 5)
 documents_are db next sound h =
-    let unique = (sound.obeys.rules Unique).1.1.1.0 in
-    let free = all_weaker (λ r. passes Unique our_schema db policies r ≡ true) (λ r. clashes rising (1 ∷ 2 ∷ 3 ∷ 4 ∷ []) (db 5) r ≡ false) (λ r u. free_of _ (first_of_both _ _ u)) (db 5) unique in
-    rows_apart Documents next db h document_row document_in (λ (d : DocumentRow). d.rowid) same_document (λ r. refl) policies (document_back next) (sound.obeys.rules Datatype).1.1.1.0 (λ d. refl) (1 ∷ 2 ∷ 3 ∷ 4 ∷ []) keys_agree free
+    rows_apart Documents next db h document_row document_in (λ (d : DocumentRow). d.rowid) same_document (λ r. refl) our_schema sound policies refl (λ P all. all.1.1.1.0)
+    (λ r t p w. document_back next r t w) (λ d. refl) (1 ∷ 2 ∷ 3 ∷ 4 ∷ []) keys_agree (λ r u. free_of _ (first_of_both _ _ u))

@@ -1,5 +1,5 @@
 -- What the statements on documents make of the rows.
-use Rattle.std.proofs.Common.{◌≡◌, ℕ, ℤ, pos, List, [], ◌∷◌, ◌++◌, map, filter, Bool, true, false, ◌&&◌, refl, sym, ap, subst, ◌∙◌, arith, int_eq, to_z, of_z, w64, Ok}
+use Rattle.std.proofs.Common.{◌≡◌, ℕ, ℤ, pos, List, [], ◌∷◌, ◌++◌, map, filter, Bool, true, false, ◌&&◌, refl, sym, ap, ◌∙◌, int_eq, to_z, of_z, w64, Ok}
 use Rattle.std.specs.List.{AllByRecursion}
 use Rattle.std.specs.Ordering.{eq_by_cmp}
 use Rattle.std.specs.Cmp.{eq_by_cmp_equiv}
@@ -10,17 +10,12 @@ use Rattle.sqlite.specs.State.{State, Executes}
 use Rattle.sqlite.specs.Term.{col}
 use Rattle.sqlite.specs.Tree.{Trees}
 use Rattle.sqlite.specs.declared.types.Value.TheVariants.{Null, Int, Text, Blob}
-use Rattle.sqlite_schema.specs.Names.{same_name}
-use Rattle.sqlite_schema.specs.declared.schema.Keys.TheVariants.{Enforced}
-use Rattle.sqlite_value.specs.Keys.{joined}
-use Rattle.sqlite_rules.specs.Action.{works}
 use Rattle.sqlite_rules.specs.Cast.{cast_row}
 use Rattle.sqlite_rules.specs.Edit.{with_rowid, next_rowid}
 use Rattle.sqlite_keyed.specs.Keyed.{next_key}
 use Rattle.sqlite_keyed.specs.Lists.{update_where, delete_where}
-use Rattle.sqlite_keyed.proofs.ListLemmas.{all_weaker, all-filter, all_map}
-use Rattle.sqlite_keyed.proofs.KeyedLemmas.{same_int, IsKeyedBy-delete_where, IsKeyedBy-update_where}
-use Rattle.sqlite_keyed.proofs.RuleLemmas.{apart_update, apart_delete}
+use Rattle.sqlite_keyed.proofs.ListLemmas.{all_weaker, all_map}
+use Rattle.sqlite_keyed.proofs.KeyedLemmas.{same_int}
 use Rattle.xa_policy.specs.declared.document_key.DocumentKey.{DocumentKey}
 use Rattle.xa_policy.specs.DocumentKey.{compare_keys}
 use Rattle.xa_policy.specs.Version.{version_text}
@@ -33,14 +28,14 @@ use Rattle.xa_store.specs.Tables.{our_schema, policies}
 use Rattle.xa_store.specs.Texts as text
 use Rattle.xa_store.proofs.ChangeLemmas.{none_pass}
 use Rattle.xa_store.proofs.HitLemmas.{document_hit, same_key}
-use Rattle.xa_store.proofs.HoldLemmas.{Back, documents_now, written_back}
+use Rattle.xa_store.proofs.HoldLemmas.{Back, came_last, changed, documents_now, went_out, written_back}
 use Rattle.xa_store.proofs.KeyLemmas.{own_number}
-use Rattle.xa_store.proofs.LastLemmas.{apart_few, stands_last, keyed_last, all_last, apart_last}
+use Rattle.xa_store.proofs.LastLemmas.{apart_few}
 use Rattle.xa_store.proofs.SqlLemmas.{answered, hits}
 use Rattle.xa_store.proofs.StepLemmas.{Stepped, cast_int, cast_null, kind_back}
 use Rattle.xa_store.proofs.TableLemmas.{updates, deletes, inserts}
 use Rattle.xa_store.proofs.TextLemmas.{is, activity_set_is, activity_set_query, document_added_given, document_added_is, document_dropped_is, document_dropped_query}
-use Rattle.xa_store.proofs.WriteLemmas.{Wrote, next_rowid_is, row_added, row_updated, rows_removed}
+use Rattle.xa_store.proofs.WriteLemmas.{next_rowid_is, row_added, row_updated, rows_removed}
 
 bit_back : (b : Bool) → is_set (bit b) ≡ b
 bit_back true = refl
@@ -58,18 +53,6 @@ key_of_back d back = ap (λ (x : DocumentRow). x.key.version) back
 
 document_cast : (d : DocumentRow) → cast_row policies (document_row d) ≡ document_row d
 document_cast d = λ i. cast_int d.rowid i ∷ cast_int d.number i ∷ cast_int (kind_number d.key.kind) i ∷ Text d.key.id ∷ Text (version_text d.key.version) ∷ Blob d.text ∷ cast_int (bit d.active) i ∷ []
-
-works_of_nothing : works our_schema Enforced 0 5 [] [] ≡ []
-unfolding same_name joined
-works_of_nothing = refl
-
-works_of_document : (olds : List Row) (new : Row) → works our_schema Enforced 0 5 olds (new ∷ []) ≡ []
-unfolding same_name joined
-works_of_document olds new = refl
-
-works_of_no_document : (olds : List Row) → works our_schema Enforced 0 5 olds [] ≡ []
-unfolding same_name joined
-works_of_no_document olds = refl
 
 documents_alike : (n : ℤ) (key : DocumentKey) (a b : DocumentRow) → is_document n key a ≡ true → is_document n key b ≡ true → same_document a b ≡ true
 documents_alike n key a b here there =
@@ -114,18 +97,13 @@ module _ (old new : State) (has : old.now.schema ≡ our_schema) (count : ℕ) (
       let id : next_rowid (db 5) ≡ next_key rowid_of ds = ap next_rowid was.documents.written ∙ next_rowid_is document_row rowid_of (λ _. refl) ds in
       let put : with_rowid Chosen (db 5) (cast_row policies row) ≡ document_row document =
       ap (with_rowid Chosen (db 5)) bare ∙ ap (λ k. Int k ∷ Int n ∷ Int (kind_number key.kind) ∷ Text key.id ∷ Text (version_text key.version) ∷ Blob body ∷ Int (pos 0) ∷ []) id in
-      let wrote = row_added document_row rowid_of (λ _. refl) policies db next ds was.documents.written was.documents.rise document row put (works_of_document [] (document_row document)) adds.edited in
+      let wrote = row_added document_row rowid_of (λ _. refl) policies db next ds was.documents.written was.documents.rise document row put adds.edited in
       let fresh = all_weaker (λ d. is_document n key d ≡ false) (λ d. same_document d document ≡ false)
       (λ d differs. ap (λ b. int_eq d.number n && b) ((eq_by_cmp_equiv keys_total).symm d.key key) ∙ differs) ds (none_pass (is_document n key) ds none) in
-      let last = stands_last rowid_of same_document (Back document_row document_in) ds document was.documents.rise refl in
       record {
         schema = adds.schema;
         database = adds.database;
-        tables =
-            documents_now db next was (ds ++ document ∷ []) (subst (λ l. Wrote db next 5 (map document_row l)) last wrote)
-            (all_last rowid_of same_document (Back document_row document_in) ds document was.documents.rise refl backs (document_back document reads))
-            (keyed_last rowid_of same_document (Back document_row document_in) ds document was.documents.rise refl)
-            (apart_last rowid_of same_document (Back document_row document_in) ds document was.documents.rise refl was.documents.apart fresh);
+        tables = documents_now db next was (ds ++ document ∷ []) wrote (came_last document was.documents refl wrote.rows (document_back document reads) fresh);
       }
 
   -- whether references may resolve to a document
@@ -142,7 +120,7 @@ module _ (old new : State) (has : old.now.schema ≡ our_schema) (count : ℕ) (
       let few = apart_few same_document p (documents_alike n key) ds was.documents.apart in
       let wrote = row_updated document_row rowid_of (λ _. refl) policies db next ds was.documents.written was.documents.rise tests shown refl given p all_hit
       f (λ d. Int d.rowid ∷ Int d.number ∷ Int (kind_number d.key.kind) ∷ Text d.key.id ∷ Text (version_text d.key.version) ∷ Blob d.text ∷ Int (bit active) ∷ [])
-      (λ _. refl) (λ d. document_cast (f d)) (λ _. refl) works_of_nothing works_of_document few edits.rows answer edits.edited in
+      (λ _. refl) (λ d. document_cast (f d)) (λ _. refl) few edits.rows answer edits.edited in
       let turned = λ (d : DocumentRow). Rattle.std.proofs.Common.cond (p d) (f d) d in
       let still = all_map (Back document_row document_in) turned ds
       (all_weaker (Back document_row document_in) (λ d. Back document_row document_in (turned d)) (λ d back. document_back (turned d)
@@ -150,9 +128,7 @@ module _ (old new : State) (has : old.now.schema ≡ our_schema) (count : ℕ) (
       record {
         schema = edits.schema;
         database = edits.database;
-        tables =
-            documents_now db next was (update_where p f ds) wrote still
-            (IsKeyedBy-update_where rowid_of p f (λ _. refl) ds was.documents.rise) (apart_update same_document p f (λ a b. refl) (λ a b. refl) ds was.documents.apart);
+        tables = documents_now db next was (update_where p f ds) wrote (changed p f was.documents (λ _. refl) (λ a b. refl) (λ a b. refl) wrote.rows still);
       }
 
   -- a document goes
@@ -163,11 +139,9 @@ module _ (old new : State) (has : old.now.schema ≡ our_schema) (count : ℕ) (
       let edits = deletes text.document_dropped params old new has 3 policies refl count document_dropped_query document_dropped_is h in
       let answer = answered 5 tests (col 1 0 ∷ []) [] db refl params edits.rows edits.answer.answer in
       let wrote = rows_removed document_row rowid_of (λ _. refl) policies db next ds was.documents.written was.documents.rise tests (col 1 0 ∷ []) refl params p all_hit
-      (λ _. refl) works_of_no_document edits.rows answer edits.edited in
+      (λ _. refl) refl edits.rows answer edits.edited in
       record {
         schema = edits.schema;
         database = edits.database;
-        tables =
-            documents_now db next was (delete_where p ds) wrote (all-filter (Back document_row document_in) (λ d. Rattle.std.proofs.Common.not (p d)) ds backs)
-            (IsKeyedBy-delete_where rowid_of p ds was.documents.rise) (apart_delete same_document p ds was.documents.apart);
+        tables = documents_now db next was (delete_where p ds) wrote (went_out p was.documents wrote.rows);
       }

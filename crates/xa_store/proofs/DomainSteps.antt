@@ -19,8 +19,8 @@ use Rattle.xa_store.specs.Tables.{our_schema, domains}
 use Rattle.xa_store.specs.Texts as text
 use Rattle.xa_store.proofs.ChangeLemmas.{none_pass}
 use Rattle.xa_store.proofs.HitLemmas.{turn_bytes}
-use Rattle.xa_store.proofs.HoldLemmas.{Back, domains_now}
-use Rattle.xa_store.proofs.StepLemmas.{Stepped, cast_int, cast_null, works_of_domain}
+use Rattle.xa_store.proofs.HoldLemmas.{Back, came, domains_now}
+use Rattle.xa_store.proofs.StepLemmas.{Stepped, cast_int, cast_null}
 use Rattle.xa_store.proofs.TableLemmas.{inserts}
 use Rattle.xa_store.proofs.TextLemmas.{domain_added_given, domain_added_is}
 use Rattle.xa_store.proofs.WriteLemmas.{row_added}
@@ -47,7 +47,7 @@ module _ (old new : State) (has : old.now.schema ≡ our_schema) (count : ℕ) (
       let adds = inserts text.domain_added params old new has 1 domains refl count domain_added_given 4 refl refl domain_added_is h in
       let bare : cast_row domains row ≡ row = λ i. cast_int n i ∷ cast_null i ∷ Text name ∷ cast_int (pos 0) i ∷ [] in
       let put : with_rowid Chosen (db 1) (cast_row domains row) ≡ domain_row domain = ap (with_rowid Chosen (db 1)) bare in
-      let wrote = row_added domain_row number_of (λ _. refl) domains db new.now.trees ds was.domains.written was.domains.rise domain row put (works_of_domain [] (domain_row domain)) adds.edited in
+      let wrote = row_added domain_row number_of (λ _. refl) domains db new.now.trees ds was.domains.written was.domains.rise domain row put adds.edited in
       let apart = all_weaker (λ d. is_named name d ≡ false) (λ d. (not (int_eq d.number n) && same_name d domain) ≡ false)
       (λ d differs. ap (λ b. not (int_eq d.number n) && b) (turn_bytes d.name name ∙ differs) ∙ never_both (not (int_eq d.number n))) ds (none_pass (is_named name) ds none) in
       let alone : is_apart number_of same_name ds domain ≡ true = ap not (any_from_none (λ d. not (int_eq d.number n) && same_name d domain) ds apart) in
@@ -55,7 +55,7 @@ module _ (old new : State) (has : old.now.schema ≡ our_schema) (count : ℕ) (
         schema = adds.schema;
         database = adds.database;
         tables =
-            domains_now db new.now.trees was (insert_by number_of ds domain) wrote (all_of (Back domain_row domain_in) (λ _. refl) (insert_by number_of ds domain))
-            (IsKeyedBy-insert_by number_of ds domain was.domains.rise)
-            (apart_insert same_name number_of (λ a b. turn_bytes a.name b.name) ds domain was.domains.rise alone was.domains.apart);
+            domains_now db new.now.trees was (insert_by number_of ds domain) wrote
+            (came wrote.rows (all_of (Back domain_row domain_in) (λ _. refl) (insert_by number_of ds domain)) (IsKeyedBy-insert_by number_of ds domain was.domains.rise)
+            (apart_insert same_name number_of (λ a b. turn_bytes a.name b.name) ds domain was.domains.rise alone was.domains.apart));
       }

@@ -43,7 +43,7 @@ pub root_hit : (number : ℤ) (db : Trees) (r : RootRow)
 root_hit number db r = last_term (at_ints false Eq r.number number)
 
 pub source_hit : (number : ℤ) (db : Trees) (a : AttributeRow)
-    → hits 8 (is 1 0 ∷ []) (col 1 3 ∷ col 1 4 ∷ col 1 5 ∷ col 1 6 ∷ col 1 7 ∷ []) (2 ∷ []) db refl (Int number ∷ []) (attribute_row a) ≡ int_eq a.number number
+    → hits 10 (is 1 0 ∷ []) (col 1 3 ∷ col 1 4 ∷ col 1 5 ∷ col 1 6 ∷ col 1 7 ∷ col 1 8 ∷ []) (2 ∷ []) db refl (Int number ∷ []) (attribute_row a) ≡ int_eq a.number number
 source_hit number db a = last_term (at_ints false Eq a.number number)
 
 -- ---- a document by its key

@@ -1,14 +1,17 @@
 -- What the queries are by which the rows of the tables are judged.
-use Rattle.std.proofs.Common.{ℕ, List, [], ◌∷◌, map, codes, refl}
+use Rattle.std.proofs.Common.{◌≡◌, ℕ, true, List, [], ◌∷◌, map, codes, refl, sym, true≢false}
 use Rattle.sqlite.specs.Listing.{understood}
 use Rattle.sqlite.specs.Query.{Query}
 use Rattle.sqlite.specs.Term.{col}
 use Rattle.sqlite_tied.specs.Compute.{everything}
 use Rattle.xa_store.specs.declared.opening.kind.Kind.{Kind}
-use Rattle.xa_store.specs.declared.opening.kind.Kind.TheVariants.{Domains, Tokens, Documents, Roots, Attributes}
-use Rattle.xa_store.specs.Judging.{text_of, places_shown}
-use Rattle.xa_store.specs.Opened.{read_columns, tree_of}
-use Rattle.xa_store.proofs.TextLemmas.{of_table, reading, IsQuery}
+use Rattle.xa_store.specs.declared.opening.kind.Kind.TheVariants.{Domains, Tokens, Documents, Roots, Attributes, Sources}
+use Rattle.xa_store.specs.declared.opening.schema_version.SchemaVersion.{SchemaVersion}
+use Rattle.xa_store.specs.declared.opening.schema_version.SchemaVersion.TheVariants.{Schema1, Schema2}
+use Rattle.xa_store.specs.Judging.{has_kind, places_text_of, text_of}
+use Rattle.xa_store.specs.Opened.{read_columns, schema_of, sources_in, tree_of}
+use Rattle.xa_store.specs.Texts.{meta_shown}
+use Rattle.xa_store.proofs.TextLemmas.{of_table, reading, IsQuery, IsQueryIn}
 
 abbrev pub query_of : Kind → Query
 query_of kind = of_table (tree_of kind) [] (map (λ at. col 1 at) (read_columns kind)) (0 ∷ [])
@@ -19,18 +22,43 @@ names_of Tokens = codes "rowid" ∷ codes "number" ∷ codes "digest" ∷ codes 
 names_of Documents = codes "rowid" ∷ codes "number" ∷ codes "kind" ∷ codes "id" ∷ codes "version" ∷ codes "body" ∷ codes "active" ∷ []
 names_of Roots = codes "number" ∷ codes "kind" ∷ codes "id" ∷ codes "pattern" ∷ codes "earliest" ∷ codes "latest" ∷ []
 names_of Attributes = codes "rowid" ∷ codes "number" ∷ codes "place" ∷ codes "category" ∷ codes "entity" ∷ codes "attribute" ∷ codes "value_type" ∷ codes "value" ∷ []
+names_of Sources = codes "rowid" ∷ codes "number" ∷ codes "place" ∷ codes "category" ∷ codes "entity" ∷ codes "attribute" ∷ codes "value_type" ∷ codes "value" ∷ codes "issuer" ∷ []
 
-pub judged_is : (kind : Kind) → IsQuery (text_of kind) (reading (query_of kind) (names_of kind))
+pub judged_is : (kind : Kind) (version : SchemaVersion) → has_kind kind version ≡ true → IsQueryIn (schema_of version) (text_of kind) (reading (query_of kind) (names_of kind))
 unfolding understood everything
-judged_is Domains = (refl, refl, (refl, refl))
-judged_is Tokens = (refl, refl, (refl, refl))
-judged_is Documents = (refl, refl, (refl, refl))
-judged_is Roots = (refl, refl, (refl, refl))
-judged_is Attributes = (refl, refl, (refl, refl))
+judged_is Domains Schema1 has = (refl, refl, (refl, refl))
+judged_is Domains Schema2 has = (refl, refl, (refl, refl))
+judged_is Tokens Schema1 has = (refl, refl, (refl, refl))
+judged_is Tokens Schema2 has = (refl, refl, (refl, refl))
+judged_is Documents Schema1 has = (refl, refl, (refl, refl))
+judged_is Documents Schema2 has = (refl, refl, (refl, refl))
+judged_is Roots Schema1 has = (refl, refl, (refl, refl))
+judged_is Roots Schema2 has = (refl, refl, (refl, refl))
+judged_is Attributes Schema1 has = (refl, refl, (refl, refl))
+judged_is Attributes Schema2 has = (refl, refl, (refl, refl))
+judged_is Sources Schema1 has = absurd (true≢false (sym has))
+judged_is Sources Schema2 has = (refl, refl, (refl, refl))
 
-abbrev pub places_query : Query
-places_query = of_table 8 [] (col 1 1 ∷ col 1 2 ∷ []) (1 ∷ 2 ∷ [])
+abbrev pub places_query : SchemaVersion → Query
+places_query version = of_table (tree_of (sources_in version)) [] (col 1 1 ∷ col 1 2 ∷ []) (1 ∷ 2 ∷ [])
 
-pub places_is : IsQuery places_shown (reading places_query (codes "number" ∷ codes "place" ∷ []))
+abbrev pub place_names : List (List ℕ)
+place_names = codes "number" ∷ codes "place" ∷ []
+
+pub places_is : (version : SchemaVersion) → IsQueryIn (schema_of version) (places_text_of version) (reading (places_query version) place_names)
 unfolding understood everything
-places_is = (refl, refl, (refl, refl))
+places_is Schema1 = (refl, refl, (refl, refl))
+places_is Schema2 = (refl, refl, (refl, refl))
+
+-- in schema 2 the same query is asked of the table that it leaves empty
+pub left_is : IsQuery (places_text_of Schema1) (reading (places_query Schema1) place_names)
+unfolding understood everything
+left_is = (refl, refl, (refl, refl))
+
+abbrev pub meta_query : Query
+meta_query = of_table 0 [] (col 1 0 ∷ col 1 2 ∷ col 1 3 ∷ []) (0 ∷ [])
+
+pub meta_read_is : (version : SchemaVersion) → IsQueryIn (schema_of version) meta_shown (reading meta_query (codes "id" ∷ codes "schema_no" ∷ codes "next_number" ∷ []))
+unfolding understood everything
+meta_read_is Schema1 = (refl, refl, (refl, refl))
+meta_read_is Schema2 = (refl, refl, (refl, refl))

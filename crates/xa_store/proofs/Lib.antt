@@ -75,3 +75,7 @@ pub mod NumberedLemmas
 pub mod OursLemmas
 pub mod OpenLemmas
 pub mod ReopeningLemmas
+pub mod ActionLemmas
+pub mod MigratingTexts
+pub mod MigratingLemmas
+pub mod MigratedLemmas

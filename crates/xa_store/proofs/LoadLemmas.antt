@@ -1,32 +1,61 @@
 -- The tables are judged one after another.
-use Rattle.std.proofs.Common.{◌≡◌, ℤ, Bool, true, false, ◌&&◌, cond, List, [], ◌∷◌, map, Some, Result, Ok, Err, IsTrue, OnOk, refl, sym, ap, subst, ◌∙◌, arith}
+use Rattle.std.proofs.Common.{◌≡◌, ℤ, Bool, true, false, ◌&&◌, cond, inl, inr, map, Option, Some, Result, Ok, Err, IsTrue, OnOk, refl, sym, ap, subst, ◌∙◌, arith}
 use Rattle.std.specs.List.{list_all}
 use Rattle.sqlite.specs.Effect.{Database, IsDatabase}
 use Rattle.sqlite.specs.State.{State, HasCleanDisk}
 use Rattle.sqlite.specs.Tree.{Trees}
 use Rattle.sqlite_catalog.specs.Listing.{IsSound}
-use Rattle.sqlite_keyed.proofs.RuleLemmas.{first_of_both, second_of_both}
+use Rattle.sqlite_keyed.proofs.ListLemmas.{all_from_test}
 use Rattle.xa_store.specs.declared.opening.kind.Kind.{Kind}
-use Rattle.xa_store.specs.declared.opening.kind.Kind.TheVariants.{Domains, Tokens, Documents, Roots, Attributes}
+use Rattle.xa_store.specs.declared.opening.kind.Kind.TheVariants.{Domains, Tokens, Documents, Roots}
+use Rattle.xa_store.specs.declared.opening.schema_version.SchemaVersion.{SchemaVersion}
+use Rattle.xa_store.specs.declared.opening.schema_version.SchemaVersion.TheVariants.{Schema1, Schema2}
 use Rattle.xa_store.specs.declared.open_error.OpenError.{OpenError}
 use Rattle.xa_store.specs.declared.open_error.OpenError.TheVariants.{NotThisSchema, Damaged, Store, Memory}
-use Rattle.xa_store.specs.Judging.{Asks, Checked, GivesAs, GivesNext, Judged, Judges, Orders, Walked, Walks}
-use Rattle.xa_store.specs.Opened.{are_counted, are_rising, as_read, is_count, is_sound, is_sound_table, judged, known_next, opened, place_in, read_meta, row_number, tree_of}
-use Rattle.xa_store.specs.Rows.{attribute_in, attribute_row}
-use Rattle.xa_store.specs.Sound.{AreRows, Rests, same_place}
+use Rattle.xa_store.specs.Judging.{has_kind, AreSources, Asks, Checked, FindsRest, GivesAs, GivesNext, Judged, Judges, Orders, Walked, Walks}
+use Rattle.xa_store.specs.Opening.{IsFailure}
+use Rattle.xa_store.specs.Opened.{are_counted, are_rising, as_read, is_count, is_left_empty, is_sound, is_sound_table, judged, kinds_in, known_next, opened, place_in, read_meta, row_number, schema_of, sources_in, tree_of}
+use Rattle.xa_store.specs.Sound.{RestsIn}
+use Rattle.xa_store.proofs.AreRowsLemmas.{first_sources_are, sources_are}
 use Rattle.xa_store.proofs.AskedLemmas.{as_failed, asks_then, rests_before, same_before}
 use Rattle.xa_store.proofs.ReadLemmas.{stopped_judges, walked_judges}
 use Rattle.xa_store.proofs.RiseLemmas.{both_true}
-use Rattle.xa_store.proofs.ShapedLemmas.{attributes_are}
 
 -- ---- one after another
 
 pub both_judged : (x y : Bool) (r : Result (Unit {0}) OpenError) → x ≡ true → Judges y r → Judges (x && y) r
 both_judged x y r is h = subst (λ b. Judges b r) (sym (ap (λ b. b && y) is)) h
 
+-- a query that failed, and a first part that wasn't sound
+pub failure_judged : (b : Bool) (e : OpenError) → IsFailure e → Judges b (Err e)
+failure_judged b e (inl is) = subst (λ o. Judges b (Err o)) (sym is) tt
+failure_judged b e (inr is) = subst (λ o. Judges b (Err o)) (sym is) tt
+
+pub failed_judged : {version : SchemaVersion} {X : Type 0} (sound : Trees → Bool) (old new : State) (e : OpenError) → Asks {X = X} version old new (Err e)
+    → (HasCleanDisk new → RestsIn (schema_of version) old → IsFailure e) → Judged version sound old new (Err e)
+failed_judged sound old new e asks fails = record { asks = as_failed old new e asks; finds = λ clean rests. failure_judged (sound old.now.trees) e (fails clean rests) }
+
+pub first_stops : (x y : Bool) (e : OpenError) → Judges x (Err e) → Judges (x && y) (Err e)
+first_stops x y Damaged h = ap (λ b. b && y) h
+first_stops x y NotThisSchema h = absurd h
+first_stops x y Store h = tt
+first_stops x y Memory h = tt
+
+-- schema 1 has no other table
+pub none_beside : (version : SchemaVersion) → version ≡ Schema1 → (x : Bool) (db : Trees) (r : Result (Unit {0}) OpenError) → Judges x r → Judges (x && is_left_empty version db) r
+none_beside version is x db r h = subst (λ b. Judges b r) (and_true x ∙ ap (λ v. x && is_left_empty v db) (sym is)) h
+  where
+    and_true : (x : Bool) → x ≡ (x && true)
+    and_true true = refl
+    and_true false = refl
+
+pub failure_next : (known : Option ℤ) (e : OpenError) → IsFailure e → GivesNext known (Err e)
+failure_next known e (inl is) = subst (λ o. GivesNext known (Err o)) (sym is) tt
+failure_next known e (inr is) = subst (λ o. GivesNext known (Err o)) (sym is) tt
+
 module _ (p q : Trees → Bool) (a b : State) where
   -- the second is judged where the first is sound
-  pub judged_then : (c : State) (x : Unit {0}) (r : Result (Unit {0}) OpenError) → Judged p a b (Ok x) → Judged q b c r → Judged (λ db. p db && q db) a c r
+  pub judged_then : {version : SchemaVersion} (c : State) (x : Unit {0}) (r : Result (Unit {0}) OpenError) → Judged version p a b (Ok x) → Judged version q b c r → Judged version (λ db. p db && q db) a c r
   judged_then c x r first second = record {
     asks = asks_then a b c x first.asks r second.asks;
     finds = λ clean rests.
@@ -37,8 +66,8 @@ module _ (p q : Trees → Bool) (a b : State) where
   }
 
 module _ (kind : Kind) (next : ℤ) (a b : State) where
-  pub table_judged : (c : State) (x : Unit {0}) (r : Result (Unit {0}) OpenError) → Walked kind next a b (Ok x) → Asks b c r → (HasCleanDisk c → Rests b → Orders kind b.now.trees r)
-      → Judged (λ db. is_sound_table db next kind) a c r
+  pub table_judged : {version : SchemaVersion} (c : State) (x : Unit {0}) (r : Result (Unit {0}) OpenError) → Walked version kind next a b (Ok x) → Asks version b c r
+      → (HasCleanDisk c → RestsIn (schema_of version) b → Orders kind b.now.trees r) → Judged version (λ db. is_sound_table db next kind) a c r
   table_judged c x r first second finds = record {
     asks = asks_then a b c x first.asks r second;
     finds = λ clean rests.
@@ -50,13 +79,10 @@ module _ (kind : Kind) (next : ℤ) (a b : State) where
         walked_judges kind next a.now.trees r walks (subst (λ (d : Database). Judges (are_rising (map row_number (map (as_read kind) (d.trees (tree_of kind))))) r) same.now order);
   }
 
-  pub table_stopped : (e : OpenError) → Walked kind next a b (Err e) → Judged (λ db. is_sound_table db next kind) a b (Err e)
+  pub table_stopped : {version : SchemaVersion} (e : OpenError) → Walked version kind next a b (Err e) → Judged version (λ db. is_sound_table db next kind) a b (Err e)
   table_stopped e first = record { asks = first.asks; finds = λ clean rests. stopped_judges kind next a.now.trees e (first.finds clean rests) }
 
 -- ---- all but the first
-
-abbrev pub kinds : List Kind
-kinds = Domains ∷ Tokens ∷ Documents ∷ Roots ∷ Attributes ∷ []
 
 in_pairs : (d t o r a : Bool) → (((d && t) && (o && r)) && a) ≡ (d && (t && (o && (r && (a && true)))))
 in_pairs false t o r a = refl
@@ -66,54 +92,69 @@ in_pairs true true true false a = refl
 in_pairs true true true true false = refl
 in_pairs true true true true true = refl
 
+-- each schema has the table of its rows of sources
+pub has_sources : (version : SchemaVersion) → has_kind (sources_in version) version ≡ true
+has_sources Schema1 = refl
+has_sources Schema2 = refl
+
 module _ (next : ℤ) (old new : State) (r : Result (Unit {0}) OpenError) where
-  pub all_tables : Judged
-      (λ db. ((is_sound_table db next Domains && is_sound_table db next Tokens) && (is_sound_table db next Documents && is_sound_table db next Roots)) && is_sound_table db next Attributes) old new r
-      → Judged (λ db. list_all (is_sound_table db next) kinds) old new r
-  all_tables h = record {
+  pub all_tables : {version : SchemaVersion} → Judged version
+      (λ db. ((is_sound_table db next Domains && is_sound_table db next Tokens) && (is_sound_table db next Documents && is_sound_table db next Roots)) && is_sound_table db next (sources_in version)) old new r
+      → Judged version (λ db. list_all (is_sound_table db next) (kinds_in version)) old new r
+  all_tables {version} h = record {
     asks = h.asks;
     finds = λ clean rests.
-        let db = old.now.trees in
-        subst (λ b. Judges b r) (in_pairs (is_sound_table db next Domains) (is_sound_table db next Tokens) (is_sound_table db next Documents) (is_sound_table db next Roots) (is_sound_table db next Attributes)) (h.finds clean rests);
+        let test = is_sound_table old.now.trees next in
+        subst (λ b. Judges b r) (in_pairs (test Domains) (test Tokens) (test Documents) (test Roots) (test (sources_in version))) (h.finds clean rests);
   }
 
-attributes_sound : (db : Trees) (next : ℤ) → list_all (is_sound_table db next) kinds ≡ true → is_sound_table db next Attributes ≡ true
-attributes_sound db next h =
-    let p = is_sound_table db next in
-    first_of_both (p Attributes) true (second_of_both (p Roots) _ (second_of_both (p Documents) _ (second_of_both (p Tokens) _ (second_of_both (p Domains) _ h))))
+are_sources : (version : SchemaVersion) (db : Trees) (next : ℤ) → IsSound (schema_of version) db → is_sound_table db next (sources_in version) ≡ true → AreSources version db
+are_sources Schema1 = first_sources_are
+are_sources Schema2 = sources_are
 
-pub all_judged : (next : ℤ) (a b c : State) (x : Unit {0}) (r : Result (Unit {0}) OpenError) → is_count next ≡ true → Asks a b (Ok x) → Asks b c r
-    → (HasCleanDisk b → Rests a → list_all (is_sound_table a.now.trees next) kinds ≡ true)
-    → (HasCleanDisk c → Rests b → AreRows attribute_row attribute_in (λ a. a.rowid) same_place (b.now.trees 8) → Judges (are_counted (map place_in (b.now.trees 8))) r)
-    → HasCleanDisk c → Rests a → IsDatabase a.now → Judges (is_sound a.now.trees next) r
-all_judged next a b c x r counts first second tables places clean rests live =
-    let between : HasCleanDisk b = omega (arith, second.survives.clean) in
-    let all = tables between rests in
-    let same = same_before a b c x first between rests in
-    let are = attributes_are a.now.trees next (subst (λ s. IsSound s a.now.trees) rests.schema live) (attributes_sound a.now.trees next all) in
-    let told = places clean (rests_before a b c x first between rests) (subst (λ (d : Database). AreRows attribute_row attribute_in (λ a. a.rowid) same_place (d.trees 8)) (sym same.now) are) in
-    both_judged _ _ r (both_true _ _ counts all) (subst (λ (d : Database). Judges (are_counted (map place_in (d.trees 8))) r) same.now told)
+sources_sound : (version : SchemaVersion) (db : Trees) (next : ℤ) → list_all (is_sound_table db next) (kinds_in version) ≡ true → is_sound_table db next (sources_in version) ≡ true
+sources_sound version db next h = (all_from_test (is_sound_table db next) (kinds_in version) h).1.1.1.1.0
+
+module _ {version : SchemaVersion} (a b c : State) (x : Unit {0}) (r : Result (Unit {0}) OpenError) where
+  -- the places, and then that no row of a source stands elsewhere
+  pub rest_judged : Asks version a b (Ok x) → Judged version (λ db. is_left_empty version db) b c r
+      → (HasCleanDisk b → RestsIn (schema_of version) a → AreSources version a.now.trees → are_counted (map place_in (a.now.trees (tree_of (sources_in version)))) ≡ true) → FindsRest version a c r
+  rest_judged first second places clean rests are =
+      let between : HasCleanDisk b = omega (arith, second.asks.survives.clean) in
+      let same = same_before a b c x first between rests in
+      both_judged _ _ r (places between rests are)
+      (subst (λ (d : Database). Judges (is_left_empty version d.trees) r) same.now (second.finds clean (rests_before a b c x first between rests)))
+
+  pub all_judged : (next : ℤ) → is_count next ≡ true → Asks version a b (Ok x) → Asks version b c r
+      → (HasCleanDisk b → RestsIn (schema_of version) a → list_all (is_sound_table a.now.trees next) (kinds_in version) ≡ true)
+      → FindsRest version b c r → HasCleanDisk c → RestsIn (schema_of version) a → IsDatabase a.now → Judges (is_sound version a.now.trees next) r
+  all_judged next counts first second tables rest clean rests live =
+      let between : HasCleanDisk b = omega (arith, second.survives.clean) in
+      let all = tables between rests in
+      let same = same_before a b c x first between rests in
+      let are = are_sources version a.now.trees next (subst (λ s. IsSound s a.now.trees) rests.schema live) (sources_sound version a.now.trees next all) in
+      let told = rest clean (rests_before a b c x first between rests) (subst (λ (d : Database). AreSources version d.trees) (sym same.now) are) in
+      both_judged _ _ r (both_true _ _ counts all)
+      (subst (λ (d : Database). Judges (are_counted (map place_in (d.trees (tree_of (sources_in version)))) && is_left_empty version d.trees) r) same.now told)
 
 -- ---- what opening answers
 
-pub unknown : (db : Trees) (e : OpenError) → GivesNext (known_next (map read_meta (db 0))) (Err e) → GivesAs {X = Unit {0}} (Err e) (opened db)
-unknown db NotThisSchema h = ap (judged db) h
-unknown db Damaged h = absurd h
-unknown db Store h = tt
-unknown db Memory h = tt
+pub unknown : (version : SchemaVersion) (db : Trees) (e : OpenError) → GivesNext (known_next version (map read_meta (db 0))) (Err e) → GivesAs {X = Unit {0}} (Err e) (opened version db)
+unknown version db NotThisSchema h = ap (judged version db) h
+unknown version db Damaged h = absurd h
+unknown version db Store h = tt
+unknown version db Memory h = tt
 
-pub judged_as : (db : Trees) (next : ℤ) (r : Result (Unit {0}) OpenError) (e : OpenError) → known_next (map read_meta (db 0)) ≡ Some next → Judges (is_sound db next) (Err e) → GivesAs {X = Unit {0}} (Err e) (opened db)
-judged_as db next r Damaged known h = ap (judged db) known ∙ ap (λ b. cond b (Ok tt) (Err Damaged)) h
-judged_as db next r NotThisSchema known h = absurd h
-judged_as db next r Store known h = tt
-judged_as db next r Memory known h = tt
+module _ (version : SchemaVersion) (db : Trees) (next : ℤ) (known : known_next version (map read_meta (db 0)) ≡ Some next) where
+  told_as : (b : Bool) → is_sound version db next ≡ b → opened version db ≡ cond b (Ok tt) (Err Damaged)
+  told_as b h = ap (judged version db) known ∙ ap (λ b. cond b (Ok tt) (Err Damaged)) h
 
-pub sound_as : (db : Trees) (next : ℤ) (x : Unit {0}) → known_next (map read_meta (db 0)) ≡ Some next → is_sound db next ≡ true → GivesAs (Ok x) (opened db)
-sound_as db next x known h = ap (judged db) known ∙ ap (λ b. cond b (Ok tt) (Err Damaged)) h
-
-judged_gives : (db : Trees) (next : ℤ) (r : Result (Unit {0}) OpenError) → known_next (map read_meta (db 0)) ≡ Some next → Judges (is_sound db next) r → GivesAs r (opened db)
-judged_gives db next (Ok x) known h = sound_as db next x known h
-judged_gives db next (Err e) known h = judged_as db next (Err e) e known h
+  judged_gives : (r : Result (Unit {0}) OpenError) → Judges (is_sound version db next) r → GivesAs r (opened version db)
+  judged_gives (Ok x) h = told_as true h
+  judged_gives (Err Damaged) h = told_as false h
+  judged_gives (Err NotThisSchema) h = absurd h
+  judged_gives (Err Store) h = tt
+  judged_gives (Err Memory) h = tt
 
 if_ok : {X P : Type 0} (r : Result X OpenError) → P → OnOk r P
 if_ok (Ok x) p = p
@@ -121,11 +162,12 @@ if_ok (Err e) p = tt
 
 -- ---- the number of the next domain was found, and then the tables were judged
 
-module _ (a b c : State) (next : ℤ) (known : HasCleanDisk b → Rests a → GivesNext (known_next (map read_meta (a.now.trees 0))) (Ok next)) (first : Asks a b (Ok next)) (live : IsTrue a.is_open → IsDatabase a.now) where
-  pub all_checked : (r : Result (Unit {0}) OpenError) → Asks b c r → (HasCleanDisk c → Rests b → IsDatabase b.now → Judges (is_sound b.now.trees next) r) → Checked a c r
+module _ {version : SchemaVersion} (a b c : State) (next : ℤ) (known : HasCleanDisk b → RestsIn (schema_of version) a → GivesNext (known_next version (map read_meta (a.now.trees 0))) (Ok next))
+    (first : Asks version a b (Ok next)) (live : IsTrue a.is_open → IsDatabase a.now) where
+  pub all_checked : (r : Result (Unit {0}) OpenError) → Asks version b c r → (HasCleanDisk c → RestsIn (schema_of version) b → IsDatabase b.now → Judges (is_sound version b.now.trees next) r) → Checked version a c r
   all_checked r second finds = record {
     asks = asks_then a b c next first r second;
-    opened = λ clean rests. judged_gives a.now.trees next r (known (between clean) rests) (sound_then clean rests);
+    opened = λ clean rests. judged_gives version a.now.trees next (known (between clean) rests) r (sound_then clean rests);
     live = λ clean. if_ok r (live_before (between clean));
   }
     where
@@ -135,11 +177,12 @@ module _ (a b c : State) (next : ℤ) (known : HasCleanDisk b → Rests a → Gi
       live_before : HasCleanDisk b → IsDatabase a.now
       live_before clean = live (first.goes_on clean).was_open
 
-      sound_then : HasCleanDisk c → Rests a → Judges (is_sound a.now.trees next) r
+      sound_then : HasCleanDisk c → RestsIn (schema_of version) a → Judges (is_sound version a.now.trees next) r
       sound_then clean rests =
           let same = same_before a b c next first (between clean) rests in
-          subst (λ (d : Database). Judges (is_sound d.trees next) r) same.now
+          subst (λ (d : Database). Judges (is_sound version d.trees next) r) same.now
           (finds clean (rests_before a b c next first (between clean) rests) (subst IsDatabase (sym same.now) (live_before (between clean))))
 
-pub not_looked : (a b : State) (e : OpenError) → Asks {X = ℤ} a b (Err e) → (HasCleanDisk b → Rests a → GivesNext (known_next (map read_meta (a.now.trees 0))) (Err e)) → Checked a b (Err e)
-not_looked a b e asks known = record { asks = as_failed a b e asks; opened = λ clean rests. unknown a.now.trees e (known clean rests); live = λ clean. tt }
+pub not_looked : {version : SchemaVersion} (a b : State) (e : OpenError) → Asks {X = ℤ} version a b (Err e)
+    → (HasCleanDisk b → RestsIn (schema_of version) a → GivesNext (known_next version (map read_meta (a.now.trees 0))) (Err e)) → Checked version a b (Err e)
+not_looked {version} a b e asks known = record { asks = as_failed a b e asks; opened = λ clean rests. unknown version a.now.trees e (known clean rests); live = λ clean. tt }

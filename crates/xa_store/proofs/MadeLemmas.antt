@@ -1,61 +1,118 @@
--- The tables are made in a transaction: from the parts to the commit.
-use Rattle.std.proofs.Common.{◌≡◌, inl, inr, [], true, false, Ok, Err, IsTrue, refl, sym, ap, subst, ◌∙◌, arith}
+-- The tables are made, or brought into schema 2, in a transaction: from the statements to the commit.
+use Rattle.std.proofs.Common.{◌≡◌, inl, inr, [], true, false, Ok, Err, IsTrue, refl, sym, subst, ◌∙◌, arith}
 use Rattle.std.proofs.lemmas.Bool.{both_ways}
 use Rattle.sqlite.specs.Effect.{Database}
 use Rattle.sqlite.specs.Held.{Held, state}
 use Rattle.sqlite.specs.State.{State, HasCleanDisk, KeepsCommit, KeepsCounts, Shows, Survives}
 use Rattle.sqlite.specs.Steps.{FailsToCommit}
 use Rattle.sqlite.specs.Store.{Ghosts}
+use Rattle.sqlite.specs.Tree.{Trees}
 use Rattle.sqlite.specs.declared.error.Error.{Error}
 use Rattle.sqlite.proofs.Callers.{survives_begin}
 use Rattle.sqlite.proofs.StateLemmas.{survives_then}
+use Rattle.sqlite_catalog.specs.Listing.{IsSound}
 use Rattle.xa_store.specs.declared.open_error.OpenError.{OpenError}
 use Rattle.xa_store.specs.declared.opening.making.Part.TheVariants as parts
-use Rattle.xa_store.specs.Judging.{Made}
+use Rattle.xa_store.specs.declared.opening.schema_version.SchemaVersion.TheVariants.{Schema1}
+use Rattle.xa_store.specs.Judging.{IsSoundIn, Made, Migrated}
 use Rattle.xa_store.specs.Making.{AreMade, IsBefore}
-use Rattle.xa_store.specs.Opening.{IsBlank, IsFailure, IsMade}
+use Rattle.xa_store.specs.Migrating.{IsDone, IsFirst, IsSoundFirst}
+use Rattle.xa_store.specs.Opening.{IsBlank, IsFailure, IsMade, IsMigrated}
 use Rattle.xa_store.specs.Sound.{SameNow}
+use Rattle.xa_store.proofs.MigratedLemmas.{is_migrated}
 
 module _ {S : Type 0} (g : Ghosts S) (old mid last : Held S) where
-  abbrev begun : State
+  abbrev pub begun : State
   begun = state g (record old { in_transaction = true })
 
+  -- the statements ran, and made that of tables of which this was known
   module _ (survived : Survives begun (state g mid) (λ _. ⊥)) (kept : HasCleanDisk (state g mid) → IsTrue begun.in_transaction → KeepsCommit begun (state g mid))
-      (makes : HasCleanDisk (state g mid) → IsTrue begun.in_transaction → IsBefore parts.Meta begun.now → AreMade (state g mid).now) (commits : Survives (state g mid) (state g last) (λ db. db ≡ (state g mid).now.trees)) where
+      (commits : Survives (state g mid) (state g last) (λ db. db ≡ (state g mid).now.trees)) where
     clean_before : HasCleanDisk (state g last) → HasCleanDisk (state g mid)
     clean_before clean = omega (arith, commits.clean)
 
-    all_made : HasCleanDisk (state g last) → IsBlank (state g old) → AreMade (state g mid).now
-    all_made clean blank = makes (clean_before clean) refl (record { schema = blank.schema; empty = tt })
+    module _ (Known : Type 0) (All : Database → Type 0) (makes : HasCleanDisk (state g mid) → IsTrue begun.in_transaction → Known → All (state g mid).now) where
+      all_there : HasCleanDisk (state g last) → Known → All (state g mid).now
+      all_there clean known = makes (clean_before clean) refl known
 
-    survives : Survives (state g old) (state g last) (λ db. IsBlank (state g old) → IsMade db)
-    survives =
-        survives_then (state g old) (state g mid) (state g last) (λ _. ⊥) (λ db. db ≡ (state g mid).now.trees) (λ db. IsBlank (state g old) → IsMade db) (λ _ db h. absurd h)
-        (λ clean db is blank. subst IsMade (sym is) (all_made clean blank).made) (survives_begin g old (state g mid) (λ _. ⊥) survived) commits
+      survives : (Left : Trees → Type 0) → (Known → (d : Database) → All d → Left d.trees) → Survives (state g old) (state g last) (λ db. Known → Left db)
+      survives Left leaves =
+          survives_then (state g old) (state g mid) (state g last) (λ _. ⊥) (λ db. db ≡ (state g mid).now.trees) (λ db. Known → Left db) (λ _ db h. absurd h)
+          (λ clean db is known. subst Left (sym is) (leaves known (state g mid).now (all_there clean known))) (survives_begin g old (state g mid) (λ _. ⊥) survived) commits
 
-    pub made : {X : Type 0} (x : X)
-        → (HasCleanDisk (state g last) → IsTrue (state g mid).in_transaction × Shows (state g mid) (state g last) (state g mid).now (state g mid).now false × KeepsCounts (state g mid) (state g last) × ((state g last).marks ≡ []))
-        → Made (state g old) (state g last) (Ok x)
-    made x shown = record {
-      survives = survives;
-      made = λ clean blank.
-          let shows = (shown clean).1 in
-          let all = all_made clean blank in (
-            shows.is_open,
-            record { schema = ap (λ (d : Database). d.schema) shows.now_is ∙ all.schema; settled = shows.now_is ∙ sym shows.committed_is; idle = shows.mode },
-            subst (λ (d : Database). IsMade d.trees) (sym shows.now_is) all.made,
-          );
-      same = λ clean blank up. tt;
-      fails = tt;
-    }
+      all_committed : Shows (state g mid) (state g last) (state g mid).now (state g mid).now false → HasCleanDisk (state g last) → Known → All (state g last).now
+      all_committed shows clean known = subst All (sym shows.now_is) (all_there clean known)
 
-    pub unmade : {X : Type 0} (f : OpenError) (e : Error) → IsFailure f → (HasCleanDisk (state g mid) → IsTrue (state g mid).in_transaction) → (state g last).in_transaction ≡ false
-        → (HasCleanDisk (state g last) → FailsToCommit (state g mid) (state g last) e) → Made {X = X} (state g old) (state g last) (Err f)
-    unmade f e is goes_on ended failed = record { survives = survives; made = λ clean blank. tt; same = λ clean blank up. undone clean blank up (failed clean); fails = is }
-      where
-        undone : HasCleanDisk (state g last) → IsBlank (state g old) → IsTrue (state g last).is_open → FailsToCommit (state g mid) (state g last) e → SameNow (state g old) (state g last)
-        undone clean blank up (inl h) =
-            let back = h.3.undone up in
-            let committed = (kept (clean_before clean) refl).committed (h.3.was_open up) in
-            record { now = back.0 ∙ committed ∙ sym blank.settled; committed = back.1 ∙ committed; idle = ended }
-        undone clean blank up (inr h) = absurd (both_ways _ h.1 (goes_on (clean_before clean)))
+    -- or nothing was committed
+    undone : (e : Error) → (HasCleanDisk (state g mid) → IsTrue (state g mid).in_transaction) → (state g last).in_transaction ≡ false → (state g old).now ≡ (state g old).committed
+        → HasCleanDisk (state g last) → IsTrue (state g last).is_open → FailsToCommit (state g mid) (state g last) e → SameNow (state g old) (state g last)
+    undone e goes_on ended settled clean up (inl h) =
+        let back = h.3.undone up in
+        let committed = (kept (clean_before clean) refl).committed (h.3.was_open up) in
+        record { now = back.0 ∙ committed ∙ sym settled; committed = back.1 ∙ committed; idle = ended }
+    undone e goes_on ended settled clean up (inr h) = absurd (both_ways _ h.1 (goes_on (clean_before clean)))
+
+    -- ---- the tables as they are made
+
+    module _ (makes : HasCleanDisk (state g mid) → IsTrue begun.in_transaction → IsBefore parts.Meta begun.now → AreMade (state g mid).now) where
+      from_blank : HasCleanDisk (state g mid) → IsTrue begun.in_transaction → IsBlank (state g old) → AreMade (state g mid).now
+      from_blank clean inside blank = makes clean inside (record { schema = blank.schema; empty = tt })
+
+      leaves_made : Survives (state g old) (state g last) (λ db. IsBlank (state g old) → IsMade db)
+      leaves_made = survives (IsBlank (state g old)) AreMade from_blank IsMade (λ blank d all. all.made)
+
+      pub made : {X : Type 0} (x : X)
+          → (HasCleanDisk (state g last) → IsTrue (state g mid).in_transaction × Shows (state g mid) (state g last) (state g mid).now (state g mid).now false × KeepsCounts (state g mid) (state g last) × ((state g last).marks ≡ []))
+          → Made (state g old) (state g last) (Ok x)
+      made x shown = record {
+        survives = leaves_made;
+        made = λ clean blank.
+            let shows = (shown clean).1 in
+            let all = all_committed (IsBlank (state g old)) AreMade from_blank shows clean blank in
+            (shows.is_open, record { schema = all.schema; settled = shows.now_is ∙ sym shows.committed_is; idle = shows.mode }, all.made);
+        same = λ clean blank up. tt;
+        fails = tt;
+      }
+
+      pub unmade : {X : Type 0} (f : OpenError) (e : Error) → IsFailure f → (HasCleanDisk (state g mid) → IsTrue (state g mid).in_transaction) → (state g last).in_transaction ≡ false
+          → (HasCleanDisk (state g last) → FailsToCommit (state g mid) (state g last) e) → Made {X = X} (state g old) (state g last) (Err f)
+      unmade f e is goes_on ended failed =
+          record { survives = leaves_made; made = λ clean blank. tt; same = λ clean blank up. undone e goes_on ended blank.settled clean up (failed clean); fails = is }
+
+    -- ---- tables of schema 1 in schema 2
+
+    module _ (moves : HasCleanDisk (state g mid) → IsTrue begun.in_transaction → (first : Trees) → IsSoundFirst first → IsFirst first begun.now → IsDone first (state g mid).now) where
+      abbrev first : Trees
+      first = (state g old).now.trees
+
+      sound_first : IsSoundIn Schema1 (state g old) → IsSoundFirst first
+      sound_first sound = record { database = subst (λ schema. IsSound schema first) sound.rests.schema sound.database; opens = sound.opens }
+
+      from_first : HasCleanDisk (state g mid) → IsTrue begun.in_transaction → IsSoundIn Schema1 (state g old) → IsDone first (state g mid).now
+      from_first clean inside sound =
+          moves clean inside first (sound_first sound) (record { schema = sound.rests.schema; meta = refl; attributes = refl; others = (refl, (refl, (refl, (refl, tt)))) })
+
+      -- what was committed is what the connection held
+      is_migrated_from : IsSoundIn Schema1 (state g old) → (d : Database) → IsDone first d → IsMigrated (state g old).committed.trees d.trees
+      is_migrated_from sound d done = subst (λ (was : Database). IsMigrated was.trees d.trees) sound.rests.settled (is_migrated first (sound_first sound) d done)
+
+      leaves_migrated : Survives (state g old) (state g last) (λ db. IsSoundIn Schema1 (state g old) → IsMigrated (state g old).committed.trees db)
+      leaves_migrated = survives (IsSoundIn Schema1 (state g old)) (IsDone first) from_first (IsMigrated (state g old).committed.trees) is_migrated_from
+
+      pub migrated : {X : Type 0} (x : X)
+          → (HasCleanDisk (state g last) → IsTrue (state g mid).in_transaction × Shows (state g mid) (state g last) (state g mid).now (state g mid).now false × KeepsCounts (state g mid) (state g last) × ((state g last).marks ≡ []))
+          → Migrated (state g old) (state g last) (Ok x)
+      migrated x shown = record {
+        survives = leaves_migrated;
+        migrated = λ clean sound.
+            let shows = (shown clean).1 in
+            let all = all_committed (IsSoundIn Schema1 (state g old)) (IsDone first) from_first shows clean sound in
+            (shows.is_open, record { schema = all.schema; settled = shows.now_is ∙ sym shows.committed_is; idle = shows.mode }, is_migrated_from sound (state g last).now all);
+        same = λ clean rests up. tt;
+        fails = tt;
+      }
+
+      pub unmigrated : {X : Type 0} (f : OpenError) (e : Error) → IsFailure f → (HasCleanDisk (state g mid) → IsTrue (state g mid).in_transaction) → (state g last).in_transaction ≡ false
+          → (HasCleanDisk (state g last) → FailsToCommit (state g mid) (state g last) e) → Migrated {X = X} (state g old) (state g last) (Err f)
+      unmigrated f e is goes_on ended failed =
+          record { survives = leaves_migrated; migrated = λ clean sound. tt; same = λ clean rests up. undone e goes_on ended rests.settled clean up (failed clean); fails = is }

@@ -14,8 +14,8 @@ use Rattle.sqlite.proofs.Callers.{IsPlain, command_of, statement_of}
 use Rattle.sqlite_tied.specs.Compute.{everything}
 use Rattle.xa_store.specs.Making.{first, second, third, fourth, fifth}
 use Rattle.xa_store.specs.Opening.{no_tables}
-use Rattle.xa_store.specs.Tables.{our_schema, meta, domains, tokens, policies, roots, attributes}
-use Rattle.xa_store.specs.Texts.{meta_made, domains_made, tokens_made, policies_made, roots_made, attributes_made, meta_begun}
+use Rattle.xa_store.specs.Tables.{first_schema, our_schema, meta, domains, tokens, policies, roots, attributes, sources}
+use Rattle.xa_store.specs.Texts.{meta_made, domains_made, tokens_made, policies_made, roots_made, attributes_made, sources_made, meta_begun}
 use Rattle.xa_store.proofs.TextLemmas.{IsChange}
 
 -- under the schema the text is the statement that makes the table
@@ -24,7 +24,11 @@ pub record IsMaking (schema : Schema) (sql : List ℕ) (table : Table) : Type 0 
   pub plain : IsPlain (understood schema sql)
   pub defined : table_defined_by (statement_of sql (understood schema sql)) ≡ Ok (record table { tree = 0 })
 
-pub all_made : created fifth attributes ≡ our_schema
+pub first_made : created fifth attributes ≡ first_schema
+unfolding digits
+first_made = refl
+
+pub all_made : created first_schema sources ≡ our_schema
 unfolding digits
 all_made = refl
 
@@ -52,8 +56,12 @@ pub attributes_is : IsMaking fifth attributes_made attributes
 unfolding understood everything
 attributes_is = record { command = refl; plain = (refl, refl); defined = refl }
 
+pub sources_is : IsMaking first_schema sources_made sources
+unfolding understood everything
+sources_is = record { command = refl; plain = (refl, refl); defined = refl }
+
 abbrev pub first_row : List Term
-first_row = lit (Int (pos 1)) ∷ lit Null ∷ lit (Int (pos 1)) ∷ lit (Int (pos 1)) ∷ []
+first_row = lit (Int (pos 1)) ∷ lit Null ∷ lit (Int (pos 2)) ∷ lit (Int (pos 1)) ∷ []
 
 pub first_row_is : IsChange meta_begun (Insert 0 (Values first_row 4))
 unfolding understood everything

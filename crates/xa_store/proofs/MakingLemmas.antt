@@ -1,9 +1,9 @@
 -- What the statements make by which the tables are made.
-use Rattle.std.proofs.Common.{◌≡◌, ◌≢◌, ◌⊎◌, inl, inr, ℕ, ℤ, pos, Bool, true, false, MatchBool, List, [], ◌∷◌, ◌++◌, map, Ok, Err, Result, IsTrue, OnOk, refl, sym, ap, subst, subst₂, ◌∙◌, arith}
+use Rattle.std.proofs.Common.{◌≡◌, ℕ, pos, true, false, MatchBool, List, [], ◌∷◌, ◌++◌, map, Ok, Err, Result, OnOk, refl, sym, ap, subst, ◌∙◌}
 use Rattle.std.specs.List.{AllByRecursion}
 use Rattle.sqlite.specs.Change.{created, next_tree}
 use Rattle.sqlite.specs.Does.{Tally, Does, MakesSequence, MakesTable, lacks_sequence, sequence_text}
-use Rattle.sqlite.specs.Effect.{Database}
+use Rattle.sqlite.specs.Effect.{Database, IsDatabase}
 use Rattle.sqlite.specs.Listing.{understood}
 use Rattle.sqlite.specs.Rows.{Gives}
 use Rattle.sqlite.specs.Rowids.TheVariants.{Chosen}
@@ -16,20 +16,21 @@ use Rattle.sqlite.specs.declared.types.Value.TheVariants.{Null, Int}
 use Rattle.sqlite.proofs.Callers.{statement_of, runs_as}
 use Rattle.sqlite_catalog.specs.Change.{KeepsRows}
 use Rattle.sqlite_rules.specs.Cast.{cast_row}
-use Rattle.sqlite_rules.specs.Edit.{IsNoIndex, with_rowid}
+use Rattle.sqlite_rules.specs.Edit.{with_rowid}
 use Rattle.sqlite_keyed.proofs.ListLemmas.{all-append}
 use Rattle.xa_store.specs.declared.opening.making.Part.{Part}
 use Rattle.xa_store.specs.declared.opening.making.Part.TheVariants as parts
 use Rattle.xa_store.specs.declared.opening.kind.Kind.{Kind}
-use Rattle.xa_store.specs.declared.opening.kind.Kind.TheVariants.{Domains, Tokens, Documents, Roots, Attributes}
+use Rattle.xa_store.specs.declared.opening.kind.Kind.TheVariants.{Domains, Tokens, Documents, Roots, Attributes, Sources}
 use Rattle.xa_store.specs.Making.{text_of, first, second, third, fourth, fifth, IsBefore, IsAfter}
 use Rattle.xa_store.specs.Opened.{tree_of}
 use Rattle.xa_store.specs.Opening.{no_tables}
 use Rattle.xa_store.specs.Rows.{meta_row}
-use Rattle.xa_store.specs.Tables.{our_schema, meta, domains, tokens, policies, roots, attributes}
+use Rattle.xa_store.specs.Tables.{first_schema, meta, domains, tokens, policies, roots, attributes, sources}
 use Rattle.xa_store.specs.Texts as texts
-use Rattle.xa_store.proofs.MadeTexts.{IsMaking, all_made, meta_is, domains_is, tokens_is, policies_is, roots_is, attributes_is, first_row, first_row_is}
-use Rattle.xa_store.proofs.StepLemmas.{cast_int, cast_null, works_of_meta}
+use Rattle.xa_store.proofs.MadeTexts.{IsMaking, first_made, all_made, meta_is, domains_is, tokens_is, policies_is, roots_is, attributes_is, sources_is, first_row, first_row_is}
+use Rattle.xa_store.proofs.HoldLemmas.{is_other, kept}
+use Rattle.xa_store.proofs.StepLemmas.{meta_cast}
 use Rattle.xa_store.proofs.TableLemmas.{went, same_value, inserts}
 use Rattle.xa_store.proofs.WriteLemmas.{row_added}
 
@@ -54,6 +55,7 @@ module _ (schema : Schema) (sql : List ℕ) (table : Table) (is : IsMaking schem
     pub schema_is : new.now.schema ≡ created schema table
     pub empty : new.now.trees (next_tree schema) ≡ []
     pub others : KeepsRows schema.tables old.now.trees new.now.trees
+    pub sound : IsDatabase new.now
 
   pub came : Came
   came =
@@ -70,12 +72,22 @@ module _ (schema : Schema) (sql : List ℕ) (table : Table) (is : IsMaking schem
         schema_is = ap (λ (d : Database). d.schema) whole ∙ after;
         empty = ap (λ (d : Database). d.trees (next_tree schema)) whole ∙ made.1.empty;
         others = subst (λ (d : Database). KeepsRows schema.tables old.now.trees d.trees) (sym whole) made.1.others;
+        sound = w.sound;
       }
 
   pub bare_after : Bare old.now.trees schema.tables → AllByRecursion (λ t. new.now.trees t ≡ []) (map (λ (t : Table). t.tree) schema.tables ++ next_tree schema ∷ [])
   bare_after bare =
       let it = came in
       all-append (λ t. new.now.trees t ≡ []) (map (λ (t : Table). t.tree) schema.tables) (next_tree schema ∷ []) (still_bare schema.tables old.now.trees new.now.trees it.others bare) (it.empty, tt)
+
+-- where the tree of meta was written, no other table has a row yet
+still : (old new : Trees) → ((t : ℕ) → is_other 0 t ≡ true → new t ≡ old t) → AllByRecursion (λ t. old t ≡ []) (0 ∷ 1 ∷ 3 ∷ 5 ∷ 7 ∷ 8 ∷ 10 ∷ []) → (kind : Kind) → new (tree_of kind) ≡ []
+still old new stays empty Domains = stays 1 refl ∙ empty.1.0
+still old new stays empty Tokens = stays 3 refl ∙ empty.1.1.0
+still old new stays empty Documents = stays 5 refl ∙ empty.1.1.1.0
+still old new stays empty Roots = stays 7 refl ∙ empty.1.1.1.1.0
+still old new stays empty Attributes = stays 8 refl ∙ empty.1.1.1.1.1.0
+still old new stays empty Sources = stays 10 refl ∙ empty.1.1.1.1.1.1.0
 
 -- a part that was made is there, and those before it still are
 pub taken : (part : Part) (old new : State) (count : ℕ) → IsBefore part old.now → Executes (text_of part) [] old new (Ok count) → IsAfter part new.now
@@ -100,24 +112,22 @@ taken parts.Roots old new count before h = record {
   empty = bare_after fourth texts.roots_made roots roots_is refl old new before.schema count h before.empty;
 }
 taken parts.Attributes old new count before h = record {
-  schema = (came fifth texts.attributes_made attributes attributes_is refl old new before.schema count h).schema_is ∙ all_made;
+  schema = (came fifth texts.attributes_made attributes attributes_is refl old new before.schema count h).schema_is ∙ first_made;
   empty = bare_after fifth texts.attributes_made attributes attributes_is refl old new before.schema count h before.empty;
+}
+taken parts.Sources old new count before h = record {
+  schema = (came first_schema texts.sources_made sources sources_is refl old new before.schema count h).schema_is ∙ all_made;
+  empty = bare_after first_schema texts.sources_made sources sources_is refl old new before.schema count h before.empty;
 }
 taken parts.FirstRow old new count before h =
     let adds = inserts texts.meta_begun [] old new before.schema 0 meta refl count first_row 4 refl refl first_row_is h in
-    let row = Int (pos 1) ∷ Null ∷ Int (pos 1) ∷ Int (pos 1) ∷ [] in
-    let cast : cast_row meta row ≡ meta_row (pos 1) = λ i. cast_int (pos 1) i ∷ cast_null i ∷ cast_int (pos 1) i ∷ cast_int (pos 1) i ∷ [] in
-    let put : with_rowid Chosen (old.now.trees 0) (cast_row meta row) ≡ meta_row (pos 1) = ap (with_rowid Chosen (old.now.trees 0)) cast in
-    let wrote = row_added meta_row (λ _. pos 1) (λ _. refl) meta old.now.trees new.now.trees [] before.empty.0 tt (pos 1) row put (works_of_meta [] (meta_row (pos 1))) adds.edited in
-    let empty = before.empty in
-    record { schema = adds.schema; made = record { database = adds.database; meta = wrote.rows; empty = still (wrote.others) empty } }
-  where
-    still : ((t : ℕ) → t ≢ 0 → IsNoIndex our_schema t → new.now.trees t ≡ old.now.trees t) → AllByRecursion (λ t. old.now.trees t ≡ []) (0 ∷ 1 ∷ 3 ∷ 5 ∷ 7 ∷ 8 ∷ []) → (kind : Kind) → new.now.trees (tree_of kind) ≡ []
-    still others empty Domains = others 1 (omega arith) (omega arith, (omega arith, (omega arith, (omega arith, tt)))) ∙ empty.1.0
-    still others empty Tokens = others 3 (omega arith) (omega arith, (omega arith, (omega arith, (omega arith, tt)))) ∙ empty.1.1.0
-    still others empty Documents = others 5 (omega arith) (omega arith, (omega arith, (omega arith, (omega arith, tt)))) ∙ empty.1.1.1.0
-    still others empty Roots = others 7 (omega arith) (omega arith, (omega arith, (omega arith, (omega arith, tt)))) ∙ empty.1.1.1.1.0
-    still others empty Attributes = others 8 (omega arith) (omega arith, (omega arith, (omega arith, (omega arith, tt)))) ∙ empty.1.1.1.1.1.0
+    let row = Int (pos 1) ∷ Null ∷ Int (pos 2) ∷ Int (pos 1) ∷ [] in
+    let put : with_rowid Chosen (old.now.trees 0) (cast_row meta row) ≡ meta_row (pos 1) = ap (with_rowid Chosen (old.now.trees 0)) (meta_cast (pos 1)) in
+    let wrote = row_added meta_row (λ _. pos 1) (λ _. refl) meta old.now.trees new.now.trees [] before.empty.0 tt (pos 1) row put adds.edited in
+    record {
+      schema = adds.schema;
+      made = record { database = adds.database; meta = wrote.rows; empty = still old.now.trees new.now.trees (kept wrote) before.empty };
+    }
 
 pub on_ok : {X E P Q : Type 0} (r : Result X E) → OnOk r P → (P → Q) → OnOk r Q
 on_ok (Ok x) p f = f p

@@ -1,48 +1,83 @@
 -- From the parts of opening to what it answers.
-use Rattle.std.proofs.Common.{◌≡◌, ◌⊎◌, inl, inr, Bool, true, false, Result, Ok, Err, IsTrue, IfErr, refl, sym, ap, subst, ◌∙◌, true≢false, arith}
-use Rattle.sqlite.specs.Effect.{Database}
+use Rattle.std.proofs.Common.{◌≡◌, ◌⊎◌, inl, inr, Bool, true, false, cond, codes, Result, Ok, Err, IsTrue, IfOk, IfErr, OnOk, refl, sym, ap, subst, ◌∙◌, true≢false, arith}
+use Rattle.sqlite.specs.Effect.{Database, IsDatabase}
 use Rattle.sqlite.specs.Held.{Held, state}
 use Rattle.sqlite_schema.specs.Names.{same_name}
 use Rattle.sqlite.specs.State.{State, HasCleanDisk, Survives}
 use Rattle.sqlite.specs.Store.{Ghosts}
 use Rattle.sqlite.specs.Tree.{Trees}
 use Rattle.sqlite.proofs.StateLemmas.{clean_if_open, survives_then, survives_weaker}
+use Rattle.sqlite_catalog.specs.Listing.{IsSound as IsSoundUnder}
+use Rattle.sqlite_keyed.proofs.RuleLemmas.{second_of_both}
 use Rattle.xa_store.specs.declared.open_error.OpenError.{OpenError}
 use Rattle.xa_store.specs.declared.open_error.OpenError.TheVariants.{Store}
-use Rattle.xa_store.specs.Judging.{Checked, IsIdle, Loads, Made, Tested}
+use Rattle.xa_store.specs.declared.opening.schema_version.SchemaVersion.{SchemaVersion}
+use Rattle.xa_store.specs.declared.opening.schema_version.SchemaVersion.TheVariants.{Schema1, Schema2}
+use Rattle.xa_store.specs.Judging.{Checked, IsIdle, IsSoundIn, Loads, Made, Migrated, Tested}
 use Rattle.xa_store.specs.Keeper.{Keeper, IsKeeper, IsSound}
-use Rattle.xa_store.specs.Opening.{IsBlank, IsFailure, IsMade, IsRefusal, Leaves, LeavesAlone, Makes, Opens, Settles, has_room, no_tables}
-use Rattle.xa_store.specs.Sound.{Rests, SameNow}
-use Rattle.xa_store.specs.Tables.{our_schema}
+use Rattle.xa_store.specs.Opened.{opened, schema_of}
+use Rattle.xa_store.specs.Opening.{Gives, IsBlank, IsFailure, IsKnown, IsMade, IsMigrated, IsRefusal, Leaves, LeavesAlone, Makes, Migrates, Opens, Settles, has_room, is_free, no_tables, version_in}
+use Rattle.xa_store.specs.Sound.{Ours, Rests, RestsIn, SameNow}
+use Rattle.xa_store.specs.Tables.{first_schema}
 use Rattle.xa_store.specs.World.{world_of}
 use Rattle.xa_store.proofs.ApartLemmas.{survives_still}
+use Rattle.xa_store.proofs.AskedLemmas.{same_then}
 use Rattle.xa_store.proofs.KeeperReadingLemmas.{sound_store}
 use Rattle.xa_store.proofs.OursLemmas.{made_nothing, opened_ours}
-use Rattle.xa_store.proofs.QuietLemmas.{ours_after}
+use Rattle.xa_store.proofs.QuietLemmas.{rests_after}
 
--- ---- a store without tables has room for ours, and one with ours has none
+-- ---- a store without tables has room for ours, and one with tables of a keeper has none
 
 pub blank_has_room : has_room no_tables ≡ true
 blank_has_room = refl
 
-pub ours_has_none : has_room our_schema ≡ false
+pub none_has_room : (version : SchemaVersion) → has_room (schema_of version) ≡ false
 unfolding same_name
-ours_has_none = refl
+none_has_room Schema1 = refl
+none_has_room Schema2 = refl
 
--- ---- the tables of a keeper were judged
+-- which schema it is, is told by the name that the second has more
+pub version_told : (version : SchemaVersion) → version_in (schema_of version) ≡ version
+unfolding same_name
+version_told Schema1 = refl
+version_told Schema2 = refl
 
-module _ (a c : State) (quiet : IsIdle a) (schema : a.now.schema ≡ our_schema) where
-  at_rest : IsTrue a.is_open → Rests a
+module _ (a : State) where
+  no_rest : IsTrue (has_room a.now.schema) → (version : SchemaVersion) → ¬ RestsIn (schema_of version) a
+  no_rest room version rests = true≢false (sym room ∙ ap has_room rests.schema ∙ none_has_room version)
+
+  not_blank : has_room a.now.schema ≡ false → ¬ IsBlank a
+  not_blank full blank = true≢false (sym blank_has_room ∙ ap has_room (sym blank.schema) ∙ full)
+
+  not_second : version_in a.now.schema ≡ Schema1 → ¬ Rests a
+  not_second first rests = absurd (let e : Schema1 ≡ Schema2 = sym first ∙ ap version_in rests.schema ∙ version_told Schema2 in cc)
+
+  not_first : version_in a.now.schema ≡ Schema2 → ¬ RestsIn first_schema a
+  not_first second rests = absurd (let e : Schema2 ≡ Schema1 = sym second ∙ ap version_in rests.schema ∙ version_told Schema1 in cc)
+
+-- what is left of tables that are known to be none of them
+nothing_known : (a : State) {P : Type 0} → ¬ Rests a → ¬ RestsIn first_schema a → (IsBlank a → P) → IsKnown a → P
+nothing_known a second first blank (inl h) = absurd (second h)
+nothing_known a second first blank (inr (inl h)) = absurd (first h)
+nothing_known a second first blank (inr (inr h)) = blank h
+
+pub sound_ours : (s : State) → IsSoundIn Schema2 s → Ours s
+sound_ours s sound = opened_ours s sound.rests sound.database sound.opens
+
+-- ---- the tables of a schema were judged
+
+module _ (version : SchemaVersion) (a c : State) (quiet : IsIdle a) (schema : a.now.schema ≡ schema_of version) where
+  at_rest : IsTrue a.is_open → RestsIn (schema_of version) a
   at_rest up = record { schema = schema; settled = quiet.settled up; idle = quiet.idle }
 
-  module _ (r : Result (Unit {0}) OpenError) (check : Checked a c r) where
+  module _ (r : Result (Unit {0}) OpenError) (check : Checked version a c r) where
     survived : Survives a c (λ _. ⊥)
     survived = survives_weaker a c _ _ (λ _ db h. h.0 schema) check.asks.survives
 
     same : HasCleanDisk c → IsTrue c.is_open → SameNow a c
     same clean up = check.asks.same clean (at_rest (check.asks.was_open clean up)) up
 
-  pub ours_sound : (x : Unit {0}) → Checked a c (Ok x) → Tested a c (Ok true)
+  pub ours_sound : (x : Unit {0}) → Checked version a c (Ok x) → Tested version a c (Ok true)
   ours_sound x check = record {
     survives = survived (Ok x) check;
     refused = λ clean up. tt;
@@ -50,13 +85,18 @@ module _ (a c : State) (quiet : IsIdle a) (schema : a.now.schema ≡ our_schema)
     opened = check.opened;
     known = λ rests. refl;
     stays = λ clean rests. (check.asks.goes_on clean).is_open;
-    ours = λ clean own.
+    sound = λ clean own.
         let on = check.asks.goes_on clean in
         let rests = at_rest on.was_open in
-        ours_after a c (opened_ours a rests (check.live clean) (check.opened clean rests)) (same (Ok x) check clean on.is_open);
+        let still = same (Ok x) check clean on.is_open in
+        record {
+          rests = rests_after a c rests still;
+          database = subst IsDatabase (sym still.now) (check.live clean);
+          opens = ap (λ (d : Database). opened version d.trees) still.now ∙ check.opened clean rests;
+        };
   }
 
-  pub ours_refused : (e : OpenError) → Checked a c (Err e) → Tested a c (Err e)
+  pub ours_refused : (e : OpenError) → Checked version a c (Err e) → Tested version a c (Err e)
   ours_refused e check = record {
     survives = survived (Err e) check;
     refused = λ clean up refusal. same (Err e) check clean up;
@@ -64,7 +104,7 @@ module _ (a c : State) (quiet : IsIdle a) (schema : a.now.schema ≡ our_schema)
     opened = check.opened;
     known = λ rests. tt;
     stays = λ clean rests. tt;
-    ours = λ clean. tt;
+    sound = λ clean. tt;
   }
 
 -- a transaction is under way, and nothing is asked
@@ -72,15 +112,15 @@ fails_no_refusal : ¬ IsRefusal Store
 fails_no_refusal (inl is) = absurd cc
 fails_no_refusal (inr is) = absurd cc
 
-pub not_tested : (a : State) → Tested a a (Err Store)
-not_tested a = record {
+pub not_tested : (version : SchemaVersion) (a : State) → Tested version a a (Err Store)
+not_tested version a = record {
   survives = survives_still a;
   refused = λ clean up refusal. absurd (fails_no_refusal refusal);
   same = λ clean rests up. record { now = refl; committed = refl; idle = rests.idle };
   opened = λ clean rests. tt;
   known = λ rests. tt;
   stays = λ clean rests. tt;
-  ours = λ clean. tt;
+  sound = λ clean. tt;
 }
 
 -- ---- the tables were made first, or there were some
@@ -91,12 +131,13 @@ no_failure e (inl is) (inr other) = absurd cc
 no_failure e (inr is) (inl other) = absurd cc
 no_failure e (inr is) (inr other) = absurd cc
 
-module _ (a b : State) (room : IsTrue (has_room a.now.schema)) where
-  no_rest : ¬ Rests a
-  no_rest rests = true≢false (sym room ∙ ap has_room rests.schema ∙ ours_has_none)
+failure_given : (e : OpenError) (given : Result (Unit {0}) OpenError) → IsFailure e → Gives (Err e) given
+failure_given e given (inl is) = subst (λ o. Gives (Err o) given) (sym is) tt
+failure_given e given (inr is) = subst (λ o. Gives (Err o) given) (sym is) tt
 
-  left_by : Survives a b (λ db. IsBlank a → IsMade db) → Survives a b (Leaves a)
-  left_by survived = survives_weaker a b _ (Leaves a) (λ _ db h. (room, h)) survived
+module _ (a b : State) (room : IsTrue (has_room a.now.schema)) where
+  leaves : (db : Trees) → (IsBlank a → IsMade db) → Leaves a db
+  leaves db made = (second_of_both _ (is_free a.now.schema (codes "sources")) room, made, λ rests. absurd (no_rest a room Schema1 rests))
 
   -- of a failure
   failed_loads : (c : State) (e : OpenError) → IsFailure e → Survives a c (Leaves a) → (HasCleanDisk c → IsBlank a → IsTrue c.is_open → SameNow a c ⊎ IsMade c.now.trees) → Loads a c (Err e)
@@ -104,7 +145,8 @@ module _ (a b : State) (room : IsTrue (has_room a.now.schema)) where
     survives = survived;
     left = λ refusal. absurd (no_failure e is refusal);
     refused = λ clean up refusal. absurd (no_failure e is refusal);
-    opens = λ clean rests. absurd (no_rest rests);
+    opens = λ clean rests. absurd (no_rest a room Schema2 rests);
+    migrates = λ clean rests. absurd (no_rest a room Schema1 rests);
     makes = there;
     fails = λ blank. is;
     ours = λ clean. tt;
@@ -112,56 +154,147 @@ module _ (a b : State) (room : IsTrue (has_room a.now.schema)) where
   }
 
   pub not_made : (e : OpenError) → Made {X = Unit {0}} a b (Err e) → Loads a b (Err e)
-  not_made e made = failed_loads b e made.fails (left_by made.survives) (λ clean blank up. inl (made.same clean blank up))
+  not_made e made = failed_loads b e made.fails (survives_weaker a b _ (Leaves a) (λ _ db h. leaves db h) made.survives) (λ clean blank up. inl (made.same clean blank up))
 
   module _ (c : State) (x : Unit {0}) (made : Made a b (Ok x)) where
-    module _ (r : Result Bool OpenError) (test : Tested b c r) where
+    module _ (r : Result Bool OpenError) (test : Tested Schema2 b c r) where
       between : HasCleanDisk c → HasCleanDisk b
       between clean = omega (arith, test.survives.clean)
 
       left_at_last : Survives a c (Leaves a)
-      left_at_last = survives_then a b c (λ db. IsBlank a → IsMade db) (λ _. ⊥) (Leaves a) (λ _ db h. (room, h)) (λ _ db h. absurd h) made.survives test.survives
+      left_at_last = survives_then a b c (λ db. IsBlank a → IsMade db) (λ _. ⊥) (Leaves a) (λ _ db h. leaves db h) (λ _ db h. absurd h) made.survives test.survives
 
       is_made : HasCleanDisk c → IsBlank a → IsTrue c.is_open → IsMade c.now.trees
       is_made clean blank up =
           let it = made.made (between clean) blank in
           subst (λ (d : Database). IsMade d.trees) (sym (test.same clean it.1 up).now) it.2
 
-    pub made_failed : (e other : OpenError) → IsFailure e → Tested b c (Err other) → Loads a c (Err e)
+    pub made_failed : (e other : OpenError) → IsFailure e → Tested Schema2 b c (Err other) → Loads a c (Err e)
     made_failed e other is test = failed_loads c e is (left_at_last (Err other) test) (λ clean blank up. inr (is_made (Err other) test clean blank up))
 
-    pub made_sound : (own : Bool) → Tested b c (Ok own) → Loads a c (Ok own)
+    pub made_sound : (own : Bool) → Tested Schema2 b c (Ok own) → Loads a c (Ok own)
     made_sound own test = record {
       survives = left_at_last (Ok own) test;
       left = tt;
       refused = λ clean up. tt;
-      opens = λ clean rests. absurd (no_rest rests);
+      opens = λ clean rests. absurd (no_rest a room Schema2 rests);
+      migrates = λ clean rests. absurd (no_rest a room Schema1 rests);
       makes = λ clean blank.
           let rests = (made.made (between (Ok own) test clean) blank).1 in
           (test.known rests, is_made (Ok own) test clean blank (test.stays clean rests));
       fails = λ blank. tt;
-      ours = test.ours;
-      stays = λ clean h. elim h [ inl rests ↦ absurd (no_rest rests) | inr blank ↦ test.stays clean (made.made (between (Ok own) test clean) blank).1 ];
+      ours = λ clean is. sound_ours c (test.sound clean is);
+      stays = λ clean h. nothing_known a (no_rest a room Schema2) (no_rest a room Schema1) (λ blank. test.stays clean (made.made (between (Ok own) test clean) blank).1) h;
     }
 
-pub tested_loads : (a c : State) (r : Result Bool OpenError) → has_room a.now.schema ≡ false → Tested a c r → Loads a c r
-tested_loads a c r full test = record {
-  survives = survives_weaker a c (λ _. ⊥) (Leaves a) (λ _ db h. absurd h) test.survives;
-  left = left r;
-  refused = test.refused;
-  opens = λ clean rests. (test.opened clean rests, test.known rests, test.same clean rests);
-  makes = λ clean blank. absurd (not_blank blank);
-  fails = λ blank. absurd (not_blank blank);
-  ours = test.ours;
-  stays = λ clean h. elim h [ inl rests ↦ test.stays clean rests | inr blank ↦ absurd (not_blank blank) ];
-}
-  where
-    not_blank : ¬ IsBlank a
-    not_blank blank = true≢false (sym blank_has_room ∙ ap has_room (sym blank.schema) ∙ full)
+-- tables of schema 2
+module _ (a c : State) (full : has_room a.now.schema ≡ false) (second : version_in a.now.schema ≡ Schema2) where
+  pub tested_loads : (r : Result Bool OpenError) → Tested Schema2 a c r → Loads a c r
+  tested_loads r test = record {
+    survives = survives_weaker a c (λ _. ⊥) (Leaves a) (λ _ db h. absurd h) test.survives;
+    left = left r;
+    refused = test.refused;
+    opens = λ clean rests. (test.opened clean rests, test.known rests, test.same clean rests);
+    migrates = λ clean rests. absurd (not_first a second rests);
+    makes = λ clean blank. absurd (not_blank a full blank);
+    fails = λ blank. absurd (not_blank a full blank);
+    ours = λ clean. ours r (test.sound clean);
+    stays = λ clean. stays (test.stays clean);
+  }
+    where
+      left : (r2 : Result Bool OpenError) → IfErr r2 (λ e. IsRefusal e → Survives a c (λ _. ⊥))
+      left (Ok own) = tt
+      left (Err e) = λ refusal. test.survives
 
-    left : (r2 : Result Bool OpenError) → IfErr r2 (λ e. IsRefusal e → Survives a c (λ _. ⊥))
-    left (Ok own) = tt
-    left (Err e) = λ refusal. test.survives
+      ours : (r2 : Result Bool OpenError) → IfOk r2 (λ own. IsTrue own → IsSoundIn Schema2 c) → IfOk r2 (λ own. IsTrue own → Ours c)
+      ours (Ok own) sound = λ is. sound_ours c (sound is)
+      ours (Err e) sound = tt
+
+      stays : (Rests a → OnOk r (IsTrue c.is_open)) → IsKnown a → OnOk r (IsTrue c.is_open)
+      stays up (inl rests) = up rests
+      stays up (inr (inl rests)) = absurd (not_first a second rests)
+      stays up (inr (inr blank)) = absurd (not_blank a full blank)
+
+-- tables of schema 1, which were judged, and then brought into schema 2
+module _ (a b : State) (full : has_room a.now.schema ≡ false) (first : version_in a.now.schema ≡ Schema1) where
+  its_room : IsTrue (is_free a.now.schema (codes "sources"))
+  its_room = go (is_free a.now.schema (codes "sources")) refl
+    where
+      go : (free : Bool) → is_free a.now.schema (codes "sources") ≡ free → is_free a.now.schema (codes "sources") ≡ true
+      go true is = is
+      go false is = absurd (let e : Schema2 ≡ Schema1 = sym (ap (λ b. cond b Schema1 Schema2) is) ∙ first in cc)
+
+  first_known : {P : Type 0} → (RestsIn first_schema a → P) → IsKnown a → P
+  first_known at (inl rests) = absurd (not_second a first rests)
+  first_known at (inr (inl rests)) = at rests
+  first_known at (inr (inr blank)) = absurd (not_blank a full blank)
+
+  pub first_refused : (e : OpenError) → Tested Schema1 a b (Err e) → Loads a b (Err e)
+  first_refused e test = record {
+    survives = survives_weaker a b (λ _. ⊥) (Leaves a) (λ _ db h. absurd h) test.survives;
+    left = λ refusal. test.survives;
+    refused = test.refused;
+    opens = λ clean rests. absurd (not_second a first rests);
+    migrates = λ clean rests. (test.opened clean rests, test.same clean rests);
+    makes = λ clean blank. absurd (not_blank a full blank);
+    fails = λ blank. absurd (not_blank a full blank);
+    ours = λ clean. tt;
+    stays = λ clean h. tt;
+  }
+
+  module _ (c : State) (own : Bool) (test : Tested Schema1 a b (Ok own)) where
+    first_same : HasCleanDisk b → RestsIn first_schema a → SameNow a b
+    first_same clean rests = test.same clean rests (test.stays clean rests)
+
+    -- what is known of the tables that the migration begins with
+    sound : HasCleanDisk b → RestsIn first_schema a → IsSoundIn Schema1 b
+    sound clean rests = test.sound clean (test.known rests)
+
+    module _ (r : Result (Unit {0}) OpenError) (moved : Migrated b c r) where
+      first_between : HasCleanDisk c → HasCleanDisk b
+      first_between clean = omega (arith, moved.survives.clean)
+
+      first_left_at_last : Survives a c (Leaves a)
+      first_left_at_last =
+          survives_then a b c (λ _. ⊥) (λ db. IsSoundIn Schema1 b → IsMigrated b.committed.trees db) (Leaves a) (λ _ db h. absurd h)
+          (λ clean db h. (
+            its_room,
+            λ blank. absurd (not_blank a full blank),
+            λ rests. subst (λ (d : Database). IsMigrated d.trees db) (first_same (first_between clean) rests).committed (h (sound (first_between clean) rests)),
+          )) test.survives moved.survives
+
+    pub migrated_loads : (x : Unit {0}) → Migrated b c (Ok x) → Loads a c (Ok own)
+    migrated_loads x moved = record {
+      survives = first_left_at_last (Ok x) moved;
+      left = tt;
+      refused = λ clean up. tt;
+      opens = λ clean rests. absurd (not_second a first rests);
+      migrates = λ clean rests.
+          let before = first_between (Ok x) moved clean in
+          let it = moved.migrated clean (sound before rests) in
+          (test.opened before rests, test.known rests, subst (λ (d : Database). IsMigrated d.trees c.now.trees) (first_same before rests).committed it.2);
+      makes = λ clean blank. absurd (not_blank a full blank);
+      fails = λ blank. tt;
+      ours = λ clean is.
+          let it = moved.migrated clean (test.sound (first_between (Ok x) moved clean) is) in
+          opened_ours c it.1 (subst (λ schema. IsSoundUnder schema c.now.trees) (sym it.1.schema) it.2.ours.database) it.2.ours.opens;
+      stays = λ clean h. first_known (λ rests. (moved.migrated clean (sound (first_between (Ok x) moved clean) rests)).0) h;
+    }
+
+    pub unmigrated_loads : (e : OpenError) → Migrated {X = Unit {0}} b c (Err e) → Loads a c (Err e)
+    unmigrated_loads e moved = record {
+      survives = first_left_at_last (Err e) moved;
+      left = λ refusal. absurd (no_failure e moved.fails refusal);
+      refused = λ clean up refusal. absurd (no_failure e moved.fails refusal);
+      opens = λ clean rests. absurd (not_second a first rests);
+      migrates = λ clean rests.
+          let before = first_same (first_between (Err e) moved clean) rests in
+          (failure_given e (opened Schema1 a.now.trees) moved.fails, λ up. same_then a b c before (moved.same clean (rests_after a b rests before) up));
+      makes = λ clean blank. absurd (not_blank a full blank);
+      fails = λ blank. absurd (not_blank a full blank);
+      ours = λ clean. tt;
+      stays = λ clean h. tt;
+    }
 
 pub busy_loads : (a : State) → Loads a a (Err Store)
 busy_loads a = record {
@@ -169,6 +302,7 @@ busy_loads a = record {
   left = λ refusal. absurd (fails_no_refusal refusal);
   refused = λ clean up refusal. absurd (fails_no_refusal refusal);
   opens = λ clean rests. (tt, tt, λ up. record { now = refl; committed = refl; idle = rests.idle });
+  migrates = λ clean rests. (tt, λ up. record { now = refl; committed = refl; idle = rests.idle });
   makes = λ clean blank up. inl (record { now = refl; committed = refl; idle = blank.idle });
   fails = λ blank. inl refl;
   ours = λ clean. tt;
@@ -194,6 +328,11 @@ module _ {S : Type 0} (g : Ghosts S) (shut : (s : S) → (g.view s).is_clean ≡
       let same = it.2 (loads.stays clean (inl rests)) in
       (it.0, same, record { ours = it.1; is_open = refl; faults = refl }, ap (λ (d : Database). world_of d.trees) (same.now ∙ rests.settled))
 
+  pub migrates_keeper : (ours : Bool) → Loads old (state g last) (Ok ours) → RestsIn first_schema old → Migrates g old (Ok (keeper ours))
+  migrates_keeper ours loads rests clean =
+      let it = loads.migrates clean rests in
+      (it.0, record { ours = it.1; is_open = refl; faults = refl }, it.2)
+
   pub makes_keeper : (ours : Bool) → Loads old (state g last) (Ok ours) → IsBlank old → Makes g old (Ok (keeper ours))
   makes_keeper ours loads blank clean =
       let it = loads.makes clean blank in
@@ -207,6 +346,9 @@ module _ {S : Type 0} (g : Ghosts S) (shut : (s : S) → (g.view s).is_clean ≡
 
   pub opens_refused : (e : OpenError) → Loads old (state g last) (Err e) → Rests old → Opens g old (Err (e, last))
   opens_refused e loads rests clean = let it = loads.opens clean rests in (it.0, it.2)
+
+  pub migrates_refused : (e : OpenError) → Loads old (state g last) (Err e) → RestsIn first_schema old → Migrates g old (Err (e, last))
+  migrates_refused e loads rests clean = let it = loads.migrates clean rests in (it.0, it.1)
 
   pub makes_refused : (e : OpenError) → Loads old (state g last) (Err e) → IsBlank old → Makes g old (Err (e, last))
   makes_refused e loads blank = (loads.fails blank, λ up. loads.makes (clean_up up) blank up)

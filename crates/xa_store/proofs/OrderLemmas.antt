@@ -10,13 +10,14 @@ use Rattle.std.proofs.lemmas.Cmp.{tied_itself}
 use Rattle.std.proofs.lemmas.List.{length-map, nil_from_length}
 use Rattle.std.proofs.lemmas.List.Elements.{recursion_from_All, All-from_recursion}
 use Rattle.std.proofs.lemmas.List.Sorted.{All-permutation, IsPermutation-map, IsPermutation-sym, IsPermutation-trans, length_permutation}
+use Rattle.sqlite.specs.Collation.{Collation}
 use Rattle.sqlite.specs.Collation.TheVariants.{Binary}
 use Rattle.sqlite.specs.Ops.{unary, binary, is_true}
 use Rattle.sqlite.specs.Order.{Row, column}
 use Rattle.sqlite.specs.Program.{overlay}
-use Rattle.sqlite.specs.Query.{Output, output, output_cmp}
+use Rattle.sqlite.specs.Query.{Output, Query, output, output_cmp}
 use Rattle.sqlite.specs.State.{State, Shown}
-use Rattle.sqlite.specs.Term.{Term, Env, col, op1, op2, holds, eval}
+use Rattle.sqlite.specs.Term.{Term, Env, lit, col, op1, op2, holds, eval}
 use Rattle.sqlite.specs.Tree.{Trees}
 use Rattle.sqlite.specs.declared.types.Value.{Value}
 use Rattle.sqlite.specs.declared.types.Value.TheVariants.{Null, Int, Text}
@@ -37,14 +38,14 @@ use Rattle.sqlite_typed.proofs.TestLemmas.{last_term}
 use Rattle.sqlite_value.specs.Order.{value_cmp}
 use Rattle.sqlite_value.proofs.OrderLemmas.{value_cmp-Text, value_cmp-Null, value_cmp_total}
 use Rattle.xa_store.specs.declared.opening.kind.Kind.{Kind}
-use Rattle.xa_store.specs.declared.opening.kind.Kind.TheVariants.{Domains, Tokens, Documents, Roots, Attributes}
-use Rattle.xa_store.specs.Judging.{order_text_of, HasNumbers, Walks}
-use Rattle.xa_store.specs.Opened.{are_rising, as_read, is_number, is_whole_row, row_number, tree_of}
-use Rattle.xa_store.specs.Sound.{Rests}
-use Rattle.xa_store.specs.Tables.{our_schema}
+use Rattle.xa_store.specs.declared.opening.kind.Kind.TheVariants.{Domains, Tokens, Documents, Roots, Attributes, Sources}
+use Rattle.xa_store.specs.declared.opening.schema_version.SchemaVersion.{SchemaVersion}
+use Rattle.xa_store.specs.Judging.{has_kind, order_text_of, HasNumbers, Walks}
+use Rattle.xa_store.specs.Opened.{are_rising, as_read, is_number, is_whole_row, row_number, schema_of, tree_of}
+use Rattle.xa_store.specs.Sound.{RestsIn}
 use Rattle.xa_store.proofs.NumberTexts.{AreShort, later_text, same_numbers}
 use Rattle.xa_store.proofs.ReadLemmas.{bare, checked_sound, checked_up, head_read, int_back, numbers_read, rising, walked_numbers}
-use Rattle.xa_store.proofs.RisingTexts.{order_is, rising_query, sorted_query, sorted_tree, text_over}
+use Rattle.xa_store.proofs.RisingTexts.{by_rowid, order_is, rising_query, sorted_query, sorted_tree, text_over}
 
 abbrev Numbered : List Row → Type 0
 Numbered = AllByRecursion (λ r. is_number (column r 0) ≡ true)
@@ -104,18 +105,21 @@ agreed (x ∷ xs) (y ∷ ys) p q e =
 
 -- ---- the rows in the order of their keys
 
-module _ (t : ℕ) (db : Trees) (plain : overlay db [] t ≡ db t) where
-  abbrev keyed : Row → Output
-  keyed r = output (sorted_query t) ([] ∷ r ∷ [])
+module _ (t : ℕ) (given : List Term) (collations : List Collation) (db : Trees) (plain : overlay db [] t ≡ db t) where
+  abbrev query : Query
+  query = by_rowid t given collations
 
-  abbrev Sorted : List Row → Type 0
-  Sorted rows = (ordered : List Output) × IsPermutation (map keyed (db t)) ordered × IsSorted (output_cmp (sorted_query t)) ordered × (rows ≡ map (λ o. o.1) ordered)
+  abbrev pub out_by_rowid : Row → Output
+  out_by_rowid r = output query ([] ∷ r ∷ [])
 
-  sorted_is : (rows : List Row) → IsSureAnswer (sorted_query t) (overlay db []) [] rows → Sorted rows
+  abbrev pub Sorted : List Row → Type 0
+  Sorted rows = (ordered : List Output) × IsPermutation (map out_by_rowid (db t)) ordered × IsSorted (output_cmp query) ordered × (rows ≡ map (λ o. o.1) ordered)
+
+  pub sorted_is : (rows : List Row) → IsSureAnswer query (overlay db []) [] rows → Sorted rows
   sorted_is rows h =
       let a = h Null in
       let staged : a.staged ≡ map (λ r. [] ∷ r ∷ []) (db t) = a.grouped ∙ ap (flat_map (λ r. ([] ∷ r ∷ []) ∷ [])) plain ∙ each (λ r. [] ∷ r ∷ []) (db t) in
-      let kept : a.kept ≡ map keyed (db t) = a.distinct ∙ ap (map (output (sorted_query t))) staged ∙ map-map (output (sorted_query t)) (λ r. [] ∷ r ∷ []) (db t) in
+      let kept : a.kept ≡ map out_by_rowid (db t) = a.distinct ∙ ap (map (output query)) staged ∙ map-map (output query) (λ r. [] ∷ r ∷ []) (db t) in
       (a.ordered, subst (λ k. IsPermutation k a.ordered) kept a.same, a.sorted, a.shown)
 
 -- ---- what the query shows
@@ -186,12 +190,14 @@ beside_of Tokens db rows = refl
 beside_of Documents db rows = refl
 beside_of Roots db rows = refl
 beside_of Attributes db rows = refl
+beside_of Sources db rows = refl
 
 not_false : (b : Bool) → not b ≡ false → b ≡ true
 not_false true h = refl
 not_false false h = absurd (true≢false h)
 
-module _ (kind : Kind) (old new : State) (rests : Rests old) (shown : List Row) (told : Shown (order_text_of kind) [] old new shown) (next : ℤ) (walked : Walks kind next old.now.trees (Ok tt)) where
+module _ (kind : Kind) (version : SchemaVersion) (has : has_kind kind version ≡ true) (old new : State) (rests : RestsIn (schema_of version) old) (shown : List Row)
+    (told : Shown (order_text_of kind) [] old new shown) (next : ℤ) (walked : Walks kind next old.now.trees (Ok tt)) where
   abbrev t : ℕ
   t = tree_of kind
 
@@ -205,7 +211,9 @@ module _ (kind : Kind) (old new : State) (rests : Rests old) (shown : List Row) 
   Parts = (rows : List Row) × IsSureAnswer (sorted_query t) (overlay db []) [] rows × IsSureAnswer (rising_query t) (overlay db (rows ∷ [])) [] shown
 
   parts : Parts
-  parts = elim (reads_as (order_text_of kind) [] old new our_schema rests.schema _ (order_is kind).0 (order_is kind).2 (order_is kind).1 shown told).answer [ inl h ↦ (h.0, h.1, h.2) | inr h ↦ absurd h.1 ]
+  parts =
+      let it = order_is kind version has in
+      elim (reads_as (order_text_of kind) [] old new (schema_of version) rests.schema _ it.0 it.2 it.1 shown told).answer [ inl h ↦ (h.0, h.1, h.2) | inr h ↦ absurd h.1 ]
 
   numbers : HasNumbers kind db
   numbers = walked_numbers kind next db walked
@@ -217,14 +225,14 @@ module _ (kind : Kind) (old new : State) (rests : Rests old) (shown : List Row) 
   up = checked_up kind next None walked.0 walked.2
 
   abbrev key : Row → Output
-  key = keyed t db (bare kind db)
+  key = out_by_rowid t (lit Null ∷ col 1 0 ∷ []) (Binary ∷ []) db (bare kind db)
 
   same_keys : map key read ≡ map key (db t)
   same_keys = map-map key (as_read kind) (db t) ∙ map_same (λ r. key (as_read kind r)) key (λ r. ap (λ v. (v ∷ [], Null ∷ v ∷ [])) (head_read kind r)) (db t)
 
   rows_are : parts.0 ≡ map (λ r. Null ∷ column r 0 ∷ []) walked.0
   rows_are =
-      let s = sorted_is t db (bare kind db) parts.0 parts.1 in
+      let s = sorted_is t (lit Null ∷ col 1 0 ∷ []) (Binary ∷ []) db (bare kind db) parts.0 parts.1 in
       let front : IsPermutation (map key (db t)) (map key walked.0) = subst (λ l. IsPermutation l (map key walked.0)) same_keys (IsPermutation-map key read walked.0 walked.1.all) in
       let same = IsPermutation-trans _ _ _ (IsPermutation-sym _ _ front) s.1 in
       let strict = ascending-map (λ x y. output_cmp (sorted_query t) x y ≡ Less) key walked.0 (rising kind db walked.0 numbered up) in

@@ -1,5 +1,5 @@
 -- Tables that opening finds sound are those of a keeper, and tables as they are made are sound.
-use Rattle.std.proofs.Common.{◌≡◌, ℕ, ℤ, pos, Bool, true, false, ◌&&◌, cond, [], ◌∷◌, map, Option, Some, None, Result, Ok, Err, refl, sym, ap, subst, ◌∙◌}
+use Rattle.std.proofs.Common.{◌≡◌, ℕ, ℤ, pos, Bool, true, false, ◌&&◌, cond, List, [], ◌∷◌, map, Option, Some, None, Result, Ok, Err, refl, sym, ap, subst, ◌∙◌, true≢false}
 use Rattle.std.specs.FinMap.{from_entries}
 use Rattle.std.specs.List.{AllByRecursion, list_all}
 use Rattle.sqlite.specs.Effect.{IsDatabase}
@@ -7,8 +7,9 @@ use Rattle.sqlite.specs.Order.{Row, column}
 use Rattle.sqlite.specs.State.{State}
 use Rattle.sqlite.specs.Tree.{Trees}
 use Rattle.sqlite_catalog.specs.Listing.{IsSound}
-use Rattle.sqlite_keyed.proofs.ListLemmas.{all_map, all_weaker, map-map}
+use Rattle.sqlite_keyed.proofs.ListLemmas.{all_from_test, all_map, all_weaker, map-map}
 use Rattle.sqlite_keyed.proofs.RuleLemmas.{first_of_both, second_of_both}
+use Rattle.sqlite_schema.specs.declared.schema.Constraint.TheVariants.{Datatype}
 use Rattle.sqlite_typed.specs.Columns.{int_of}
 use Rattle.xa_records.specs.DomainName.{is_domain_name}
 use Rattle.xa_records.specs.DomainState.{IsDocumentOf}
@@ -16,74 +17,77 @@ use Rattle.xa_records.specs.Kept.{nothing_kept}
 use Rattle.xa_store.specs.declared.open_error.OpenError.{OpenError}
 use Rattle.xa_store.specs.declared.open_error.OpenError.TheVariants.{Damaged}
 use Rattle.xa_store.specs.declared.opening.kind.Kind.{Kind}
-use Rattle.xa_store.specs.declared.opening.kind.Kind.TheVariants.{Domains, Tokens, Documents, Roots, Attributes}
-use Rattle.xa_store.specs.Opened.{are_counted, are_sound_rows, as_read, count_from, holds_int, is_count, is_digest, is_given, is_sound, is_sound_table, is_whole_row, judged, known_next, opened, place_in, places_of, read_meta, tree_of}
+use Rattle.xa_store.specs.declared.opening.kind.Kind.TheVariants.{Domains, Tokens, Documents, Roots, Attributes, Sources}
+use Rattle.xa_store.specs.declared.opening.schema_version.SchemaVersion.{SchemaVersion}
+use Rattle.xa_store.specs.declared.opening.schema_version.SchemaVersion.TheVariants.{Schema2}
+use Rattle.xa_store.specs.Opened.{are_counted, are_sound_rows, as_read, count_from, holds_int, is_count, is_digest, is_empty, is_given, is_left_empty, is_sound, is_sound_table, is_whole_row, judged, kinds_in, known_next, opened, place_in, places_of, read_meta, sources_in, tree_of}
 use Rattle.xa_store.specs.Opening.{IsMade}
 use Rattle.xa_store.specs.Rows.{attribute_in, document_in, domain_in, meta_row, nat_of, next_in, root_in, token_in}
 use Rattle.xa_store.specs.Sound.{AreDocuments, AreNumbered, AreTables, AreWhole, Ours, Rests, place_of}
 use Rattle.xa_store.specs.Tables.{our_schema}
 use Rattle.xa_store.specs.World.{domain_entry, rows_of, world_of}
-use Rattle.xa_store.proofs.AreRowsLemmas.{domains_are, tokens_are, whole}
+use Rattle.xa_store.proofs.AreRowsLemmas.{domains_are, sources_are, tokens_are, whole}
 use Rattle.xa_store.proofs.ColumnLemmas.{root_texts, source_texts}
 use Rattle.xa_store.proofs.CountedLemmas.{counted_each}
 use Rattle.xa_store.proofs.DocumentRowLemmas.{document_held, documents_are}
 use Rattle.xa_store.proofs.NumberedLemmas.{AreGiven, numbers_are}
 use Rattle.xa_store.proofs.RootRowLemmas.{meta_is, roots_are}
 use Rattle.xa_store.proofs.ShapeLemmas.{blob_held, int_held, text_held}
-use Rattle.xa_store.proofs.ShapedLemmas.{attributes_are}
+use Rattle.xa_store.proofs.ShapedLemmas.{whole_source}
 use Rattle.xa_store.proofs.WholeLemmas.{IsWholeAttribute, IsWholeDocument, IsWholeDomain, IsWholeRoot, IsWholeToken}
 
 -- ---- what opening has found
 
-abbrev Finds : Trees → Type 0
-Finds db = (next : ℤ) × (known_next (map read_meta (db 0)) ≡ Some next) × (is_sound db next ≡ true)
+module _ (version : SchemaVersion) where
+  abbrev pub Finds : Trees → Type 0
+  Finds db = (next : ℤ) × (known_next version (map read_meta (db 0)) ≡ Some next) × (is_sound version db next ≡ true)
 
-found : (db : Trees) → opened db ≡ Ok tt → Finds db
-found db h = go (known_next (map read_meta (db 0))) refl h
-  where
-    sound : (next : ℤ) → known_next (map read_meta (db 0)) ≡ Some next → (b : Bool) → is_sound db next ≡ b → ◌≡◌ {A = Result (Unit {0}) OpenError} (cond b (Ok tt) (Err Damaged)) (Ok tt) → Finds db
-    sound next known true is h = (next, known, is)
-    sound next known false is h = absurd cc
+  pub found : (db : Trees) → opened version db ≡ Ok tt → Finds db
+  found db h = go (known_next version (map read_meta (db 0))) refl h
+    where
+      sound : (next : ℤ) → known_next version (map read_meta (db 0)) ≡ Some next → (b : Bool) → is_sound version db next ≡ b → ◌≡◌ {A = Result (Unit {0}) OpenError} (cond b (Ok tt) (Err Damaged)) (Ok tt) → Finds db
+      sound next known true is h = (next, known, is)
+      sound next known false is h = absurd cc
 
-    go : (o : Option ℤ) → known_next (map read_meta (db 0)) ≡ o → judged db o ≡ Ok tt → Finds db
-    go None known h = absurd cc
-    go (Some next) known h = sound next known (is_sound db next) refl h
+      go : (o : Option ℤ) → known_next version (map read_meta (db 0)) ≡ o → judged version db o ≡ Ok tt → Finds db
+      go None known h = absurd cc
+      go (Some next) known h = sound next known (is_sound version db next) refl h
+
+  -- each of its tests
+  module _ (db : Trees) (next : ℤ) (sound : is_sound version db next ≡ true) where
+    its_two : (is_count next && list_all (is_sound_table db next) (kinds_in version)) ≡ true
+    its_two = first_of_both _ _ sound
+
+    other_two : (are_counted (map place_in (db (tree_of (sources_in version)))) && is_left_empty version db) ≡ true
+    other_two = second_of_both _ _ sound
+
+    pub next_counts : is_count next ≡ true
+    next_counts = first_of_both (is_count next) _ its_two
+
+    pub in_kind : AllByRecursion (λ kind. is_sound_table db next kind ≡ true) (kinds_in version)
+    in_kind = all_from_test (is_sound_table db next) (kinds_in version) (second_of_both (is_count next) _ its_two)
+
+    pub places_counted : are_counted (map place_in (db (tree_of (sources_in version)))) ≡ true
+    places_counted = first_of_both _ _ other_two
+
+    pub left_empty : is_left_empty version db ≡ true
+    left_empty = second_of_both _ _ other_two
+
+empty_from : (rows : List Row) → is_empty rows ≡ true → rows ≡ []
+empty_from [] h = refl
+empty_from (row ∷ rows) h = absurd (true≢false (sym h))
 
 -- ---- of each table
 
-module _ (db : Trees) (next : ℤ) (live : IsSound our_schema db) (known : known_next (map read_meta (db 0)) ≡ Some next) (sound : is_sound db next ≡ true) where
+module _ (db : Trees) (next : ℤ) (live : IsSound our_schema db) (known : known_next Schema2 (map read_meta (db 0)) ≡ Some next) (sound : is_sound Schema2 db next ≡ true) where
   abbrev test : Kind → Bool
   test = is_sound_table db next
 
-  all : list_all test (Domains ∷ Tokens ∷ Documents ∷ Roots ∷ Attributes ∷ []) ≡ true
-  all = second_of_both (is_count next) _ (first_of_both _ _ sound)
-
-  in_domains : test Domains ≡ true
-  in_domains = first_of_both (test Domains) _ all
-
-  after_domains : list_all test (Tokens ∷ Documents ∷ Roots ∷ Attributes ∷ []) ≡ true
-  after_domains = second_of_both (test Domains) _ all
-
-  in_tokens : test Tokens ≡ true
-  in_tokens = first_of_both (test Tokens) _ after_domains
-
-  after_tokens : list_all test (Documents ∷ Roots ∷ Attributes ∷ []) ≡ true
-  after_tokens = second_of_both (test Tokens) _ after_domains
-
-  in_documents : test Documents ≡ true
-  in_documents = first_of_both (test Documents) _ after_tokens
-
-  after_documents : list_all test (Roots ∷ Attributes ∷ []) ≡ true
-  after_documents = second_of_both (test Documents) _ after_tokens
-
-  in_roots : test Roots ≡ true
-  in_roots = first_of_both (test Roots) _ after_documents
-
-  in_attributes : test Attributes ≡ true
-  in_attributes = first_of_both (test Attributes) true (second_of_both (test Roots) _ after_documents)
+  all : AllByRecursion (λ kind. test kind ≡ true) (kinds_in Schema2)
+  all = in_kind Schema2 db next sound
 
   meta : db 0 ≡ meta_row next ∷ []
-  meta = meta_is db next live known
+  meta = meta_is Schema2 next our_schema db (live.obeys.rules Datatype).0 known
 
   next_is : next ≡ next_in (db 0)
   next_is = sym (ap next_in meta)
@@ -91,11 +95,12 @@ module _ (db : Trees) (next : ℤ) (live : IsSound our_schema db) (known : known
   tables : AreTables db
   tables = record {
     meta = subst (λ n. db 0 ≡ meta_row n ∷ []) next_is meta;
-    domains = domains_are db next live in_domains;
-    tokens = tokens_are db next live in_tokens;
-    documents = documents_are db next live in_documents;
-    roots = roots_are db next live in_roots;
-    attributes = attributes_are db next live in_attributes;
+    domains = domains_are db next live all.0;
+    tokens = tokens_are db next live all.1.0;
+    documents = documents_are db next live all.1.1.0;
+    roots = roots_are db next live all.1.1.1.0;
+    left_empty = empty_from (db 8) (left_empty Schema2 db next sound);
+    attributes = sources_are db next live all.1.1.1.1.0;
   }
 
   -- ---- numbers
@@ -124,8 +129,8 @@ module _ (db : Trees) (next : ℤ) (live : IsSound our_schema db) (known : known
   root_given : (row : Row) → IsWhole Roots row → is_given next (root_in row).number ≡ true
   root_given row h = number_given row 0 (first_of_both _ _ (first_of_both _ _ (first_of_both _ _ (first_of_both _ _ (first_of_both _ _ (second_of_both _ _ h))))))
 
-  attribute_given : (row : Row) → IsWhole Attributes row → is_given next (attribute_in row).number ≡ true
-  attribute_given row h = number_given row 1 (first_of_both _ _ (first_of_both _ _ (first_of_both _ _ (first_of_both _ _ (second_of_both _ _ h)))))
+  attribute_given : (row : Row) → IsWhole Sources row → is_given next (attribute_in row).number ≡ true
+  attribute_given row h = number_given row 1 (first_of_both _ _ (first_of_both _ _ (first_of_both _ _ (first_of_both _ _ (second_of_both _ _ (whole_source next row h).0)))))
 
   module _ {X : Type 0} (kind : Kind) (here : test kind ≡ true) (reads : Row → X) (Is : X → Type 0) (of : (row : Row) → IsWhole kind row → Is (reads row)) where
     each : AllByRecursion Is (map reads (db (tree_of kind)))
@@ -133,12 +138,12 @@ module _ (db : Trees) (next : ℤ) (live : IsSound our_schema db) (known : known
 
   given : AreGiven (record (rows_of db) { next = next })
   given = record {
-    next = first_of_both (is_count next) _ (first_of_both _ _ sound);
-    domains = each Domains in_domains domain_in (λ d. (is_given next d.number ≡ true) × (is_count d.epoch ≡ true)) domain_given;
-    tokens = each Tokens in_tokens token_in (λ t. is_given next t.number ≡ true) token_given;
-    documents = each Documents in_documents document_in (λ d. is_given next d.number ≡ true) document_given;
-    roots = each Roots in_roots root_in (λ r. is_given next r.number ≡ true) root_given;
-    attributes = each Attributes in_attributes attribute_in (λ a. is_given next a.number ≡ true) attribute_given;
+    next = next_counts Schema2 db next sound;
+    domains = each Domains all.0 domain_in (λ d. (is_given next d.number ≡ true) × (is_count d.epoch ≡ true)) domain_given;
+    tokens = each Tokens all.1.0 token_in (λ t. is_given next t.number ≡ true) token_given;
+    documents = each Documents all.1.1.0 document_in (λ d. is_given next d.number ≡ true) document_given;
+    roots = each Roots all.1.1.1.0 root_in (λ r. is_given next r.number ≡ true) root_given;
+    attributes = each Sources all.1.1.1.1.0 attribute_in (λ a. is_given next a.number ≡ true) attribute_given;
   }
 
   numbers : AreNumbered (rows_of db)
@@ -157,31 +162,31 @@ module _ (db : Trees) (next : ℤ) (live : IsSound our_schema db) (known : known
   root_whole : (row : Row) → IsWhole Roots row → IsWholeRoot next (root_in row)
   root_whole row h = (root_given row h, root_texts next row h)
 
-  attribute_whole : (row : Row) → IsWhole Attributes row → IsWholeAttribute next (attribute_in row)
+  attribute_whole : (row : Row) → IsWhole Sources row → IsWholeAttribute next (attribute_in row)
   attribute_whole row h = (attribute_given row h, source_texts next row h)
 
-  places : (n : ℤ) → count_from (pos 0) (places_of (map place_of (map attribute_in (db 8))) n) ≡ true
-  places n = ap (λ l. count_from (pos 0) (places_of l n)) (map-map place_of attribute_in (db 8)) ∙ counted_each (map place_in (db 8)) (second_of_both _ _ sound) n
+  places : (n : ℤ) → count_from (pos 0) (places_of (map place_of (map attribute_in (db 10))) n) ≡ true
+  places n = ap (λ l. count_from (pos 0) (places_of l n)) (map-map place_of attribute_in (db 10)) ∙ counted_each (map place_in (db 10)) (places_counted Schema2 db next sound) n
 
   columns : AreWhole (rows_of db)
   columns = subst (λ n. AreWhole (record (rows_of db) { next = n })) next_is (record {
-    next = first_of_both (is_count next) _ (first_of_both _ _ sound);
-    domains = each Domains in_domains domain_in (IsWholeDomain next) domain_whole;
-    tokens = each Tokens in_tokens token_in (IsWholeToken next) token_whole;
-    documents = each Documents in_documents document_in (IsWholeDocument next) document_given;
-    roots = each Roots in_roots root_in (IsWholeRoot next) root_whole;
-    attributes = each Attributes in_attributes attribute_in (IsWholeAttribute next) attribute_whole;
+    next = next_counts Schema2 db next sound;
+    domains = each Domains all.0 domain_in (IsWholeDomain next) domain_whole;
+    tokens = each Tokens all.1.0 token_in (IsWholeToken next) token_whole;
+    documents = each Documents all.1.1.0 document_in (IsWholeDocument next) document_given;
+    roots = each Roots all.1.1.1.0 root_in (IsWholeRoot next) root_whole;
+    attributes = each Sources all.1.1.1.1.0 attribute_in (IsWholeAttribute next) attribute_whole;
     places = places;
   })
 
   -- ---- documents
 
   documents : AreDocuments (rows_of db).documents
-  documents = each Documents in_documents document_in (λ d. IsDocumentOf d.key d.text) (λ row whole. document_held next row whole)
+  documents = each Documents all.1.1.0 document_in (λ d. IsDocumentOf d.key d.text) (λ row whole. document_held next row whole)
 
-pub opened_ours : (s : State) → Rests s → IsDatabase s.now → opened s.now.trees ≡ Ok tt → Ours s
+pub opened_ours : (s : State) → Rests s → IsDatabase s.now → opened Schema2 s.now.trees ≡ Ok tt → Ours s
 opened_ours s rests live h =
-    let is = found s.now.trees h in
+    let is = found Schema2 s.now.trees h in
     let sound : IsSound our_schema s.now.trees = subst (λ schema. IsSound schema s.now.trees) rests.schema live in
     record { rests = rests; database = sound; tables = tables s.now.trees is.0 sound is.1 is.2; domains = numbers s.now.trees is.0 sound is.1 is.2; documents = documents s.now.trees is.0 sound is.1 is.2; whole = columns s.now.trees is.0 sound is.1 is.2 }
 
@@ -189,21 +194,15 @@ opened_ours s rests live h =
 
 module _ (db : Trees) (made : IsMade db) where
   empty_sound : (kind : Kind) → is_sound_table db (pos 1) kind ≡ true
-  empty_sound Domains = ap (λ rows. are_sound_rows Domains (pos 1) (map (as_read Domains) rows)) (made.empty Domains)
-  empty_sound Tokens = ap (λ rows. are_sound_rows Tokens (pos 1) (map (as_read Tokens) rows)) (made.empty Tokens)
-  empty_sound Documents = ap (λ rows. are_sound_rows Documents (pos 1) (map (as_read Documents) rows)) (made.empty Documents)
-  empty_sound Roots = ap (λ rows. are_sound_rows Roots (pos 1) (map (as_read Roots) rows)) (made.empty Roots)
-  empty_sound Attributes = ap (λ rows. are_sound_rows Attributes (pos 1) (map (as_read Attributes) rows)) (made.empty Attributes)
+  empty_sound kind = ap (λ rows. are_sound_rows kind (pos 1) (map (as_read kind) rows)) (made.empty kind)
 
-  places_count : are_counted (map place_in (db 8)) ≡ true
-  places_count = ap (λ rows. are_counted (map place_in rows)) (made.empty Attributes)
-
-  all_sound : is_sound db (pos 1) ≡ true
+  all_sound : is_sound Schema2 db (pos 1) ≡ true
   all_sound = λ i.
-      (is_count (pos 1) && (empty_sound Domains i && (empty_sound Tokens i && (empty_sound Documents i && (empty_sound Roots i && (empty_sound Attributes i && true)))))) && places_count i
+      is_count (pos 1) && (empty_sound Domains i && (empty_sound Tokens i && (empty_sound Documents i && (empty_sound Roots i && (empty_sound Sources i && true)))))
+      && (are_counted (map place_in (made.empty Sources i)) && is_empty (made.empty Attributes i))
 
-  pub made_opened : opened db ≡ Ok tt
-  made_opened = ap (λ rows. judged db (known_next (map read_meta rows))) made.meta ∙ ap (λ b. cond b (Ok tt) (Err Damaged)) all_sound
+  pub made_opened : opened Schema2 db ≡ Ok tt
+  made_opened = ap (λ rows. judged Schema2 db (known_next Schema2 (map read_meta rows))) made.meta ∙ ap (λ b. cond b (Ok tt) (Err Damaged)) all_sound
 
   pub made_nothing : world_of db ≡ nothing_kept
   made_nothing = λ i. record {

@@ -1,5 +1,6 @@
 -- What the query for the places of the rows of sources tells, and the query of the first table.
-use Rattle.std.proofs.Common.{◌≡◌, Bool, true, false, ◌&&◌, List, [], ◌∷◌, map, filter, Ordering, is_eq, int_cmp, refl, sym, ap, subst, ◌∙◌, arith, IsPermutation}
+use Rattle.std.proofs.Common.{◌≡◌, ℕ, Bool, true, false, ◌&&◌, List, [], ◌∷◌, map, filter, length, Ordering, is_eq, int_cmp, refl, sym, ap, subst, ◌∙◌, arith, IsPermutation}
+use Rattle.std.proofs.lemmas.List.{nil_from_length}
 use Rattle.std.proofs.lemmas.List.Sorted.{length_permutation, IsPermutation-map}
 use Rattle.sqlite.specs.Given.{IsPlain}
 use Rattle.sqlite.specs.Listing.{understood}
@@ -16,26 +17,31 @@ use Rattle.sqlite_keyed.proofs.SortLemmas.{sort_by-map}
 use Rattle.sqlite_trees.specs.Tree.{IsAscending}
 use Rattle.sqlite_typed.proofs.TestLemmas.{then_key, last_key}
 use Rattle.sqlite_value.proofs.OrderLemmas.{value_cmp-Int}
-use Rattle.xa_store.specs.Judging.{count_on, counts, counts_on, no_place, place_cmp, places_shown}
-use Rattle.xa_store.specs.Opened.{Place, are_counted, known_next, place_in, read_meta}
+use Rattle.xa_store.specs.declared.opening.schema_version.SchemaVersion.{SchemaVersion}
+use Rattle.xa_store.specs.declared.opening.schema_version.SchemaVersion.TheVariants.{Schema1, Schema2}
+use Rattle.xa_store.specs.Judging.{count_on, counts, counts_on, no_place, place_cmp, places_text_of}
+use Rattle.xa_store.specs.Opened.{Place, are_counted, is_empty, is_left_empty, known_next, place_in, read_meta, schema_of, sources_in, tree_of}
 use Rattle.xa_store.specs.Rows.{AttributeRow, attribute_in, attribute_row}
-use Rattle.xa_store.specs.Sound.{AreRows, Rests, same_place}
+use Rattle.xa_store.specs.Sound.{AreRows, Rests, RestsIn, same_place}
 use Rattle.xa_store.specs.Tables.{our_schema}
 use Rattle.xa_store.specs.Texts.{meta_shown}
 use Rattle.xa_store.proofs.CountedLemmas.{walk_counts}
 use Rattle.xa_store.proofs.FoundLemmas.{found_sorted}
 use Rattle.xa_store.proofs.HitLemmas.{eq_then}
-use Rattle.xa_store.proofs.JudgedTexts.{places_is}
-use Rattle.xa_store.proofs.SqlLemmas.{Answered, answered, out}
-use Rattle.xa_store.proofs.TextLemmas.{meta_shown_is}
+use Rattle.xa_store.proofs.JudgedTexts.{left_is, meta_read_is, places_is}
+use Rattle.xa_store.proofs.ReadLemmas.{bare}
+use Rattle.xa_store.proofs.SqlLemmas.{Answered, answered, count_is, out}
 
 -- ---- the queries
 
-pub places_plain : IsPlain (understood our_schema places_shown)
-places_plain = places_is.2
+pub places_plain : (version : SchemaVersion) → IsPlain (understood (schema_of version) (places_text_of version))
+places_plain version = (places_is version).2
 
-pub meta_plain : IsPlain (understood our_schema meta_shown)
-meta_plain = meta_shown_is.2
+pub left_plain : IsPlain (understood our_schema (places_text_of Schema1))
+left_plain = left_is.2
+
+pub meta_plain : (version : SchemaVersion) → IsPlain (understood (schema_of version) meta_shown)
+meta_plain version = (meta_read_is version).2
 
 -- ---- places
 
@@ -52,12 +58,16 @@ counted last (x ∷ xs) = ap (λ b. counts_on last (place_of x) && b) (counted (
 abbrev by_place : AttributeRow → AttributeRow → Ordering
 by_place a b = place_cmp (place_of a) (place_of b)
 
-module _ (old new : State) (rests : Rests old) (are : AreRows attribute_row attribute_in (λ a. a.rowid) same_place (old.now.trees 8)) (rows : List Row) (shown : Shown places_shown [] old new rows) where
+module _ (version : SchemaVersion) (old new : State) (rests : RestsIn (schema_of version) old) (are : AreRows attribute_row attribute_in (λ a. a.rowid) same_place (old.now.trees (tree_of (sources_in version))))
+    (rows : List Row) (shown : Shown (places_text_of version) [] old new rows) where
   abbrev db : Trees
   db = old.now.trees
 
+  abbrev t : ℕ
+  t = tree_of (sources_in version)
+
   abbrev all : List AttributeRow
-  all = map attribute_in (db 8)
+  all = map attribute_in (db t)
 
   abbrev always : AttributeRow → Bool
   always a = true
@@ -65,49 +75,75 @@ module _ (old new : State) (rests : Rests old) (are : AreRows attribute_row attr
   every : filter always all ≡ all
   every = filter_all always all (all_of _ (λ a. refl) all)
 
-  answer : Answered 8 [] (col 1 1 ∷ col 1 2 ∷ []) (1 ∷ 2 ∷ []) db refl [] rows
+  answer : Answered t [] (col 1 1 ∷ col 1 2 ∷ []) (1 ∷ 2 ∷ []) db (bare (sources_in version) db) [] rows
   answer =
-      answered 8 [] (col 1 1 ∷ col 1 2 ∷ []) (1 ∷ 2 ∷ []) db refl [] rows
-      (reads_as places_shown [] old new our_schema rests.schema _ places_is.0 places_is.2 places_is.1 rows shown).answer
+      let it = places_is version in
+      answered t [] (col 1 1 ∷ col 1 2 ∷ []) (1 ∷ 2 ∷ []) db (bare (sources_in version) db) [] rows
+      (reads_as (places_text_of version) [] old new (schema_of version) rests.schema _ it.0 it.2 it.1 rows shown).answer
 
   untied : IsAscending (λ a b. is_eq (by_place a b) ≡ false) all
   untied = ascending_weaker (λ a b. same_place a b ≡ false) _ (λ a b h. eq_then (int_cmp a.number b.number) (int_cmp a.place b.place) ∙ h) all are.apart
 
   sorted : rows ≡ map shown_of (sort_by by_place all)
   sorted =
-      found_sorted 8 [] (col 1 1 ∷ col 1 2 ∷ []) (1 ∷ 2 ∷ []) db refl [] attribute_row attribute_in are.written always (all_of _ (λ a. refl) all) by_place
+      found_sorted t [] (col 1 1 ∷ col 1 2 ∷ []) (1 ∷ 2 ∷ []) db (bare (sources_in version) db) [] attribute_row attribute_in are.written always (all_of _ (λ a. refl) all) by_place
       (λ a b. then_key (value_cmp-Int a.number b.number) (last_key (value_cmp-Int a.place b.place))) (subst (IsAscending (λ a b. is_eq (by_place a b) ≡ false)) (sym every) untied) rows answer
       ∙ ap (λ l. map shown_of (sort_by by_place l)) every
 
-  pub places_count : counts no_place rows ≡ are_counted (map place_in (db 8))
+  pub places_count : counts no_place rows ≡ are_counted (map place_in (db t))
   places_count =
       ap (counts no_place) sorted ∙ counted no_place (sort_by by_place all) ∙ ap (count_on no_place) (sym (sort_by-map place_cmp place_of all))
-      ∙ walk_counts (map place_of all) (ascending-map (λ a b. is_eq (place_cmp a b) ≡ false) place_of all untied) ∙ ap are_counted (map-map place_of attribute_in (db 8))
+      ∙ walk_counts (map place_of all) (ascending-map (λ a b. is_eq (place_cmp a b) ≡ false) place_of all untied) ∙ ap are_counted (map-map place_of attribute_in (db t))
+
+-- ---- the table that schema 2 leaves empty
+
+module _ (old new : State) (rests : Rests old) (rows : List Row) (shown : Shown (places_text_of Schema1) [] old new rows) where
+  abbrev left : List Row
+  left = old.now.trees 8
+
+  as_many : length rows ≡ length left
+  as_many =
+      count_is 8 [] (col 1 1 ∷ col 1 2 ∷ []) (1 ∷ 2 ∷ []) old.now.trees refl [] rows
+      (answered 8 [] (col 1 1 ∷ col 1 2 ∷ []) (1 ∷ 2 ∷ []) old.now.trees refl [] rows
+      (reads_as (places_text_of Schema1) [] old new our_schema rests.schema _ left_is.0 left_is.2 left_is.1 rows shown).answer)
+      ∙ ap length (filter_all (λ r. true) left (all_of _ (λ r. refl) left))
+
+  pub none_left : rows ≡ [] → is_left_empty Schema2 old.now.trees ≡ true
+  none_left none = ap is_empty (nil_from_length left (sym as_many ∙ ap length none))
+
+  pub some_left : (rows ≡ [] → ⊥) → is_left_empty Schema2 old.now.trees ≡ false
+  some_left some = go left refl
+    where
+      go : (rs : List Row) → left ≡ rs → is_empty rs ≡ false
+      go [] is = absurd (some (nil_from_length rows (as_many ∙ ap length is)))
+      go (r ∷ rs) is = refl
 
 -- ---- the first table
 
-next_along : (xs ys : List Row) → IsPermutation xs ys → known_next ys ≡ known_next xs
-next_along [] [] same = refl
-next_along [] (y ∷ ys) same = absurd (omega (arith, length_permutation [] (y ∷ ys) same))
-next_along (x ∷ []) ys same = ap known_next (one_permutation x ys same)
-next_along (x ∷ x2 ∷ xs) [] same = absurd (omega (arith, length_permutation (x ∷ x2 ∷ xs) [] same))
-next_along (x ∷ x2 ∷ xs) (y ∷ []) same = absurd (omega (arith, length_permutation (x ∷ x2 ∷ xs) (y ∷ []) same))
-next_along (x ∷ x2 ∷ xs) (y ∷ y2 ∷ ys) same = refl
+module _ (version : SchemaVersion) where
+  next_along : (xs ys : List Row) → IsPermutation xs ys → known_next version ys ≡ known_next version xs
+  next_along [] [] same = refl
+  next_along [] (y ∷ ys) same = absurd (omega (arith, length_permutation [] (y ∷ ys) same))
+  next_along (x ∷ []) ys same = ap (known_next version) (one_permutation x ys same)
+  next_along (x ∷ x2 ∷ xs) [] same = absurd (omega (arith, length_permutation (x ∷ x2 ∷ xs) [] same))
+  next_along (x ∷ x2 ∷ xs) (y ∷ []) same = absurd (omega (arith, length_permutation (x ∷ x2 ∷ xs) (y ∷ []) same))
+  next_along (x ∷ x2 ∷ xs) (y ∷ y2 ∷ ys) same = refl
 
-module _ (old new : State) (rests : Rests old) (rows : List Row) (shown : Shown meta_shown [] old new rows) where
-  abbrev first_rows : List Row
-  first_rows = old.now.trees 0
+  module _ (old new : State) (rests : RestsIn (schema_of version) old) (rows : List Row) (shown : Shown meta_shown [] old new rows) where
+    abbrev first_rows : List Row
+    first_rows = old.now.trees 0
 
-  abbrev meta_outs : Row → Output
-  meta_outs = out 0 [] (col 1 0 ∷ col 1 2 ∷ col 1 3 ∷ []) (0 ∷ []) old.now.trees refl []
+    abbrev meta_outs : Row → Output
+    meta_outs = out 0 [] (col 1 0 ∷ col 1 2 ∷ col 1 3 ∷ []) (0 ∷ []) old.now.trees refl []
 
-  all_meta : filter (λ r. true) first_rows ≡ first_rows
-  all_meta = filter_all (λ r. true) first_rows (all_of _ (λ r. refl) first_rows)
+    all_meta : filter (λ r. true) first_rows ≡ first_rows
+    all_meta = filter_all (λ r. true) first_rows (all_of _ (λ r. refl) first_rows)
 
-  pub next_is : known_next rows ≡ known_next (map read_meta first_rows)
-  next_is =
-      let h = answered 0 [] (col 1 0 ∷ col 1 2 ∷ col 1 3 ∷ []) (0 ∷ []) old.now.trees refl [] rows
-      (reads_as meta_shown [] old new our_schema rests.schema _ meta_shown_is.0 meta_shown_is.2 meta_shown_is.1 rows shown).answer in
-      let same : IsPermutation (map meta_outs first_rows) h.0 = subst (λ l. IsPermutation (map meta_outs l) h.0) all_meta h.1 in
-      let perm = IsPermutation-map (λ (o : Output). o.1) (map meta_outs first_rows) h.0 same in
-      ap known_next h.3 ∙ next_along _ _ perm ∙ ap known_next (map-map (λ (o : Output). o.1) meta_outs first_rows)
+    pub next_is : known_next version rows ≡ known_next version (map read_meta first_rows)
+    next_is =
+        let it = meta_read_is version in
+        let h = answered 0 [] (col 1 0 ∷ col 1 2 ∷ col 1 3 ∷ []) (0 ∷ []) old.now.trees refl [] rows
+        (reads_as meta_shown [] old new (schema_of version) rests.schema _ it.0 it.2 it.1 rows shown).answer in
+        let same : IsPermutation (map meta_outs first_rows) h.0 = subst (λ l. IsPermutation (map meta_outs l) h.0) all_meta h.1 in
+        let perm = IsPermutation-map (λ (o : Output). o.1) (map meta_outs first_rows) h.0 same in
+        ap (known_next version) h.3 ∙ next_along _ _ perm ∙ ap (known_next version) (map-map (λ (o : Output). o.1) meta_outs first_rows)

@@ -1,12 +1,13 @@
 -- Calls that only read, one after another.
 use Rattle.std.proofs.Common.{◌≡◌, IsTrue, sym, ap, ◌∙◌, subst}
 use Rattle.sqlite.specs.Effect.{Database}
+use Rattle.sqlite.specs.Schema.{Schema}
 use Rattle.sqlite.specs.State.{State, HasCleanDisk}
 use Rattle.xa_store.specs.Quiet.{Quiet}
-use Rattle.xa_store.specs.Sound.{AreDocuments, AreTables, AreNumbered, AreWhole, IsOurDatabase, Ours, Rests, SameNow}
+use Rattle.xa_store.specs.Sound.{AreDocuments, AreTables, AreNumbered, AreWhole, IsOurDatabase, Ours, Rests, RestsIn, SameNow}
 use Rattle.xa_store.specs.World.{rows_of}
 
-pub rests_after : (old new : State) → Rests old → SameNow old new → Rests new
+pub rests_after : {under : Schema} (old new : State) → RestsIn under old → SameNow old new → RestsIn under new
 rests_after old new rests same =
     record { schema = ap (λ (d : Database). d.schema) same.now ∙ rests.schema; settled = same.now ∙ rests.settled ∙ sym same.committed; idle = same.idle }
 

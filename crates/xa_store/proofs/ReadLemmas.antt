@@ -22,13 +22,13 @@ use Rattle.sqlite_typed.specs.Columns.{int_of}
 use Rattle.sqlite_typed.proofs.TestLemmas.{last_key}
 use Rattle.sqlite_value.proofs.OrderLemmas.{value_cmp-Int}
 use Rattle.xa_store.specs.declared.opening.kind.Kind.{Kind}
-use Rattle.xa_store.specs.declared.opening.kind.Kind.TheVariants.{Domains, Tokens, Documents, Roots, Attributes}
+use Rattle.xa_store.specs.declared.opening.kind.Kind.TheVariants.{Domains, Tokens, Documents, Roots, Attributes, Sources}
+use Rattle.xa_store.specs.declared.opening.schema_version.SchemaVersion.{SchemaVersion}
 use Rattle.xa_store.specs.declared.open_error.OpenError.{OpenError}
 use Rattle.xa_store.specs.declared.open_error.OpenError.TheVariants.{NotThisSchema, Damaged, Store, Memory}
-use Rattle.xa_store.specs.Judging.{text_of, HasNumbers, IsRead, Judges, Walks, checks, comes_after, fits}
-use Rattle.xa_store.specs.Opened.{are_rising, as_read, is_number, is_sound_table, is_whole_row, read_columns, row_number, tree_of}
-use Rattle.xa_store.specs.Sound.{Rests}
-use Rattle.xa_store.specs.Tables.{our_schema}
+use Rattle.xa_store.specs.Judging.{has_kind, text_of, HasNumbers, IsRead, Judges, Walks, checks, comes_after, fits}
+use Rattle.xa_store.specs.Opened.{are_rising, as_read, is_number, is_sound_table, is_whole_row, read_columns, row_number, schema_of, tree_of}
+use Rattle.xa_store.specs.Sound.{RestsIn}
 use Rattle.xa_store.proofs.JudgedTexts.{judged_is}
 use Rattle.xa_store.proofs.RiseLemmas.{lt_trans, lt_from, both_true, second_false}
 use Rattle.xa_store.proofs.SqlLemmas.{Answered, answered, show, out, hits}
@@ -47,6 +47,7 @@ bare Tokens db = refl
 bare Documents db = refl
 bare Roots db = refl
 bare Attributes db = refl
+bare Sources db = refl
 
 pub head_read : (kind : Kind) (r : Row) → column (as_read kind r) 0 ≡ column r 0
 head_read Domains r = refl
@@ -54,6 +55,7 @@ head_read Tokens r = refl
 head_read Documents r = refl
 head_read Roots r = refl
 head_read Attributes r = refl
+head_read Sources r = refl
 
 pub numbers_read : (kind : Kind) (rows : List Row) → map row_number (map (as_read kind) rows) ≡ map row_number rows
 numbers_read kind rows = map-map row_number (as_read kind) rows ∙ map_same (λ r. row_number (as_read kind r)) row_number (λ r. ap int_of (head_read kind r)) rows
@@ -101,11 +103,13 @@ module _ (kind : Kind) (db : Trees) where
             h.3 ∙ ap (map (λ (o : Output). o.1)) (sorted_unique (output_cmp query) (output_cmp_total query) (map outs (db (tree_of kind))) h.0 strict same h.2) ∙ shown_map (db (tree_of kind));
       }
 
-pub shown_read : (kind : Kind) (old new : State) → Rests old → (rows : List Row) → Shown (text_of kind) [] old new rows → IsRead kind old.now.trees rows
-shown_read kind old new rests rows shown =
+pub shown_read : (kind : Kind) (version : SchemaVersion) → has_kind kind version ≡ true → (old new : State) → RestsIn (schema_of version) old → (rows : List Row) → Shown (text_of kind) [] old new rows
+    → IsRead kind old.now.trees rows
+shown_read kind version has old new rests rows shown =
+    let it = judged_is kind version has in
     is_read kind old.now.trees rows
     (answered (tree_of kind) [] _ (0 ∷ []) old.now.trees (bare kind old.now.trees) [] rows
-    (reads_as (text_of kind) [] old new our_schema rests.schema _ (judged_is kind).0 (judged_is kind).2 (judged_is kind).1 rows shown).answer)
+    (reads_as (text_of kind) [] old new (schema_of version) rests.schema _ it.0 it.2 it.1 rows shown).answer)
 
 -- ---- what the checks say
 

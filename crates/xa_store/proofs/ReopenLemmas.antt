@@ -1,9 +1,9 @@
 -- A keeper's own tables are such as opening finds sound.
-use Rattle.std.proofs.Common.{◌≡◌, ℕ, ℤ, ◌<ℤ◌, Bool, true, false, cond, bytes_eq, List, [], ◌∷◌, map, int_eq, int_lt, Ok, Err, refl, sym, ap, subst, ◌∙◌, arith}
+use Rattle.std.proofs.Common.{◌≡◌, ℕ, ℤ, ◌<ℤ◌, Bool, true, false, ◌&&◌, cond, bytes_eq, List, [], ◌∷◌, map, int_eq, int_lt, Option, Ok, Err, refl, sym, ap, subst, ◌∙◌, arith}
 use Rattle.std.specs.List.{AllByRecursion, list_all}
 use Rattle.std.proofs.lemmas.Int.{ints}
 use Rattle.std.proofs.lemmas.Map.Text.{is_eq-slice_cmp}
-use Rattle.sqlite.specs.Order.{Row}
+use Rattle.sqlite.specs.Order.{Row, column}
 use Rattle.sqlite.specs.State.{State}
 use Rattle.sqlite.specs.Tree.{Trees}
 use Rattle.sqlite.specs.declared.types.Value.TheVariants.{Int, Text}
@@ -22,13 +22,14 @@ use Rattle.xa_records.specs.DomainName.{is_domain_name}
 use Rattle.xa_records.specs.DomainState.{IsDocumentOf}
 use Rattle.xa_store.specs.declared.open_error.OpenError.TheVariants.{Damaged}
 use Rattle.xa_store.specs.declared.opening.kind.Kind.{Kind}
-use Rattle.xa_store.specs.declared.opening.kind.Kind.TheVariants.{Domains, Tokens, Documents, Roots, Attributes}
-use Rattle.xa_store.specs.Opened.{are_counted, are_rising, as_read, holds_key, holds_value, is_bit, is_count, is_digest, is_given, is_pattern, is_sound, is_sound_table, is_version, is_whole_row, judged, known_next, opened, place_in, read_meta, row_number, tree_of}
+use Rattle.xa_store.specs.declared.opening.kind.Kind.TheVariants.{Domains, Tokens, Documents, Roots, Sources}
+use Rattle.xa_store.specs.declared.opening.schema_version.SchemaVersion.TheVariants.{Schema2}
+use Rattle.xa_store.specs.Opened.{are_counted, are_rising, as_read, holds_key, holds_text_if_any, holds_value, is_bit, is_count, is_digest, is_empty, is_given, is_left_empty, is_pattern, is_sound, is_sound_table, is_version, is_whole_row, judged, kinds_in, known_next, opened, place_in, read_meta, row_number, tree_of}
 use Rattle.std.specs.Str.{is_utf8}
-use Rattle.xa_store.specs.Rows.{AttributeRow, DocumentRow, DomainRow, RootRow, TokenRow, attribute_in, attribute_row, bit, document_in, document_row, domain_in, domain_row, kind_number, next_in, role_number, root_in, root_row, token_in, token_row, type_number, value_text}
-use Rattle.xa_store.specs.Sound.{AreDocuments, AreOurs, AreRows, AreTables, AreWhole, Ours, place_of}
+use Rattle.xa_store.specs.Rows.{AttributeRow, DocumentRow, DomainRow, RootRow, TokenRow, attribute_in, attribute_row, bit, document_in, document_row, domain_in, domain_row, issuer_columns, kind_number, next_in, role_number, root_in, root_row, token_in, token_row, type_number, value_text}
+use Rattle.xa_store.specs.Sound.{AreDocuments, AreOurs, AreRows, AreTables, AreWhole, Ours, is_if_any, place_of}
 use Rattle.xa_store.specs.World.{rows_of}
-use Rattle.xa_store.proofs.ColumnLemmas.{text_written}
+use Rattle.xa_store.proofs.ColumnLemmas.{held_if_any, text_written}
 use Rattle.xa_store.proofs.CountedLemmas.{each_counted}
 use Rattle.xa_store.proofs.KeyLemmas.{own_number}
 use Rattle.xa_store.proofs.ReadLemmas.{numbers_read}
@@ -80,10 +81,16 @@ root_opens next r h =
     (both_true _ _ (both_true _ _ (both_true _ (is_utf8 r.id) (both_true (is_given next r.number) (is_bit (kind_number r.kind)) h.0 (kind_bit r.kind)) h.1.0) (text_written is_pattern r.texts 0 h.1.1))
     (text_written is_version r.texts 1 h.1.2)) (text_written is_version r.texts 2 h.1.3)
 
-attribute_opens : (next : ℤ) (a : AttributeRow) → IsWholeAttribute next a → Whole Attributes next attribute_row a
+issuer_opens : (full : Bool) (issuer : Option (List ℕ)) → is_if_any is_utf8 issuer ≡ true → holds_text_if_any is_utf8 (column (issuer_columns full issuer) 0) ≡ true
+issuer_opens true issuer h = held_if_any is_utf8 issuer h
+issuer_opens false issuer h = refl
+
+attribute_opens : (next : ℤ) (a : AttributeRow) → IsWholeAttribute next a → Whole Sources next attribute_row a
 attribute_opens next a h =
-    both_true _ (holds_value (type_number a.row.value) (value_text a.row.value))
-    (both_true _ (is_utf8 a.row.attribute_id) (both_true _ (is_utf8 a.row.entity) (both_true (is_given next a.number) (is_utf8 a.row.category) h.0 h.1.0) h.1.1) h.1.2) h.1.3
+    both_true _ (holds_text_if_any is_utf8 (column (issuer_columns a.is_full a.row.issuer) 0))
+    (both_true _ (holds_value (type_number a.row.value) (value_text a.row.value))
+    (both_true _ (is_utf8 a.row.attribute_id) (both_true _ (is_utf8 a.row.entity) (both_true (is_given next a.number) (is_utf8 a.row.category) h.0 h.1.0) h.1.1) h.1.2) h.1.3)
+    (issuer_opens a.is_full a.row.issuer h.1.4)
 
 -- ---- a table
 
@@ -139,29 +146,27 @@ module _ (db : Trees) (tables : AreTables db) (documents : AreDocuments (rows_of
       table_opens db next Roots root_row root_in (λ (r : RootRow). r.number) _ (λ r. refl) tables.roots
       (all_weaker (IsWholeRoot next) (Whole Roots next root_row) (λ r h. root_opens next r h) (map root_in (db 7)) whole.roots)
 
-  in_attributes : is_sound_table db next Attributes ≡ true
-  in_attributes =
-      table_opens db next Attributes attribute_row attribute_in (λ (a : AttributeRow). a.rowid) _ (λ r. refl) tables.attributes
-      (all_weaker (IsWholeAttribute next) (Whole Attributes next attribute_row) (λ a h. attribute_opens next a h) (map attribute_in (db 8)) whole.attributes)
+  in_sources : is_sound_table db next Sources ≡ true
+  in_sources =
+      table_opens db next Sources attribute_row attribute_in (λ (a : AttributeRow). a.rowid) _ (λ r. refl) tables.attributes
+      (all_weaker (IsWholeAttribute next) (Whole Sources next attribute_row) (λ a h. attribute_opens next a h) (map attribute_in (db 10)) whole.attributes)
 
-  abbrev test : Kind → Bool
-  test = is_sound_table db next
+  all_tables : list_all (is_sound_table db next) (kinds_in Schema2) ≡ true
+  all_tables = test_from_all (is_sound_table db next) (kinds_in Schema2) (in_domains, (in_tokens, (in_documents, (in_roots, (in_sources, tt)))))
 
-  all_tables : list_all test (Domains ∷ Tokens ∷ Documents ∷ Roots ∷ Attributes ∷ []) ≡ true
-  all_tables =
-      both_true (test Domains) _ in_domains
-      (both_true (test Tokens) _ in_tokens (both_true (test Documents) _ in_documents (both_true (test Roots) _ in_roots (both_true (test Attributes) true in_attributes refl))))
+  counted : are_counted (map place_in (db 10)) ≡ true
+  counted = ap are_counted (sym (map-map place_of attribute_in (db 10))) ∙ each_counted (map place_of (map attribute_in (db 10))) whole.places
 
-  counted : are_counted (map place_in (db 8)) ≡ true
-  counted = ap are_counted (sym (map-map place_of attribute_in (db 8))) ∙ each_counted (map place_of (map attribute_in (db 8))) whole.places
+  sound : is_sound Schema2 db next ≡ true
+  sound =
+      both_true (is_count next && list_all (is_sound_table db next) (kinds_in Schema2)) (are_counted (map place_in (db 10)) && is_left_empty Schema2 db)
+      (both_true (is_count next) (list_all (is_sound_table db next) (kinds_in Schema2)) whole.next all_tables)
+      (both_true (are_counted (map place_in (db 10))) (is_left_empty Schema2 db) counted (ap is_empty tables.left_empty))
 
-  sound : is_sound db next ≡ true
-  sound = both_true _ (are_counted (map place_in (db 8))) (both_true (is_count next) (list_all test (Domains ∷ Tokens ∷ Documents ∷ Roots ∷ Attributes ∷ [])) whole.next all_tables) counted
+  pub tables_open : opened Schema2 db ≡ Ok tt
+  tables_open = ap (λ rows. judged Schema2 db (known_next Schema2 (map read_meta rows))) tables.meta ∙ ap (λ b. cond b (Ok tt) (Err Damaged)) sound
 
-  pub tables_open : opened db ≡ Ok tt
-  tables_open = ap (λ rows. judged db (known_next (map read_meta rows))) tables.meta ∙ ap (λ b. cond b (Ok tt) (Err Damaged)) sound
-
-pub ours_open : (s : State) → Ours s → opened s.now.trees ≡ Ok tt
+pub ours_open : (s : State) → Ours s → opened Schema2 s.now.trees ≡ Ok tt
 ours_open s ours = tables_open s.now.trees ours.tables ours.documents ours.whole
 
 pub are_ours : (s : State) → Ours s → AreOurs s.now.trees

@@ -8,6 +8,7 @@ use Rattle.sqlite.specs.Tree.{Trees}
 use Rattle.sqlite_catalog.proofs.ReadLemmas.{lists_once}
 use Rattle.sqlite_trees.specs.Objects.{catalog_tree}
 use Rattle.xa_store.specs.declared.open_error.OpenError.{OpenError}
+use Rattle.xa_store.specs.declared.opening.schema_version.SchemaVersion.TheVariants.{Schema2}
 use Rattle.xa_store.specs.Keeper.{Keeper, IsKeeper, IsSound}
 use Rattle.xa_store.specs.Opened.{opened}
 use Rattle.xa_store.specs.Reopening.{IsOverRest, LeavesNotAll, Reopens}
@@ -34,14 +35,14 @@ module _ (stopped new : State) (live : IsLive new) (over : IsOverRest stopped ne
   schema true tells = tells.0 refl
   schema false tells = absurd (ours (λ are. let h : false ≡ true = tells.1 (schema_of are) in absurd cc))
 
-  found_sound : (r : Result (Unit {0}) OpenError) → opened left ≡ r → r ≡ Ok tt
+  found_sound : (r : Result (Unit {0}) OpenError) → opened Schema2 left ≡ r → r ≡ Ok tt
   found_sound (Ok x) is = refl
   found_sound (Err e) is = absurd (ours (λ are. let h = sym is ∙ are.opens in absurd cc))
 
 pub reopens : (stopped new : State) → IsLive new → (is : Bool) → (IsTrue is ↔ (new.now.schema ≡ our_schema)) → Reopens stopped new
 reopens stopped new live is tells over limited = record {
   rests = record { schema = schema stopped new live over limited is tells; settled = over.fresh.clean; idle = over.fresh.autocommit };
-  opens = ap (λ (d : Database). opened d.trees) over.fresh.clean ∙ found_sound stopped new live over limited (opened new.committed.trees) refl;
+  opens = ap (λ (d : Database). opened Schema2 d.trees) over.fresh.clean ∙ found_sound stopped new live over limited (opened Schema2 new.committed.trees) refl;
   kept = (new.committed.trees, over.left, λ are. ap (λ (d : Database). world_of d.trees) over.fresh.clean);
 }
 

@@ -1,5 +1,6 @@
 -- The queries that tell whether a table has its rowids in their order: one text of them as the table has them, one as they are sorted.
-use Rattle.std.proofs.Common.{ℕ, pos, negsuc, [], ◌∷◌, codes, false, None, refl}
+use Rattle.std.proofs.Common.{◌≡◌, ℕ, pos, negsuc, List, [], ◌∷◌, codes, true, false, None, refl, sym, true≢false}
+use Rattle.sqlite.specs.Collation.{Collation}
 use Rattle.sqlite.specs.Collation.TheVariants.{Binary}
 use Rattle.sqlite.specs.Command.{Command}
 use Rattle.sqlite.specs.Command.TheVariants.{Select}
@@ -16,11 +17,12 @@ use Rattle.sqlite_sql.specs.Group.{Aggregate}
 use Rattle.sqlite_tied.specs.Compute.{everything}
 use Rattle.sqlite_value.specs.Keys.{ascending}
 use Rattle.xa_store.specs.declared.opening.kind.Kind.{Kind}
-use Rattle.xa_store.specs.declared.opening.kind.Kind.TheVariants.{Domains, Tokens, Documents, Roots, Attributes}
-use Rattle.xa_store.specs.Judging.{order_text_of}
-use Rattle.xa_store.specs.Opened.{tree_of}
-use Rattle.xa_store.specs.Tables.{our_schema}
-use Rattle.xa_store.proofs.TextLemmas.{IsQuery}
+use Rattle.xa_store.specs.declared.opening.kind.Kind.TheVariants.{Domains, Tokens, Documents, Roots, Attributes, Sources}
+use Rattle.xa_store.specs.declared.opening.schema_version.SchemaVersion.{SchemaVersion}
+use Rattle.xa_store.specs.declared.opening.schema_version.SchemaVersion.TheVariants.{Schema1, Schema2}
+use Rattle.xa_store.specs.Judging.{has_kind, order_text_of}
+use Rattle.xa_store.specs.Opened.{schema_of, tree_of}
+use Rattle.xa_store.proofs.TextLemmas.{IsQueryIn}
 
 -- the rows that the query makes of its own
 abbrev pub sorted_tree : ℕ
@@ -29,18 +31,22 @@ sorted_tree = 2147483648
 abbrev pub text_over : Term → Aggregate
 text_over argument = record { op = Concat; distinct = false; collation = Binary; argument = argument }
 
-abbrev pub sorted_query : ℕ → Query
-sorted_query t = record {
+-- all rows of a table in the order of their rowids
+abbrev pub by_rowid : ℕ → List Term → List Collation → Query
+by_rowid t shown collations = record {
   from = inner t end;
   filter = [];
   group = None;
-  project = lit Null ∷ col 1 0 ∷ [];
+  project = shown;
   distinct = false;
-  collations = Binary ∷ [];
+  collations = collations;
   order = (col 1 0, ascending Binary) ∷ [];
   limit = lit (Int (negsuc 0));
   offset = lit (Int (pos 0));
 }
+
+abbrev pub sorted_query : ℕ → Query
+sorted_query t = by_rowid t (lit Null ∷ col 1 0 ∷ []) (Binary ∷ [])
 
 abbrev pub rising_query : ℕ → Query
 rising_query t = record {
@@ -58,13 +64,20 @@ rising_query t = record {
 abbrev pub rising_command : ℕ → Command
 rising_command t = Select (record { lets = Selected (sorted_query t) ∷ []; body = rising_query t }) (codes "1" ∷ [])
 
-pub order_is : (kind : Kind) → IsQuery (order_text_of kind) (rising_command (tree_of kind))
+pub order_is : (kind : Kind) (version : SchemaVersion) → has_kind kind version ≡ true → IsQueryIn (schema_of version) (order_text_of kind) (rising_command (tree_of kind))
 unfolding understood everything
-order_is Domains = (refl, refl, (refl, refl))
-order_is Tokens = (refl, refl, (refl, refl))
-order_is Documents = (refl, refl, (refl, refl))
-order_is Roots = (refl, refl, (refl, refl))
-order_is Attributes = (refl, refl, (refl, refl))
+order_is Domains Schema1 has = (refl, refl, (refl, refl))
+order_is Domains Schema2 has = (refl, refl, (refl, refl))
+order_is Tokens Schema1 has = (refl, refl, (refl, refl))
+order_is Tokens Schema2 has = (refl, refl, (refl, refl))
+order_is Documents Schema1 has = (refl, refl, (refl, refl))
+order_is Documents Schema2 has = (refl, refl, (refl, refl))
+order_is Roots Schema1 has = (refl, refl, (refl, refl))
+order_is Roots Schema2 has = (refl, refl, (refl, refl))
+order_is Attributes Schema1 has = (refl, refl, (refl, refl))
+order_is Attributes Schema2 has = (refl, refl, (refl, refl))
+order_is Sources Schema1 has = absurd (true≢false (sym has))
+order_is Sources Schema2 has = (refl, refl, (refl, refl))
 
-pub order_plain : (kind : Kind) → IsPlain (understood our_schema (order_text_of kind))
-order_plain kind = (order_is kind).2
+pub order_plain : (kind : Kind) (version : SchemaVersion) → has_kind kind version ≡ true → IsPlain (understood (schema_of version) (order_text_of kind))
+order_plain kind version has = (order_is kind version has).2

@@ -4,6 +4,7 @@ use Rattle.std.specs.List.{AllByRecursion}
 use Rattle.std.specs.Str.{is_utf8}
 use Rattle.sqlite.specs.Kind.TheVariants as kinds
 use Rattle.sqlite.specs.Order.{Row, column}
+use Rattle.sqlite.specs.Schema.{Schema}
 use Rattle.sqlite.specs.Tree.{Trees}
 use Rattle.sqlite.specs.declared.types.Value.{Value}
 use Rattle.sqlite.specs.declared.types.Value.TheVariants.{Null, Int, Real, Text, Blob}
@@ -15,8 +16,9 @@ use Rattle.sqlite_schema.specs.declared.schema.Constraint.TheVariants.{Datatype}
 use Rattle.sqlite_schema.specs.Rules.{are_typed, passes}
 use Rattle.sqlite_typed.specs.Columns.{int_of, bytes_of, or_null, unless_null}
 use Rattle.xa_store.specs.declared.opening.kind.Kind.TheVariants.{Roots}
-use Rattle.xa_store.specs.Opened.{as_read, holds_int, int_in, is_bit, is_given, is_pattern, is_version, is_sound_table, is_whole_row, known_next, next_of, read_meta}
-use Rattle.xa_store.specs.Rows.{RootRow, bit, is_set, kind_in, kind_number, meta_row, root_in, root_row}
+use Rattle.xa_store.specs.declared.opening.schema_version.SchemaVersion.{SchemaVersion}
+use Rattle.xa_store.specs.Opened.{as_read, holds_int, int_in, is_bit, is_given, is_pattern, is_version, is_sound_table, is_whole_row, known_next, next_of, number_of, read_meta}
+use Rattle.xa_store.specs.Rows.{RootRow, bit, is_set, kind_in, kind_number, meta_row_of, root_in, root_row}
 use Rattle.xa_store.specs.Sound.{AreRows}
 use Rattle.xa_store.specs.Tables.{meta, needed, our_schema, own_key, roots, text_if_any}
 use Rattle.xa_store.proofs.AreRowsLemmas.{rows_alone}
@@ -75,7 +77,8 @@ root_back next row typed whole =
 
 pub roots_are : (db : Trees) (next : ℤ) → IsSound our_schema db → is_sound_table db next Roots ≡ true → AreRows root_row root_in (λ r. r.number) (λ a b. false) (db 7)
 roots_are db next sound h =
-    rows_alone Roots next db h root_row root_in (λ (r : RootRow). r.number) (λ a b. false) (λ r. refl) roots (root_back next) (sound.obeys.rules Datatype).1.1.1.1.0 (λ a b. refl)
+    rows_alone Roots next db h root_row root_in (λ (r : RootRow). r.number) (λ a b. false) (λ r. refl) our_schema sound roots refl (λ P all. all.1.1.1.1.0) (λ r t p w. root_back next r t w)
+    (λ a b. refl)
 
 -- ---- the one row of the first table
 
@@ -86,33 +89,36 @@ int_is (Real x) n h = absurd cc
 int_is (Text t) n h = absurd cc
 int_is (Blob b) n h = absurd cc
 
-one_is : (v : Value) → holds_int (int_eq (pos 1)) v ≡ true → v ≡ Int (pos 1)
-one_is v h = let held = int_held (int_eq (pos 1)) v h in held.0 ∙ ap Int (sym (same_int (pos 1) (int_of v) held.1))
+number_is : (n : ℤ) (v : Value) → holds_int (int_eq n) v ≡ true → v ≡ Int n
+number_is n v h = let held = int_held (int_eq n) v h in held.0 ∙ ap Int (sym (same_int n (int_of v) held.1))
 
-abbrev IsMetaRow : ℤ → Row → Type 0
-IsMetaRow next row = (column row 0 ≡ Int (pos 1)) × (column row 2 ≡ Int (pos 1)) × (column row 3 ≡ Int next)
+module _ (version : SchemaVersion) (next : ℤ) where
+  abbrev IsMetaRow : Row → Type 0
+  IsMetaRow row = (column row 0 ≡ Int (pos 1)) × (column row 2 ≡ Int (number_of version)) × (column row 3 ≡ Int next)
 
-meta_columns : (next : ℤ) (row : Row) → next_of (read_meta row) ≡ Some next → IsMetaRow next row
-meta_columns next row h = go (holds_int (int_eq (pos 1)) (column row 0)) refl (holds_int (int_eq (pos 1)) (column row 2)) refl h
-  where
-    go : (a : Bool) → holds_int (int_eq (pos 1)) (column row 0) ≡ a → (b : Bool) → holds_int (int_eq (pos 1)) (column row 2) ≡ b → cond (a && b) (int_in (column row 3)) None ≡ Some next → IsMetaRow next row
-    go true id true schema is = (one_is (column row 0) id, one_is (column row 2) schema, int_is (column row 3) next is)
-    go true id false schema is = absurd cc
-    go false id b schema is = absurd cc
+  meta_columns : (row : Row) → next_of version (read_meta row) ≡ Some next → IsMetaRow row
+  meta_columns row h = go (holds_int (int_eq (pos 1)) (column row 0)) refl (holds_int (int_eq (number_of version)) (column row 2)) refl h
+    where
+      go : (a : Bool) → holds_int (int_eq (pos 1)) (column row 0) ≡ a → (b : Bool) → holds_int (int_eq (number_of version)) (column row 2) ≡ b → cond (a && b) (int_in (column row 3)) None ≡ Some next
+          → IsMetaRow row
+      go true id true schema is = (number_is (pos 1) (column row 0) id, number_is (number_of version) (column row 2) schema, int_is (column row 3) next is)
+      go true id false schema is = absurd cc
+      go false id b schema is = absurd cc
 
-meta_back : (next : ℤ) (row : Row) → are_typed (Some 0) 0 meta.columns (drop 1 row) ≡ true → next_of (read_meta row) ≡ Some next → row ≡ meta_row next
-meta_back next row typed known =
-    let held = meta_columns next row known in
-    let less : length row ≤ 4 = row_short (Some 0) meta.columns row typed in
-    let more = row_long row 3 (never_int (column row 3) _ held.2) in
-    let null = key_null (own_key (codes "id")) (needed (codes "schema_no") kinds.Integer ∷ needed (codes "next_number") kinds.Integer ∷ []) row typed in
-    by_columns 4 row (omega (arith, less, more)) ∙ (λ i. held.0 i ∷ null i ∷ held.1 i ∷ held.2 i ∷ [])
+  meta_back : (row : Row) → are_typed (Some 0) 0 meta.columns (drop 1 row) ≡ true → next_of version (read_meta row) ≡ Some next → row ≡ meta_row_of (number_of version) next
+  meta_back row typed known =
+      let held = meta_columns row known in
+      let less : length row ≤ 4 = row_short (Some 0) meta.columns row typed in
+      let more = row_long row 3 (never_int (column row 3) _ held.2) in
+      let null = key_null (own_key (codes "id")) (needed (codes "schema_no") kinds.Integer ∷ needed (codes "next_number") kinds.Integer ∷ []) row typed in
+      by_columns 4 row (omega (arith, less, more)) ∙ (λ i. held.0 i ∷ null i ∷ held.1 i ∷ held.2 i ∷ [])
 
-meta_rows : (next : ℤ) (rows : List Row) → AllByRecursion (λ r. are_typed (Some 0) 0 meta.columns (drop 1 r) ≡ true) rows → known_next (map read_meta rows) ≡ Some next → rows ≡ meta_row next ∷ []
-meta_rows next [] typed known = absurd cc
-meta_rows next (row ∷ []) typed known = ap (λ r. r ∷ []) (meta_back next row typed.0 known)
-meta_rows next (row ∷ other ∷ rows) typed known = absurd cc
+  meta_rows : (rows : List Row) → AllByRecursion (λ r. are_typed (Some 0) 0 meta.columns (drop 1 r) ≡ true) rows → known_next version (map read_meta rows) ≡ Some next → rows ≡ meta_row_of (number_of version) next ∷ []
+  meta_rows [] typed known = absurd cc
+  meta_rows (row ∷ []) typed known = ap (λ r. r ∷ []) (meta_back row typed.0 known)
+  meta_rows (row ∷ other ∷ rows) typed known = absurd cc
 
-pub meta_is : (db : Trees) (next : ℤ) → IsSound our_schema db → known_next (map read_meta (db 0)) ≡ Some next → db 0 ≡ meta_row next ∷ []
-meta_is db next sound known =
-    meta_rows next (db 0) (all_weaker (λ r. passes Datatype our_schema db meta r ≡ true) (λ r. are_typed (Some 0) 0 meta.columns (drop 1 r) ≡ true) (λ r t. first_of_both _ _ t) (db 0) (sound.obeys.rules Datatype).0) known
+  pub meta_is : (schema : Schema) (db : Trees) → AllByRecursion (λ r. passes Datatype schema db meta r ≡ true) (db 0) → known_next version (map read_meta (db 0)) ≡ Some next
+      → db 0 ≡ meta_row_of (number_of version) next ∷ []
+  meta_is schema db typed known =
+      meta_rows (db 0) (all_weaker (λ r. passes Datatype schema db meta r ≡ true) (λ r. are_typed (Some 0) 0 meta.columns (drop 1 r) ≡ true) (λ r t. first_of_both _ _ t) (db 0) typed) known

@@ -1,5 +1,5 @@
 -- Rows whose columns hold what they should are rows that the keeper writes.
-use Rattle.std.proofs.Common.{◌≡◌, ◌+◌, ◌≤◌, ℕ, zero, suc, ℤ, Bool, true, List, [], ◌∷◌, map, length, drop, Option, Some, refl, sym, ap, ◌∙◌, true≢false, arith}
+use Rattle.std.proofs.Common.{◌≡◌, ◌+◌, ◌≤◌, ℕ, zero, suc, ℤ, Bool, true, cond, List, [], ◌∷◌, ◌++◌, map, length, drop, slice_get, Option, Some, is_some, refl, sym, ap, ◌∙◌, true≢false, arith}
 use Rattle.sqlite.specs.Order.{Row, column}
 use Rattle.sqlite.specs.declared.types.Value.{Value}
 use Rattle.sqlite.specs.declared.types.Value.TheVariants.{Null, Int, Real, Text, Blob}
@@ -88,3 +88,18 @@ by_columns zero [] e = refl
 by_columns zero (v ∷ vs) e = absurd (omega (arith, e))
 by_columns (suc n) [] e = absurd (omega (arith, e))
 by_columns (suc n) (v ∷ vs) e = ap (λ l. v ∷ l) (by_columns n vs (omega (arith, e)) ∙ sym (map-map (column (v ∷ vs)) suc (places n)))
+
+-- one that may have one column more
+pub by_last : (n : ℕ) (row : Row) → n ≤ length row → length row ≤ suc n → row ≡ map (column row) (places n) ++ cond (is_some (slice_get row n)) (column row n ∷ []) []
+by_last zero [] more less = refl
+by_last zero (v ∷ []) more less = refl
+by_last zero (v ∷ w ∷ vs) more less = absurd (omega (arith, less))
+by_last (suc n) [] more less = absurd (omega (arith, more))
+by_last (suc n) (v ∷ vs) more less =
+    ap (λ l. v ∷ l)
+    (by_last n vs (omega (arith, more)) (omega (arith, less)) ∙ ap (λ l. l ++ cond (is_some (slice_get vs n)) (column vs n ∷ []) []) (sym (map-map (column (v ∷ vs)) suc (places n))))
+
+pub column_past : (n : ℕ) (row : Row) → length row ≤ n → column row n ≡ Null
+column_past n [] less = refl
+column_past zero (v ∷ vs) less = absurd (omega (arith, less))
+column_past (suc n) (v ∷ vs) less = column_past n vs (omega (arith, less))

@@ -1,5 +1,5 @@
 -- Sound rows are rows that the keeper writes.
-use Rattle.std.proofs.Common.{◌≡◌, ◌≤◌, ℕ, zero, suc, ℤ, pos, negsuc, ◌<ℤ◌, Bool, true, false, ◌&&◌, ◌==◌, not, cond, unwrap_or, codes, List, [], ◌∷◌, map, length, drop, int_lt, int_eq, bytes_eq, Option, Some, None, Result, Ok, Err, refl, sym, ap, ap₂, subst, ◌∙◌, true≢false, arith}
+use Rattle.std.proofs.Common.{◌≡◌, ◌≤◌, ℕ, zero, suc, ℤ, pos, negsuc, ◌<ℤ◌, Bool, true, false, ◌&&◌, ◌==◌, not, cond, unwrap_or, codes, List, [], ◌∷◌, map, length, drop, slice_get, is_some, int_lt, int_eq, bytes_eq, Option, Some, None, Result, Ok, Err, refl, sym, ap, ap₂, ◌∙◌, true≢false, arith}
 use Rattle.std.specs.List.{AllByRecursion}
 use Rattle.std.specs.Str.{is_utf8}
 use Rattle.std.proofs.lemmas.Int.{ints}
@@ -8,18 +8,16 @@ use Rattle.sqlite.specs.declared.types.Value.{Value}
 use Rattle.sqlite.specs.declared.types.Value.TheVariants.{Null, Int, Real, Text, Blob}
 use Rattle.sqlite_keyed.specs.Keyed.{IsKeyedBy}
 use Rattle.sqlite_keyed.specs.Rules.{AreApart}
-use Rattle.sqlite_keyed.proofs.ListLemmas.{all_from_test, all_weaker, all_both, all_unmap, ascending-map, ascending_from_map, none_from_any, any_from_none}
+use Rattle.sqlite_keyed.proofs.ListLemmas.{all_from_test, all_weaker, all_both, all_unmap, ascending_from_map, none_from_any, any_from_none}
 use Rattle.sqlite_keyed.proofs.RuleLemmas.{first_of_both, second_of_both}
 use Rattle.sqlite.specs.Kind.TheVariants as kinds
-use Rattle.sqlite.specs.Tree.{Trees}
-use Rattle.sqlite_catalog.specs.Listing.{IsSound}
-use Rattle.sqlite_schema.specs.declared.schema.Constraint.TheVariants.{Datatype, NotNull, Unique}
-use Rattle.sqlite_schema.specs.Rules.{are_present, are_typed, agree, clashes, differ, passes, suits}
+use Rattle.sqlite_schema.specs.declared.schema.Column.{Column}
+use Rattle.sqlite_schema.specs.Rules.{are_present, are_typed, agree, clashes, differ, suits}
 use Rattle.sqlite_sql.specs.Ops.{is_null}
 use Rattle.sqlite_sql.specs.declared.ops.CompareOp.TheVariants.{Eq, Ne}
 use Rattle.sqlite_value.specs.Keys.{first_key}
 use Rattle.sqlite_trees.specs.Tree.{IsAscending}
-use Rattle.sqlite_typed.specs.Columns.{int_of, bytes_of}
+use Rattle.sqlite_typed.specs.Columns.{int_of, bytes_of, or_null, unless_null}
 use Rattle.sqlite_typed.proofs.TestLemmas.{at_ints, then_term, last_term, same_bytes}
 use Rattle.std.proofs.lemmas.Map.Text.{is_eq-slice_cmp}
 use Rattle.xa_value.specs.declared.data_type.DataType.{DataType}
@@ -32,16 +30,16 @@ use Rattle.xa_value.specs.Printing.{printed}
 use Rattle.xa_value.specs.Reading.{read, read_as}
 use Rattle.xa_value.specs.Types.{all_types, place_of, type_at}
 use Rattle.xa_store.specs.declared.opening.kind.Kind.{Kind}
-use Rattle.xa_store.specs.declared.opening.kind.Kind.TheVariants.{Domains, Tokens, Attributes}
+use Rattle.xa_store.specs.declared.opening.kind.Kind.TheVariants.{Domains, Tokens, Attributes, Sources}
 use Rattle.xa_records.specs.DomainName.{is_domain_name}
-use Rattle.xa_store.specs.Opened.{are_rising, as_read, holds_text, holds_value, is_bit, is_count, is_digest, is_given, is_printed, is_value, is_sound_table, is_whole_row, row_number}
-use Rattle.xa_store.specs.Rows.{AttributeRow, attribute_in, attribute_row, domain_in, domain_row, given, nat_of, role_in, role_number, token_in, token_row, type_number, value_in, value_text}
-use Rattle.xa_store.specs.Sound.{AreRows, same_place}
-use Rattle.xa_store.specs.Tables.{attributes, domains, needed, our_schema, own_key, rising, tokens}
+use Rattle.xa_store.specs.Opened.{are_rising, as_read, holds_text, holds_text_if_any, holds_value, is_bit, is_count, is_digest, is_given, is_number, is_printed, is_value, is_whole_row, row_number}
+use Rattle.xa_store.specs.Rows.{AttributeRow, attribute_in, attribute_row, domain_in, domain_row, given, issuer_columns, nat_of, role_in, role_number, token_in, token_row, type_number, value_in, value_text}
+use Rattle.xa_store.specs.Sound.{same_place}
+use Rattle.xa_store.specs.Tables.{attributes, domains, needed, own_key, rising, sources, tokens}
 use Rattle.xa_store.proofs.EntryLemmas.{found_passes}
 use Rattle.xa_store.proofs.ReadLemmas.{int_back, numbers_read}
-use Rattle.xa_store.proofs.RiseLemmas.{lt_from}
-use Rattle.xa_store.proofs.ShapeLemmas.{blob_held, by_columns, int_held, key_null, never_int, never_text, row_long, row_short, text_held}
+use Rattle.xa_store.proofs.RiseLemmas.{both_true, lt_from}
+use Rattle.xa_store.proofs.ShapeLemmas.{blob_held, by_columns, by_last, column_past, int_held, key_null, never_int, never_text, row_long, row_short, text_held, text_if_any_held}
 
 -- ---- all rows of a table
 
@@ -184,7 +182,7 @@ value_back n text h = go (is_count n) refl (type_at (nat_of n)) refl (second_of_
     go true c None is h = absurd (true≢false (sym h))
     go true c (Some t) is h = typed_back n text t is c (read t text) refl h
 
--- ---- a row of a table of the rows of sources
+-- ---- a row of a table of the rows of sources, which may lack the column of its issuer
 
 int_from : (name : List ℕ) (v : Value) → suits (needed name kinds.Integer) v ≡ true → not (is_null v) ≡ true → v ≡ Int (int_of v)
 int_from name Null h some = absurd (true≢false (sym some))
@@ -193,51 +191,65 @@ int_from name (Real x) h some = absurd (true≢false (sym h))
 int_from name (Text t) h some = absurd (true≢false (sym h))
 int_from name (Blob b) h some = absurd (true≢false (sym h))
 
-pub attribute_from : (next : ℤ) (row : Row) → are_typed None 0 attributes.columns (drop 1 row) ≡ true → are_present None 0 attributes.columns row ≡ true → is_whole_row Attributes next (as_read Attributes row) ≡ true
-    → row ≡ attribute_row (attribute_in row)
-attribute_from next row typed present whole =
-    let rest = second_of_both _ _ whole in
-    let first4 = first_of_both _ _ rest in
-    let first3 = first_of_both _ _ first4 in
-    let first2 = first_of_both _ _ first3 in
-    let number = int_held (is_given next) (column row 1) (first_of_both _ _ first2) in
-    let category = text_held is_utf8 (column row 3) (second_of_both _ _ first2) in
-    let entity = text_held is_utf8 (column row 4) (second_of_both _ _ first3) in
-    let attribute = text_held is_utf8 (column row 5) (second_of_both _ _ first4) in
-    let type = int_held (λ n. holds_text (holds_value n) (column row 7)) (column row 6) (second_of_both _ _ rest) in
-    let text = text_held (holds_value (int_of (column row 6))) (column row 7) type.1 in
-    let value = value_back (int_of (column row 6)) (bytes_of (column row 7)) text.1 in
-    let rowid = int_back (column row 0) (first_of_both _ _ whole) in
-    let less : length row ≤ 8 = row_short None attributes.columns row typed in
-    let more = row_long row 7 (never_text (column row 7) _ text.0) in
-    let all = by_columns 8 row (omega (arith, less, more)) in
-    let typed_all = subst (λ r. are_typed None 0 attributes.columns (drop 1 r) ≡ true) all typed in
-    let place = int_from (codes "place") (column row 2) (first_of_both _ _ (second_of_both _ _ typed_all)) (first_of_both _ _ (second_of_both _ _ present)) in
-    all ∙ (λ i. rowid i ∷ number.0 i ∷ place i ∷ category.0 i ∷ entity.0 i ∷ attribute.0 i ∷ (type.0 ∙ value.0) i ∷ (text.0 ∙ value.1) i ∷ [])
+-- the columns of a place: a number, the place, and others
+abbrev placed : List Column → List Column
+placed others = needed (codes "number") kinds.Integer ∷ needed (codes "place") kinds.Integer ∷ others
 
-places_agree : (a b : AttributeRow) → agree rising (1 ∷ 2 ∷ []) (attribute_row a) (1 ∷ 2 ∷ []) (attribute_row b) ≡ same_place a b
+place_from : (others : List Column) (row : Row) → 3 ≤ length row → are_typed None 0 (placed others) (drop 1 row) ≡ true → are_present None 0 (placed others) row ≡ true → column row 2 ≡ Int (int_of (column row 2))
+place_from others [] more typed present = absurd (omega (arith, more))
+place_from others (a ∷ []) more typed present = absurd (omega (arith, more))
+place_from others (a ∷ b ∷ []) more typed present = absurd (omega (arith, more))
+place_from others (a ∷ b ∷ c ∷ row) more typed present = int_from (codes "place") c (first_of_both _ _ (second_of_both _ _ typed)) (first_of_both _ _ (second_of_both _ _ present))
+
+abbrev IsText : Value → Type 0
+IsText v = v ≡ or_null Text (unless_null bytes_of v)
+
+issuer_cells : (has : Bool) (v : Value) → IsText v → cond has (v ∷ []) [] ≡ issuer_columns has (unless_null bytes_of v)
+issuer_cells true v is = ap (λ v. v ∷ []) is
+issuer_cells false v is = refl
+
+module _ (next : ℤ) (row : Row) where
+  -- a row of one of the two tables
+  row_from : is_whole_row Attributes next (as_read Attributes row) ≡ true → (8 ≤ length row → column row 2 ≡ Int (int_of (column row 2))) → length row ≤ 9 → IsText (column row 8) → row ≡ attribute_row (attribute_in row)
+  row_from whole placed less issued =
+      let rest = second_of_both _ _ whole in
+      let first4 = first_of_both _ _ rest in
+      let first3 = first_of_both _ _ first4 in
+      let first2 = first_of_both _ _ first3 in
+      let number = int_held (is_given next) (column row 1) (first_of_both _ _ first2) in
+      let category = text_held is_utf8 (column row 3) (second_of_both _ _ first2) in
+      let entity = text_held is_utf8 (column row 4) (second_of_both _ _ first3) in
+      let attribute = text_held is_utf8 (column row 5) (second_of_both _ _ first4) in
+      let type = int_held (λ n. holds_text (holds_value n) (column row 7)) (column row 6) (second_of_both _ _ rest) in
+      let text = text_held (holds_value (int_of (column row 6))) (column row 7) type.1 in
+      let value = value_back (int_of (column row 6)) (bytes_of (column row 7)) text.1 in
+      let rowid = int_back (column row 0) (first_of_both _ _ whole) in
+      let more = row_long row 7 (never_text (column row 7) _ text.0) in
+      let place = placed more in
+      let issuer = issuer_cells (is_some (slice_get row 8)) (column row 8) issued in
+      by_last 8 row more less ∙ (λ i. rowid i ∷ number.0 i ∷ place i ∷ category.0 i ∷ entity.0 i ∷ attribute.0 i ∷ (type.0 ∙ value.0) i ∷ (text.0 ∙ value.1) i ∷ issuer i)
+
+  -- of schema 1, where it has no issuer
+  pub first_source_back : are_typed None 0 attributes.columns (drop 1 row) ≡ true → are_present None 0 attributes.columns row ≡ true → is_whole_row Attributes next (as_read Attributes row) ≡ true → row ≡ attribute_row (attribute_in row)
+  first_source_back typed present whole =
+      let less : length row ≤ 8 = row_short None attributes.columns row typed in
+      let none = column_past 8 row less in
+      row_from whole (λ more. place_from (drop 2 attributes.columns) row (omega (arith, more)) typed present) (omega (arith, less)) (none ∙ ap (λ v. or_null Text (unless_null bytes_of v)) (sym none))
+
+  pub whole_source : is_whole_row Sources next (as_read Sources row) ≡ true → (is_whole_row Attributes next (as_read Attributes row) ≡ true) × (holds_text_if_any is_utf8 (column row 8) ≡ true)
+  whole_source whole =
+      let rest = second_of_both _ _ whole in
+      (both_true (is_number (column row 0)) _ (first_of_both _ _ whole) (first_of_both _ _ rest), second_of_both _ _ rest)
+
+  pub source_back : are_typed None 0 sources.columns (drop 1 row) ≡ true → are_present None 0 sources.columns row ≡ true → is_whole_row Sources next (as_read Sources row) ≡ true → row ≡ attribute_row (attribute_in row)
+  source_back typed present whole =
+      let both = whole_source whole in
+      row_from both.0 (λ more. place_from (drop 2 sources.columns) row (omega (arith, more)) typed present) (row_short None sources.columns row typed) (text_if_any_held is_utf8 (column row 8) both.1)
+
+pub places_agree : (a b : AttributeRow) → agree rising (1 ∷ 2 ∷ []) (attribute_row a) (1 ∷ 2 ∷ []) (attribute_row b) ≡ same_place a b
 unfolding first_key
 places_agree a b = then_term (at_ints false Eq a.number b.number) (last_term (at_ints false Eq a.place b.place))
 
 pub free_of : (b : Bool) → not b ≡ true → b ≡ false
 free_of true h = absurd (true≢false (sym h))
 free_of false h = refl
-
-pub attributes_are : (db : Trees) (next : ℤ) → IsSound our_schema db → is_sound_table db next Attributes ≡ true → AreRows attribute_row attribute_in (λ a. a.rowid) same_place (db 8)
-attributes_are db next sound h =
-    let whole = all_unmap (λ r. is_whole_row Attributes next r ≡ true) (as_read Attributes) (db 8) (all_from_test (is_whole_row Attributes next) (map (as_read Attributes) (db 8)) (first_of_both _ _ h)) in
-    let typed = (sound.obeys.rules Datatype).1.1.1.1.1.0 in
-    let present = (sound.obeys.rules NotNull).1.1.1.1.1.0 in
-    let unique = (sound.obeys.rules Unique).1.1.1.1.1.0 in
-    let formed = all_both (λ r. passes Datatype our_schema db attributes r ≡ true) (λ r. passes NotNull our_schema db attributes r ≡ true)
-    (λ r. is_whole_row Attributes next (as_read Attributes r) ≡ true → r ≡ attribute_row (attribute_in r)) (λ r t p w. attribute_from next r (first_of_both _ _ t) p w) (db 8) typed present in
-    let each = all_both (λ r. is_whole_row Attributes next (as_read Attributes r) ≡ true → r ≡ attribute_row (attribute_in r)) (λ r. is_whole_row Attributes next (as_read Attributes r) ≡ true)
-    (λ r. r ≡ attribute_row (attribute_in r)) (λ r f w. f w) (db 8) formed whole in
-    let written = written_from attribute_row attribute_in (db 8) each in
-    let up = keyed_from (λ (a : AttributeRow). a.rowid) attribute_in (λ _. refl) (db 8) (rows_ascend Attributes (db 8) (second_of_both _ _ h)) in
-    let free = all_weaker (λ r. passes Unique our_schema db attributes r ≡ true) (λ r. clashes rising (1 ∷ 2 ∷ []) (db 8) r ≡ false) (λ r u. free_of _ (first_of_both _ _ u)) (db 8) unique in
-    record {
-      written = written;
-      rise = up;
-      apart = apart_from attribute_row (λ a. a.rowid) (λ _. refl) same_place (1 ∷ 2 ∷ []) (λ a b is. places_agree a b ∙ is) (map attribute_in (db 8)) up (subst (λ l. AllByRecursion (λ r. clashes rising (1 ∷ 2 ∷ []) l r ≡ false) l) written free);
-    }

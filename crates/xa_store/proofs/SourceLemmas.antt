@@ -1,7 +1,7 @@
 -- What the query for a source finds.
 use Rattle.std.proofs.Common.{◌≡◌, ℤ, List, [], ◌∷◌, map, Bool, false, Ordering, is_eq, int_eq, int_cmp, refl, ap, ◌∙◌}
 use Rattle.std.specs.List.{AllByRecursion}
-use Rattle.sqlite.specs.Order.{Row}
+use Rattle.sqlite.specs.Order.{Row, column}
 use Rattle.sqlite.specs.State.{State, Shown}
 use Rattle.sqlite.specs.Tree.{Trees}
 use Rattle.sqlite.specs.declared.types.Value.TheVariants.{Int, Text}
@@ -14,7 +14,7 @@ use Rattle.sqlite_keyed.proofs.ListLemmas.{all_of, all_weaker, map-map}
 use Rattle.sqlite_trees.specs.Tree.{IsAscending}
 use Rattle.sqlite_typed.proofs.TestLemmas.{last_key}
 use Rattle.sqlite_value.proofs.OrderLemmas.{value_cmp-Int}
-use Rattle.xa_store.specs.Rows.{AttributeRow, attribute_row, attribute_in, type_number, value_text}
+use Rattle.xa_store.specs.Rows.{AttributeRow, attribute_row, attribute_in, issuer_columns, type_number, value_text}
 use Rattle.xa_store.specs.Shown.{source_told}
 use Rattle.xa_store.specs.Sound.{Ours, same_place}
 use Rattle.xa_store.specs.Tables.{our_schema}
@@ -34,7 +34,7 @@ module _ (old new : State) (number : ℤ) (ours : Ours old) (rows : List Row) (s
   db = old.now.trees
 
   abbrev columns : List Term
-  columns = col 1 3 ∷ col 1 4 ∷ col 1 5 ∷ col 1 6 ∷ col 1 7 ∷ []
+  columns = col 1 3 ∷ col 1 4 ∷ col 1 5 ∷ col 1 6 ∷ col 1 7 ∷ col 1 8 ∷ []
 
   abbrev of_number : AttributeRow → Bool
   of_number a = int_eq a.number number
@@ -48,19 +48,20 @@ module _ (old new : State) (number : ℤ) (ours : Ours old) (rows : List Row) (s
   untied : IsAscending (λ a b. is_eq (by_place a b) ≡ false) mine
   untied =
       apart_among of_number (λ a b. same_place a b ≡ false) (λ a b. is_eq (by_place a b) ≡ false) (λ a b p q h. apart_then a.number b.number number (is_eq (by_place a b)) p q h)
-      (map attribute_in (db 8)) ours.tables.attributes.apart
+      (map attribute_in (db 10)) ours.tables.attributes.apart
 
-  answer : Answered 8 (is 1 0 ∷ []) columns (2 ∷ []) db refl (Int number ∷ []) rows
+  answer : Answered 10 (is 1 0 ∷ []) columns (2 ∷ []) db refl (Int number ∷ []) rows
   answer =
-      answered 8 (is 1 0 ∷ []) columns (2 ∷ []) db refl (Int number ∷ []) rows
+      answered 10 (is 1 0 ∷ []) columns (2 ∷ []) db refl (Int number ∷ []) rows
       (reads_as source_shown (Int number ∷ []) old new our_schema ours.rests.schema _ source_shown_is.0 source_shown_is.2 source_shown_is.1 rows shown).answer
 
   abbrev show_row : AttributeRow → Row
-  show_row a = Text a.row.category ∷ Text a.row.entity ∷ Text a.row.attribute_id ∷ Int (type_number a.row.value) ∷ Text (value_text a.row.value) ∷ []
+  show_row a = Text a.row.category ∷ Text a.row.entity ∷ Text a.row.attribute_id ∷ Int (type_number a.row.value) ∷ Text (value_text a.row.value)
+      ∷ column (issuer_columns a.is_full a.row.issuer) 0 ∷ []
 
   ordered : rows ≡ map show_row (sort_by by_place mine)
   ordered =
-      found_sorted 8 (is 1 0 ∷ []) columns (2 ∷ []) db refl (Int number ∷ []) attribute_row attribute_in ours.tables.attributes.written of_number (all_of _ (source_hit number db) (map attribute_in (db 8)))
+      found_sorted 10 (is 1 0 ∷ []) columns (2 ∷ []) db refl (Int number ∷ []) attribute_row attribute_in ours.tables.attributes.written of_number (all_of _ (source_hit number db) (map attribute_in (db 10)))
       by_place (λ a b. last_key (value_cmp-Int a.place b.place)) untied rows answer
 
   abbrev IsBack : AttributeRow → Type 0
@@ -69,7 +70,7 @@ module _ (old new : State) (number : ℤ) (ours : Ours old) (rows : List Row) (s
   backs : AllByRecursion IsBack (sort_by by_place mine)
   backs =
       all_sorted IsBack by_place mine
-      (all_among of_number IsBack IsBack (λ a passes back. back) (map attribute_in (db 8)) (read_back attribute_row attribute_in (db 8) ours.tables.attributes.written))
+      (all_among of_number IsBack IsBack (λ a passes back. back) (map attribute_in (db 10)) (read_back attribute_row attribute_in (db 10) ours.tables.attributes.written))
 
   pub source_read : map source_told rows ≡ (state_at (rows_of db) number).source
   source_read =

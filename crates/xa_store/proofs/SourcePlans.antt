@@ -142,7 +142,7 @@ module _ (n : ℤ) where
   Low p = AllByRecursion (λ a. a.place <ℤ pos p)
 
   abbrev added : ℕ → SourceRow → Rows → AttributeRow
-  added p s rows = record { rowid = next_key (λ a. a.rowid) rows.attributes; number = n; place = pos p; row = s }
+  added p s rows = record { rowid = next_key (λ a. a.rowid) rows.attributes; number = n; place = pos p; row = s; is_full = true }
 
   abbrev one_more : ℕ → SourceRow → Rows → Rows
   one_more p s rows = after (AddAttribute n (pos p) s) rows

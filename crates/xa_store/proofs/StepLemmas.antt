@@ -10,19 +10,15 @@ use Rattle.sqlite.specs.State.{State, Executes}
 use Rattle.sqlite.specs.Term.{col, lit}
 use Rattle.sqlite.specs.declared.types.Value.{Value}
 use Rattle.sqlite.specs.declared.types.Value.TheVariants.{Null, Int, Text}
-use Rattle.sqlite_schema.specs.Names.{same_name}
-use Rattle.sqlite_schema.specs.declared.schema.Keys.TheVariants.{Enforced}
 use Rattle.sqlite_sql.specs.declared.ops.CompareOp.TheVariants.{Eq}
-use Rattle.sqlite_value.specs.Keys.{joined}
-use Rattle.sqlite_rules.specs.Action.{works}
 use Rattle.sqlite_rules.specs.Cast.{cast_row}
 use Rattle.sqlite_rules.specs.Edit.{with_rowid}
 use Rattle.sqlite_keyed.specs.Keyed.{insert_by}
 use Rattle.sqlite_keyed.specs.Lists.{update_where, delete_where}
 use Rattle.sqlite_keyed.specs.Rules.{AreApart}
 use Rattle.sqlite_keyed.proofs.ListLemmas.{all_of}
-use Rattle.sqlite_keyed.proofs.KeyedLemmas.{IsKeyedBy-insert_by, IsKeyedBy-delete_where, IsKeyedBy-update_where}
-use Rattle.sqlite_keyed.proofs.RuleLemmas.{at_most_one, apart_update}
+use Rattle.sqlite_keyed.proofs.KeyedLemmas.{IsKeyedBy-insert_by}
+use Rattle.sqlite_keyed.proofs.RuleLemmas.{at_most_one}
 use Rattle.sqlite_typed.specs.Columns.{bytes_of, or_null, unless_null}
 use Rattle.sqlite_typed.proofs.TestLemmas.{at_ints, last_term, null_back}
 use Rattle.xa_policy.specs.declared.reference.DocumentKind.{DocumentKind}
@@ -33,12 +29,12 @@ use Rattle.xa_notation.specs.declared.token.Role.TheVariants.{Ask, Admin}
 use Rattle.xa_store.specs.declared.step.Step.{Step}
 use Rattle.xa_store.specs.declared.step.Step.TheVariants.{SetNext, SetEpoch, AddRoot, DropRoot}
 use Rattle.xa_store.specs.Rows.{DomainRow, RootRow, meta_row, next_in, domain_row, domain_in, root_row, root_in, root_of, kind_number, kind_in, role_number, role_in}
-use Rattle.xa_store.specs.Sound.{AreTables, IsOurDatabase, same_name as same_domain}
+use Rattle.xa_store.specs.Sound.{AreTables, IsOurDatabase}
 use Rattle.xa_store.specs.Steps.{after}
 use Rattle.xa_store.specs.Tables.{our_schema, meta, domains, roots}
 use Rattle.xa_store.specs.Texts as text
 use Rattle.xa_store.specs.World.{rows_of}
-use Rattle.xa_store.proofs.HoldLemmas.{Back, Hold, meta_now, domains_now, roots_now}
+use Rattle.xa_store.proofs.HoldLemmas.{Back, Hold, came, changed, domains_now, meta_now, roots_now, went_out}
 use Rattle.xa_store.proofs.SqlLemmas.{answered}
 use Rattle.xa_store.proofs.TableLemmas.{updates, deletes, inserts}
 use Rattle.xa_store.proofs.TextLemmas.{is, is_one, epoch_set_is, epoch_set_query, next_set_is, next_set_query, root_added_given, root_added_is, root_dropped_is, root_dropped_query}
@@ -58,35 +54,9 @@ pub cast_null : cast Integer Null ≡ Null
 unfolding unary
 cast_null = either _ Null
 
-cast_text : (o : Option (List ℕ)) → cast TextKind (or_null Text o) ≡ or_null Text o
+pub cast_text : (o : Option (List ℕ)) → cast TextKind (or_null Text o) ≡ or_null Text o
 cast_text None = refl
 cast_text (Some t) = refl
-
--- ---- no key acts where no row of the domains goes
-
-pub works_of_nothing : works our_schema Enforced 0 1 [] [] ≡ []
-unfolding same_name joined
-works_of_nothing = refl
-
-pub works_of_domain : (olds : List Row) (new : Row) → works our_schema Enforced 0 1 olds (new ∷ []) ≡ []
-unfolding same_name joined
-works_of_domain olds new = refl
-
-works_of_no_meta : works our_schema Enforced 0 0 [] [] ≡ []
-unfolding same_name joined
-works_of_no_meta = refl
-
-pub works_of_meta : (olds : List Row) (new : Row) → works our_schema Enforced 0 0 olds (new ∷ []) ≡ []
-unfolding same_name joined
-works_of_meta olds new = refl
-
-works_of_root : (olds : List Row) (new : Row) → works our_schema Enforced 0 7 olds (new ∷ []) ≡ []
-unfolding same_name joined
-works_of_root olds new = refl
-
-works_of_no_root : (olds : List Row) → works our_schema Enforced 0 7 olds [] ≡ []
-unfolding same_name joined
-works_of_no_root olds = refl
 
 -- ---- rows read back
 
@@ -103,7 +73,7 @@ pub kind_held : (kind : DocumentKind) → to_z w64 (of_z w64 (kind_number kind))
 kind_held Policy = refl
 kind_held PolicySet = refl
 
-text_back : (o : Option (List ℕ)) → unless_null bytes_of (or_null Text o) ≡ o
+pub text_back : (o : Option (List ℕ)) → unless_null bytes_of (or_null Text o) ≡ o
 text_back = null_back Text bytes_of (λ _. refl) (λ _. refl)
 
 texts_back : (texts : List (Option (List ℕ))) → map (unless_null bytes_of) (map (or_null Text) texts) ≡ texts
@@ -122,8 +92,8 @@ root_cast number kind id p e l = λ i. cast_int number i ∷ cast_null i ∷ cas
 domain_cast : (d : DomainRow) (e : ℤ) → cast_row domains (Int d.number ∷ Null ∷ Text d.name ∷ Int e ∷ []) ≡ domain_row (record d { epoch = e })
 domain_cast d e = λ i. cast_int d.number i ∷ cast_null i ∷ Text d.name ∷ cast_int e i ∷ []
 
-meta_cast : (next : ℤ) → cast_row meta (Int (pos 1) ∷ Null ∷ Int (pos 1) ∷ Int next ∷ []) ≡ meta_row next
-meta_cast next = λ i. cast_int (pos 1) i ∷ cast_null i ∷ cast_int (pos 1) i ∷ cast_int next i ∷ []
+pub meta_cast : (next : ℤ) → cast_row meta (Int (pos 1) ∷ Null ∷ Int (pos 2) ∷ Int next ∷ []) ≡ meta_row next
+meta_cast next = λ i. cast_int (pos 1) i ∷ cast_null i ∷ cast_int (pos 2) i ∷ cast_int next i ∷ []
 
 roots_apart : (rs : List RootRow) → AreApart (λ a b. false) rs
 roots_apart [] = tt
@@ -156,14 +126,13 @@ module _ (old new : State) (has : old.now.schema ≡ our_schema) (count : ℕ) (
       let hit = all_of _ (λ (d : DomainRow). last_term (at_ints false Eq d.number n)) ds in
       let few = at_most_one (λ (d : DomainRow). d.number) n (λ d. int_eq d.number n) (λ d h. h) ds was.domains.rise in
       let wrote = row_updated domain_row (λ d. d.number) (λ _. refl) domains db next ds was.domains.written was.domains.rise (is 0 0 ∷ []) shown refl params (λ d. int_eq d.number n) hit
-      f (λ d. Int d.number ∷ Null ∷ Text d.name ∷ Int e ∷ []) (λ _. refl) (λ d. domain_cast d e) (λ _. refl) works_of_nothing works_of_domain few edits.rows answer edits.edited in
+      f (λ d. Int d.number ∷ Null ∷ Text d.name ∷ Int e ∷ []) (λ _. refl) (λ d. domain_cast d e) (λ _. refl) few edits.rows answer edits.edited in
       record {
         schema = edits.schema;
         database = edits.database;
         tables =
-            domains_now db next was (update_where (λ d. int_eq d.number n) f ds) wrote (all_of (Back domain_row domain_in) (λ _. refl) (update_where (λ d. int_eq d.number n) f ds))
-            (IsKeyedBy-update_where (λ d. d.number) (λ d. int_eq d.number n) f (λ _. refl) ds was.domains.rise)
-            (apart_update same_domain (λ d. int_eq d.number n) f (λ a b. refl) (λ a b. refl) ds was.domains.apart);
+            domains_now db next was (update_where (λ d. int_eq d.number n) f ds) wrote
+            (changed (λ d. int_eq d.number n) f was.domains (λ _. refl) (λ a b. refl) (λ a b. refl) wrote.rows (all_of (Back domain_row domain_in) (λ _. refl) (update_where (λ d. int_eq d.number n) f ds)));
       }
 
   -- the number of the next domain
@@ -175,7 +144,7 @@ module _ (old new : State) (has : old.now.schema ≡ our_schema) (count : ℕ) (
       let answer = answered 0 (is_one 0 ∷ []) shown [] db refl params edits.rows edits.answer.answer in
       let hit : AllByRecursion (λ (m : ℤ). Rattle.xa_store.proofs.SqlLemmas.hits 0 (is_one 0 ∷ []) shown [] db refl params (meta_row m) ≡ true) (next_in (db 0) ∷ []) = (last_term (at_ints false Eq (pos 1) (pos 1)), tt) in
       let wrote = row_updated meta_row (λ _. pos 1) (λ _. refl) meta db next (next_in (db 0) ∷ []) was.meta (tt, tt) (is_one 0 ∷ []) shown refl params (λ _. true) hit
-      (λ _. n) (λ _. Int (pos 1) ∷ Null ∷ Int (pos 1) ∷ Int n ∷ []) (λ _. refl) (λ _. meta_cast n) (λ _. refl) works_of_no_meta works_of_meta (omega arith) edits.rows answer edits.edited in
+      (λ _. n) (λ _. Int (pos 1) ∷ Null ∷ Int (pos 2) ∷ Int n ∷ []) (λ _. refl) (λ _. meta_cast n) (λ _. refl) (omega arith) edits.rows answer edits.edited in
       record { schema = edits.schema; database = edits.database; tables = meta_now db next was n wrote }
 
   -- the root goes
@@ -188,12 +157,8 @@ module _ (old new : State) (has : old.now.schema ≡ our_schema) (count : ℕ) (
       let answer = answered 7 (is 0 0 ∷ []) (col 1 0 ∷ []) [] db refl params edits.rows edits.answer.answer in
       let hit = all_of _ (λ (r : RootRow). last_term (at_ints false Eq r.number n)) rs in
       let wrote = rows_removed root_row (λ r. r.number) (λ _. refl) roots db next rs was.roots.written was.roots.rise (is 0 0 ∷ []) (col 1 0 ∷ []) refl params p hit
-      (λ _. refl) works_of_no_root edits.rows answer edits.edited in
-      record {
-        schema = edits.schema;
-        database = edits.database;
-        tables = roots_now db next was (delete_where p rs) wrote (all_of (Back root_row root_in) root_back (delete_where p rs)) (IsKeyedBy-delete_where (λ r. r.number) p rs was.roots.rise) (roots_apart (delete_where p rs));
-      }
+      (λ _. refl) refl edits.rows answer edits.edited in
+      record { schema = edits.schema; database = edits.database; tables = roots_now db next was (delete_where p rs) wrote (went_out p was.roots wrote.rows) }
 
   -- the root comes
   pub root_added_stepped : (n : ℤ) (reference : Reference) (r : RootRow) (p e l : Option (List ℕ)) → r ≡ root_of n reference → r.texts ≡ p ∷ e ∷ l ∷ []
@@ -207,7 +172,7 @@ module _ (old new : State) (has : old.now.schema ≡ our_schema) (count : ℕ) (
       let put : with_rowid Chosen (db 7) (cast_row roots row) ≡ root_row r =
       ap (with_rowid Chosen (db 7)) (root_cast n r.kind r.id p e l) ∙ ap (λ k. with_rowid Chosen (db 7) (full_root k r.kind r.id p e l)) (sym own)
       ∙ (λ i. Int r.number ∷ Null ∷ Int (kind_number r.kind) ∷ Text r.id ∷ map (or_null Text) (sym texts i)) in
-      let wrote = row_added root_row (λ r. r.number) (λ _. refl) roots db next rs was.roots.written was.roots.rise r row put (works_of_root [] (root_row r)) adds.edited in
-      let held = roots_now db next was (insert_by (λ r. r.number) rs r) wrote (all_of (Back root_row root_in) root_back (insert_by (λ r. r.number) rs r))
-      (IsKeyedBy-insert_by (λ r. r.number) rs r was.roots.rise) (roots_apart (insert_by (λ r. r.number) rs r)) in
+      let wrote = row_added root_row (λ r. r.number) (λ _. refl) roots db next rs was.roots.written was.roots.rise r row put adds.edited in
+      let all = insert_by (λ r. r.number) rs r in
+      let held = roots_now db next was all wrote (came wrote.rows (all_of (Back root_row root_in) root_back all) (IsKeyedBy-insert_by (λ r. r.number) rs r was.roots.rise) (roots_apart all)) in
       record { schema = adds.schema; database = adds.database; tables = subst (λ x. Hold next (record (rows_of db) { roots = insert_by (λ r. r.number) rs x })) is held }

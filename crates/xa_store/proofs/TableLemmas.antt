@@ -1,18 +1,17 @@
 -- What a statement on one table writes, as the records of its rows.
-use Rattle.std.proofs.Common.{◌≡◌, ◌⊎◌, inl, inr, ℕ, ℤ, ◌/◌, List, [], length, slice_get, MatchBool, is_lt, int_cmp, false, cond, Some, None, Ok, Err, Result, Option, sym, ap, subst, subst₂, ◌∙◌}
-use Rattle.sqlite.specs.Cast.{cast}
+use Rattle.std.proofs.Common.{◌≡◌, ◌⊎◌, inl, inr, ℕ, ℤ, ◌/◌, List, [], length, slice_get, MatchBool, is_lt, int_cmp, false, cond, Some, None, Ok, Err, Result, Option, sym, ap, subst, ◌∙◌}
 use Rattle.sqlite.specs.Command.{Command}
 use Rattle.sqlite.specs.Command.TheVariants.{Insert}
 use Rattle.sqlite.specs.Does.{Tally, Does, OnRows, WritesRows}
 use Rattle.sqlite.specs.declared.run.Mode.{Mode}
 use Rattle.sqlite.specs.Edit.{edit_of}
-use Rattle.sqlite.specs.Effect.{Database, Answers, value_rows}
+use Rattle.sqlite.specs.Effect.{Database, Answers, IsSource, value_rows}
 use Rattle.sqlite.specs.Listing.{understood}
-use Rattle.sqlite.specs.Ops.{unary}
-use Rattle.sqlite.specs.Order.{Row, column}
+use Rattle.sqlite.specs.Order.{Row}
 use Rattle.sqlite.specs.Query.{Query}
 use Rattle.sqlite.specs.Rowids.TheVariants.{Chosen, Above, Given}
 use Rattle.sqlite.specs.Rows.{Written, Edited, Task, Inserts, Counts, CountsIn, Gives, sequence, stamped, count_of}
+use Rattle.sqlite.specs.Source.{Source}
 use Rattle.sqlite.specs.Source.TheVariants.{Values}
 use Rattle.sqlite.specs.Term.{Term}
 use Rattle.sqlite.specs.State.{State, mode_of, Executes}
@@ -47,22 +46,21 @@ module _ (task : Task) where
   uncounted_stays mid next counter top uncounted h =
       same_value (subst (λ b. MatchBool (cond b (is_lt (int_cmp (count_of counter) top)) false) (CountsIn task mid counter top (sequence task.schema) (Ok next)) (Gives {A = Trees} mid (Ok next))) uncounted h)
 
-  module _ (given : List Term) (width : ℕ) (db : Trees) where
-    abbrev pub values : List Row
-    values = value_rows task.params width (length given / width) given
-
-    pub inserted : (w : Written) → task.table.is_counted ≡ false → stamped task.table task.params ≡ task.params → Inserts task (Values given width) db (Ok w)
-        → Edited task.schema task.keys db (edit_of db task.table [] Chosen 0 values) (Ok w.trees)
-    inserted w uncounted bare h =
-        let from = went h in
-        let counter = went from.2 in
-        let wrote = went counter.2 in
-        let counts = went wrote.2 in
-        let rows : from.0 ≡ values = from.1.1 ∙ ap (λ p. value_rows p width (length given / width) given) bare in
-        let edit = subst (λ b. Edited task.schema task.keys db (edit_of db task.table [] (cond b (Above (count_of counter.0)) Chosen) 0 from.0) (Ok wrote.0)) uncounted wrote.1 in
-        let kept : counts.0 ≡ wrote.0 = uncounted_stays wrote.0 counts.0 counter.0 _ uncounted counts.1 in
-        let trees : w.trees ≡ counts.0 = ap (λ (it : Written). it.trees) (same_value counts.2) in
-        subst₂ (λ r t. Edited task.schema task.keys db (edit_of db task.table [] Chosen 0 r) (Ok t)) rows (sym (trees ∙ kept)) edit
+  -- the rows that were given, and the edit
+  pub inserted : (from : Source) (db : Trees) (w : Written) → task.table.is_counted ≡ false → stamped task.table task.params ≡ task.params → Inserts task from db (Ok w)
+      → (rows : List Row) × IsSource (record { schema = task.schema; trees = db }) task.params from rows × Edited task.schema task.keys db (edit_of db task.table [] Chosen 0 rows) (Ok w.trees)
+  inserted from db w uncounted bare h =
+      let given = went h in
+      let counter = went given.2 in
+      let wrote = went counter.2 in
+      let counts = went wrote.2 in
+      let edit = subst (λ b. Edited task.schema task.keys db (edit_of db task.table [] (cond b (Above (count_of counter.0)) Chosen) 0 given.0) (Ok wrote.0)) uncounted wrote.1 in
+      let kept : counts.0 ≡ wrote.0 = uncounted_stays wrote.0 counts.0 counter.0 _ uncounted counts.1 in
+      let trees : w.trees ≡ counts.0 = ap (λ (it : Written). it.trees) (same_value counts.2) in (
+        given.0,
+        subst (λ p. IsSource (record { schema = task.schema; trees = db }) p from given.0) bare given.1,
+        subst (λ t. Edited task.schema task.keys db (edit_of db task.table [] Chosen 0 given.0) (Ok t)) (sym (trees ∙ kept)) edit,
+      )
 
 module _ (sql : List ℕ) (params : Row) (old new : State) (has : old.now.schema ≡ our_schema) (at : ℕ) (table : Table) (listed : slice_get our_schema.tables at ≡ Some table) (count : ℕ) where
   abbrev db : Trees
@@ -126,16 +124,24 @@ module _ (sql : List ℕ) (params : Row) (old new : State) (has : old.now.schema
   abbrev its_task : Task
   its_task = record { limit = old.step_limit; keys = Enforced; schema = our_schema; table = table; params = params }
 
+  -- of what a query gives, or values
+  pub inserts_from : (from : Source) → table.is_counted ≡ false → stamped table params ≡ params → IsChange sql (Insert at from) → Executes sql params old new (Ok count)
+      → (rows : List Row) × IsSource whole params from rows × Adds rows
+  inserts_from from uncounted bare is h =
+      let w = runs_as sql params old new our_schema has (Insert at from) is.0 is.1 count h in
+      let text = statement_of sql (understood our_schema sql) in
+      let all = rw listed at (subst (λ s. Does old.step_limit (mode_of old) params (record old.now { schema = s }) text None (Insert at from) (Ok (w.tally, new.now))) has w.changed) in
+      let done = wrote_rows its_task (mode_of old) (Insert at from) db w.tally new.now all in
+      let it = inserted its_task from db done.0 uncounted bare done.1 in (
+        it.0,
+        it.1,
+        record {
+          edited = subst (λ t. Edited our_schema Enforced db (edit_of db table [] Chosen 0 it.0) (Ok t)) (sym (ap (λ (d : Database). d.trees) done.2)) it.2;
+          schema = ap (λ (d : Database). d.schema) done.2;
+          database = subst (λ schema. IsSound schema new.now.trees) (ap (λ (d : Database). d.schema) done.2) w.sound;
+        },
+      )
+
   pub inserts : (given : List Term) (width : ℕ) → table.is_counted ≡ false → stamped table params ≡ params → IsChange sql (Insert at (Values given width)) → Executes sql params old new (Ok count)
       → Adds (value_rows params width (length given / width) given)
-  inserts given width uncounted bare is h =
-      let w = runs_as sql params old new our_schema has (Insert at (Values given width)) is.0 is.1 count h in
-      let text = statement_of sql (understood our_schema sql) in
-      let all = rw listed at (subst (λ s. Does old.step_limit (mode_of old) params (record old.now { schema = s }) text None (Insert at (Values given width)) (Ok (w.tally, new.now))) has w.changed) in
-      let done = wrote_rows its_task (mode_of old) (Insert at (Values given width)) db w.tally new.now all in
-      let edit = inserted its_task given width db done.0 uncounted bare done.1 in
-      record {
-        edited = subst (λ t. Edited our_schema Enforced db (edit_of db table [] Chosen 0 (value_rows params width (length given / width) given)) (Ok t)) (sym (ap (λ (d : Database). d.trees) done.2)) edit;
-        schema = ap (λ (d : Database). d.schema) done.2;
-        database = subst (λ schema. IsSound schema new.now.trees) (ap (λ (d : Database). d.schema) done.2) w.sound;
-      }
+  inserts given width uncounted bare is h = let it = inserts_from (Values given width) uncounted bare is h in subst Adds it.1.1 it.2

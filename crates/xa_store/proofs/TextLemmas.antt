@@ -5,6 +5,7 @@ use Rattle.sqlite.specs.Command.{Command}
 use Rattle.sqlite.specs.Command.TheVariants.{Select, Update, Delete, Insert}
 use Rattle.sqlite.specs.Listing.{understood, reads_listing}
 use Rattle.sqlite.specs.Query.{Query, inner, end}
+use Rattle.sqlite.specs.Schema.{Schema}
 use Rattle.sqlite.specs.Source.TheVariants.{Values}
 use Rattle.sqlite.specs.Term.{Term, lit, col, op2}
 use Rattle.sqlite.specs.declared.types.Value.TheVariants.{Null, Int}
@@ -52,18 +53,14 @@ delete at query = Delete at (record { lets = []; body = query })
 abbrev pub IsChange : List ℕ → Command → Type 0
 IsChange sql command = (command_of (understood our_schema sql) ≡ command) × IsPlain (understood our_schema sql)
 
--- what a query is
+-- what a query of tables of a schema is
+abbrev pub IsQueryIn : Schema → List ℕ → Command → Type 0
+IsQueryIn schema sql command = (command_of (understood schema sql) ≡ command) × (reads_listing schema sql ≡ false) × IsPlain (understood schema sql)
+
 abbrev pub IsQuery : List ℕ → Command → Type 0
-IsQuery sql command = (command_of (understood our_schema sql) ≡ command) × (reads_listing our_schema sql ≡ false) × IsPlain (understood our_schema sql)
+IsQuery = IsQueryIn our_schema
 
 -- ---- readings
-
-abbrev pub meta_shown_query : Query
-meta_shown_query = of_table 0 ([]) (col 1 0 ∷ col 1 2 ∷ col 1 3 ∷ []) (0 ∷ [])
-
-pub meta_shown_is : IsQuery text.meta_shown (reading meta_shown_query (codes "id" ∷ codes "schema_no" ∷ codes "next_number" ∷ []))
-unfolding understood everything
-meta_shown_is = (refl, refl, (refl, refl))
 
 abbrev pub next_shown_query : Query
 next_shown_query = of_table 0 (is_one 0 ∷ []) (col 1 3 ∷ []) ([])
@@ -129,9 +126,9 @@ unfolding understood everything
 root_shown_is = (refl, refl, (refl, refl))
 
 abbrev pub source_shown_query : Query
-source_shown_query = of_table 8 (is 1 0 ∷ []) (col 1 3 ∷ col 1 4 ∷ col 1 5 ∷ col 1 6 ∷ col 1 7 ∷ []) (2 ∷ [])
+source_shown_query = of_table 10 (is 1 0 ∷ []) (col 1 3 ∷ col 1 4 ∷ col 1 5 ∷ col 1 6 ∷ col 1 7 ∷ col 1 8 ∷ []) (2 ∷ [])
 
-pub source_shown_is : IsQuery text.source_shown (reading source_shown_query (codes "category" ∷ codes "entity" ∷ codes "attribute" ∷ codes "value_type" ∷ codes "value" ∷ []))
+pub source_shown_is : IsQuery text.source_shown (reading source_shown_query (codes "category" ∷ codes "entity" ∷ codes "attribute" ∷ codes "value_type" ∷ codes "value" ∷ codes "issuer" ∷ []))
 unfolding understood everything
 source_shown_is = (refl, refl, (refl, refl))
 
@@ -194,9 +191,9 @@ unfolding understood everything
 root_dropped_is = (refl, (refl, refl))
 
 abbrev pub source_dropped_query : Query
-source_dropped_query = of_table 8 (is 1 0 ∷ []) (col 1 0 ∷ []) []
+source_dropped_query = of_table 10 (is 1 0 ∷ []) (col 1 0 ∷ []) []
 
-pub source_dropped_is : IsChange text.source_dropped (delete 5 source_dropped_query)
+pub source_dropped_is : IsChange text.source_dropped (delete 6 source_dropped_query)
 unfolding understood everything
 source_dropped_is = (refl, (refl, refl))
 
@@ -229,8 +226,8 @@ unfolding understood everything
 root_added_is = (refl, (refl, refl))
 
 abbrev pub attribute_added_given : List Term
-attribute_added_given = lit Null ∷ col 0 0 ∷ col 0 1 ∷ col 0 2 ∷ col 0 3 ∷ col 0 4 ∷ col 0 5 ∷ col 0 6 ∷ []
+attribute_added_given = lit Null ∷ col 0 0 ∷ col 0 1 ∷ col 0 2 ∷ col 0 3 ∷ col 0 4 ∷ col 0 5 ∷ col 0 6 ∷ col 0 7 ∷ []
 
-pub attribute_added_is : IsChange text.attribute_added (Insert 5 (Values attribute_added_given 8))
+pub attribute_added_is : IsChange text.attribute_added (Insert 6 (Values attribute_added_given 9))
 unfolding understood everything
 attribute_added_is = (refl, (refl, refl))

@@ -1,25 +1,19 @@
 -- What the statements on tokens make of the rows.
-use Rattle.std.proofs.Common.{◌≡◌, ℕ, ℤ, List, [], ◌∷◌, ◌++◌, map, filter, true, false, ◌&&◌, Ok, refl, sym, ap, subst, ◌∙◌, int_eq, to_z, of_z, w64}
+use Rattle.std.proofs.Common.{◌≡◌, ℕ, ℤ, List, [], ◌∷◌, ◌++◌, map, filter, true, false, ◌&&◌, Ok, refl, sym, ap, ◌∙◌, int_eq, to_z, of_z, w64}
 use Rattle.std.specs.Ordering.{eq_by_cmp}
 use Rattle.std.proofs.lemmas.Bool.{and_parts, and_from}
-use Rattle.sqlite.specs.Order.{Row}
 use Rattle.sqlite.specs.Rowids.TheVariants.{Chosen}
 use Rattle.sqlite.specs.State.{State, Executes}
 use Rattle.sqlite.specs.Term.{col}
 use Rattle.sqlite.specs.Tree.{Trees}
 use Rattle.sqlite.specs.declared.types.Value.TheVariants.{Null, Int, Blob}
-use Rattle.sqlite_schema.specs.Names.{same_name}
-use Rattle.sqlite_schema.specs.declared.schema.Keys.TheVariants.{Enforced}
 use Rattle.sqlite_sql.specs.declared.ops.CompareOp.TheVariants.{Eq}
-use Rattle.sqlite_value.specs.Keys.{joined}
-use Rattle.sqlite_rules.specs.Action.{works}
 use Rattle.sqlite_rules.specs.Cast.{cast_row}
 use Rattle.sqlite_rules.specs.Edit.{with_rowid, next_rowid}
 use Rattle.sqlite_keyed.specs.Keyed.{next_key}
 use Rattle.sqlite_keyed.specs.Lists.{update_where, delete_where}
 use Rattle.sqlite_keyed.proofs.ListLemmas.{all_of, all_weaker}
-use Rattle.sqlite_keyed.proofs.KeyedLemmas.{same_int, IsKeyedBy-delete_where, IsKeyedBy-update_where}
-use Rattle.sqlite_keyed.proofs.RuleLemmas.{apart_update, apart_delete}
+use Rattle.sqlite_keyed.proofs.KeyedLemmas.{same_int}
 use Rattle.sqlite_typed.proofs.TestLemmas.{at_ints, at_blobs, then_term, last_term, same_bytes, bytes_eq_refl}
 use Rattle.xa_notation.specs.declared.token.Role.{Role}
 use Rattle.xa_notation.specs.declared.token.Role.TheVariants.{Ask, Admin}
@@ -32,9 +26,9 @@ use Rattle.xa_store.specs.Tables.{our_schema, tokens}
 use Rattle.xa_store.specs.Texts as text
 use Rattle.xa_store.proofs.ChangeLemmas.{none_pass}
 use Rattle.xa_store.proofs.HitLemmas.{turn_bytes}
-use Rattle.xa_store.proofs.HoldLemmas.{Back, tokens_now}
+use Rattle.xa_store.proofs.HoldLemmas.{Back, came_last, changed, tokens_now, went_out}
 use Rattle.xa_store.proofs.KeyLemmas.{own_number}
-use Rattle.xa_store.proofs.LastLemmas.{apart_few, stands_last, keyed_last, apart_last}
+use Rattle.xa_store.proofs.LastLemmas.{apart_few}
 use Rattle.xa_store.proofs.SqlLemmas.{answered}
 use Rattle.xa_store.proofs.StepLemmas.{Stepped, cast_int, cast_null, role_back}
 use Rattle.xa_store.proofs.TableLemmas.{updates, deletes, inserts}
@@ -52,18 +46,6 @@ token_back t = λ i. record { rowid = t.rowid; number = t.number; digest = t.dig
 
 token_cast : (t : TokenRow) → cast_row tokens (token_row t) ≡ token_row t
 token_cast t = λ i. cast_int t.rowid i ∷ cast_int t.number i ∷ Blob t.digest ∷ cast_int (role_number t.role) i ∷ []
-
-works_of_nothing : works our_schema Enforced 0 3 [] [] ≡ []
-unfolding same_name joined
-works_of_nothing = refl
-
-works_of_token : (olds : List Row) (new : Row) → works our_schema Enforced 0 3 olds (new ∷ []) ≡ []
-unfolding same_name joined
-works_of_token olds new = refl
-
-works_of_no_token : (olds : List Row) → works our_schema Enforced 0 3 olds [] ≡ []
-unfolding same_name joined
-works_of_no_token olds = refl
 
 tokens_alike : (n : ℤ) (g : List ℕ) (a b : TokenRow) → is_token n g a ≡ true → is_token n g b ≡ true → same_token a b ≡ true
 tokens_alike n g a b here there =
@@ -96,16 +78,12 @@ module _ (old new : State) (has : old.now.schema ≡ our_schema) (count : ℕ) (
       let bare : cast_row tokens row ≡ row = λ i. cast_null i ∷ cast_int n i ∷ Blob g ∷ cast_int (role_number role) i ∷ [] in
       let id : next_rowid (db 3) ≡ next_key rowid_of ts = ap next_rowid was.tokens.written ∙ next_rowid_is token_row rowid_of (λ _. refl) ts in
       let put : with_rowid Chosen (db 3) (cast_row tokens row) ≡ token_row token = ap (with_rowid Chosen (db 3)) bare ∙ ap (λ k. Int k ∷ Int n ∷ Blob g ∷ Int (role_number role) ∷ []) id in
-      let wrote = row_added token_row rowid_of (λ _. refl) tokens db next ts was.tokens.written was.tokens.rise token row put (works_of_token [] (token_row token)) adds.edited in
+      let wrote = row_added token_row rowid_of (λ _. refl) tokens db next ts was.tokens.written was.tokens.rise token row put adds.edited in
       let fresh = all_weaker (λ t. is_token n g t ≡ false) (λ t. same_token t token ≡ false) (λ t differs. ap (λ b. int_eq t.number n && b) (turn_bytes t.digest g) ∙ differs) ts (none_pass (is_token n g) ts none) in
-      let last = stands_last rowid_of same_token (Back token_row token_in) ts token was.tokens.rise refl in
       record {
         schema = adds.schema;
         database = adds.database;
-        tables =
-            tokens_now db next was (ts ++ token ∷ []) (subst (λ l. Rattle.xa_store.proofs.WriteLemmas.Wrote db next 3 (map token_row l)) last wrote)
-            (all_of (Back token_row token_in) token_back (ts ++ token ∷ [])) (keyed_last rowid_of same_token (Back token_row token_in) ts token was.tokens.rise refl)
-            (apart_last rowid_of same_token (Back token_row token_in) ts token was.tokens.rise refl was.tokens.apart fresh);
+        tables = tokens_now db next was (ts ++ token ∷ []) wrote (came_last token was.tokens refl wrote.rows (token_back token) fresh);
       }
 
   -- the role of a token
@@ -119,13 +97,13 @@ module _ (old new : State) (has : old.now.schema ≡ our_schema) (count : ℕ) (
       let hit = all_of _ (λ (t : TokenRow). then_term (at_ints false Eq t.number n) (last_term (at_blobs false Eq t.digest g) ∙ turn_bytes t.digest g)) ts in
       let few = apart_few same_token (is_token n g) (tokens_alike n g) ts was.tokens.apart in
       let wrote = row_updated token_row rowid_of (λ _. refl) tokens db next ts was.tokens.written was.tokens.rise (is 1 0 ∷ is 2 1 ∷ []) shown refl params (is_token n g) hit
-      f (λ t. Int t.rowid ∷ Int t.number ∷ Blob t.digest ∷ Int (role_number role) ∷ []) (λ _. refl) (λ t. token_cast (f t)) (λ _. refl) works_of_nothing works_of_token few edits.rows answer edits.edited in
+      f (λ t. Int t.rowid ∷ Int t.number ∷ Blob t.digest ∷ Int (role_number role) ∷ []) (λ _. refl) (λ t. token_cast (f t)) (λ _. refl) few edits.rows answer edits.edited in
       record {
         schema = edits.schema;
         database = edits.database;
         tables =
-            tokens_now db next was (update_where (is_token n g) f ts) wrote (all_of (Back token_row token_in) token_back (update_where (is_token n g) f ts))
-            (IsKeyedBy-update_where rowid_of (is_token n g) f (λ _. refl) ts was.tokens.rise) (apart_update same_token (is_token n g) f (λ a b. refl) (λ a b. refl) ts was.tokens.apart);
+            tokens_now db next was (update_where (is_token n g) f ts) wrote
+            (changed (is_token n g) f was.tokens (λ _. refl) (λ a b. refl) (λ a b. refl) wrote.rows (all_of (Back token_row token_in) token_back (update_where (is_token n g) f ts)));
       }
 
   -- a token goes
@@ -136,11 +114,9 @@ module _ (old new : State) (has : old.now.schema ≡ our_schema) (count : ℕ) (
       let answer = answered 3 (is 1 0 ∷ is 2 1 ∷ []) (col 1 0 ∷ []) [] db refl params edits.rows edits.answer.answer in
       let hit = all_of _ (λ (t : TokenRow). then_term (at_ints false Eq t.number n) (last_term (at_blobs false Eq t.digest g) ∙ turn_bytes t.digest g)) ts in
       let wrote = rows_removed token_row rowid_of (λ _. refl) tokens db next ts was.tokens.written was.tokens.rise (is 1 0 ∷ is 2 1 ∷ []) (col 1 0 ∷ []) refl params (is_token n g) hit
-      (λ _. refl) works_of_no_token edits.rows answer edits.edited in
+      (λ _. refl) refl edits.rows answer edits.edited in
       record {
         schema = edits.schema;
         database = edits.database;
-        tables =
-            tokens_now db next was (delete_where (is_token n g) ts) wrote (all_of (Back token_row token_in) token_back (delete_where (is_token n g) ts))
-            (IsKeyedBy-delete_where rowid_of (is_token n g) ts was.tokens.rise) (apart_delete same_token (is_token n g) ts was.tokens.apart);
+        tables = tokens_now db next was (delete_where (is_token n g) ts) wrote (went_out (is_token n g) was.tokens wrote.rows);
       }

@@ -1,5 +1,5 @@
 -- What one statement makes of the rows of its table.
-use Rattle.std.proofs.Common.{◌≡◌, ◌≢◌, ℕ, ◌≤◌, ℤ, pos, ◌+ℤ◌, List, [], ◌∷◌, map, filter, fold, length, Bool, Ok, refl, sym, ap, subst, ◌∙◌, arith}
+use Rattle.std.proofs.Common.{◌≡◌, ◌≢◌, ℕ, ◌≤◌, ℤ, pos, ◌+ℤ◌, List, [], ◌∷◌, map, filter, fold, length, Bool, false, ◌==◌, Ok, refl, sym, ap, subst, ◌∙◌, arith}
 use Rattle.std.specs.List.{AllByRecursion}
 use Rattle.std.specs.List.Sorted.{IsPermutation}
 use Rattle.std.proofs.lemmas.List.Sorted.{IsPermutation-map}
@@ -16,7 +16,6 @@ use Rattle.sqlite.specs.declared.types.Value.TheVariants.{Int}
 use Rattle.sqlite.proofs.Callers.{one_step}
 use Rattle.sqlite_schema.specs.declared.schema.Keys.TheVariants.{Enforced}
 use Rattle.sqlite_trees.specs.Tree.{rowid}
-use Rattle.sqlite_rules.specs.Action.{works}
 use Rattle.sqlite_rules.specs.Calls.{ids_of}
 use Rattle.sqlite_rules.specs.Cast.{cast_row}
 use Rattle.sqlite_rules.specs.Edit.{IsNoIndex, put_all, without_all, with_rowid, next_rowid, id_in, row_at, taken_by}
@@ -25,6 +24,7 @@ use Rattle.sqlite_keyed.specs.Lists.{update_where, delete_where, without_key}
 use Rattle.sqlite_keyed.proofs.ListLemmas.{filter-map, map-map, map_same}
 use Rattle.sqlite_typed.proofs.RowLemmas.{puts-map, deletes-map}
 use Rattle.xa_store.specs.Tables.{our_schema}
+use Rattle.xa_store.proofs.ActionLemmas.{works_of_changing, works_of_coming, works_of_going}
 use Rattle.xa_store.proofs.FilterLemmas.{filter_alike}
 use Rattle.xa_store.proofs.KeyLemmas.{replaced, untouched, removes_permuted}
 use Rattle.xa_store.proofs.SqlLemmas.{Answered, hits, show, out, one_hit, no_hit}
@@ -49,11 +49,11 @@ module _ {X : Type 0} (to_row : X → Row) (key : X → ℤ) (keyed : (x : X) �
 
     -- ---- a row is added
 
-    pub row_added : (new : X) (row : Row) → with_rowid Chosen (db table.tree) (cast_row table row) ≡ to_row new → works our_schema Enforced 0 table.tree [] (to_row new ∷ []) ≡ []
+    pub row_added : (new : X) (row : Row) → with_rowid Chosen (db table.tree) (cast_row table row) ≡ to_row new
         → Edited our_schema Enforced db (edit_of db table [] Chosen 0 (row ∷ [])) (Ok next) → WroteRows (insert_by key xs new)
-    row_added new row is none edit =
-        let quiet = subst (λ r. works our_schema Enforced 0 table.tree [] (r ∷ []) ≡ []) (sym is) none in
-        let it = one_step our_schema Enforced db next (edit_of db table [] Chosen 0 (row ∷ [])) quiet edit in
+    row_added new row is edit =
+        let given = edit_of db table [] Chosen 0 (row ∷ []) in
+        let it = one_step our_schema Enforced db next given (works_of_coming table.tree given.news) edit in
         record {
           rows = it.rows ∙ ap (λ r. put_all (db table.tree) (r ∷ [])) is ∙ ap (λ rows. put_all rows (to_row new ∷ [])) are ∙ puts-map key to_row keyed (new ∷ []) xs;
           others = it.others;
@@ -78,18 +78,17 @@ module _ {X : Type 0} (to_row : X → Row) (key : X → ℤ) (keyed : (x : X) �
       EditedRows rows = Edited our_schema Enforced db (edit_of db table (ids_of rows) Given 1 rows) (Ok next)
 
       pub row_updated : (f : X → X) (rest : X → Row) → ((x : X) → shows (to_row x) ≡ Int (key x) ∷ rest x) → ((x : X) → cast_row table (rest x) ≡ to_row (f x)) → ((x : X) → key (f x) ≡ key x)
-          → works our_schema Enforced 0 table.tree [] [] ≡ [] → ((olds : List Row) (new : Row) → works our_schema Enforced 0 table.tree olds (new ∷ []) ≡ [])
           → length (filter p xs) ≤ 1 → (rows : List Row) → AnsweredHere rows → EditedRows rows → WroteRows (update_where p f xs)
-      row_updated f rest look casts keeps none one few rows answer edit = go (filter p xs) refl
+      row_updated f rest look casts keeps few rows answer edit = go (filter p xs) refl
         where
           go : (fs : List X) → filter p xs ≡ fs → WroteRows (update_where p f xs)
           go [] is =
               let no : rows ≡ [] = no_hit table.tree tests shown [] db plain params rows (passing_rows ∙ ap (map to_row) is) answer in
-              let it = one_step our_schema Enforced db next (edit_of db table [] Given 1 []) none (subst EditedRows no edit) in
+              let it = one_step our_schema Enforced db next (edit_of db table [] Given 1 []) (works_of_coming table.tree []) (subst EditedRows no edit) in
               record { rows = it.rows ∙ are ∙ ap (map to_row) (sym (untouched key p f xs is)); others = it.others }
           go (x ∷ []) is =
               let alone : rows ≡ (Int (key x) ∷ rest x) ∷ [] = one_hit table.tree tests shown [] db plain params rows (to_row x) (passing_rows ∙ ap (map to_row) is) answer ∙ ap (λ r. r ∷ []) (look x) in
-              let it = one_step our_schema Enforced db next (edit_of db table (key x ∷ []) Given 1 ((Int (key x) ∷ rest x) ∷ [])) (one (row_at (db table.tree) (key x) ∷ []) (cast_row table (rest x))) (subst EditedRows alone edit) in
+              let it = one_step our_schema Enforced db next (edit_of db table (key x ∷ []) Given 1 ((Int (key x) ∷ rest x) ∷ [])) (works_of_changing table.tree (row_at (db table.tree) (key x) ∷ []) (cast_row table (rest x))) (subst EditedRows alone edit) in
               record {
                 rows =
                     it.rows ∙ ap (λ rs. put_all (without_all rs (key x ∷ [])) (cast_row table (rest x) ∷ [])) are
@@ -103,10 +102,10 @@ module _ {X : Type 0} (to_row : X → Row) (key : X → ℤ) (keyed : (x : X) �
 
       -- ---- rows are taken out
 
-      pub rows_removed : ((x : X) → shows (to_row x) ≡ Int (key x) ∷ []) → ((olds : List Row) → works our_schema Enforced 0 table.tree olds [] ≡ [])
+      pub rows_removed : ((x : X) → shows (to_row x) ≡ Int (key x) ∷ []) → (1 == table.tree) ≡ false
           → (rows : List Row) → AnsweredHere rows → Edited our_schema Enforced db (edit_of db table (ids_of rows) Given 0 []) (Ok next) → WroteRows (delete_where p xs)
-      rows_removed look none rows answer edit =
-          let it = one_step our_schema Enforced db next (edit_of db table (ids_of rows) Given 0 []) (none (taken_by db (edit_of db table (ids_of rows) Given 0 []))) edit in
+      rows_removed look other rows answer edit =
+          let it = one_step our_schema Enforced db next (edit_of db table (ids_of rows) Given 0 []) (works_of_going table.tree other 0 (taken_by db (edit_of db table (ids_of rows) Given 0 []))) edit in
           record {
             rows =
                 it.rows ∙ ap (λ rs. without_all rs (ids_of rows)) are ∙ deletes-map key to_row keyed (ids_of rows) xs

@@ -1,5 +1,5 @@
 -- How the tables are read and judged when a store is opened: one query for the rows of each, in the order of their numbers, and one for whether
--- the table has them in that order.
+-- the table has them in that order. It is said of tables of a schema, whichever that is.
 use Rattle.std.specs.Prelude.{◌≡◌, ◌≢◌, ◌⊎◌, ℕ, ◌+ℤ◌, ℤ, pos, negsuc, FitsSigned, Bool, true, false, ◌&&◌, List, [], ◌∷◌, ◌++◌, map, int_lt, codes, IsPermutation, IsTrue, if◌then◌else◌, Option, Some, None, option_map, option_and_then, unwrap_or, Result, Ok, Err, OnOk, OnErr, IfOk, IfErr}
 use Rattle.std.specs.Int.{w64}
 use Rattle.std.specs.List.{AllByRecursion}
@@ -19,11 +19,14 @@ use Rattle.sqlite.specs.declared.error.ErrorCode.TheVariants.{NameTaken, OutOfMe
 use Rattle.xa_store.specs.declared.open_error.OpenError.{OpenError}
 use Rattle.xa_store.specs.declared.open_error.OpenError.TheVariants.{NotThisSchema, Damaged, Store, Memory}
 use Rattle.xa_store.specs.declared.opening.kind.Kind.{Kind}
-use Rattle.xa_store.specs.declared.opening.kind.Kind.TheVariants.{Domains, Tokens, Documents, Roots, Attributes}
-use Rattle.xa_store.specs.Opened.{as_read, tree_of, are_rising, int_in, is_number, is_whole_row, row_number, Place, opened}
-use Rattle.xa_store.specs.Opening.{Gives, IsBlank, IsFailure, IsMade, IsRefusal, Leaves}
-use Rattle.xa_store.specs.Sound.{Ours, Rests, SameNow}
-use Rattle.xa_store.specs.Tables.{our_schema}
+use Rattle.xa_store.specs.declared.opening.kind.Kind.TheVariants.{Domains, Tokens, Documents, Roots, Attributes, Sources}
+use Rattle.xa_store.specs.declared.opening.schema_version.SchemaVersion.{SchemaVersion}
+use Rattle.xa_store.specs.declared.opening.schema_version.SchemaVersion.TheVariants.{Schema1, Schema2}
+use Rattle.xa_store.specs.Opened.{are_counted, as_read, is_left_empty, place_in, sources_in, tree_of, are_rising, int_in, is_number, is_whole_row, row_number, Place, opened, schema_of}
+use Rattle.xa_store.specs.Opening.{Gives, IsBlank, IsFailure, IsKnown, IsMade, IsMigrated, IsRefusal, Leaves}
+use Rattle.xa_store.specs.Rows.{attribute_in, attribute_row}
+use Rattle.xa_store.specs.Sound.{AreRows, Ours, Rests, RestsIn, SameNow, same_place}
+use Rattle.xa_store.specs.Tables.{first_schema}
 
 abbrev pub text_of : Kind → List ℕ
 text_of Domains = codes "SELECT number, name, epoch FROM domains ORDER BY number"
@@ -31,6 +34,7 @@ text_of Tokens = codes "SELECT rowid, number, digest, role FROM tokens ORDER BY 
 text_of Documents = codes "SELECT rowid, number, kind, id, version, body, active FROM policies ORDER BY rowid"
 text_of Roots = codes "SELECT number, kind, id, pattern, earliest, latest FROM roots ORDER BY number"
 text_of Attributes = codes "SELECT rowid, number, place, category, entity, attribute, value_type, value FROM attributes ORDER BY rowid"
+text_of Sources = codes "SELECT rowid, number, place, category, entity, attribute, value_type, value, issuer FROM sources ORDER BY rowid"
 
 -- it shows a row exactly where the rowids, as the table has them, are other than in their order: then the texts of both differ
 abbrev pub order_text_of : Kind → List ℕ
@@ -39,21 +43,29 @@ order_text_of Tokens = codes "WITH s(n) AS (SELECT rowid FROM tokens ORDER BY ro
 order_text_of Documents = codes "WITH s(n) AS (SELECT rowid FROM policies ORDER BY rowid) SELECT 1 WHERE (SELECT group_concat(rowid) FROM policies) IS NOT (SELECT group_concat(n) FROM s)"
 order_text_of Roots = codes "WITH s(n) AS (SELECT rowid FROM roots ORDER BY rowid) SELECT 1 WHERE (SELECT group_concat(rowid) FROM roots) IS NOT (SELECT group_concat(n) FROM s)"
 order_text_of Attributes = codes "WITH s(n) AS (SELECT rowid FROM attributes ORDER BY rowid) SELECT 1 WHERE (SELECT group_concat(rowid) FROM attributes) IS NOT (SELECT group_concat(n) FROM s)"
+order_text_of Sources = codes "WITH s(n) AS (SELECT rowid FROM sources ORDER BY rowid) SELECT 1 WHERE (SELECT group_concat(rowid) FROM sources) IS NOT (SELECT group_concat(n) FROM s)"
 
-abbrev pub places_shown : List ℕ
-places_shown = codes "SELECT number, place FROM attributes ORDER BY number, place"
+-- the domains and places of the rows of sources
+abbrev pub places_text_of : SchemaVersion → List ℕ
+places_text_of Schema1 = codes "SELECT number, place FROM attributes ORDER BY number, place"
+places_text_of Schema2 = codes "SELECT number, place FROM sources ORDER BY number, place"
+
+-- the schema has the table
+abbrev pub has_kind : Kind → SchemaVersion → Bool
+has_kind Sources Schema1 = false
+has_kind _ _ = true
 
 -- ---- what a call that only reads leaves
 
--- its tables aren't ours alone, and no transaction is under way
-abbrev pub IsUnguarded : State → Type 0
-IsUnguarded s = (s.now.schema ≢ our_schema) × (s.in_transaction ≡ false)
+-- its tables aren't those of the schema alone, and no transaction is under way
+abbrev pub IsUnguarded : SchemaVersion → State → Type 0
+IsUnguarded version s = (s.now.schema ≢ schema_of version) × (s.in_transaction ≡ false)
 
--- the transaction goes on, and tables that were ours are
-pub record GoesOn (old new : State) : Type 0 where
+-- the transaction goes on, and tables that were those of the schema are
+pub record GoesOn (version : SchemaVersion) (old new : State) : Type 0 where
   pub was_open : IsTrue old.is_open
   pub is_open : IsTrue new.is_open
-  pub schema : old.now.schema ≡ our_schema → new.now.schema ≡ our_schema
+  pub schema : old.now.schema ≡ schema_of version → new.now.schema ≡ schema_of version
   pub mode : new.in_transaction ≡ old.in_transaction
 
 -- of a transaction: nothing was committed, and where it has ended all is undone
@@ -61,15 +73,15 @@ pub record HoldsBack (old new : State) : Type 0 where
   pub committed : new.committed ≡ old.committed
   pub undone : new.in_transaction ≡ false → new.now ≡ old.committed
 
--- The connection holds what it held, if the tables are ours, and in a transaction it commits nothing. A crash leaves what it left.
-pub record Asks {X : Type 0} (old new : State) (result : Result X OpenError) : Type 0 where
-  pub survives : Survives old new (λ db. IsUnguarded old)
+-- The connection holds what it held, if the tables are those of the schema, and in a transaction it commits nothing. A crash leaves what it left.
+pub record Asks {X : Type 0} (version : SchemaVersion) (old new : State) (result : Result X OpenError) : Type 0 where
+  pub survives : Survives old new (λ db. IsUnguarded version old)
   pub was_open : HasCleanDisk new → IsTrue new.is_open → IsTrue old.is_open
-  pub same : HasCleanDisk new → Rests old → IsTrue new.is_open → SameNow old new
+  pub same : HasCleanDisk new → RestsIn (schema_of version) old → IsTrue new.is_open → SameNow old new
   pub held : HasCleanDisk new → IsTrue old.in_transaction → IsTrue new.is_open → HoldsBack old new
-  pub goes_on : HasCleanDisk new → OnOk result (GoesOn old new)
+  pub goes_on : HasCleanDisk new → OnOk result (GoesOn version old new)
 
--- an error that no query of our tables has
+-- an error that no query of a keeper's tables has
 abbrev pub is_misfit : Error → Bool
 is_misfit (SqlInputError fault) = true
 is_misfit (SqliteFailure NameTaken) = true
@@ -91,9 +103,9 @@ Judges sound (Err Store) = Unit {0}
 Judges sound (Err Memory) = Unit {0}
 
 -- what the tables hold was judged by a test of them
-pub record Judged (sound : Trees → Bool) (old new : State) (result : Result (Unit {0}) OpenError) : Type 0 where
-  pub asks : Asks old new result
-  pub finds : HasCleanDisk new → Rests old → Judges (sound old.now.trees) result
+pub record Judged (version : SchemaVersion) (sound : Trees → Bool) (old new : State) (result : Result (Unit {0}) OpenError) : Type 0 where
+  pub asks : Asks version old new result
+  pub finds : HasCleanDisk new → RestsIn (schema_of version) old → Judges (sound old.now.trees) result
 
 -- ---- the rows of one table, in the order of their numbers
 
@@ -129,9 +141,9 @@ Walks kind next db (Err NotThisSchema) = ⊥
 Walks kind next db (Err Store) = Unit {0}
 Walks kind next db (Err Memory) = Unit {0}
 
-pub record Walked (kind : Kind) (next : ℤ) (old new : State) (result : Result (Unit {0}) OpenError) : Type 0 where
-  pub asks : Asks old new result
-  pub finds : HasCleanDisk new → Rests old → Walks kind next old.now.trees result
+pub record Walked (version : SchemaVersion) (kind : Kind) (next : ℤ) (old new : State) (result : Result (Unit {0}) OpenError) : Type 0 where
+  pub asks : Asks version old new result
+  pub finds : HasCleanDisk new → RestsIn (schema_of version) old → Walks kind next old.now.trees result
 
 -- the number of a row that fits, or that it doesn't
 abbrev pub TellsNumber : Kind → ℤ → Option ℤ → Row → Result ℤ OpenError → Type 0
@@ -161,7 +173,7 @@ module _ {S : Type 0} (g : Ghosts S) (kind : Kind) (next : ℤ) (last : Option �
   Moves sql given (Ok (Some number)) = GivesRow true sql given (Some number)
   Moves sql given (Ok None) = Shown sql [] (state g old) (state g new) given
   Moves sql given (Err Damaged) = (row : Row) × HasGiven g sql [] new (given ++ row ∷ []) × (fits kind next last row ≡ false)
-  Moves sql given (Err NotThisSchema) = IsPlain (understood our_schema sql) → ¬ Rests (state g old)
+  Moves sql given (Err NotThisSchema) = (version : SchemaVersion) → IsPlain (understood (schema_of version) sql) → ¬ RestsIn (schema_of version) (state g old)
   Moves sql given (Err Store) = Unit {0}
   Moves sql given (Err Memory) = Unit {0}
 
@@ -202,6 +214,16 @@ abbrev pub counts : Place → List Row → Bool
 counts last [] = true
 counts last (row ∷ rows) = is_next last (place_told row) && counts (unwrap_or (place_told row) last) rows
 
+-- the rows of sources as a keeper writes them, in the table that the schema has for them
+abbrev pub AreSources : SchemaVersion → Trees → Type 0
+AreSources version db = AreRows attribute_row attribute_in (λ a. a.rowid) same_place (db (tree_of (sources_in version)))
+
+-- their places were judged, and whether none of them stands where the schema has none
+abbrev pub FindsRest : SchemaVersion → State → State → Result (Unit {0}) OpenError → Type 0
+FindsRest version old new result =
+    HasCleanDisk new → RestsIn (schema_of version) old → AreSources version old.now.trees
+    → Judges (are_counted (map place_in (old.now.trees (tree_of (sources_in version)))) && is_left_empty version old.now.trees) result
+
 -- ---- what the parts of opening answer
 
 -- the number of the next domain, if that is known
@@ -218,9 +240,9 @@ GivesAs (Ok x) given = given ≡ Ok tt
 GivesAs (Err e) given = Gives (Err e) given
 
 -- the tables were judged
-pub record Checked (old new : State) (result : Result (Unit {0}) OpenError) : Type 0 where
-  pub asks : Asks old new result
-  pub opened : HasCleanDisk new → Rests old → GivesAs result (opened old.now.trees)
+pub record Checked (version : SchemaVersion) (old new : State) (result : Result (Unit {0}) OpenError) : Type 0 where
+  pub asks : Asks version old new result
+  pub opened : HasCleanDisk new → RestsIn (schema_of version) old → GivesAs result (opened version old.now.trees)
   pub live : HasCleanDisk new → OnOk result (IsDatabase old.now)
 
 -- nothing waits for a commit
@@ -246,15 +268,21 @@ pub record Ended (old new : State) (result : Result (Unit {0}) OpenError) : Type
   pub undone : HasCleanDisk new → OnOk result (Undone old new)
   pub fails : IfErr result IsFailure
 
--- the tables were judged, and nothing has changed: of those that aren't ours alone that is said where the answer is about them
-pub record Tested (old new : State) (result : Result Bool OpenError) : Type 0 where
+-- the connection holds the tables of that schema, and they are sound
+pub record IsSoundIn (version : SchemaVersion) (s : State) : Type 0 where
+  pub rests : RestsIn (schema_of version) s
+  pub database : IsDatabase s.now
+  pub opens : opened version s.now.trees ≡ Ok tt
+
+-- the tables were judged, and nothing has changed: of those that aren't the schema's alone that is said where the answer is about them
+pub record Tested (version : SchemaVersion) (old new : State) (result : Result Bool OpenError) : Type 0 where
   pub survives : Survives old new (λ _. ⊥)
   pub refused : HasCleanDisk new → IsTrue new.is_open → IfErr result (λ e. IsRefusal e → SameNow old new)
-  pub same : HasCleanDisk new → Rests old → IsTrue new.is_open → SameNow old new
-  pub opened : HasCleanDisk new → Rests old → GivesAs result (opened old.now.trees)
-  pub known : Rests old → IfOk result IsTrue
-  pub stays : HasCleanDisk new → Rests old → OnOk result (IsTrue new.is_open)
-  pub ours : HasCleanDisk new → IfOk result (λ ours. IsTrue ours → Ours new)
+  pub same : HasCleanDisk new → RestsIn (schema_of version) old → IsTrue new.is_open → SameNow old new
+  pub opened : HasCleanDisk new → RestsIn (schema_of version) old → GivesAs result (opened version old.now.trees)
+  pub known : RestsIn (schema_of version) old → IfOk result IsTrue
+  pub stays : HasCleanDisk new → RestsIn (schema_of version) old → OnOk result (IsTrue new.is_open)
+  pub sound : HasCleanDisk new → IfOk result (λ ours. IsTrue ours → IsSoundIn version new)
 
 -- the tables were made, all or none
 pub record Made {X : Type 0} (old new : State) (result : Result X OpenError) : Type 0 where
@@ -263,8 +291,19 @@ pub record Made {X : Type 0} (old new : State) (result : Result X OpenError) : T
   pub same : HasCleanDisk new → IsBlank old → IsTrue new.is_open → OnErr result (SameNow old new)
   pub fails : IfErr result IsFailure
 
+-- the tables of schema 1 were brought into schema 2, or stay as they were
+pub record Migrated {X : Type 0} (old new : State) (result : Result X OpenError) : Type 0 where
+  pub survives : Survives old new (λ db. IsSoundIn Schema1 old → IsMigrated old.committed.trees db)
+  pub migrated : HasCleanDisk new → IsSoundIn Schema1 old → OnOk result (IsTrue new.is_open × Rests new × IsMigrated old.committed.trees new.now.trees)
+  pub same : HasCleanDisk new → RestsIn first_schema old → IsTrue new.is_open → OnErr result (SameNow old new)
+  pub fails : IfErr result IsFailure
+
 abbrev pub OpensAs : State → State → Result Bool OpenError → Type 0
-OpensAs old new result = GivesAs result (opened old.now.trees) × IfOk result IsTrue × (IsTrue new.is_open → SameNow old new)
+OpensAs old new result = GivesAs result (opened Schema2 old.now.trees) × IfOk result IsTrue × (IsTrue new.is_open → SameNow old new)
+
+abbrev pub MigratesAs : State → State → Result Bool OpenError → Type 0
+MigratesAs old new (Ok ours) = (opened Schema1 old.now.trees ≡ Ok tt) × IsTrue ours × IsMigrated old.committed.trees new.now.trees
+MigratesAs old new (Err e) = Gives (Err e) (opened Schema1 old.now.trees) × (IsTrue new.is_open → SameNow old new)
 
 abbrev pub MakesAs : State → State → Result Bool OpenError → Type 0
 MakesAs old new (Ok ours) = IsTrue ours × IsMade new.now.trees
@@ -275,7 +314,8 @@ pub record Loads (old new : State) (result : Result Bool OpenError) : Type 0 whe
   pub left : IfErr result (λ e. IsRefusal e → Survives old new (λ _. ⊥))
   pub refused : HasCleanDisk new → IsTrue new.is_open → IfErr result (λ e. IsRefusal e → SameNow old new)
   pub opens : HasCleanDisk new → Rests old → OpensAs old new result
+  pub migrates : HasCleanDisk new → RestsIn first_schema old → MigratesAs old new result
   pub makes : HasCleanDisk new → IsBlank old → MakesAs old new result
   pub fails : IsBlank old → IfErr result IsFailure
   pub ours : HasCleanDisk new → IfOk result (λ ours. IsTrue ours → Ours new)
-  pub stays : HasCleanDisk new → (Rests old ⊎ IsBlank old) → OnOk result (IsTrue new.is_open)
+  pub stays : HasCleanDisk new → IsKnown old → OnOk result (IsTrue new.is_open)

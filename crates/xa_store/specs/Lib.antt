@@ -18,4 +18,5 @@ pub mod Opened
 pub mod Opening
 pub mod Judging
 pub mod Making
+pub mod Migrating
 pub mod Reopening

@@ -7,7 +7,7 @@ use Rattle.sqlite.specs.Schema.{Schema}
 use Rattle.xa_store.specs.declared.opening.making.Part.{Part}
 use Rattle.xa_store.specs.declared.opening.making.Part.TheVariants as part
 use Rattle.xa_store.specs.Opening.{no_tables, IsMade}
-use Rattle.xa_store.specs.Tables.{our_schema, meta, domains, tokens, policies, roots}
+use Rattle.xa_store.specs.Tables.{first_schema, our_schema, meta, domains, tokens, policies, roots}
 use Rattle.xa_store.specs.Texts as text
 
 -- the statement that makes it
@@ -18,6 +18,7 @@ text_of part.Tokens = text.tokens_made
 text_of part.Policies = text.policies_made
 text_of part.Roots = text.roots_made
 text_of part.Attributes = text.attributes_made
+text_of part.Sources = text.sources_made
 text_of part.FirstRow = text.meta_begun
 
 abbrev pub first : Schema
@@ -43,6 +44,7 @@ before part.Tokens = second
 before part.Policies = third
 before part.Roots = fourth
 before part.Attributes = fifth
+before part.Sources = first_schema
 before part.FirstRow = our_schema
 
 -- the tables that were made before it
@@ -53,7 +55,8 @@ trees_before part.Tokens = 0 ∷ 1 ∷ []
 trees_before part.Policies = 0 ∷ 1 ∷ 3 ∷ []
 trees_before part.Roots = 0 ∷ 1 ∷ 3 ∷ 5 ∷ []
 trees_before part.Attributes = 0 ∷ 1 ∷ 3 ∷ 5 ∷ 7 ∷ []
-trees_before part.FirstRow = 0 ∷ 1 ∷ 3 ∷ 5 ∷ 7 ∷ 8 ∷ []
+trees_before part.Sources = 0 ∷ 1 ∷ 3 ∷ 5 ∷ 7 ∷ 8 ∷ []
+trees_before part.FirstRow = 0 ∷ 1 ∷ 3 ∷ 5 ∷ 7 ∷ 8 ∷ 10 ∷ []
 
 -- these tables are there, without rows
 pub record AreEmpty (under : Schema) (trees : List ℕ) (db : Database) : Type 0 where
@@ -74,5 +77,6 @@ IsAfter part.Domains = IsBefore part.Tokens
 IsAfter part.Tokens = IsBefore part.Policies
 IsAfter part.Policies = IsBefore part.Roots
 IsAfter part.Roots = IsBefore part.Attributes
-IsAfter part.Attributes = IsBefore part.FirstRow
+IsAfter part.Attributes = IsBefore part.Sources
+IsAfter part.Sources = IsBefore part.FirstRow
 IsAfter part.FirstRow = AreMade

@@ -1,5 +1,5 @@
--- When the tables of a store are those of a keeper, and what opening it answers. A body is a document of the key that its columns hold,
--- versions and values stand in their printed form, and places count from 0 in each domain. Rows of a number that was given and has no domain are
+-- When the tables of a store are those of a keeper, and what opening it answers, by the schema that the tables have. A body is a document of the key that its columns
+-- hold, versions and values stand in their printed form, and places count from 0 in each domain. Rows of a number that was given and has no domain are
 -- sound: the tables' keys rule them out, where who writes a file has them enforced, and nothing is ever read of them, since no number is given twice.
 use Rattle.std.specs.Prelude.{◌==◌, ℕ, ◌+ℤ◌, ℤ, pos, Bool, true, false, ◌&&◌, if◌then◌else◌, List, [], ◌∷◌, map, filter, length, bytes_eq, is_ok, int_le, int_lt, Option, Some, None, Result, Ok, Err}
 use Rattle.std.specs.List.{list_all}
@@ -7,6 +7,7 @@ use Rattle.std.specs.Ordering.{int_eq, int_cmp}
 use Rattle.std.specs.Str.{is_utf8}
 use Rattle.sqlite.specs.Ops.{fits_i64}
 use Rattle.sqlite.specs.Order.{Row, column}
+use Rattle.sqlite.specs.Schema.{Schema}
 use Rattle.sqlite.specs.Tree.{Trees}
 use Rattle.sqlite.specs.declared.types.Value.{Value}
 use Rattle.sqlite.specs.declared.types.Value.TheVariants.{Null, Int, Text, Blob}
@@ -27,8 +28,11 @@ use Rattle.xa_records.specs.DomainName.{is_domain_name}
 use Rattle.xa_store.specs.declared.open_error.OpenError.{OpenError}
 use Rattle.xa_store.specs.declared.open_error.OpenError.TheVariants.{NotThisSchema, Damaged}
 use Rattle.xa_store.specs.declared.opening.kind.Kind.{Kind}
-use Rattle.xa_store.specs.declared.opening.kind.Kind.TheVariants.{Domains, Tokens, Documents, Roots, Attributes}
+use Rattle.xa_store.specs.declared.opening.kind.Kind.TheVariants.{Domains, Tokens, Documents, Roots, Attributes, Sources}
+use Rattle.xa_store.specs.declared.opening.schema_version.SchemaVersion.{SchemaVersion}
+use Rattle.xa_store.specs.declared.opening.schema_version.SchemaVersion.TheVariants.{Schema1, Schema2}
 use Rattle.xa_store.specs.Rows.{nat_of, kind_number}
+use Rattle.xa_store.specs.Tables.{first_schema, our_schema}
 
 -- ---- what one column holds
 
@@ -94,6 +98,12 @@ holds_value number text = is_utf8 text && is_value text (type_numbered number)
 
 -- ---- a row of each table, as its columns are read; `next` is the number of the next domain
 
+-- a row of a source, whoever says so
+abbrev pub is_row_of_source : ℤ → Row → Bool
+is_row_of_source next row =
+    holds_int (is_given next) (column row 1) && holds_text is_utf8 (column row 3) && holds_text is_utf8 (column row 4) && holds_text is_utf8 (column row 5)
+    && holds_int (λ number. holds_text (holds_value number) (column row 7)) (column row 6)
+
 abbrev pub is_sound_row : Kind → ℤ → Row → Bool
 is_sound_row Domains next row = holds_int (is_given next) (column row 0) && holds_text is_domain_name (column row 1) && holds_int is_count (column row 2)
 is_sound_row Tokens next row = holds_int (is_given next) (column row 1) && holds_blob is_digest (column row 2) && holds_int is_bit (column row 3)
@@ -103,9 +113,8 @@ is_sound_row Documents next row =
 is_sound_row Roots next row =
     holds_int (is_given next) (column row 0) && holds_int is_bit (column row 1) && holds_text is_utf8 (column row 2)
     && holds_text_if_any is_pattern (column row 3) && holds_text_if_any is_version (column row 4) && holds_text_if_any is_version (column row 5)
-is_sound_row Attributes next row =
-    holds_int (is_given next) (column row 1) && holds_text is_utf8 (column row 3) && holds_text is_utf8 (column row 4) && holds_text is_utf8 (column row 5)
-    && holds_int (λ number. holds_text (holds_value number) (column row 7)) (column row 6)
+is_sound_row Attributes next row = is_row_of_source next row
+is_sound_row Sources next row = is_row_of_source next row && holds_text_if_any is_utf8 (column row 8)
 
 -- the columns that are read, of those that are kept: that of an INTEGER PRIMARY KEY is kept as the rowid
 abbrev pub read_columns : Kind → List ℕ
@@ -114,6 +123,7 @@ read_columns Tokens = 0 ∷ 1 ∷ 2 ∷ 3 ∷ []
 read_columns Documents = 0 ∷ 1 ∷ 2 ∷ 3 ∷ 4 ∷ 5 ∷ 6 ∷ []
 read_columns Roots = 0 ∷ 2 ∷ 3 ∷ 4 ∷ 5 ∷ 6 ∷ []
 read_columns Attributes = 0 ∷ 1 ∷ 2 ∷ 3 ∷ 4 ∷ 5 ∷ 6 ∷ 7 ∷ []
+read_columns Sources = 0 ∷ 1 ∷ 2 ∷ 3 ∷ 4 ∷ 5 ∷ 6 ∷ 7 ∷ 8 ∷ []
 
 abbrev pub as_read : Kind → Row → Row
 as_read kind row = map (column row) (read_columns kind)
@@ -124,6 +134,7 @@ tree_of Tokens = 3
 tree_of Documents = 5
 tree_of Roots = 7
 tree_of Attributes = 8
+tree_of Sources = 10
 
 -- ---- the rows of a table
 
@@ -168,19 +179,44 @@ count_from n (place ∷ places) = int_eq place n && count_from (n +ℤ pos 1) pl
 abbrev pub are_counted : List Place → Bool
 are_counted places = list_all (λ place. count_from (pos 0) (places_of places place.0)) places
 
+-- ---- the two schemas
+
+abbrev pub schema_of : SchemaVersion → Schema
+schema_of Schema1 = first_schema
+schema_of Schema2 = our_schema
+
+-- the number that the first table has for it
+abbrev pub number_of : SchemaVersion → ℤ
+number_of Schema1 = pos 1
+number_of Schema2 = pos 2
+
+-- the table that has the rows of sources
+abbrev pub sources_in : SchemaVersion → Kind
+sources_in Schema1 = Attributes
+sources_in Schema2 = Sources
+
+abbrev pub is_empty : List Row → Bool
+is_empty [] = true
+is_empty (row ∷ rows) = false
+
+-- no row stands where schema 2 has none
+abbrev pub is_left_empty : SchemaVersion → Trees → Bool
+is_left_empty Schema1 db = true
+is_left_empty Schema2 db = is_empty (db (tree_of Attributes))
+
 -- ---- what opening answers
 
--- the number of the next domain, in the one row of the first table as it is read, if that is of schema 1
 abbrev pub int_in : Value → Option ℤ
 int_in (Int n) = Some n
 int_in _ = None
 
-abbrev pub next_of : Row → Option ℤ
-next_of row = if holds_int (int_eq (pos 1)) (column row 0) && holds_int (int_eq (pos 1)) (column row 1) then int_in (column row 2) else None
+-- the number of the next domain, in the one row of the first table as it is read, if that has the schema's number
+abbrev pub next_of : SchemaVersion → Row → Option ℤ
+next_of version row = if holds_int (int_eq (pos 1)) (column row 0) && holds_int (int_eq (number_of version)) (column row 1) then int_in (column row 2) else None
 
-abbrev pub known_next : List Row → Option ℤ
-known_next (row ∷ []) = next_of row
-known_next _ = None
+abbrev pub known_next : SchemaVersion → List Row → Option ℤ
+known_next version (row ∷ []) = next_of version row
+known_next version _ = None
 
 abbrev pub read_meta : Row → Row
 read_meta row = map (column row) (0 ∷ 2 ∷ 3 ∷ [])
@@ -188,13 +224,17 @@ read_meta row = map (column row) (0 ∷ 2 ∷ 3 ∷ [])
 abbrev pub is_sound_table : Trees → ℤ → Kind → Bool
 is_sound_table db next kind = are_sound_rows kind next (map (as_read kind) (db (tree_of kind)))
 
-abbrev pub is_sound : Trees → ℤ → Bool
-is_sound db next =
-    is_count next && list_all (is_sound_table db next) (Domains ∷ Tokens ∷ Documents ∷ Roots ∷ Attributes ∷ []) && are_counted (map place_in (db 8))
+abbrev pub kinds_in : SchemaVersion → List Kind
+kinds_in version = Domains ∷ Tokens ∷ Documents ∷ Roots ∷ sources_in version ∷ []
 
-abbrev pub judged : Trees → Option ℤ → Result (Unit {0}) OpenError
-judged db None = Err NotThisSchema
-judged db (Some next) = if is_sound db next then Ok tt else Err Damaged
+abbrev pub is_sound : SchemaVersion → Trees → ℤ → Bool
+is_sound version db next =
+    is_count next && list_all (is_sound_table db next) (kinds_in version) && (are_counted (map place_in (db (tree_of (sources_in version)))) && is_left_empty version db)
 
-abbrev pub opened : Trees → Result (Unit {0}) OpenError
-opened db = judged db (known_next (map read_meta (db 0)))
+abbrev pub judged : SchemaVersion → Trees → Option ℤ → Result (Unit {0}) OpenError
+judged version db None = Err NotThisSchema
+judged version db (Some next) = if is_sound version db next then Ok tt else Err Damaged
+
+-- of tables of that schema: so with the number of the other they are none of a keeper's
+abbrev pub opened : SchemaVersion → Trees → Result (Unit {0}) OpenError
+opened version db = judged version db (known_next version (map read_meta (db 0)))

@@ -1,5 +1,5 @@
 -- What opening a connection as a keeper answers, and what it leaves.
-use Rattle.std.specs.Prelude.{◌≡◌, ◌⊎◌, ℕ, pos, Bool, false, ◌&&◌, List, [], ◌∷◌, codes, is_none, Result, Ok, Err, IsTrue}
+use Rattle.std.specs.Prelude.{◌≡◌, ◌⊎◌, ℕ, pos, Bool, false, ◌&&◌, List, [], ◌∷◌, codes, is_none, if◌then◌else◌, Result, Ok, Err, IsTrue}
 use Rattle.sqlite.specs.Held.{Held, state}
 use Rattle.sqlite.specs.Schema.{Schema}
 use Rattle.sqlite.specs.State.{State, HasCleanDisk, Survives}
@@ -10,11 +10,14 @@ use Rattle.xa_records.specs.Kept.{nothing_kept}
 use Rattle.xa_store.specs.declared.open_error.OpenError.{OpenError}
 use Rattle.xa_store.specs.declared.open_error.OpenError.TheVariants.{NotThisSchema, Damaged, Store, Memory}
 use Rattle.xa_store.specs.declared.opening.kind.Kind.{Kind}
+use Rattle.xa_store.specs.declared.opening.schema_version.SchemaVersion.{SchemaVersion}
+use Rattle.xa_store.specs.declared.opening.schema_version.SchemaVersion.TheVariants.{Schema1, Schema2}
 use Rattle.xa_store.specs.Keeper.{Keeper}
 use Rattle.xa_store.specs.Opened.{opened, tree_of}
 use Rattle.xa_store.specs.Rows.{meta_row}
-use Rattle.xa_store.specs.Sound.{AreOurs, IsOurDatabase, SameNow}
-use Rattle.xa_store.specs.World.{world_of}
+use Rattle.xa_store.specs.Sound.{AreOurs, IsOurDatabase, Rests, RestsIn, SameNow}
+use Rattle.xa_store.specs.Tables.{first_schema}
+use Rattle.xa_store.specs.World.{first_world_of, world_of}
 
 abbrev pub no_tables : Schema
 no_tables = record { tables = []; indexes = []; views = [] }
@@ -27,7 +30,11 @@ is_free schema name = is_none (table_named schema name) && is_none (index_named 
 abbrev pub has_room : Schema → Bool
 has_room schema =
     is_free schema (codes "meta") && is_free schema (codes "domains") && is_free schema (codes "tokens") && is_free schema (codes "policies") && is_free schema (codes "roots")
-    && is_free schema (codes "attributes")
+    && is_free schema (codes "attributes") && is_free schema (codes "sources")
+
+-- which schema it is, if it has a keeper's tables: in the first there is none of the name that the second has more
+abbrev pub version_in : Schema → SchemaVersion
+version_in schema = if is_free schema (codes "sources") then Schema1 else Schema2
 
 -- there is no table, and nothing waits for a commit
 pub record IsBlank (s : State) : Type 0 where
@@ -40,6 +47,15 @@ pub record IsMade (db : Trees) : Type 0 where
   pub database : IsOurDatabase db
   pub meta : db 0 ≡ meta_row (pos 1) ∷ []
   pub empty : (kind : Kind) → db (tree_of kind) ≡ []
+
+-- tables of schema 2 that mean what those of schema 1 meant
+pub record IsMigrated (first db : Trees) : Type 0 where
+  pub ours : AreOurs db
+  pub kept : world_of db ≡ first_world_of first
+
+-- the connection holds a keeper's tables, of either schema, or none
+abbrev pub IsKnown : State → Type 0
+IsKnown s = Rests s ⊎ (RestsIn first_schema s ⊎ IsBlank s)
 
 -- an answer as the definition gives it, or want of memory or a failure of the store
 abbrev pub Gives : Result (Unit {0}) OpenError → Result (Unit {0}) OpenError → Type 0
@@ -70,8 +86,13 @@ module _ {S : Type 0} (g : Ghosts S) where
   -- of a store with our tables: sound ones are taken as they are, and others are left as they are
   abbrev pub Opens : State → Result (Keeper S) (OpenError × Held S) → Type 0
   Opens old (Ok k) =
-      HasCleanDisk (state g k.conn) → (opened old.now.trees ≡ Ok tt) × SameNow old (state g k.conn) × Holds k × (world_of (state g k.conn).now.trees ≡ world_of old.committed.trees)
-  Opens old (Err e) = HasCleanDisk (state g e.1) → Gives (Err e.0) (opened old.now.trees) × (IsTrue (state g e.1).is_open → SameNow old (state g e.1))
+      HasCleanDisk (state g k.conn) → (opened Schema2 old.now.trees ≡ Ok tt) × SameNow old (state g k.conn) × Holds k × (world_of (state g k.conn).now.trees ≡ world_of old.committed.trees)
+  Opens old (Err e) = HasCleanDisk (state g e.1) → Gives (Err e.0) (opened Schema2 old.now.trees) × (IsTrue (state g e.1).is_open → SameNow old (state g e.1))
+
+  -- of a store with the tables of schema 1: sound ones are brought into schema 2, and others are left as they are
+  abbrev pub Migrates : State → Result (Keeper S) (OpenError × Held S) → Type 0
+  Migrates old (Ok k) = HasCleanDisk (state g k.conn) → (opened Schema1 old.now.trees ≡ Ok tt) × Holds k × IsMigrated old.committed.trees (state g k.conn).now.trees
+  Migrates old (Err e) = HasCleanDisk (state g e.1) → Gives (Err e.0) (opened Schema1 old.now.trees) × (IsTrue (state g e.1).is_open → SameNow old (state g e.1))
 
   -- of a store without any table: all are made, or none
   abbrev pub Makes : State → Result (Keeper S) (OpenError × Held S) → Type 0
@@ -83,9 +104,10 @@ pub record LeavesAlone (old new : State) : Type 0 where
   pub survives : Survives old new (λ _. ⊥)
   pub same : IsTrue new.is_open → SameNow old new
 
--- what a crash may leave beside what it could leave before: something where the tables can be made, and the tables as they are made where there is none
+-- what a crash may leave beside what it could leave before: something where the table of sources can be made, the tables as they are made where there is none, and tables
+-- of schema 2 that mean the same where those of schema 1 are there
 abbrev pub Leaves : State → Trees → Type 0
-Leaves old db = IsTrue (has_room old.now.schema) × (IsBlank old → IsMade db)
+Leaves old db = IsTrue (is_free old.now.schema (codes "sources")) × (IsBlank old → IsMade db) × (RestsIn first_schema old → IsMigrated old.committed.trees db)
 
 -- a crash after it leaves what the keeper holds, in our tables
 abbrev pub Settles : {S : Type 0} → Ghosts S → Keeper S → Type 0

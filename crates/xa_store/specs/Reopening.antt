@@ -2,6 +2,7 @@
 use Rattle.std.specs.Prelude.{◌≡◌, Ok}
 use Rattle.sqlite.specs.State.{State, Opens as IsJustOpened}
 use Rattle.xa_records.specs.Kept.{Kept}
+use Rattle.xa_store.specs.declared.opening.schema_version.SchemaVersion.TheVariants.{Schema2}
 use Rattle.xa_store.specs.Opened.{opened}
 use Rattle.xa_store.specs.Sound.{LeavesWorld, Rests}
 use Rattle.xa_store.specs.World.{world_of}
@@ -18,7 +19,7 @@ LeavesNotAll s = (other : Kept) × ¬ LeavesWorld s other
 -- it rests on our tables, which opening finds sound, and they mean one of those maps that a crash may leave
 pub record Resumes (stopped new : State) : Type 0 where
   pub rests : Rests new
-  pub opens : opened new.now.trees ≡ Ok tt
+  pub opens : opened Schema2 new.now.trees ≡ Ok tt
   pub kept : LeavesWorld stopped (world_of new.now.trees)
 
 abbrev pub Reopens : State → State → Type 0

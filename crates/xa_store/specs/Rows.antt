@@ -1,6 +1,6 @@
 -- The rows of the tables: of each a record, the row that writes it, and the record that a row writes. A row begins with its rowid;
 -- where that is a column of the table, that column holds NULL.
-use Rattle.std.specs.Prelude.{ℕ, zero, ℤ, pos, negsuc, Bool, true, false, List, [], ◌∷◌, map, drop, slice_get, slice_index_or, unwrap_or, Option, Some, None, option_map, option_and_then, Result, Ok, Err}
+use Rattle.std.specs.Prelude.{ℕ, zero, ℤ, pos, negsuc, Bool, true, false, List, [], ◌∷◌, map, drop, slice_get, slice_index_or, unwrap_or, Option, Some, None, is_some, option_map, option_and_then, Result, Ok, Err}
 use Rattle.sqlite.specs.Order.{Row, column}
 use Rattle.sqlite.specs.declared.types.Value.TheVariants.{Null, Int, Text, Blob}
 use Rattle.sqlite_typed.specs.Columns.{int_of, bytes_of, or_null, unless_null}
@@ -75,10 +75,14 @@ value_text v = printed v
 unfoldable pub value_in : ℤ → List ℕ → Value
 value_in number text = unwrap_or (given (read (type_in number) text)) (value.String text)
 
--- ---- meta: the schema's number, which is 1, and the number of the next domain
+-- ---- meta: the schema's number, and that of the next domain
 
+abbrev pub meta_row_of : ℤ → ℤ → Row
+meta_row_of schema next = Int (pos 1) ∷ Null ∷ Int schema ∷ Int next ∷ []
+
+-- a keeper's schema is 2
 abbrev pub meta_row : ℤ → Row
-meta_row next = Int (pos 1) ∷ Null ∷ Int (pos 1) ∷ Int next ∷ []
+meta_row = meta_row_of (pos 2)
 
 abbrev pub next_in : List Row → ℤ
 next_in rows = int_of (column (unwrap_or (slice_get rows 0) []) 3)
@@ -173,17 +177,24 @@ root_of number reference = record {
   texts = option_map pattern_text reference.version ∷ option_map version_text reference.earliest ∷ option_map version_text reference.latest ∷ [];
 }
 
--- ---- rows of sources, in the table of attributes; their places count from 0 in each domain
+-- ---- rows of sources, in the table of sources, and in that of attributes in schema 1; their places count from 0 in each domain
 
 pub record AttributeRow : Type 0 where
   pub rowid : ℤ
   pub number : ℤ
   pub place : ℤ
   pub row : SourceRow
+  -- the row has a column for its issuer; one of schema 1 has none, and another program may have left one without it, which reads as NULL
+  pub is_full : Bool
+
+abbrev pub issuer_columns : Bool → Option (List ℕ) → Row
+issuer_columns true issuer = or_null Text issuer ∷ []
+issuer_columns false issuer = []
 
 abbrev pub attribute_row : AttributeRow → Row
 attribute_row a =
-    Int a.rowid ∷ Int a.number ∷ Int a.place ∷ Text a.row.category ∷ Text a.row.entity ∷ Text a.row.attribute_id ∷ Int (type_number a.row.value) ∷ Text (value_text a.row.value) ∷ []
+    Int a.rowid ∷ Int a.number ∷ Int a.place ∷ Text a.row.category ∷ Text a.row.entity ∷ Text a.row.attribute_id ∷ Int (type_number a.row.value) ∷ Text (value_text a.row.value)
+    ∷ issuer_columns a.is_full a.row.issuer
 
 abbrev pub attribute_in : Row → AttributeRow
 attribute_in row = record {
@@ -195,5 +206,11 @@ attribute_in row = record {
     entity = bytes_of (column row 4);
     attribute_id = bytes_of (column row 5);
     value = value_in (int_of (column row 6)) (bytes_of (column row 7));
+    issuer = unless_null bytes_of (column row 8);
   };
+  is_full = is_some (slice_get row 8);
 }
+
+-- a row of schema 1, which has no issuer
+abbrev pub unissued_in : Row → AttributeRow
+unissued_in row = let a : AttributeRow = attribute_in row in record a { row = record a.row { issuer = None } }

@@ -56,4 +56,5 @@ source_told row = record {
   entity = bytes_of (column row 1);
   attribute_id = bytes_of (column row 2);
   value = value_in (int_of (column row 3)) (bytes_of (column row 4));
+  issuer = unless_null bytes_of (column row 5);
 }

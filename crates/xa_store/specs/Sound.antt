@@ -4,6 +4,7 @@ use Rattle.std.specs.List.{AllByRecursion}
 use Rattle.std.specs.Ordering.{eq_by_cmp, int_eq}
 use Rattle.std.specs.Str.{is_utf8}
 use Rattle.sqlite.specs.Order.{Row}
+use Rattle.sqlite.specs.Schema.{Schema}
 use Rattle.sqlite.specs.State.{State}
 use Rattle.sqlite.specs.Tree.{Trees}
 use Rattle.sqlite_catalog.specs.Listing.{IsSound}
@@ -17,6 +18,7 @@ use Rattle.xa_records.specs.Kept.{IsNumbered, Kept}
 use Rattle.xa_store.specs.Opened.{Place, count_from, holds_value, is_count, is_digest, is_given, is_pattern, is_version, opened, places_of}
 use Rattle.xa_store.specs.Rows.{DomainRow, TokenRow, DocumentRow, RootRow, AttributeRow, meta_row, next_in, domain_row, domain_in, token_row, token_in, document_row, document_in, root_row, root_in, attribute_row, attribute_in, text_at, type_number, value_text}
 use Rattle.xa_store.specs.Tables.{our_schema}
+use Rattle.xa_store.specs.declared.opening.schema_version.SchemaVersion.TheVariants.{Schema2}
 use Rattle.xa_store.specs.World.{Rows, rows_of, state_at, kept_of, world_of}
 
 -- ---- rows as the keeper writes them
@@ -46,7 +48,8 @@ pub record AreTables (db : Trees) : Type 0 where
   pub tokens : AreRows token_row token_in (λ t. t.rowid) same_token (db 3)
   pub documents : AreRows document_row document_in (λ d. d.rowid) same_document (db 5)
   pub roots : AreRows root_row root_in (λ r. r.number) (λ a b. false) (db 7)
-  pub attributes : AreRows attribute_row attribute_in (λ a. a.rowid) same_place (db 8)
+  pub left_empty : db 8 ≡ []
+  pub attributes : AreRows attribute_row attribute_in (λ a. a.rowid) same_place (db 10)
 
 -- ---- the domains' numbers
 
@@ -72,10 +75,11 @@ is_if_any test (Some text) = test text
 abbrev pub AreRootTexts : RootRow → Type 0
 AreRootTexts r = (is_utf8 r.id ≡ true) × (is_if_any is_pattern (text_at r.texts 0) ≡ true) × (is_if_any is_version (text_at r.texts 1) ≡ true) × (is_if_any is_version (text_at r.texts 2) ≡ true)
 
--- the names in a row of a source are texts, and its value reads back from one
+-- the names in a row of a source are texts, so is its issuer, and its value reads back from one
 abbrev pub AreSourceTexts : SourceRow → Type 0
 AreSourceTexts row =
     (is_utf8 row.category ≡ true) × (is_utf8 row.entity ≡ true) × (is_utf8 row.attribute_id ≡ true) × (holds_value (type_number row.value) (value_text row.value) ≡ true)
+    × (is_if_any is_utf8 row.issuer ≡ true)
 
 abbrev pub place_of : AttributeRow → Place
 place_of a = (a.number, a.place)
@@ -99,15 +103,19 @@ IsOurDatabase = IsSound our_schema
 -- and opening finds them sound
 pub record AreOurs (db : Trees) : Type 0 where
   pub database : IsOurDatabase db
-  pub opens : opened db ≡ Ok tt
+  pub opens : opened Schema2 db ≡ Ok tt
 
 -- ---- a connection between two calls of the keeper
 
--- its tables are ours, and nothing waits for a commit
-pub record Rests (s : State) : Type 0 where
-  pub schema : s.now.schema ≡ our_schema
+-- its tables are those of the schema, and nothing waits for a commit
+pub record RestsIn (under : Schema) (s : State) : Type 0 where
+  pub schema : s.now.schema ≡ under
   pub settled : s.now ≡ s.committed
   pub idle : s.in_transaction ≡ false
+
+-- its tables are ours
+abbrev pub Rests : State → Type 0
+Rests = RestsIn our_schema
 
 -- it holds what it held
 pub record SameNow (old new : State) : Type 0 where

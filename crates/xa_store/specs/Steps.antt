@@ -1,5 +1,5 @@
 -- The steps of which changes are made: each is one statement. What each makes of the rows, and under what it is taken.
-use Rattle.std.specs.Prelude.{◌≡◌, ℕ, ℤ, pos, Bool, false, ◌&&◌, List, [], ◌∷◌, ◌++◌, filter, fold}
+use Rattle.std.specs.Prelude.{◌≡◌, ℕ, ℤ, pos, Bool, false, true, ◌&&◌, List, [], ◌∷◌, ◌++◌, filter, fold}
 use Rattle.std.specs.Ordering.{eq_by_cmp, int_eq}
 use Rattle.sqlite_keyed.specs.Keyed.{insert_by, next_key}
 use Rattle.sqlite_keyed.specs.Lists.{update_where, delete_where}
@@ -60,7 +60,7 @@ after (DropDocument number key) rows = record rows { documents = delete_where (i
 after (AddRoot number root) rows = record rows { roots = insert_by (λ r. r.number) rows.roots (root_of number root) }
 after (DropRoot number) rows = record rows { roots = delete_where (λ r. int_eq r.number number) rows.roots }
 after (AddAttribute number place row) rows =
-    record rows { attributes = rows.attributes ++ record { rowid = next_key (λ a. a.rowid) rows.attributes; number = number; place = place; row = row } ∷ [] }
+    record rows { attributes = rows.attributes ++ record { rowid = next_key (λ a. a.rowid) rows.attributes; number = number; place = place; row = row; is_full = true } ∷ [] }
 after (DropSource number) rows = record rows { attributes = delete_where (λ a. int_eq a.number number) rows.attributes }
 
 abbrev pub after_all : List Step → Rows → Rows

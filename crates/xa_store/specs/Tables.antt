@@ -1,5 +1,6 @@
--- The tables in which domains are kept. Trees are numbered as the tables and their automatic indexes are made.
-use Rattle.std.specs.Prelude.{ℕ, List, [], ◌∷◌, codes, true, false, None, Some}
+-- The tables in which domains are kept, of both schemas. Trees are numbered as the tables and their automatic indexes are made, and schema 2 is schema 1 with one more table:
+-- so a store that was made with schema 2 and one that was brought into it have the same trees.
+use Rattle.std.specs.Prelude.{ℕ, List, [], ◌∷◌, ◌++◌, codes, true, false, None, Some}
 use Rattle.sqlite.specs.Collation.TheVariants.{Binary}
 use Rattle.sqlite.specs.Kind.{Kind}
 use Rattle.sqlite.specs.Kind.TheVariants.{Integer, Text, Blob}
@@ -88,24 +89,39 @@ roots =
     record (with_own_key (codes "roots") 7 (own_key (codes "number") ∷ needed (codes "kind") Integer ∷ needed (codes "id") Text ∷ text_if_any (codes "pattern") ∷ text_if_any (codes "earliest") ∷ text_if_any (codes "latest") ∷ []))
     { references = record of_domain { columns = 0 ∷ [] } ∷ [] }
 
+-- the rows of sources in schema 1, and no row in schema 2
 abbrev pub attributes : Table
 attributes =
     of_domains (codes "attributes") 8
     (needed (codes "number") Integer ∷ needed (codes "place") Integer ∷ needed (codes "category") Text ∷ needed (codes "entity") Text ∷ needed (codes "attribute") Text ∷ needed (codes "value_type") Integer ∷ needed (codes "value") Text ∷ [])
     (1 ∷ 2 ∷ []) rising
 
+-- the rows of sources in schema 2: the same columns, and who says so
+abbrev pub sources : Table
+sources = of_domains (codes "sources") 10 (attributes.columns ++ text_if_any (codes "issuer") ∷ []) (1 ∷ 2 ∷ []) rising
+
 -- ---- their automatic indexes
 
 abbrev pub index_of : List ℕ → ℕ → ℕ → List ℕ → Index
 index_of name tree table columns = record { name = name; tree = tree; table = table; columns = columns; order = rising; is_unique = true }
 
-abbrev pub our_indexes : List Index
-our_indexes =
+abbrev pub first_indexes : List Index
+first_indexes =
     index_of (codes "sqlite_autoindex_domains_1") 2 1 (2 ∷ [])
     ∷ index_of (codes "sqlite_autoindex_tokens_1") 4 3 (1 ∷ 2 ∷ [])
     ∷ index_of (codes "sqlite_autoindex_policies_1") 6 5 (1 ∷ 2 ∷ 3 ∷ 4 ∷ [])
     ∷ index_of (codes "sqlite_autoindex_attributes_1") 9 8 (1 ∷ 2 ∷ [])
     ∷ []
 
+abbrev pub our_indexes : List Index
+our_indexes = first_indexes ++ index_of (codes "sqlite_autoindex_sources_1") 11 10 (1 ∷ 2 ∷ []) ∷ []
+
+-- ---- the schemas
+
+-- schema 1, which is only read, and brought into schema 2
+abbrev pub first_schema : Schema
+first_schema = record { tables = meta ∷ domains ∷ tokens ∷ policies ∷ roots ∷ attributes ∷ []; indexes = first_indexes; views = [] }
+
+-- schema 2, that of a keeper
 abbrev pub our_schema : Schema
-our_schema = record { tables = meta ∷ domains ∷ tokens ∷ policies ∷ roots ∷ attributes ∷ []; indexes = our_indexes; views = [] }
+our_schema = record { tables = meta ∷ domains ∷ tokens ∷ policies ∷ roots ∷ attributes ∷ sources ∷ []; indexes = our_indexes; views = [] }

@@ -25,9 +25,25 @@ abbrev pub attributes_made : List ℕ
 attributes_made =
     codes "CREATE TABLE attributes (number INTEGER NOT NULL REFERENCES domains (number) ON DELETE CASCADE, place INTEGER NOT NULL, category TEXT NOT NULL, entity TEXT NOT NULL, attribute TEXT NOT NULL, value_type INTEGER NOT NULL, value TEXT NOT NULL, PRIMARY KEY (number, place)) STRICT"
 
--- the one row of meta: schema 1, and the number of the first domain
+abbrev pub sources_made : List ℕ
+sources_made =
+    codes "CREATE TABLE sources (number INTEGER NOT NULL REFERENCES domains (number) ON DELETE CASCADE, place INTEGER NOT NULL, category TEXT NOT NULL, entity TEXT NOT NULL, attribute TEXT NOT NULL, value_type INTEGER NOT NULL, value TEXT NOT NULL, issuer TEXT, PRIMARY KEY (number, place)) STRICT"
+
+-- the one row of meta: schema 2, and the number of the first domain
 abbrev pub meta_begun : List ℕ
-meta_begun = codes "INSERT INTO meta (id, schema_no, next_number) VALUES (1, 1, 1)"
+meta_begun = codes "INSERT INTO meta (id, schema_no, next_number) VALUES (1, 2, 1)"
+
+-- ---- schema 1 is brought into schema 2
+
+abbrev pub sources_filled : List ℕ
+sources_filled =
+    codes "INSERT INTO sources (number, place, category, entity, attribute, value_type, value, issuer) SELECT number, place, category, entity, attribute, value_type, value, NULL FROM attributes ORDER BY rowid"
+
+abbrev pub attributes_emptied : List ℕ
+attributes_emptied = codes "DELETE FROM attributes"
+
+abbrev pub schema_raised : List ℕ
+schema_raised = codes "UPDATE meta SET schema_no = 2 WHERE id = 1"
 
 -- ---- readings
 
@@ -62,7 +78,7 @@ abbrev pub root_shown : List ℕ
 root_shown = codes "SELECT kind, id, pattern, earliest, latest FROM roots WHERE number = ?1"
 
 abbrev pub source_shown : List ℕ
-source_shown = codes "SELECT category, entity, attribute, value_type, value FROM attributes WHERE number = ?1 ORDER BY place"
+source_shown = codes "SELECT category, entity, attribute, value_type, value, issuer FROM sources WHERE number = ?1 ORDER BY place"
 
 -- ---- changes
 
@@ -103,7 +119,7 @@ abbrev pub root_dropped : List ℕ
 root_dropped = codes "DELETE FROM roots WHERE number = ?1"
 
 abbrev pub source_dropped : List ℕ
-source_dropped = codes "DELETE FROM attributes WHERE number = ?1"
+source_dropped = codes "DELETE FROM sources WHERE number = ?1"
 
 abbrev pub attribute_added : List ℕ
-attribute_added = codes "INSERT INTO attributes (number, place, category, entity, attribute, value_type, value) VALUES (?1, ?2, ?3, ?4, ?5, ?6, ?7)"
+attribute_added = codes "INSERT INTO sources (number, place, category, entity, attribute, value_type, value, issuer) VALUES (?1, ?2, ?3, ?4, ?5, ?6, ?7, ?8)"

@@ -1,4 +1,4 @@
--- What the tables mean.
+-- What the tables mean, those of schema 2 and those of schema 1.
 use Rattle.std.specs.Prelude.{ℕ, ℤ, List, map, filter, Option, option_map}
 use Rattle.std.specs.FinMap.{FinMap, from_entries}
 use Rattle.std.specs.Ordering.{int_cmp, int_eq, on}
@@ -12,7 +12,7 @@ use Rattle.xa_notation.specs.declared.token.Role.{Role}
 use Rattle.xa_decide.specs.declared.source_row.SourceRow.{SourceRow}
 use Rattle.xa_records.specs.DomainState.{DomainState, StoredDocument, compare_bytes}
 use Rattle.xa_records.specs.Kept.{Domain, Kept}
-use Rattle.xa_store.specs.Rows.{DomainRow, TokenRow, DocumentRow, RootRow, AttributeRow, nat_of, next_in, domain_in, token_in, document_in, root_in, attribute_in, reference_of}
+use Rattle.xa_store.specs.Rows.{DomainRow, TokenRow, DocumentRow, RootRow, AttributeRow, nat_of, next_in, domain_in, token_in, document_in, root_in, attribute_in, unissued_in, reference_of}
 
 -- ---- the rows of all tables
 
@@ -31,8 +31,12 @@ rows_of db = record {
   tokens = map token_in (db 3);
   documents = map document_in (db 5);
   roots = map root_in (db 7);
-  attributes = map attribute_in (db 8);
+  attributes = map attribute_in (db 10);
 }
+
+-- in schema 1
+abbrev pub first_rows_of : Trees → Rows
+first_rows_of db = record (rows_of db) { attributes = map unissued_in (db 8) }
 
 -- ---- the state of the domain of a number
 
@@ -85,3 +89,7 @@ kept_of rows = record { domains = from_entries (map (domain_entry rows) rows.dom
 
 abbrev pub world_of : Trees → Kept
 world_of db = kept_of (rows_of db)
+
+-- in schema 1
+abbrev pub first_world_of : Trees → Kept
+first_world_of db = kept_of (first_rows_of db)

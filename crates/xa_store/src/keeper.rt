@@ -3,6 +3,7 @@ ghost use Rattle.std.specs.Prelude.{◌≡◌, true, Ok, IsTrue};
 ghost use Rattle.sqlite.specs.Held.{state};
 ghost use Rattle.xa_store.specs.Keeper.{IsSound};
 ghost use Rattle.xa_store.specs.Opened.{opened};
+ghost use Rattle.xa_store.specs.declared.opening.schema_version.SchemaVersion.TheVariants.{Schema2};
 ghost use Rattle.xa_store.specs.Sound.{Ours};
 
 mod reading;
@@ -55,7 +56,7 @@ impl<S: Alter> SqlRecords<S> {
 
     /// Law: the tables of a sound keeper open again.
     pub fn opens_again(&self)
-        ensures { IsSound S.Store self.now → opened (state S.Store self.now.conn).now.trees ≡ Ok tt }
+        ensures { IsSound S.Store self.now → opened Schema2 (state S.Store self.now.conn).now.trees ≡ Ok tt }
     {}
 
     /// The connection that it was made over.

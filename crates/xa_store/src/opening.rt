@@ -1,13 +1,15 @@
 //! Opening a store as a keeper.
-ghost use Rattle.std.specs.Prelude.{◌≡◌, ◌⊎◌, Err, IfErr, IfOk, IsTrue};
+ghost use Rattle.std.specs.Prelude.{◌≡◌, false, Err, IfErr, IfOk, IsTrue};
 ghost use Rattle.sqlite.specs.Held.{state};
 ghost use Rattle.sqlite.specs.State.{HasCleanDisk, Survives};
 ghost use Rattle.xa_store.specs.Judging.{IsIdle, Loads, Tested};
 ghost use Rattle.xa_store.specs.Keeper.{IsSound};
-ghost use Rattle.xa_store.specs.Opening.{has_room, held_in, IsBlank, IsRefusal, Leaves, LeavesAlone, Makes, Opens, Settles};
+ghost use Rattle.xa_store.specs.Opened.{schema_of};
+ghost use Rattle.xa_store.specs.Opening.{has_room, held_in, version_in, IsBlank, IsKnown, IsRefusal, Leaves, LeavesAlone, Makes, Migrates, Opens, Settles};
 ghost use Rattle.xa_store.specs.declared.open_error.OpenError.TheVariants.{Store};
-ghost use Rattle.xa_store.specs.Sound.{Rests};
-ghost use Rattle.xa_store.specs.Tables.{our_schema};
+ghost use Rattle.xa_store.specs.declared.opening.schema_version.SchemaVersion.TheVariants.{Schema1};
+ghost use Rattle.xa_store.specs.Sound.{Rests, RestsIn};
+ghost use Rattle.xa_store.specs.Tables.{first_schema};
 
 mod apart;
 mod asking;
@@ -17,8 +19,10 @@ mod kind;
 mod loading;
 mod looking;
 mod making;
+mod migrating;
 mod refusing;
 mod reopening;
+mod schema_version;
 mod table_columns;
 mod walking;
 
@@ -26,35 +30,45 @@ use crate::keeper::SqlRecords;
 use crate::open_error::OpenError;
 use apart::check_apart;
 use loading::check;
-use looking::{has_room, is_ours};
+use looking::{has_room, is_of, version_in};
 pub(crate) use making::make;
+use migrating::migrate;
 use refusing::failed_after;
+use schema_version::SchemaVersion;
 use sqlite::{Alter, Connection};
 use std::alloc::Global;
 
-/// Judges the tables of a keeper.
-fn check_ours<S: Alter>(alloc: Global, conn: &mut Connection<S>) -> Result<bool, OpenError>
+/// Judges the tables of that schema.
+fn check_ours<S: Alter>(
+    alloc: Global,
+    conn: &mut Connection<S>,
+    version: SchemaVersion,
+) -> Result<bool, OpenError>
     requires quiet { IsIdle (state S.Store conn.old) }
-    requires ours { (state S.Store conn.old).now.schema ≡ our_schema }
-    ensures { Tested (state S.Store conn.old) (state S.Store conn.new) result }
+    requires ours { (state S.Store conn.old).now.schema ≡ schema_of version }
+    ensures { Tested version (state S.Store conn.old) (state S.Store conn.new) result }
 {
-    match check(alloc, conn) {
+    match check(alloc, conn, version) {
         Ok(()) => Ok(true),
         Err(error) => Err(error),
     }
 }
 
-/// Judges the tables, and says whether they are a keeper's tables and no others.
-fn judge<S: Alter>(alloc: Global, conn: &mut Connection<S>) -> Result<bool, OpenError>
-    ensures { Tested (state S.Store conn.old) (state S.Store conn.new) result }
+/// Judges the tables as those of that schema, and says whether they are these and no others.
+fn judge<S: Alter>(
+    alloc: Global,
+    conn: &mut Connection<S>,
+    version: SchemaVersion,
+) -> Result<bool, OpenError>
+    ensures { Tested version (state S.Store conn.old) (state S.Store conn.new) result }
 {
     if !conn.is_autocommit() {
         return Err(OpenError::Store);
     }
-    if is_ours(conn.schema()) {
-        check_ours(alloc, conn)
+    if is_of(version, conn.schema()) {
+        check_ours(alloc, conn, version)
     } else {
-        check_apart(alloc, conn)
+        check_apart(alloc, conn, version)
     }
 }
 
@@ -64,9 +78,31 @@ fn make_and_judge<S: Alter>(alloc: Global, conn: &mut Connection<S>) -> Result<b
     ensures { Loads (state S.Store conn.old) (state S.Store conn.new) result }
 {
     make(conn)?;
-    match judge(alloc, conn) {
+    match judge(alloc, conn, SchemaVersion::Schema2) {
         Ok(ours) => Ok(ours),
         Err(error) => Err(failed_after(error)),
+    }
+}
+
+/// Judges tables of schema 1, and then brings them into schema 2.
+fn judge_and_migrate<S: Alter>(alloc: Global, conn: &mut Connection<S>) -> Result<bool, OpenError>
+    requires taken { has_room (state S.Store conn.old).now.schema ≡ false }
+    requires first { version_in (state S.Store conn.old).now.schema ≡ Schema1 }
+    ensures { Loads (state S.Store conn.old) (state S.Store conn.new) result }
+{
+    let ours = judge(alloc, conn, SchemaVersion::Schema1)?;
+    migrate(conn)?;
+    Ok(ours)
+}
+
+/// Judges the tables that are there, and brings those of schema 1 into schema 2.
+fn load_kept<S: Alter>(alloc: Global, conn: &mut Connection<S>) -> Result<bool, OpenError>
+    requires { has_room (state S.Store conn.old).now.schema ≡ false }
+    ensures { Loads (state S.Store conn.old) (state S.Store conn.new) result }
+{
+    match version_in(conn.schema()) {
+        SchemaVersion::Schema1 => judge_and_migrate(alloc, conn),
+        SchemaVersion::Schema2 => judge(alloc, conn, SchemaVersion::Schema2),
     }
 }
 
@@ -82,26 +118,29 @@ fn load<S: Alter>(alloc: Global, conn: &mut Connection<S>) -> Result<bool, OpenE
     if has_room(conn.schema()) {
         make_and_judge(alloc, conn)
     } else {
-        judge(alloc, conn)
+        load_kept(alloc, conn)
     }
 }
 
 impl<S: Alter> SqlRecords<S> {
-    /// Opens the store of the connection as a keeper. Where none of a keeper's tables has its name taken they are made, in one transaction; else each
-    /// row is read and judged, a body at a time. A connection that is refused is handed back; its tables are as they were, unless the store failed. Where a
+    /// Opens the store of the connection as a keeper. Where none of a keeper's tables has its name
+    /// taken they are made, in one transaction; else each row is read and judged, a body at a time.
+    /// Then tables of schema 1 are brought into schema 2, in one transaction. A connection that is
+    /// refused is handed back; its tables are as they were, unless the store failed. Where a
     /// transaction is under way nothing is asked, and the answer is `Store`.
     pub fn open(
         alloc: Global,
         mut conn: Connection<S>,
     ) -> Result<SqlRecords<S>, (OpenError, Connection<S>)>
         ensures opens { Rests (state S.Store conn) → Opens S.Store (state S.Store conn) result }
+        ensures migrates { RestsIn first_schema (state S.Store conn) → Migrates S.Store (state S.Store conn) result }
         ensures makes { IsBlank (state S.Store conn) → Makes S.Store (state S.Store conn) result }
         ensures refused { IfErr result (λ e. IsRefusal e.0 → LeavesAlone (state S.Store conn) (state S.Store e.1)) }
         ensures busy { IsTrue (state S.Store conn).in_transaction → result ≡ Err (Store, conn) }
         ensures leaves { Survives (state S.Store conn) (state S.Store (held_in S.Store result)) (Leaves (state S.Store conn)) }
         ensures settled { IfOk result (Settles S.Store) }
         ensures sound { IfOk result (λ k. IsTrue k.ours → IsTrue (state S.Store k.conn).is_open → IsSound S.Store k) }
-        ensures stays { HasCleanDisk (state S.Store (held_in S.Store result)) → (Rests (state S.Store conn) ⊎ IsBlank (state S.Store conn)) → IfOk result (λ k. IsTrue (state S.Store k.conn).is_open) }
+        ensures stays { HasCleanDisk (state S.Store (held_in S.Store result)) → IsKnown (state S.Store conn) → IfOk result (λ k. IsTrue (state S.Store k.conn).is_open) }
     {
         match load(alloc, &mut conn) {
             Ok(ours) => Ok(SqlRecords::over(conn, ours)),

@@ -10,7 +10,7 @@ ghost use Rattle.xa_store.specs.Shown.{source_told};
 ghost use Rattle.xa_store.specs.Sound.{Ours};
 ghost use Rattle.xa_store.specs.World.{rows_of, state_at};
 
-use crate::shown::{number_in, shown, text_in};
+use crate::shown::{number_in, shown, text_if_any, text_in};
 use crate::told::{Told, all_told};
 use sqlite::types::ValueRef;
 use sqlite::{Alter, Connection, Row};
@@ -55,11 +55,13 @@ impl Told for SourceRow {
         let entity = text_in(row, 1)?;
         let attribute_id = text_in(row, 2)?;
         let value = value_in(alloc, row, 3, 4)?;
+        let issuer = text_if_any(row, 5)?;
         Ok(SourceRow {
             category,
             entity,
             attribute_id,
             value,
+            issuer,
         })
     }
 }
@@ -77,7 +79,7 @@ pub(crate) fn source_of<S: Alter>(
 {
     let rows = shown(
         conn,
-        "SELECT category, entity, attribute, value_type, value FROM attributes WHERE number = ?1 ORDER BY place",
+        "SELECT category, entity, attribute, value_type, value, issuer FROM sources WHERE number = ?1 ORDER BY place",
         &[ValueRef::Int(number)],
     )?;
     all_told(alloc, rows)

@@ -33,7 +33,7 @@ pub(crate) enum Step {
     AddRoot(i64, Reference),
     /// The root goes, if there is one.
     DropRoot(i64),
-    /// A row of the source, at a place that has none.
+    /// A row of the source, with its issuer, at a place that has none.
     AddAttribute(i64, i64, SourceRow),
     /// All rows of the source go.
     DropSource(i64),

@@ -21,7 +21,7 @@ use crate::domain_found::{DomainFound, domain_named};
 use crate::run::run;
 use crate::source::source_of;
 use crate::step::Step;
-use crate::text::bytes_are_utf8;
+use crate::text::{bytes_are_utf8, bytes_are_utf8_if_any};
 use sqlite::{Alter, Connection};
 use std::alloc::{AllocError, Global};
 use xa_decide::SourceRow;
@@ -54,6 +54,7 @@ fn check_row(alloc: Global, row: &SourceRow) -> Result<(), Failure>
     bytes_are_utf8(&row.category);
     bytes_are_utf8(&row.entity);
     bytes_are_utf8(&row.attribute_id);
+    bytes_are_utf8_if_any(&row.issuer);
     check_value(alloc, &row.value)
 }
 

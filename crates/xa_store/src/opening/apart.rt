@@ -2,10 +2,11 @@
 ghost use Rattle.std.specs.Prelude.{◌≢◌};
 ghost use Rattle.sqlite.specs.Held.{state};
 ghost use Rattle.xa_store.specs.Judging.{Begun, Ended, IsIdle, Tested};
-ghost use Rattle.xa_store.specs.Tables.{our_schema};
+ghost use Rattle.xa_store.specs.Opened.{schema_of};
 
 use super::loading::check;
 use super::refusing::failed;
+use super::schema_version::SchemaVersion;
 use crate::failure::failure_of;
 use crate::open_error::OpenError;
 use sqlite::{Alter, Connection};
@@ -34,17 +35,18 @@ fn end<S: Alter>(conn: &mut Connection<S>) -> Result<(), OpenError>
     }
 }
 
-/// Judges the tables. They aren't a keeper's alone.
+/// Judges the tables as those of that schema. They aren't these alone.
 pub(crate) fn check_apart<S: Alter>(
     alloc: Global,
     conn: &mut Connection<S>,
+    version: SchemaVersion,
 ) -> Result<bool, OpenError>
     requires quiet { IsIdle (state S.Store conn.old) }
-    requires other { (state S.Store conn.old).now.schema ≢ our_schema }
-    ensures { Tested (state S.Store conn.old) (state S.Store conn.new) result }
+    requires other { (state S.Store conn.old).now.schema ≢ schema_of version }
+    ensures { Tested version (state S.Store conn.old) (state S.Store conn.new) result }
 {
     begin(conn)?;
-    let checked = check(alloc, conn);
+    let checked = check(alloc, conn, version);
     end(conn)?;
     match checked {
         Ok(()) => Ok(false),

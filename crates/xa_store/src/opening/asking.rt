@@ -4,21 +4,21 @@ ghost use Rattle.sqlite.specs.Given.{IsPlain};
 ghost use Rattle.sqlite.specs.Held.{state};
 ghost use Rattle.sqlite.specs.Listing.{understood};
 ghost use Rattle.sqlite.specs.State.{HasCleanDisk, Shown};
+ghost use Rattle.xa_store.specs.declared.opening.schema_version.SchemaVersion.{SchemaVersion as Version};
 ghost use Rattle.xa_store.specs.Judging.{Asks};
+ghost use Rattle.xa_store.specs.Opened.{schema_of};
 ghost use Rattle.xa_store.specs.Opening.{IsFailure};
-ghost use Rattle.xa_store.specs.Sound.{Rests};
-ghost use Rattle.xa_store.specs.Tables.{our_schema};
+ghost use Rattle.xa_store.specs.Sound.{RestsIn};
 
 use super::refusing::refused;
 use crate::open_error::OpenError;
 use sqlite::{Alter, Connection, Row};
 
-/// All rows that a plain query of these tables shows.
+/// All rows that a query shows, of tables of a schema of which it is a plain one.
 pub(crate) fn rows_of<S: Alter>(conn: &mut Connection<S>, sql: &str) -> Result<Vec<Row>, OpenError>
-    requires { IsPlain (understood our_schema sql.now) }
-    ensures asks { Asks (state S.Store conn.old) (state S.Store conn.new) result }
+    ensures asks { (version : Version) → IsPlain (understood (schema_of version) sql.now) → Asks version (state S.Store conn.old) (state S.Store conn.new) result }
     ensures shows { HasCleanDisk (state S.Store conn.new) → IfOk result (λ rows. Shown sql.now [] (state S.Store conn.old) (state S.Store conn.new) rows.items) }
-    ensures fails { HasCleanDisk (state S.Store conn.new) → Rests (state S.Store conn.old) → IfErr result IsFailure }
+    ensures fails { HasCleanDisk (state S.Store conn.new) → (version : Version) → IsPlain (understood (schema_of version) sql.now) → RestsIn (schema_of version) (state S.Store conn.old) → IfErr result IsFailure }
 {
     match conn.query_all(sql, &[]) {
         Ok(rows) => Ok(rows),

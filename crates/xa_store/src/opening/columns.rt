@@ -126,6 +126,17 @@ pub(crate) fn holds_text(row: &Row, at: usize) -> bool
     }
 }
 
+/// Whether the column holds a text, or nothing.
+pub(crate) fn holds_text_if_any(row: &Row, at: usize) -> bool
+    ensures { result ≡ holds_text_if_any is_utf8 (column row.now at) }
+{
+    match row.get_ref(at) {
+        Ok(ValueRef::Text(bytes)) => is_text(bytes),
+        Ok(ValueRef::Null) | Err(_) => true,
+        _ => false,
+    }
+}
+
 /// Whether the column holds this text.
 pub(crate) fn holds_bytes(row: &Row, at: usize, wanted: &[u8]) -> bool
     ensures { result ≡ holds_text (bytes_eq wanted.now) (column row.now at) }

@@ -5,13 +5,14 @@ ghost use Rattle.xa_notation.specs.Document.{document_of};
 ghost use Rattle.xa_value.specs.Reading.{read};
 ghost use Rattle.xa_store.specs.Opened.{holds_blob, holds_int, holds_key, holds_text, holds_value, int_in, is_printed, is_sound_row, is_value, known_next, next_of, type_numbered};
 ghost use Rattle.xa_store.specs.Judging.{counts_on, place_told};
-ghost use Rattle.xa_store.specs.declared.opening.kind.Kind.TheVariants.{Attributes, Documents, Domains, Roots, Tokens};
+ghost use Rattle.xa_store.specs.declared.opening.kind.Kind.TheVariants.{Attributes, Documents, Domains, Roots, Sources, Tokens};
 
 use super::columns::{
     holds_bit, holds_bytes, holds_count, holds_digest, holds_given, holds_name, holds_number,
-    holds_pattern_if_any, holds_text, holds_version_if_any,
+    holds_pattern_if_any, holds_text, holds_text_if_any, holds_version_if_any,
 };
 use super::kind::Kind;
+use super::schema_version::SchemaVersion;
 use sqlite::Row;
 use sqlite::types::ValueRef;
 use std::alloc::{AllocError, Global};
@@ -152,7 +153,7 @@ fn holds_typed_value(alloc: Global, row: &Row) -> Result<bool, AllocError>
     }
 }
 
-/// Whether the row is one of a table of the rows of sources.
+/// Whether the row is one of a source in schema 1.
 fn is_attribute(alloc: Global, next: i64, row: &Row) -> Result<bool, AllocError>
     ensures { IfOk result (λ b. b ≡ is_sound_row Attributes next row.now) }
 {
@@ -161,6 +162,13 @@ fn is_attribute(alloc: Global, next: i64, row: &Row) -> Result<bool, AllocError>
     } else {
         Ok(false)
     }
+}
+
+/// Whether the row is one of a source in schema 2.
+fn is_source(alloc: Global, next: i64, row: &Row) -> Result<bool, AllocError>
+    ensures { IfOk result (λ b. b ≡ is_sound_row Sources next row.now) }
+{
+    Ok(is_attribute(alloc, next, row)? && holds_text_if_any(row, 8))
 }
 
 /// Whether the row is one of that table, where `next` is the number of the next domain.
@@ -178,6 +186,7 @@ pub(crate) fn is_sound_row(
         Kind::Documents => is_document(alloc, next, row),
         Kind::Roots => Ok(is_root(next, row)),
         Kind::Attributes => is_attribute(alloc, next, row),
+        Kind::Sources => is_source(alloc, next, row),
     }
 }
 
@@ -220,21 +229,21 @@ pub(crate) fn follows(last: (i64, i64), place: (i64, i64)) -> bool
     }
 }
 
-/// The number of the next domain, if the rows of the first table are one row of schema 1.
-pub(crate) fn known_next(rows: &[Row]) -> Option<i64>
-    ensures { result ≡ known_next rows.now }
+/// The number of the next domain, if the rows of the first table are one row of that schema.
+pub(crate) fn known_next(version: SchemaVersion, rows: &[Row]) -> Option<i64>
+    ensures { result ≡ known_next version rows.now }
 {
     match rows {
-        [row] => next_of(row),
+        [row] => next_of(version, row),
         _ => None,
     }
 }
 
-/// The number of the next domain, if the row is of schema 1.
-fn next_of(row: &Row) -> Option<i64>
-    ensures { result ≡ next_of row.now }
+/// The number of the next domain, if the row is of that schema.
+fn next_of(version: SchemaVersion, row: &Row) -> Option<i64>
+    ensures { result ≡ next_of version row.now }
 {
-    if !holds_number(row, 0, 1) || !holds_number(row, 1, 1) {
+    if !holds_number(row, 0, 1) || !holds_number(row, 1, version.number()) {
         return None;
     }
     number_at(row, 2)

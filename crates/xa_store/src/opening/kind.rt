@@ -13,8 +13,10 @@ pub(crate) enum Kind {
     Documents,
     /// Their roots.
     Roots,
-    /// The rows of their sources.
+    /// The rows of their sources in schema 1.
     Attributes,
+    /// The rows of their sources in schema 2.
+    Sources,
 }
 
 impl Kind {
@@ -33,6 +35,9 @@ impl Kind {
             }
             Kind::Attributes => {
                 "SELECT rowid, number, place, category, entity, attribute, value_type, value FROM attributes ORDER BY rowid"
+            }
+            Kind::Sources => {
+                "SELECT rowid, number, place, category, entity, attribute, value_type, value, issuer FROM sources ORDER BY rowid"
             }
         }
     }
@@ -58,6 +63,9 @@ impl Kind {
             }
             Kind::Attributes => {
                 "WITH s(n) AS (SELECT rowid FROM attributes ORDER BY rowid) SELECT 1 WHERE (SELECT group_concat(rowid) FROM attributes) IS NOT (SELECT group_concat(n) FROM s)"
+            }
+            Kind::Sources => {
+                "WITH s(n) AS (SELECT rowid FROM sources ORDER BY rowid) SELECT 1 WHERE (SELECT group_concat(rowid) FROM sources) IS NOT (SELECT group_concat(n) FROM s)"
             }
         }
     }

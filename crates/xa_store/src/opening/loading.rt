@@ -1,29 +1,30 @@
 //! Judging the tables.
-ghost use Rattle.std.specs.Prelude.{◌≡◌, ◌&&◌, [], ◌∷◌, map};
+ghost use Rattle.std.specs.Prelude.{◌≡◌, ◌&&◌, map, IsTrue};
 ghost use Rattle.std.specs.List.{list_all};
 ghost use Rattle.sqlite.specs.Effect.{IsDatabase};
 ghost use Rattle.sqlite.specs.Held.{state};
 ghost use Rattle.sqlite.specs.State.{HasCleanDisk};
-ghost use Rattle.xa_store.specs.Judging.{Asks, Checked, GivesNext, Judged, Judges, Orders, counts, no_place};
-ghost use Rattle.xa_store.specs.Opened.{are_counted, is_sound, is_sound_table, known_next, place_in, read_meta};
-ghost use Rattle.xa_store.specs.declared.opening.kind.Kind.TheVariants.{Attributes, Documents, Domains, Roots, Tokens};
-ghost use Rattle.xa_store.specs.Rows.{attribute_in, attribute_row};
-ghost use Rattle.xa_store.specs.Sound.{AreRows, Rests, same_place};
+ghost use Rattle.xa_store.specs.Judging.{AreSources, Asks, Checked, FindsRest, GivesNext, Judged, Judges, Orders, counts, has_kind, no_place};
+ghost use Rattle.xa_store.specs.Opened.{are_counted, is_left_empty, is_sound, is_sound_table, kinds_in, known_next, place_in, read_meta, schema_of, sources_in, tree_of};
+ghost use Rattle.xa_store.specs.declared.opening.kind.Kind.TheVariants.{Documents, Domains, Roots, Tokens};
+ghost use Rattle.xa_store.specs.declared.opening.schema_version.SchemaVersion.{SchemaVersion as Version};
+ghost use Rattle.xa_store.specs.declared.opening.schema_version.SchemaVersion.TheVariants.{Schema2};
+ghost use Rattle.xa_store.specs.Sound.{RestsIn};
 
 use super::asking::rows_of;
 use super::columns::is_count;
 use super::judging::{follows, known_next, place_of};
 use super::kind::Kind;
+use super::schema_version::{Known, SchemaVersion};
 use super::walking::walk;
 use crate::open_error::OpenError;
 use sqlite::{Alter, Connection, Row};
 use std::alloc::Global;
 
-/// Judges whether the table has its rows in the order of their numbers.
-#[tactic(auto, using(crate::proofs::RisingTexts::order_plain))]
+/// Judges whether the table has its rows in the order of their numbers, of tables of a schema that has it.
 fn judge_order<S: Alter>(conn: &mut Connection<S>, kind: Kind) -> Result<(), OpenError>
-    ensures asks { Asks (state S.Store conn.old) (state S.Store conn.new) result }
-    ensures finds { HasCleanDisk (state S.Store conn.new) → Rests (state S.Store conn.old) → Orders kind (state S.Store conn.old).now.trees result }
+    ensures asks { (version : Version) → IsTrue (has_kind kind version) → Asks version (state S.Store conn.old) (state S.Store conn.new) result }
+    ensures finds { HasCleanDisk (state S.Store conn.new) → (version : Version) → IsTrue (has_kind kind version) → RestsIn (schema_of version) (state S.Store conn.old) → Orders kind (state S.Store conn.old).now.trees result }
 {
     let rows = rows_of(conn, kind.order_text())?;
     if rows.is_empty() {
@@ -39,11 +40,12 @@ fn judge_table<S: Alter>(
     alloc: Global,
     conn: &mut Connection<S>,
     kind: Kind,
-    next: i64,
+    known: Known,
 ) -> Result<(), OpenError>
-    ensures { Judged (λ db. is_sound_table db next kind) (state S.Store conn.old) (state S.Store conn.new) result }
+    requires { IsTrue (has_kind kind known.version) }
+    ensures { Judged known.version (λ db. is_sound_table db known.next kind) (state S.Store conn.old) (state S.Store conn.new) result }
 {
-    walk(alloc, conn, kind, next)?;
+    walk(alloc, conn, kind, known)?;
     judge_order(conn, kind)
 }
 
@@ -53,32 +55,39 @@ fn judge_two<S: Alter>(
     conn: &mut Connection<S>,
     first: Kind,
     second: Kind,
-    next: i64,
+    known: Known,
 ) -> Result<(), OpenError>
-    ensures { Judged (λ db. is_sound_table db next first && is_sound_table db next second) (state S.Store conn.old) (state S.Store conn.new) result }
+    requires first { IsTrue (has_kind first known.version) }
+    requires second { IsTrue (has_kind second known.version) }
+    ensures { Judged known.version (λ db. is_sound_table db known.next first && is_sound_table db known.next second) (state S.Store conn.old) (state S.Store conn.new) result }
 {
-    judge_table(alloc, conn, first, next)?;
-    judge_table(alloc, conn, second, next)
+    judge_table(alloc, conn, first, known)?;
+    judge_table(alloc, conn, second, known)
 }
 
-/// Judges all tables but that of the rows of sources and the first.
-fn judge_four<S: Alter>(alloc: Global, conn: &mut Connection<S>, next: i64) -> Result<(), OpenError>
-    ensures { Judged (λ db. (is_sound_table db next Domains && is_sound_table db next Tokens) && (is_sound_table db next Documents && is_sound_table db next Roots)) (state S.Store conn.old) (state S.Store conn.new) result }
+/// Judges all tables but those of the rows of sources and the first.
+fn judge_four<S: Alter>(
+    alloc: Global,
+    conn: &mut Connection<S>,
+    known: Known,
+) -> Result<(), OpenError>
+    ensures { Judged known.version (λ db. (is_sound_table db known.next Domains && is_sound_table db known.next Tokens) && (is_sound_table db known.next Documents && is_sound_table db known.next Roots)) (state S.Store conn.old) (state S.Store conn.new) result }
 {
-    judge_two(alloc, conn, Kind::Domains, Kind::Tokens, next)?;
-    judge_two(alloc, conn, Kind::Documents, Kind::Roots, next)
+    judge_two(alloc, conn, Kind::Domains, Kind::Tokens, known)?;
+    judge_two(alloc, conn, Kind::Documents, Kind::Roots, known)
 }
 
-/// Judges all tables but the first, where `next` is the number of the next domain.
+/// Judges all tables that have rows, but the first.
+#[tactic(auto, using(crate::proofs::LoadLemmas::has_sources))]
 fn judge_tables<S: Alter>(
     alloc: Global,
     conn: &mut Connection<S>,
-    next: i64,
+    known: Known,
 ) -> Result<(), OpenError>
-    ensures { Judged (λ db. list_all (is_sound_table db next) (Domains ∷ Tokens ∷ Documents ∷ Roots ∷ Attributes ∷ [])) (state S.Store conn.old) (state S.Store conn.new) result }
+    ensures { Judged known.version (λ db. list_all (is_sound_table db known.next) (kinds_in known.version)) (state S.Store conn.old) (state S.Store conn.new) result }
 {
-    judge_four(alloc, conn, next)?;
-    judge_table(alloc, conn, Kind::Attributes, next)
+    judge_four(alloc, conn, known)?;
+    judge_table(alloc, conn, known.version.sources(), known)
 }
 
 /// Whether each place comes after the one before.
@@ -96,15 +105,11 @@ fn are_places(rows: &[Row]) -> bool
 }
 
 /// Judges the places of the rows of sources.
-#[tactic(auto, using(crate::proofs::PlaceLemmas::places_plain))]
-fn judge_places<S: Alter>(conn: &mut Connection<S>) -> Result<(), OpenError>
-    ensures asks { Asks (state S.Store conn.old) (state S.Store conn.new) result }
-    ensures finds { HasCleanDisk (state S.Store conn.new) → Rests (state S.Store conn.old) → AreRows attribute_row attribute_in (λ a. a.rowid) same_place ((state S.Store conn.old).now.trees 8) → Judges (are_counted (map place_in ((state S.Store conn.old).now.trees 8))) result }
+fn judge_places<S: Alter>(conn: &mut Connection<S>, version: SchemaVersion) -> Result<(), OpenError>
+    ensures asks { Asks version (state S.Store conn.old) (state S.Store conn.new) result }
+    ensures finds { HasCleanDisk (state S.Store conn.new) → RestsIn (schema_of version) (state S.Store conn.old) → AreSources version (state S.Store conn.old).now.trees → Judges (are_counted (map place_in ((state S.Store conn.old).now.trees (tree_of (sources_in version))))) result }
 {
-    let rows = rows_of(
-        conn,
-        "SELECT number, place FROM attributes ORDER BY number, place",
-    )?;
+    let rows = rows_of(conn, version.places_text())?;
     if are_places(rows.as_slice()) {
         Ok(())
     } else {
@@ -112,39 +117,82 @@ fn judge_places<S: Alter>(conn: &mut Connection<S>) -> Result<(), OpenError>
     }
 }
 
-/// Judges all tables but the first, and the places, where `next` is the number of the next domain.
-fn judge_all<S: Alter>(alloc: Global, conn: &mut Connection<S>, next: i64) -> Result<(), OpenError>
-    ensures asks { Asks (state S.Store conn.old) (state S.Store conn.new) result }
-    ensures finds { HasCleanDisk (state S.Store conn.new) → Rests (state S.Store conn.old) → IsDatabase (state S.Store conn.old).now → Judges (is_sound (state S.Store conn.old).now.trees next) result }
+/// Judges whether the table `attributes` has no row, of tables of schema 2.
+fn judge_attributes<S: Alter>(conn: &mut Connection<S>) -> Result<(), OpenError>
+    ensures { Judged Schema2 (λ db. is_left_empty Schema2 db) (state S.Store conn.old) (state S.Store conn.new) result }
 {
-    if !is_count(next) {
-        return Err(OpenError::Damaged);
+    let rows = rows_of(conn, SchemaVersion::Schema1.places_text())?;
+    if rows.is_empty() {
+        Ok(())
+    } else {
+        Err(OpenError::Damaged)
     }
-    judge_tables(alloc, conn, next)?;
-    judge_places(conn)
 }
 
-/// The number of the next domain, in the one row of the first table.
-#[tactic(auto, using(crate::proofs::PlaceLemmas::meta_plain))]
-fn look<S: Alter>(conn: &mut Connection<S>) -> Result<i64, OpenError>
-    ensures asks { Asks (state S.Store conn.old) (state S.Store conn.new) result }
-    ensures finds { HasCleanDisk (state S.Store conn.new) → Rests (state S.Store conn.old) → GivesNext (known_next (map read_meta ((state S.Store conn.old).now.trees 0))) result }
+/// Judges the places of the rows of sources in schema 2, and whether none of these stands in `attributes`.
+fn judge_second_sources<S: Alter>(conn: &mut Connection<S>) -> Result<(), OpenError>
+    ensures asks { Asks Schema2 (state S.Store conn.old) (state S.Store conn.new) result }
+    ensures finds { FindsRest Schema2 (state S.Store conn.old) (state S.Store conn.new) result }
+{
+    judge_places(conn, SchemaVersion::Schema2)?;
+    judge_attributes(conn)
+}
+
+/// Judges the places of the rows of sources, and whether none of these stands where the schema has none.
+fn judge_sources<S: Alter>(
+    conn: &mut Connection<S>,
+    version: SchemaVersion,
+) -> Result<(), OpenError>
+    ensures asks { Asks version (state S.Store conn.old) (state S.Store conn.new) result }
+    ensures finds { FindsRest version (state S.Store conn.old) (state S.Store conn.new) result }
+{
+    match version {
+        SchemaVersion::Schema1 => judge_places(conn, version),
+        SchemaVersion::Schema2 => judge_second_sources(conn),
+    }
+}
+
+/// Judges all tables but the first, and the places.
+fn judge_all<S: Alter>(
+    alloc: Global,
+    conn: &mut Connection<S>,
+    known: Known,
+) -> Result<(), OpenError>
+    ensures asks { Asks known.version (state S.Store conn.old) (state S.Store conn.new) result }
+    ensures finds { HasCleanDisk (state S.Store conn.new) → RestsIn (schema_of known.version) (state S.Store conn.old) → IsDatabase (state S.Store conn.old).now → Judges (is_sound known.version (state S.Store conn.old).now.trees known.next) result }
+{
+    if !is_count(known.next) {
+        return Err(OpenError::Damaged);
+    }
+    judge_tables(alloc, conn, known)?;
+    judge_sources(conn, known.version)
+}
+
+/// The number of the next domain, in the one row of the first table, which has to have the number of
+/// that schema.
+fn look<S: Alter>(conn: &mut Connection<S>, version: SchemaVersion) -> Result<i64, OpenError>
+    ensures asks { Asks version (state S.Store conn.old) (state S.Store conn.new) result }
+    ensures finds { HasCleanDisk (state S.Store conn.new) → RestsIn (schema_of version) (state S.Store conn.old) → GivesNext (known_next version (map read_meta ((state S.Store conn.old).now.trees 0))) result }
 {
     let rows = rows_of(
         conn,
         "SELECT id, schema_no, next_number FROM meta ORDER BY id",
     )?;
-    match known_next(rows.as_slice()) {
+    match known_next(version, rows.as_slice()) {
         Some(next) => Ok(next),
         None => Err(OpenError::NotThisSchema),
     }
 }
 
-/// Judges the tables.
-pub(crate) fn check<S: Alter>(alloc: Global, conn: &mut Connection<S>) -> Result<(), OpenError>
-    ensures { Checked (state S.Store conn.old) (state S.Store conn.new) result }
+/// Judges the tables, as those of that schema.
+pub(crate) fn check<S: Alter>(
+    alloc: Global,
+    conn: &mut Connection<S>,
+    version: SchemaVersion,
+) -> Result<(), OpenError>
+    ensures { Checked version (state S.Store conn.old) (state S.Store conn.new) result }
 {
     let _schema = conn.schema();
-    let next = look(conn)?;
-    judge_all(alloc, conn, next)
+    let next = look(conn, version)?;
+    judge_all(alloc, conn, Known { version, next })
 }

@@ -1,11 +1,13 @@
 //! Whether the schema of a connection is that of a keeper: its tables and no others.
 ghost use Rattle.std.specs.Prelude.{◌≡◌, ◌↔◌, false, [], ◌∷◌, None, Some, IsTrue, codes};
-ghost use Rattle.xa_store.specs.Opening.{has_room, is_free};
-ghost use Rattle.xa_store.specs.Tables.{attributes, domains, index_of, meta, of_domain, our_indexes, our_schema, policies, rising, roots, tokens};
+ghost use Rattle.xa_store.specs.Opened.{schema_of};
+ghost use Rattle.xa_store.specs.Opening.{has_room, is_free, version_in};
+ghost use Rattle.xa_store.specs.Tables.{attributes, domains, first_indexes, first_schema, index_of, meta, of_domain, our_indexes, our_schema, policies, rising, roots, sources, tokens};
 
+use super::schema_version::SchemaVersion;
 use super::table_columns::{
     are_attribute_columns, are_domain_columns, are_meta_columns, are_policy_columns,
-    are_root_columns, are_token_columns,
+    are_root_columns, are_source_columns, are_token_columns,
 };
 use sqlite_items::Items;
 use sqlite_schema::schema::{Action, Index, Reference, Schema, Stamps, Table};
@@ -206,17 +208,47 @@ fn is_attributes(table: &Table) -> bool
         && is_of_domains(table, &[1, 2])
 }
 
+fn is_sources(table: &Table) -> bool
+    ensures { IsTrue result ↔ (table.now ≡ sources) }
+{
+    is_plain(table, "sources", 10)
+        && are_source_columns(table.columns.as_slice())
+        && is_of_domains(table, &[1, 2])
+}
+
+/// Whether they are the tables of the first row, of domains and of their tokens.
+fn are_front(first: &Table, second: &Table, third: &Table) -> bool
+    ensures { IsTrue result ↔ ((first.now ≡ meta) × (second.now ≡ domains) × (third.now ≡ tokens)) }
+{
+    is_meta(first) && is_domains(second) && is_tokens(third)
+}
+
+/// Whether they are the tables of documents, of roots and of the rows of sources in schema 1.
+fn are_back(first: &Table, second: &Table, third: &Table) -> bool
+    ensures { IsTrue result ↔ ((first.now ≡ policies) × (second.now ≡ roots) × (third.now ≡ attributes)) }
+{
+    is_policies(first) && is_roots(second) && is_attributes(third)
+}
+
+fn are_first_tables(all: &[Table]) -> bool
+    ensures { IsTrue result ↔ (all.now ≡ first_schema.tables) }
+{
+    match all {
+        [meta, domains, tokens, policies, roots, attributes] => {
+            are_front(meta, domains, tokens) && are_back(policies, roots, attributes)
+        }
+        _ => false,
+    }
+}
+
 fn are_our_tables(all: &[Table]) -> bool
     ensures { IsTrue result ↔ (all.now ≡ our_schema.tables) }
 {
     match all {
-        [meta, domains, tokens, policies, roots, attributes] => {
-            is_meta(meta)
-                && is_domains(domains)
-                && is_tokens(tokens)
-                && is_policies(policies)
-                && is_roots(roots)
-                && is_attributes(attributes)
+        [meta, domains, tokens, policies, roots, attributes, sources] => {
+            are_front(meta, domains, tokens)
+                && are_back(policies, roots, attributes)
+                && is_sources(sources)
         }
         _ => false,
     }
@@ -235,30 +267,52 @@ fn is_index(index: &Index, name: &str, tree: u32, table: u32, columns: &[usize])
 }
 
 /// Whether they are the indexes of the domains' names and of the tokens' digests.
-fn are_first_indexes(names: &Index, digests: &Index) -> bool
+fn are_front_indexes(names: &Index, digests: &Index) -> bool
     ensures { IsTrue result ↔ ((names.now ≡ index_of (codes "sqlite_autoindex_domains_1") 2 1 (2 ∷ [])) × (digests.now ≡ index_of (codes "sqlite_autoindex_tokens_1") 4 3 (1 ∷ 2 ∷ []))) }
 {
     is_index(names, "sqlite_autoindex_domains_1", 2, 1, &[2])
         && is_index(digests, "sqlite_autoindex_tokens_1", 4, 3, &[1, 2])
 }
 
-/// Whether they are the indexes of the documents' keys and of the places in sources.
-fn are_last_indexes(keys: &Index, places: &Index) -> bool
+/// Whether they are the indexes of the documents' keys and of the places in sources of schema 1.
+fn are_back_indexes(keys: &Index, places: &Index) -> bool
     ensures { IsTrue result ↔ ((keys.now ≡ index_of (codes "sqlite_autoindex_policies_1") 6 5 (1 ∷ 2 ∷ 3 ∷ 4 ∷ [])) × (places.now ≡ index_of (codes "sqlite_autoindex_attributes_1") 9 8 (1 ∷ 2 ∷ []))) }
 {
     is_index(keys, "sqlite_autoindex_policies_1", 6, 5, &[1, 2, 3, 4])
         && is_index(places, "sqlite_autoindex_attributes_1", 9, 8, &[1, 2])
 }
 
+fn are_first_indexes(all: &[Index]) -> bool
+    ensures { IsTrue result ↔ (all.now ≡ first_indexes) }
+{
+    match all {
+        [names, digests, keys, places] => {
+            are_front_indexes(names, digests) && are_back_indexes(keys, places)
+        }
+        _ => false,
+    }
+}
+
 fn are_our_indexes(all: &[Index]) -> bool
     ensures { IsTrue result ↔ (all.now ≡ our_indexes) }
 {
     match all {
-        [names, digests, keys, places] => {
-            are_first_indexes(names, digests) && are_last_indexes(keys, places)
+        [names, digests, keys, places, sources] => {
+            are_front_indexes(names, digests)
+                && are_back_indexes(keys, places)
+                && is_index(sources, "sqlite_autoindex_sources_1", 11, 10, &[1, 2])
         }
         _ => false,
     }
+}
+
+/// Whether the schema has the tables of schema 1 and nothing else.
+fn is_first(schema: &Schema) -> bool
+    ensures { IsTrue result ↔ (schema.now ≡ first_schema) }
+{
+    are_first_tables(schema.tables.as_slice())
+        && are_first_indexes(schema.indexes.as_slice())
+        && schema.views.is_empty()
 }
 
 /// Whether the schema has the tables of a keeper and nothing else.
@@ -268,6 +322,16 @@ pub(crate) fn is_ours(schema: &Schema) -> bool
     are_our_tables(schema.tables.as_slice())
         && are_our_indexes(schema.indexes.as_slice())
         && schema.views.is_empty()
+}
+
+/// Whether it is that schema, and nothing else is in it.
+pub(crate) fn is_of(version: SchemaVersion, schema: &Schema) -> bool
+    ensures { IsTrue result ↔ (schema.now ≡ schema_of version) }
+{
+    match version {
+        SchemaVersion::Schema1 => is_first(schema),
+        SchemaVersion::Schema2 => is_ours(schema),
+    }
 }
 
 /// Whether no table, index or view has that name. Names that differ in the case of letters alone are one.
@@ -290,4 +354,16 @@ pub(crate) fn has_room(schema: &Schema) -> bool
         && is_free(schema, "policies")
         && is_free(schema, "roots")
         && is_free(schema, "attributes")
+        && is_free(schema, "sources")
+}
+
+/// Which schema it is, if it has a keeper's tables.
+pub(crate) fn version_in(schema: &Schema) -> SchemaVersion
+    ensures { result ≡ version_in schema.now }
+{
+    if is_free(schema, "sources") {
+        SchemaVersion::Schema1
+    } else {
+        SchemaVersion::Schema2
+    }
 }

@@ -15,7 +15,7 @@ use xa_records::Failure;
 
 /// A part of what is made.
 #[derive(Clone, Copy, Debug)]
-enum Part {
+pub(super) enum Part {
     /// The table of the schema's number and the next domain's.
     Meta,
     /// The table of domains.
@@ -26,15 +26,17 @@ enum Part {
     Policies,
     /// The table of their roots.
     Roots,
-    /// The table of the rows of their sources.
+    /// The table of the rows of their sources in schema 1, which stays empty.
     Attributes,
+    /// The table of the rows of their sources.
+    Sources,
     /// The one row of the first table.
     FirstRow,
 }
 
 impl Part {
     /// The statement that makes it.
-    fn text(self) -> &'static str
+    pub(super) fn text(self) -> &'static str
         ensures { result.now ≡ text_of self }
     {
         match self {
@@ -50,7 +52,9 @@ impl Part {
                 "CREATE TABLE roots (number INTEGER PRIMARY KEY REFERENCES domains (number) ON DELETE CASCADE, kind INTEGER NOT NULL, id TEXT NOT NULL, pattern TEXT, earliest TEXT, latest TEXT) STRICT",
             Part::Attributes =>
                 "CREATE TABLE attributes (number INTEGER NOT NULL REFERENCES domains (number) ON DELETE CASCADE, place INTEGER NOT NULL, category TEXT NOT NULL, entity TEXT NOT NULL, attribute TEXT NOT NULL, value_type INTEGER NOT NULL, value TEXT NOT NULL, PRIMARY KEY (number, place)) STRICT",
-            Part::FirstRow => "INSERT INTO meta (id, schema_no, next_number) VALUES (1, 1, 1)",
+            Part::Sources =>
+                "CREATE TABLE sources (number INTEGER NOT NULL REFERENCES domains (number) ON DELETE CASCADE, place INTEGER NOT NULL, category TEXT NOT NULL, entity TEXT NOT NULL, attribute TEXT NOT NULL, value_type INTEGER NOT NULL, value TEXT NOT NULL, issuer TEXT, PRIMARY KEY (number, place)) STRICT",
+            Part::FirstRow => "INSERT INTO meta (id, schema_no, next_number) VALUES (1, 2, 1)",
         }
     }
 }
@@ -90,6 +94,7 @@ fn take_back<S: Alter>(tx: &mut Transaction<'_, S>) -> Result<(), Failure>
 {
     take(tx, Part::Roots)?;
     take(tx, Part::Attributes)?;
+    take(tx, Part::Sources)?;
     take(tx, Part::FirstRow)
 }
 

@@ -1,8 +1,8 @@
 //! Whether the columns of a table are those that it has in a keeper's store.
-ghost use Rattle.std.specs.Prelude.{◌≡◌, ◌↔◌, true, IsTrue, codes};
+ghost use Rattle.std.specs.Prelude.{◌≡◌, ◌↔◌, ◌∷◌, [], true, IsTrue, codes};
 ghost use Rattle.sqlite.specs.Collation.TheVariants.{Binary};
 ghost use Rattle.sqlite.specs.declared.types.Value.TheVariants.{Null};
-ghost use Rattle.xa_store.specs.Tables.{attributes, domains, meta, needed, policies, roots, tokens};
+ghost use Rattle.xa_store.specs.Tables.{attributes, domains, meta, needed, policies, roots, sources, text_if_any, tokens};
 
 use sqlite_schema::schema::{Column, Kind};
 use sqlite_value::keys::Collation;
@@ -127,6 +127,24 @@ fn are_value_columns(value_type: &Column, value: &Column) -> bool
         && is_column(value, "value", Kind::Text, true)
 }
 
+/// Whether they are the columns of a value and of its issuer.
+fn are_issued_value_columns(value_type: &Column, value: &Column, issuer: &Column) -> bool
+    ensures { IsTrue result ↔ ((value_type.now ≡ needed (codes "value_type") Kind.Integer) × (value.now ≡ needed (codes "value") Kind.Text)
+        × (issuer.now ≡ text_if_any (codes "issuer"))) }
+{
+    is_column(value_type, "value_type", Kind::Integer, true)
+        && is_column(value, "value", Kind::Text, true)
+        && is_column(issuer, "issuer", Kind::Text, false)
+}
+
+/// Whether they are the columns of a row's domain and place.
+fn are_place_columns(number: &Column, place: &Column) -> bool
+    ensures { IsTrue result ↔ ((number.now ≡ needed (codes "number") Kind.Integer) × (place.now ≡ needed (codes "place") Kind.Integer)) }
+{
+    is_column(number, "number", Kind::Integer, true)
+        && is_column(place, "place", Kind::Integer, true)
+}
+
 /// Whether they are the columns of the table `attributes`.
 pub(crate) fn are_attribute_columns(columns: &[Column]) -> bool
     ensures { IsTrue result ↔ (columns.now ≡ attributes.columns) }
@@ -141,10 +159,35 @@ pub(crate) fn are_attribute_columns(columns: &[Column]) -> bool
             value_type,
             value,
         ] => {
-            is_column(number, "number", Kind::Integer, true)
-                && is_column(place, "place", Kind::Integer, true)
+            are_place_columns(number, place)
                 && are_name_columns(category, entity, attribute)
                 && are_value_columns(value_type, value)
+        }
+        _ => false,
+    }
+}
+
+/// Whether they are the columns that name an attribute, and those of a value and of its issuer.
+fn are_described_columns(columns: &[Column]) -> bool
+    ensures { IsTrue result ↔ (columns.now ≡ needed (codes "category") Kind.Text ∷ needed (codes "entity") Kind.Text ∷ needed (codes "attribute") Kind.Text
+        ∷ needed (codes "value_type") Kind.Integer ∷ needed (codes "value") Kind.Text ∷ text_if_any (codes "issuer") ∷ []) }
+{
+    match columns {
+        [category, entity, attribute, value_type, value, issuer] => {
+            are_name_columns(category, entity, attribute)
+                && are_issued_value_columns(value_type, value, issuer)
+        }
+        _ => false,
+    }
+}
+
+/// Whether they are the columns of the table `sources`.
+pub(crate) fn are_source_columns(columns: &[Column]) -> bool
+    ensures { IsTrue result ↔ (columns.now ≡ sources.columns) }
+{
+    match columns {
+        [number, place, others @ ..] => {
+            are_place_columns(number, place) && are_described_columns(others)
         }
         _ => false,
     }

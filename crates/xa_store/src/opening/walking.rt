@@ -1,14 +1,15 @@
 //! Reading a table row by row, so that one body at a time is in memory.
-ghost use Rattle.std.specs.Prelude.{◌≡◌, ◌⊎◌, ℕ, List, [], OnOk};
+ghost use Rattle.std.specs.Prelude.{◌≡◌, ◌⊎◌, ℕ, List, [], IsTrue, OnOk};
 ghost use Rattle.sqlite.specs.Given.{HasGiven, row_if};
 ghost use Rattle.sqlite.specs.Held.{state};
 ghost use Rattle.sqlite.specs.Order.{Row as SqlRow};
 ghost use Rattle.sqlite.specs.State.{HasCleanDisk, IsRolledBack, IsUnchanged, Survives};
-ghost use Rattle.xa_store.specs.Judging.{Moves, TellsNext, TellsNumber, Walked, comes_after};
+ghost use Rattle.xa_store.specs.Judging.{Moves, TellsNext, TellsNumber, Walked, comes_after, has_kind};
 
 use super::judging::{is_sound_row, row_number};
 use super::kind::Kind;
 use super::refusing::refused;
+use super::schema_version::Known;
 use crate::open_error::OpenError;
 use sqlite::{Alter, Connection, Row, Rows};
 use std::alloc::Global;
@@ -84,14 +85,15 @@ pub(crate) fn walk<S: Alter>(
     alloc: Global,
     conn: &mut Connection<S>,
     kind: Kind,
-    next: i64,
+    known: Known,
 ) -> Result<(), OpenError>
-    ensures { Walked kind next (state S.Store conn.old) (state S.Store conn.new) result }
+    requires { IsTrue (has_kind kind known.version) }
+    ensures { Walked known.version kind known.next (state S.Store conn.old) (state S.Store conn.new) result }
 {
     let mut last = None;
     let mut rows = conn.query(kind.text(), &[])?;
     'rows: for _ in 0..u64::MAX {
-        match next_number(alloc, kind, next, last, &mut rows)? {
+        match next_number(alloc, kind, known.next, last, &mut rows)? {
             Some(number) => last = Some(number),
             None => return Ok(()),
         }

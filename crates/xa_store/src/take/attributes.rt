@@ -9,6 +9,7 @@ ghost use Rattle.xa_store.specs.Taking.{IsInside, Took};
 ghost use Rattle.xa_store.specs.World.{rows_of};
 
 use crate::take::execute_in;
+use crate::take::roots::text_or_null;
 use sqlite::types::ValueRef;
 use sqlite::{Alter, Transaction};
 use std::alloc::Global;
@@ -40,7 +41,7 @@ pub(crate) fn add_attribute<S: Alter>(
     let value = row.value.to_text(alloc)?;
     execute_in(
         tx,
-        "INSERT INTO attributes (number, place, category, entity, attribute, value_type, value) VALUES (?1, ?2, ?3, ?4, ?5, ?6, ?7)",
+        "INSERT INTO sources (number, place, category, entity, attribute, value_type, value, issuer) VALUES (?1, ?2, ?3, ?4, ?5, ?6, ?7, ?8)",
         &[
             ValueRef::Int(number),
             ValueRef::Int(place),
@@ -49,6 +50,7 @@ pub(crate) fn add_attribute<S: Alter>(
             ValueRef::Text(row.attribute_id.as_bytes()),
             ValueRef::Int(number_of_type(&row.value)),
             ValueRef::Text(value.as_bytes()),
+            text_or_null(&row.issuer),
         ],
     )
 }
@@ -63,7 +65,7 @@ pub(crate) fn drop_source<S: Alter>(tx: &mut Transaction<'_, S>, number: i64) ->
 {
     execute_in(
         tx,
-        "DELETE FROM attributes WHERE number = ?1",
+        "DELETE FROM sources WHERE number = ?1",
         &[ValueRef::Int(number)],
     )
 }

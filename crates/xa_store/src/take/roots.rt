@@ -40,7 +40,7 @@ fn text_of_version(alloc: Global, version: &Option<Version>) -> Result<Option<Te
 }
 
 /// The text as a column holds it.
-fn text_or_null<'a>(text: &'a Option<Text>) -> ValueRef<'a>
+pub(crate) fn text_or_null<'a>(text: &'a Option<Text>) -> ValueRef<'a>
     ensures { bound_value (owned result) ≡ text_column text.now }
 {
     match text {

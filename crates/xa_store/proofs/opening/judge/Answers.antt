@@ -4,7 +4,7 @@ use Rattle.xa_store.proofs.OpenLemmas.{not_tested}
 use Rattle.xa_store.proofs.opening.judge.Goals as goal
 
 pub returns-then-not-is_autocommit : goal.returns-then-not-is_autocommit
-returns-then-not-is_autocommit g c = not_tested (state g.S.Store c.args.conn.now)
+returns-then-not-is_autocommit g c = not_tested c.args.version (state g.S.Store c.args.conn.now)
 
 pub check_ours-requires-clause-quiet : goal.check_ours-requires-clause-quiet
 check_ours-requires-clause-quiet g c =
@@ -13,7 +13,7 @@ check_ours-requires-clause-quiet g c =
     record { idle = idle; settled = settled }
 
 pub check_ours-requires-clause-ours : goal.check_ours-requires-clause-ours
-check_ours-requires-clause-ours g c = sym c.schema.ensures.value ∙ c.is_ours.ensures.0 c.if-is_ours.true
+check_ours-requires-clause-ours g c = sym c.schema.ensures.value ∙ c.is_of.ensures.0 c.if-is_of.true
 
 pub check_apart-requires-clause-quiet : goal.check_apart-requires-clause-quiet
 check_apart-requires-clause-quiet g c =
@@ -22,4 +22,4 @@ check_apart-requires-clause-quiet g c =
     record { idle = idle; settled = settled }
 
 pub check_apart-requires-clause-other : goal.check_apart-requires-clause-other
-check_apart-requires-clause-other g c = λ same. absurd (let is = c.is_ours.ensures.1 (c.schema.ensures.value ∙ same) in cc)
+check_apart-requires-clause-other g c = λ same. absurd (let is = c.is_of.ensures.1 (c.schema.ensures.value ∙ same) in cc)

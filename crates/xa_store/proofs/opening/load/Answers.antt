@@ -1,7 +1,7 @@
 use Rattle.std.proofs.Common.{sym, ap, ◌∙◌}
 use Rattle.sqlite.specs.Held.{state}
 use Rattle.xa_store.specs.Opening.{has_room}
-use Rattle.xa_store.proofs.OpenLemmas.{busy_loads, tested_loads}
+use Rattle.xa_store.proofs.OpenLemmas.{busy_loads}
 use Rattle.xa_store.proofs.opening.load.Goals as goal
 
 pub returns-then-is_busy-clause-loads : goal.returns-then-is_busy-clause-loads
@@ -10,6 +10,5 @@ returns-then-is_busy-clause-loads g c = busy_loads (state g.S.Store c.args.conn.
 pub make_and_judge-requires : goal.make_and_judge-requires
 make_and_judge-requires g c = ap has_room (sym c.schema.ensures.value) ∙ sym c.has_room.ensures ∙ c.if-has_room.true
 
-pub returns-else-has_room-clause-loads : goal.returns-else-has_room-clause-loads
-returns-else-has_room-clause-loads g c =
-    tested_loads (state g.S.Store c.args.conn.now) (state g.S.Store c.judge.new.conn) c.judge.result (ap has_room (sym c.schema.ensures.value) ∙ sym c.has_room.ensures ∙ c.if-has_room.false) c.judge.ensures
+pub load_kept-requires : goal.load_kept-requires
+load_kept-requires g c = ap has_room (sym c.schema.ensures.value) ∙ sym c.has_room.ensures ∙ c.if-has_room.false

@@ -1,8 +1,8 @@
 use Rattle.std.proofs.Common.{IsTrue, Ok, sym, subst}
 use Rattle.sqlite.specs.Held.{state}
 use Rattle.xa_store.specs.Keeper.{IsSound}
-use Rattle.xa_store.specs.Opening.{Makes, Opens, Settles}
-use Rattle.xa_store.proofs.OpenLemmas.{is_keeper, leaves_alone, makes_keeper, makes_refused, opens_keeper, opens_refused, settles_keeper, sound_keeper}
+use Rattle.xa_store.specs.Opening.{Makes, Migrates, Opens, Settles}
+use Rattle.xa_store.proofs.OpenLemmas.{is_keeper, leaves_alone, makes_keeper, makes_refused, migrates_keeper, migrates_refused, opens_keeper, opens_refused, settles_keeper, sound_keeper}
 use Rattle.xa_store.proofs.keeper.SqlRecords.open.Goals as goal
 
 pub over-requires : goal.over-requires
@@ -12,6 +12,11 @@ pub returns-in-Ok-clause-opens : goal.returns-in-Ok-clause-opens
 returns-in-Ok-clause-opens g c rests =
     subst (λ k. Opens g.S.Store (state g.S.Store c.args.conn) (Ok k)) (sym c.over.ensures)
     (opens_keeper g.S.Store g.met.S.Store.shut_if_dirty g.met.S.Store.settled (state g.S.Store c.args.conn) c.load.new.conn c.in-Ok.ours c.in-Ok.ensures.loads rests)
+
+pub returns-in-Ok-clause-migrates : goal.returns-in-Ok-clause-migrates
+returns-in-Ok-clause-migrates g c rests =
+    subst (λ k. Migrates g.S.Store (state g.S.Store c.args.conn) (Ok k)) (sym c.over.ensures)
+    (migrates_keeper g.S.Store g.met.S.Store.shut_if_dirty g.met.S.Store.settled (state g.S.Store c.args.conn) c.load.new.conn c.in-Ok.ours c.in-Ok.ensures.loads rests)
 
 pub returns-in-Ok-clause-makes : goal.returns-in-Ok-clause-makes
 returns-in-Ok-clause-makes g c blank =
@@ -31,6 +36,10 @@ returns-in-Ok-clause-sound g c =
 pub returns-in-Err-clause-opens : goal.returns-in-Err-clause-opens
 returns-in-Err-clause-opens g c =
     opens_refused g.S.Store g.met.S.Store.shut_if_dirty g.met.S.Store.settled (state g.S.Store c.args.conn) c.load.new.conn c.in-Err.error c.in-Err.ensures.loads
+
+pub returns-in-Err-clause-migrates : goal.returns-in-Err-clause-migrates
+returns-in-Err-clause-migrates g c =
+    migrates_refused g.S.Store g.met.S.Store.shut_if_dirty g.met.S.Store.settled (state g.S.Store c.args.conn) c.load.new.conn c.in-Err.error c.in-Err.ensures.loads
 
 pub returns-in-Err-clause-makes : goal.returns-in-Err-clause-makes
 returns-in-Err-clause-makes g c =

@@ -6,18 +6,18 @@ use Rattle.xa_store.proofs.opening.apart.check_apart.Goals as goal
 pub returns-in_err-begin : goal.returns-in_err-begin
 returns-in_err-begin g c =
     let is : c.from_residual.result ≡ Err c.in_err-begin.field-0.0 = search rules in
-    rw is (not_apart (state g.S.Store c.args.conn.now) c.requires.quiet c.requires.other (state g.S.Store c.begin.new.conn) c.in_err-begin.field-0.0 c.in_err-begin.ensures)
+    rw is (not_apart c.args.version (state g.S.Store c.args.conn.now) c.requires.quiet c.requires.other (state g.S.Store c.begin.new.conn) c.in_err-begin.field-0.0 c.in_err-begin.ensures)
 
 pub returns-in_err-end : goal.returns-in_err-end
 returns-in_err-end g c =
     let is : c.from_residual-in_err-end.result ≡ Err c.in_err-end.field-0.0 = search rules in
     rw is
-    (apart_unended (state g.S.Store c.args.conn.now) c.requires.quiet c.requires.other (state g.S.Store c.begin.new.conn) (state g.S.Store c.check-checked.new.conn) (state g.S.Store c.end.new.conn) c.in_ok-begin.field-0 c.in_ok-begin.ensures c.check-checked.result c.check-checked.ensures c.in_err-end.field-0.0 c.in_err-end.ensures)
+    (apart_unended c.args.version (state g.S.Store c.args.conn.now) c.requires.quiet c.requires.other (state g.S.Store c.begin.new.conn) (state g.S.Store c.check-checked.new.conn) (state g.S.Store c.end.new.conn) c.in_ok-begin.field-0 c.in_ok-begin.ensures c.check-checked.result c.check-checked.ensures c.in_err-end.field-0.0 c.in_err-end.ensures)
 
 pub returns-in-Ok : goal.returns-in-Ok
 returns-in-Ok g c =
-    apart_sound (state g.S.Store c.args.conn.now) c.requires.quiet c.requires.other (state g.S.Store c.begin.new.conn) (state g.S.Store c.check-checked.new.conn) (state g.S.Store c.end.new.conn) c.in_ok-begin.field-0 c.in_ok-begin.ensures c.check-checked.result c.check-checked.ensures c.in_ok-end.field-0 c.in_ok-end.ensures
+    apart_sound c.args.version (state g.S.Store c.args.conn.now) c.requires.quiet c.requires.other (state g.S.Store c.begin.new.conn) (state g.S.Store c.check-checked.new.conn) (state g.S.Store c.end.new.conn) c.in_ok-begin.field-0 c.in_ok-begin.ensures c.check-checked.result c.check-checked.ensures c.in_ok-end.field-0 c.in_ok-end.ensures
 
 pub returns-in-Err : goal.returns-in-Err
 returns-in-Err g c =
-    apart_refused (state g.S.Store c.args.conn.now) c.requires.quiet c.requires.other (state g.S.Store c.begin.new.conn) (state g.S.Store c.check-checked.new.conn) (state g.S.Store c.end.new.conn) c.in_ok-begin.field-0 c.in_ok-begin.ensures c.check-checked.result c.check-checked.ensures c.in-Err.error c.in_ok-end.field-0 c.in_ok-end.ensures
+    apart_refused c.args.version (state g.S.Store c.args.conn.now) c.requires.quiet c.requires.other (state g.S.Store c.begin.new.conn) (state g.S.Store c.check-checked.new.conn) (state g.S.Store c.end.new.conn) c.in_ok-begin.field-0 c.in_ok-begin.ensures c.check-checked.result c.check-checked.ensures c.in-Err.error c.in_ok-end.field-0 c.in_ok-end.ensures

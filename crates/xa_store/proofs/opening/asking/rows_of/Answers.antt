@@ -4,14 +4,14 @@ use Rattle.xa_store.proofs.AskedLemmas.{a_failure, asked, failed_fits, not_asked
 use Rattle.xa_store.proofs.opening.asking.rows_of.Goals as goal
 
 pub returns-in-Ok-clause-asks : goal.returns-in-Ok-clause-asks
-returns-in-Ok-clause-asks g c =
-    asked c.args.sql.now [] (state g.S.Store c.args.conn.now) (state g.S.Store c.query_all.new.self) c.requires c.query_all.ensures.survives c.in-Ok.rows c.in-Ok.rows.items c.in-Ok.ensures.ok
+returns-in-Ok-clause-asks g c version plain =
+    asked c.args.sql.now [] (state g.S.Store c.args.conn.now) (state g.S.Store c.query_all.new.self) version plain c.query_all.ensures.survives c.in-Ok.rows c.in-Ok.rows.items c.in-Ok.ensures.ok
 
 pub returns-in-Err-clause-asks : goal.returns-in-Err-clause-asks
-returns-in-Err-clause-asks g c =
-    not_asked c.args.sql.now [] (state g.S.Store c.args.conn.now) (state g.S.Store c.query_all.new.self) c.requires c.query_all.ensures.survives c.in-Err.error c.refused.result c.in-Err.ensures.err
+returns-in-Err-clause-asks g c version plain =
+    not_asked c.args.sql.now [] (state g.S.Store c.args.conn.now) (state g.S.Store c.query_all.new.self) version plain c.query_all.ensures.survives c.in-Err.error c.refused.result c.in-Err.ensures.err
 
 pub returns-in-Err-clause-fails : goal.returns-in-Err-clause-fails
-returns-in-Err-clause-fails g c clean rests =
+returns-in-Err-clause-fails g c clean version plain rests =
     rw c.refused.ensures
-    (a_failure c.in-Err.error (failed_fits c.args.sql.now [] (state g.S.Store c.args.conn.now) (state g.S.Store c.query_all.new.self) c.in-Err.error rests c.requires (c.in-Err.ensures.err clean)))
+    (a_failure c.in-Err.error (failed_fits c.args.sql.now [] (state g.S.Store c.args.conn.now) (state g.S.Store c.query_all.new.self) c.in-Err.error rests plain (c.in-Err.ensures.err clean)))

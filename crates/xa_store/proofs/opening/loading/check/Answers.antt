@@ -4,15 +4,16 @@ use Rattle.sqlite.specs.Effect.{IsDatabase}
 use Rattle.sqlite.specs.Held.{state}
 use Rattle.sqlite.specs.State.{State, HasCleanDisk}
 use Rattle.xa_store.specs.declared.open_error.OpenError.{OpenError}
+use Rattle.xa_store.specs.declared.opening.schema_version.SchemaVersion.{SchemaVersion}
 use Rattle.xa_store.specs.Judging.{Judges}
-use Rattle.xa_store.specs.Opened.{is_sound}
-use Rattle.xa_store.specs.Sound.{Rests}
+use Rattle.xa_store.specs.Opened.{is_sound, schema_of}
+use Rattle.xa_store.specs.Sound.{RestsIn}
 use Rattle.xa_store.proofs.LoadLemmas.{all_checked, not_looked}
 use Rattle.xa_store.proofs.opening.loading.check.Goals as goal
 
 -- what is known of tables that were judged
-abbrev Finds : State → State → Result (Unit {0}) OpenError → ℤ → Type 0
-Finds old new r next = HasCleanDisk new → Rests old → IsDatabase old.now → Judges (is_sound old.now.trees next) r
+abbrev Finds : SchemaVersion → State → State → Result (Unit {0}) OpenError → ℤ → Type 0
+Finds version old new r next = HasCleanDisk new → RestsIn (schema_of version) old → IsDatabase old.now → Judges (is_sound version old.now.trees next) r
 
 pub returns-in_err-next : goal.returns-in_err-next
 returns-in_err-next g c =
@@ -24,4 +25,4 @@ returns g c =
     let fits : SFits w64 c.in_ok-next.next = search rules in
     all_checked (state g.S.Store c.args.conn.now) (state g.S.Store c.look.new.conn) (state g.S.Store c.judge_all.new.conn) c.in_ok-next.next c.in_ok-next.ensures.finds c.in_ok-next.ensures.asks
     (λ up. (c.schema-schema.ensures.live up).0) c.judge_all.result c.judge_all.ensures.asks
-    (subst (Finds (state g.S.Store c.look.new.conn) (state g.S.Store c.judge_all.new.conn) c.judge_all.result) (to_z-of_z w64 c.in_ok-next.next fits) c.judge_all.ensures.finds)
+    (subst (Finds c.args.version (state g.S.Store c.look.new.conn) (state g.S.Store c.judge_all.new.conn) c.judge_all.result) (to_z-of_z w64 c.in_ok-next.next fits) c.judge_all.ensures.finds)

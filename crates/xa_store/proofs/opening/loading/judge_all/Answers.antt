@@ -1,4 +1,4 @@
-use Rattle.std.proofs.Common.{◌∙◌, sym, w64}
+use Rattle.std.proofs.Common.{◌∙◌, sym, rules, w64}
 use Rattle.std.proofs.lemmas.Int.{to_z-of_z}
 use Rattle.sqlite.specs.Held.{state}
 use Rattle.xa_store.proofs.AskedLemmas.{asks_then}
@@ -7,11 +7,11 @@ use Rattle.xa_store.proofs.opening.loading.judge_all.Goals as goal
 
 pub returns-clause-asks : goal.returns-clause-asks
 returns-clause-asks g c =
-    asks_then (state g.S.Store c.args.conn.now) (state g.S.Store c.judge_tables.new.conn) (state g.S.Store c.judge_places.new.conn) c.in_ok-judge_tables.field-0
-    c.in_ok-judge_tables.ensures.asks c.judge_places.result c.judge_places.ensures.asks
+    asks_then (state g.S.Store c.args.conn.now) (state g.S.Store c.judge_tables.new.conn) (state g.S.Store c.judge_sources.new.conn) c.in_ok-judge_tables.field-0
+    c.in_ok-judge_tables.ensures.asks c.judge_sources.result c.judge_sources.ensures.asks
 
 pub returns-clause-finds : goal.returns-clause-finds
 returns-clause-finds g c =
-    let n = to_z-of_z w64 c.args.next c.ranges.next in
-    all_judged c.args.next (state g.S.Store c.args.conn.now) (state g.S.Store c.judge_tables.new.conn) (state g.S.Store c.judge_places.new.conn) c.in_ok-judge_tables.field-0 c.judge_places.result
-    (sym (rw n at c.is_count.ensures) ∙ c.if-not-is_count.false) c.in_ok-judge_tables.ensures.asks c.judge_places.ensures.asks (rw n at c.in_ok-judge_tables.ensures.finds) c.judge_places.ensures.finds
+    let n = to_z-of_z w64 c.args.known.next (search rules) in
+    all_judged (state g.S.Store c.args.conn.now) (state g.S.Store c.judge_tables.new.conn) (state g.S.Store c.judge_sources.new.conn) c.in_ok-judge_tables.field-0 c.judge_sources.result c.args.known.next
+    (sym (rw n at c.is_count.ensures) ∙ c.if-not-is_count.false) c.in_ok-judge_tables.ensures.asks c.judge_sources.ensures.asks c.in_ok-judge_tables.ensures.finds c.judge_sources.ensures.finds

@@ -1,16 +1,14 @@
-use Rattle.std.proofs.Common.{◌≡◌, Err, rules, w64}
-use Rattle.std.proofs.lemmas.Int.{to_z-of_z}
+use Rattle.std.proofs.Common.{◌≡◌, Err, rules}
 use Rattle.sqlite.specs.Held.{state}
 use Rattle.xa_store.proofs.LoadLemmas.{table_judged, table_stopped}
 use Rattle.xa_store.proofs.opening.loading.judge_table.Goals as goal
 
 pub returns : goal.returns
 returns g c =
-    table_judged c.args.kind c.args.next (state g.S.Store c.args.conn.now) (state g.S.Store c.walk.new.conn) (state g.S.Store c.judge_order.new.conn) c.in_ok-walk.field-0 c.judge_order.result
-    (rw (to_z-of_z w64 c.args.next c.ranges.next) at c.in_ok-walk.ensures) c.judge_order.ensures.asks c.judge_order.ensures.finds
+    table_judged c.args.kind c.args.known.next (state g.S.Store c.args.conn.now) (state g.S.Store c.walk.new.conn) (state g.S.Store c.judge_order.new.conn) c.in_ok-walk.field-0 c.judge_order.result
+    c.in_ok-walk.ensures (c.judge_order.ensures.asks c.args.known.version c.requires) (λ clean rests. c.judge_order.ensures.finds clean c.args.known.version c.requires rests)
 
 pub returns-in_err-walk : goal.returns-in_err-walk
 returns-in_err-walk g c =
     let is : c.from_residual.result ≡ Err c.in_err-walk.field-0.0 = search rules in
-    rw is
-    (table_stopped c.args.kind c.args.next (state g.S.Store c.args.conn.now) (state g.S.Store c.walk.new.conn) c.in_err-walk.field-0.0 (rw (to_z-of_z w64 c.args.next c.ranges.next) at c.in_err-walk.ensures))
+    rw is (table_stopped c.args.kind c.args.known.next (state g.S.Store c.args.conn.now) (state g.S.Store c.walk.new.conn) c.in_err-walk.field-0.0 c.in_err-walk.ensures)

@@ -1,5 +1,3 @@
-use Rattle.std.proofs.Common.{w64}
-use Rattle.std.proofs.lemmas.Int.{to_z-of_z}
 use Rattle.sqlite.specs.Held.{state}
 use Rattle.xa_store.specs.Opened.{is_sound_table}
 use Rattle.xa_store.proofs.LoadLemmas.{judged_then}
@@ -7,5 +5,6 @@ use Rattle.xa_store.proofs.opening.loading.judge_two.Goals as goal
 
 pub returns : goal.returns
 returns g c =
-    judged_then (λ db. is_sound_table db c.args.next c.args.first) (λ db. is_sound_table db c.args.next c.args.second) (state g.S.Store c.args.conn.now) (state g.S.Store c.judge_table.new.conn) (state g.S.Store c.judge_table-2.new.conn) c.in_ok-judge_table.field-0 c.judge_table-2.result
-    (rw (to_z-of_z w64 c.args.next c.ranges.next) at c.in_ok-judge_table.ensures) (rw (to_z-of_z w64 c.args.next c.ranges.next) at c.judge_table-2.ensures)
+    let next = c.args.known.next in
+    judged_then (λ db. is_sound_table db next c.args.first) (λ db. is_sound_table db next c.args.second) (state g.S.Store c.args.conn.now) (state g.S.Store c.judge_table.new.conn) (state g.S.Store c.judge_table-2.new.conn)
+    c.in_ok-judge_table.field-0 c.judge_table-2.result c.in_ok-judge_table.ensures c.judge_table-2.ensures

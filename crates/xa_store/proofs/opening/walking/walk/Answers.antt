@@ -1,4 +1,4 @@
-use Rattle.std.proofs.Common.{◌≡◌, ◌∙◌, ℕ, ℤ, inl, inr, List, [], Option, Result, Ok, Err, refl, sym, subst, subst₂, rules, w64}
+use Rattle.std.proofs.Common.{◌≡◌, true, ◌∙◌, ℕ, ℤ, inl, inr, List, [], Option, Result, Ok, Err, refl, sym, subst, subst₂, rules, w64}
 use Rattle.std.proofs.lemmas.Int.{to_z-of_z}
 use Rattle.std.specs.Prelude.{FitsSigned}
 use Rattle.sqlite.specs.Given.{HasGiven}
@@ -10,7 +10,8 @@ use Rattle.sqlite.specs.Tree.{Trees}
 use Rattle.sqlite.specs.declared.error.Error.{Error}
 use Rattle.xa_store.specs.declared.open_error.OpenError.{OpenError}
 use Rattle.xa_store.specs.declared.opening.kind.Kind.{Kind}
-use Rattle.xa_store.specs.Judging.{refused_as, text_of, Moves, Walked, Walks}
+use Rattle.xa_store.specs.declared.opening.schema_version.SchemaVersion.{SchemaVersion}
+use Rattle.xa_store.specs.Judging.{has_kind, refused_as, text_of, Moves, Walked, Walks}
 use Rattle.xa_store.specs.Opening.{IsFailure}
 use Rattle.xa_store.proofs.AskedLemmas.{a_failure, failed_fits, not_asked, survives_asked}
 use Rattle.xa_store.proofs.StreamLemmas.{judged_plain, keeps_begun, keeps_on, stands_begun, survived_on, walk_ended, walk_goes_on, walk_stopped}
@@ -20,10 +21,11 @@ walks_failed : (kind : Kind) (next : ℤ) (db : Trees) (e : OpenError) → IsFai
 walks_failed kind next db e (inl is) = subst (λ o. Walks kind next db (Err o)) (sym is) tt
 walks_failed kind next db e (inr is) = subst (λ o. Walks kind next db (Err o)) (sym is) tt
 
-not_walked : (kind : Kind) (next : ℤ) (old new : State) (e : Error) → Survives old new (CommitsShowing (text_of kind) [] old) → (HasCleanDisk new → FailsToQuery (text_of kind) [] old new e) → Walked kind next old new (Err (refused_as e))
-not_walked kind next old new e survives failed = record {
-  asks = not_asked (text_of kind) [] old new (judged_plain kind) survives e (refused_as e) failed;
-  finds = λ clean rests. walks_failed kind next old.now.trees (refused_as e) (a_failure e (failed_fits (text_of kind) [] old new e rests (judged_plain kind) (failed clean)));
+not_walked : (version : SchemaVersion) (kind : Kind) → has_kind kind version ≡ true → (next : ℤ) (old new : State) (e : Error) → Survives old new (CommitsShowing (text_of kind) [] old)
+    → (HasCleanDisk new → FailsToQuery (text_of kind) [] old new e) → Walked version kind next old new (Err (refused_as e))
+not_walked version kind has next old new e survives failed = record {
+  asks = not_asked (text_of kind) [] old new version (judged_plain kind version has) survives e (refused_as e) failed;
+  finds = λ clean rests. walks_failed kind next old.now.trees (refused_as e) (a_failure e (failed_fits (text_of kind) [] old new e rests (judged_plain kind version has) (failed clean)));
 }
 
 -- what is known of a row that is asked for
@@ -37,47 +39,49 @@ returns-in_err-rows g c =
     let new = state g.S.Store c.query.follows.lender-at-none in
     let refused = rw (c.text.ensures, c.in_err-rows.was) at c.query.follows.holds-at-none in
     let is : c.from_residual.result ≡ Err (refused_as e) = search rules in
-    rw is (not_walked c.args.kind c.args.next old new e refused.survives refused.err)
+    rw is (not_walked c.args.known.version c.args.kind c.requires c.args.known.next old new e refused.survives refused.err)
 
 pub rows-init : goal.rows-init
 rows-init g c =
     let made = c.in_ok-rows.ensures in (
       refl,
-      survives_asked (text_of c.args.kind) [] (state g.S.Store c.args.conn.now) _ (judged_plain c.args.kind) (rw c.text.ensures at made.survives),
-      keeps_begun g.S.Store c.args.kind c.args.next c.args.conn.now c.in_ok-rows.rows.conn.now (rw c.text.ensures at made.begun),
-      stands_begun g.S.Store c.args.kind _ c.args.conn.now c.in_ok-rows.rows.conn.now (rw c.text.ensures at made.begun),
+      survives_asked (text_of c.args.kind) [] (state g.S.Store c.args.conn.now) _ c.args.known.version (judged_plain c.args.kind c.args.known.version c.requires) (rw c.text.ensures at made.survives),
+      keeps_begun g.S.Store c.args.known.version c.args.kind c.requires c.args.known.next c.args.conn.now c.in_ok-rows.rows.conn.now (rw c.text.ensures at made.begun),
+      stands_begun g.S.Store c.args.known.version c.args.kind c.requires _ c.args.conn.now c.in_ok-rows.rows.conn.now (rw c.text.ensures at made.begun),
     )
 
 pub returns-in_err-number : goal.returns-in_err-number
 returns-in_err-number g c =
+    let held = to_z-of_z w64 c.args.known.next (search rules) in
     let told = c.in_err-number.ensures in
     let last = c.next_number.new.rows.conn.now in
     let same : last ≡ c.conn-in_err-number-1.given.0 = search rules in
     let is : c.from_residual-in_err-number.result ≡ Err c.in_err-number.field-0.0 = search rules in
-    rw is (subst (λ h. Walked c.args.kind c.args.next (state g.S.Store c.args.conn.now) (state g.S.Store h) (Err c.in_err-number.field-0.0)) same
-    (walk_stopped g.S.Store c.args.kind c.args.next c.args.conn.now c.rows.rows.conn.now last c.rows.last c.rows.invariant.1 c.rows.invariant.2 (rw (to_z-of_z w64 c.args.next c.ranges.next) at c.rows.invariant.3) told.kept told.survives c.in_err-number.field-0.0
-    (subst (λ n. Moved g.S.Store c.args.kind n c.rows.last c.rows.rows.conn.now last (Err c.in_err-number.field-0.0)) (to_z-of_z w64 c.args.next c.ranges.next) told.moves)))
+    rw is (subst (λ h. Walked c.args.known.version c.args.kind c.args.known.next (state g.S.Store c.args.conn.now) (state g.S.Store h) (Err c.in_err-number.field-0.0)) same
+    (walk_stopped g.S.Store c.args.known.version c.args.kind c.requires c.args.known.next c.args.conn.now c.rows.rows.conn.now last c.rows.last c.rows.invariant.1 c.rows.invariant.2 c.rows.invariant.3 told.kept told.survives c.in_err-number.field-0.0
+    (subst (λ n. Moved g.S.Store c.args.kind n c.rows.last c.rows.rows.conn.now last (Err c.in_err-number.field-0.0)) held told.moves)))
 
 pub returns-in-None : goal.returns-in-None
 returns-in-None g c =
+    let held = to_z-of_z w64 c.args.known.next (search rules) in
     let told = c.in_ok-number.ensures in
     let last = c.next_number.new.rows.conn.now in
     let same : last ≡ c.conn-in-None-1.given.0 = search rules in
-    subst (λ h. Walked c.args.kind c.args.next (state g.S.Store c.args.conn.now) (state g.S.Store h) (Ok tt)) same
-    (walk_ended g.S.Store c.args.kind c.args.next c.args.conn.now c.rows.rows.conn.now last c.rows.last c.rows.invariant.1 c.rows.invariant.2 (rw (to_z-of_z w64 c.args.next c.ranges.next) at c.rows.invariant.3) told.kept told.survives
-    (subst₂ (λ n o. Moved g.S.Store c.args.kind n c.rows.last c.rows.rows.conn.now last (Ok o)) (to_z-of_z w64 c.args.next c.ranges.next) c.in-None.is told.moves) told.same)
+    subst (λ h. Walked c.args.known.version c.args.kind c.args.known.next (state g.S.Store c.args.conn.now) (state g.S.Store h) (Ok tt)) same
+    (walk_ended g.S.Store c.args.known.version c.args.kind c.requires c.args.known.next c.args.conn.now c.rows.rows.conn.now last c.rows.last c.rows.invariant.1 c.rows.invariant.2 c.rows.invariant.3 told.kept told.survives
+    (subst₂ (λ n o. Moved g.S.Store c.args.kind n c.rows.last c.rows.rows.conn.now last (Ok o)) held c.in-None.is told.moves) told.same)
 
 pub rows-preserved : goal.rows-preserved
 rows-preserved g c =
+    let held = to_z-of_z w64 c.args.known.next (search rules) in
     let told = c.in_ok-number.ensures in
     let last = c.next_number.new.rows.conn.now in
     let fits : FitsSigned w64 c.in-Some.number = search rules in
-    let stands = rw (to_z-of_z w64 c.args.next c.ranges.next) at c.rows.invariant.3 in
-    let moved = subst₂ (λ n o. Moved g.S.Store c.args.kind n c.rows.last c.rows.rows.conn.now last (Ok o)) (to_z-of_z w64 c.args.next c.ranges.next) c.in-Some.is told.moves in
-    let on = walk_goes_on g.S.Store c.args.kind c.args.next c.args.conn.now c.rows.rows.conn.now last c.rows.last c.rows.invariant.1 c.rows.invariant.2 stands told.kept told.survives c.in-Some.number fits moved told.same in
-    rw (to_z-of_z w64 c.args.next c.ranges.next, to_z-of_z w64 c.in-Some.number fits) (
+    let moved = subst₂ (λ n o. Moved g.S.Store c.args.kind n c.rows.last c.rows.rows.conn.now last (Ok o)) held c.in-Some.is told.moves in
+    let on = walk_goes_on g.S.Store c.args.known.version c.args.kind c.requires c.args.known.next c.args.conn.now c.rows.rows.conn.now last c.rows.last c.rows.invariant.1 c.rows.invariant.2 c.rows.invariant.3 told.kept told.survives c.in-Some.number fits moved told.same in
+    rw (to_z-of_z w64 c.in-Some.number fits) (
       told.same_reference ∙ c.rows.invariant.0,
-      survived_on g.S.Store c.args.kind c.args.next c.args.conn.now c.rows.rows.conn.now last c.rows.last c.rows.invariant.1 c.rows.invariant.2 stands told.kept told.survives,
-      keeps_on g.S.Store c.args.kind c.args.next c.args.conn.now c.rows.rows.conn.now last c.rows.last c.rows.invariant.1 c.rows.invariant.2 stands told.kept told.survives told.same,
+      survived_on g.S.Store c.args.known.version c.args.kind c.requires c.args.known.next c.args.conn.now c.rows.rows.conn.now last c.rows.last c.rows.invariant.1 c.rows.invariant.2 c.rows.invariant.3 told.kept told.survives,
+      keeps_on g.S.Store c.args.known.version c.args.kind c.requires c.args.known.next c.args.conn.now c.rows.rows.conn.now last c.rows.last c.rows.invariant.1 c.rows.invariant.2 c.rows.invariant.3 told.kept told.survives told.same,
       on,
     )

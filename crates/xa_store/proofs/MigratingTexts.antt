@@ -1,0 +1,45 @@
+-- What the statements are that bring schema 1 into schema 2.
+use Rattle.std.proofs.Common.{pos, List, [], ◌∷◌, map, refl}
+use Rattle.sqlite.specs.Collation.{Collation}
+use Rattle.sqlite.specs.Collation.TheVariants.{Binary}
+use Rattle.sqlite.specs.Command.TheVariants.{Insert}
+use Rattle.sqlite.specs.Listing.{understood}
+use Rattle.sqlite.specs.Query.{Query}
+use Rattle.sqlite.specs.Source.TheVariants.{Query as Queried}
+use Rattle.sqlite.specs.Term.{Term, lit, col}
+use Rattle.sqlite.specs.declared.types.Value.TheVariants.{Null, Int}
+use Rattle.sqlite_tied.specs.Compute.{everything}
+use Rattle.xa_store.specs.Texts as text
+use Rattle.xa_store.proofs.RisingTexts.{by_rowid}
+use Rattle.xa_store.proofs.TextLemmas.{IsChange, delete, is_one, of_table, update}
+
+-- a row of a source without an issuer: its rowid is chosen, and its columns are those that it had
+abbrev pub filled_given : List Term
+filled_given = lit Null ∷ col 1 1 ∷ col 1 2 ∷ col 1 3 ∷ col 1 4 ∷ col 1 5 ∷ col 1 6 ∷ col 1 7 ∷ lit Null ∷ []
+
+abbrev pub filled_collations : List Collation
+filled_collations = map (λ _. Binary) filled_given
+
+abbrev pub filled_query : Query
+filled_query = by_rowid 8 filled_given filled_collations
+
+pub sources_filled_is : IsChange text.sources_filled (Insert 6 (Queried (record { lets = []; body = filled_query })))
+unfolding understood everything
+sources_filled_is = (refl, (refl, refl))
+
+abbrev pub attributes_emptied_query : Query
+attributes_emptied_query = of_table 8 [] (col 1 0 ∷ []) []
+
+pub attributes_emptied_is : IsChange text.attributes_emptied (delete 5 attributes_emptied_query)
+unfolding understood everything
+attributes_emptied_is = (refl, (refl, refl))
+
+abbrev pub schema_raised_shown : List Term
+schema_raised_shown = col 1 0 ∷ col 1 0 ∷ lit Null ∷ lit (Int (pos 2)) ∷ col 1 3 ∷ []
+
+abbrev pub schema_raised_query : Query
+schema_raised_query = of_table 0 (is_one 0 ∷ []) schema_raised_shown []
+
+pub schema_raised_is : IsChange text.schema_raised (update 0 schema_raised_query)
+unfolding understood everything
+schema_raised_is = (refl, (refl, refl))
