@@ -1,17 +1,21 @@
 -- What a crash may leave, from what a message asks for to the message itself.
 use Rattle.std.proofs.Common.{◌≡◌, ℕ, ℤ, List, Option, Some, None, Result, Ok, Err, inl, inr, refl, ap, sym, subst}
 use Rattle.std.specs.Prelude.{◌⊎◌}
+use Rattle.xa_value.specs.declared.or_memory.OrMemory.{OrMemory}
+use Rattle.xa_value.specs.declared.or_memory.OrMemory.TheVariants as or_memory
 use Rattle.xa_http.specs.declared.message.Message.{Message}
 use Rattle.xa_http.specs.declared.route.Route.{Route}
+use Rattle.xa_http.specs.declared.route.RouteFault.{RouteFault}
 use Rattle.xa_http.specs.Routes.{route_of}
 use Rattle.xa_records.specs.Kept.{IsChanged, Kept}
 use Rattle.xa_server.specs.Crash.{IfSent, IsStepMade}
 use Rattle.xa_server.specs.declared.replies.Reply.{Reply}
 use Rattle.xa_server.specs.declared.stop.Stop.{Stop}
 use Rattle.xa_server.specs.declared.stop.Stop.TheVariants.{Code, Failed}
-use Rattle.xa_server.specs.Handling.{IfTold, IsAnswerMade, IsReplyOf, LeavesMessage, LeavesNoMore, LeavesRoute}
+use Rattle.xa_server.specs.Handling.{Counts, IfTold, IsAnswerMade, IsReplyOf, LeavesMessage, LeavesNoMore, LeavesRoute}
 use Rattle.xa_server.specs.Machine.{Answer, answer, reply_and_state, step}
 use Rattle.xa_server.specs.Served.{state}
+use Rattle.xa_server.specs.Stop.{stop_of_route}
 use Rattle.xa_server.specs.World.{World}
 
 module _ (before after : Kept → Type 0) where
@@ -54,3 +58,12 @@ if_sent claim (Ok bytes) reply told is = subst (λ r. IfSent r claim) (sym is) t
 if_sent claim (Err (Failed failure)) reply told is = subst (λ r. IfSent r claim) (sym is) tt
 if_sent claim (Err (Code code)) reply told (inl is) = subst (λ r. IfSent r claim) (sym is) told
 if_sent claim (Err (Code code)) reply told (inr is) = subst (λ r. IfSent r claim) (sym is) tt
+
+-- a message that asks for nothing that is served, or of which that wasn't found out, was told so, and nothing is counted
+pub unasked_told : (error : OrMemory RouteFault) (claim : Type 0) → claim → IfTold {X = List ℕ} (Err (stop_of_route error)) claim
+unasked_told or_memory.Memory claim is = tt
+unasked_told (or_memory.Error fault) claim is = is
+
+pub unasked_counts : (error : OrMemory RouteFault) (faults : ℕ) → Counts {X = List ℕ} faults faults (Err (stop_of_route error))
+unasked_counts or_memory.Memory faults = refl
+unasked_counts (or_memory.Error fault) faults = refl

@@ -7,6 +7,7 @@ pub mod ConnectionLemmas
 pub mod CourseLemmas
 pub mod CrashLemmas
 pub mod DrivingLemmas
+pub mod EndLemmas
 pub mod GateLemmas
 pub mod GrowthLemmas
 pub mod IsolationLemmas

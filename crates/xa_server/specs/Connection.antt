@@ -10,7 +10,8 @@ use Rattle.xa_server.specs.Alone.{Event}
 use Rattle.xa_server.specs.ErrorCode.{code_of_session_fault, error_reply}
 use Rattle.xa_server.specs.Replies.{bytes_of}
 
--- what a session answers after the last whole message: the fault by which it ends, or that it wants more bytes, or that it has ended with that message
+-- what a session answers after the last whole message: the fault by which it ends, or that it wants more bytes, or
+-- that it has ended with that message
 abbrev pub StopsBy : Option SessionFault → Stream → Stream → Type 0
 StopsBy (Some fault) last new = IsNext last (next.Fault fault) new
 StopsBy None last new = IsNext last next.More new ⊎ IsNext last next.Ended new

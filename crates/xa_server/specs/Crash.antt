@@ -9,14 +9,17 @@ use Rattle.xa_server.specs.Owner.{owner}
 use Rattle.xa_server.specs.Served.{state}
 use Rattle.xa_server.specs.World.{World}
 
--- the step of a domain's machine was made: the domain has gone over into the state that it gives, and no other has changed; a message of no domain makes none
+-- the step of a domain's machine was made: the domain has gone over into the state that it gives, and no other has
+-- changed; a message of no domain makes none
 abbrev pub IsStepMade : World → Kept → ℤ → Message → Option (List ℕ) → Type 0
 IsStepMade old left moment message None = ⊥
-IsStepMade old left moment message (Some domain) = IsChanged old.kept left domain (step old.operator (state domain old) message moment).1
+IsStepMade old left moment message (Some domain) =
+    IsChanged old.kept left domain (step old.operator (state domain old) message moment).1
 
 -- whatever became of the message: what a crash might have left before it, or all with that one step made
 abbrev pub LeavesStep : (Kept → Type 0) → (Kept → Type 0) → World → ℤ → Message → Type 0
-LeavesStep before after old moment message = (left : Kept) → after left → before left ⊎ IsStepMade old left moment message (owner message)
+LeavesStep before after old moment message =
+    (left : Kept) → after left → before left ⊎ IsStepMade old left moment message (owner message)
 
 -- unless the message was refused
 abbrev pub IfSent : Reply → Type 0 → Type 0

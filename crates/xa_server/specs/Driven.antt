@@ -1,5 +1,7 @@
--- What a connection is answered until it ends, and how its reader, its writer, the clock and the front were called for it.
-use Rattle.std.specs.Prelude.{◌≡◌, ◌≢◌, ◌≤◌, ◌⊎◌, ℕ, ℤ, Bool, true, false, List, [], ◌∷◌, ◌++◌, length, map, Option, Some, None}
+-- What a connection is answered until it ends, and how its reader, its writer, the clock and the front were called for
+-- it.
+use Rattle.std.specs.Prelude.{◌≡◌, ◌≢◌, ◌≤◌, ◌⊎◌, ℕ, ℤ, Bool, true, false, List, [], ◌∷◌, ◌++◌, length, map, Option}
+use Rattle.std.specs.Prelude.{Some, None}
 use Rattle.std.specs.Io.KnownBytes.{Appends, Consumes, IsAtEnd}
 use Rattle.std.specs.List.{All}
 use Rattle.std.specs.declared.io.ErrorKind.{ErrorKind}
@@ -10,7 +12,8 @@ use Rattle.xa_http.specs.declared.session.Next.TheVariants as next
 use Rattle.xa_http.specs.Messages.{Cuts, IsFirst, IsNext}
 use Rattle.xa_http.specs.Stream.{Stream, fed}
 use Rattle.xa_server.specs.declared.driven.Driven.{Driven}
-use Rattle.xa_server.specs.declared.driven.Driven.TheVariants.{Ended, ReadFault, WriteFault, NoClock, TooManyReads, Memory, Shut}
+use Rattle.xa_server.specs.declared.driven.Driven.TheVariants.{Ended, ReadFault, WriteFault, NoClock, TooManyReads}
+use Rattle.xa_server.specs.declared.driven.Driven.TheVariants.{Memory, Shut}
 use Rattle.xa_server.specs.declared.lines.Conn.{Conn}
 use Rattle.xa_records.specs.declared.refusal.Failure.TheVariants.{Store}
 use Rattle.xa_server.specs.declared.replies.Reply.{Reply}
@@ -21,13 +24,14 @@ use Rattle.xa_server.specs.Front.{FrontState}
 use Rattle.xa_server.specs.Isolation.{IsIsolated, IsIsolatedBesideRefusals}
 use Rattle.xa_server.specs.Lines.{IsOpen, Lines, with_line}
 use Rattle.xa_server.specs.Served.{IsRun}
-use Rattle.xa_server.specs.Transfers.{Grows, IsBrokenOff, IsReadOn, IsWrittenWhole, ReadEnd, WriteEnd, bytes_read, bytes_taken, gave, unread}
+use Rattle.xa_server.specs.Transfers.{Grows, IsBrokenOff, IsReadOn, IsWrittenWhole, ReadEnd, WriteEnd, bytes_read}
+use Rattle.xa_server.specs.Transfers.{bytes_taken, gave, unread}
 use Rattle.xa_server.specs.Work.{IsWorkOfRun}
 
 -- ---- the calls
 
--- how calls ended, one after another: whether those of the front found memory; the reads; the writes and flushes; what the clock told; and what the front said
--- of its keeper, whether that can go on
+-- how calls ended, one after another: whether those of the front found memory; the reads; the writes and flushes; what
+-- the clock told; and what the front said of its keeper, whether that can go on
 pub record Calls : Type 0 where
   pub memory : List Bool
   pub reads : List ReadEnd
@@ -46,9 +50,18 @@ pub record Known : Type 0 where
   pub said : Option (List Bool)
 
 -- of these, in this order
-abbrev pub known : Option (List Bool) → Option (List ℕ) → Option (List ReadEnd) → Option (List ℕ) → Option (List WriteEnd) → Option (List (Option ℤ)) → Option (List Bool) → Known
+abbrev pub known : Option (List Bool) → Option (List ℕ) → Option (List ReadEnd) → Option (List ℕ)
+    → Option (List WriteEnd) → Option (List (Option ℤ)) → Option (List Bool) → Known
 known found left reads contents writes told said =
-    record { memory = found; left = left; reads = reads; contents = contents; writes = writes; told = told; said = said }
+    record {
+      memory = found;
+      left = left;
+      reads = reads;
+      contents = contents;
+      writes = writes;
+      told = told;
+      said = said;
+    }
 
 -- these calls came to what was known, and no others
 pub record AreMade (calls : Calls) (before now : Known) : Type 0 where
@@ -62,19 +75,20 @@ pub record AreMade (calls : Calls) (before now : Known) : Type 0 where
 
 -- ---- what each end of a connection says of them
 
--- the reads: each that gave bytes had room for 65,536. The last gave none where the stream has ended, and failed at a failed read, which no
--- interrupted one is; there were 1,000,000 where those are too many
+-- the reads: each that gave bytes had room for 65,536. The last gave none where the stream has ended, and failed at a
+-- failed read, which no interrupted one is; there were 1,000,000 where those are too many
 abbrev pub HaveRead : Driven → List ReadEnd → Stream → Option (List ℕ) → Type 0
 HaveRead Ended reads after left =
     (All IsReadOn reads × (after.ended ≡ true))
     ⊎ ((before : List ReadEnd) × All IsReadOn before × (reads ≡ before ++ gave 65_536 [] ∷ []) × IsAtEnd left)
 HaveRead ReadFault reads after left =
-    (before : List ReadEnd) × (kind : ErrorKind) × All IsReadOn before × (kind ≢ Interrupted) × (reads ≡ before ++ unread kind ∷ [])
+    (before : List ReadEnd) × (kind : ErrorKind) × All IsReadOn before × (kind ≢ Interrupted)
+    × (reads ≡ before ++ unread kind ∷ [])
 HaveRead TooManyReads reads after left = All IsReadOn reads × (length reads ≡ 1_000_000)
 HaveRead _ reads after left = All IsReadOn reads
 
--- the clock told the moments of the messages, and was asked for no others; after them it told none where there was no clock, and maybe one more where
--- memory was wanted
+-- the clock told the moments of the messages, and was asked for no others; after them it told none where there was no
+-- clock, and maybe one more where memory was wanted
 abbrev pub HasTold : Driven → List ℤ → List (Option ℤ) → Type 0
 HasTold NoClock moments told = told ≡ map Some moments ++ None ∷ []
 HasTold Memory moments told = (told ≡ map Some moments) ⊎ ((moment : ℤ) × (told ≡ map Some moments ++ Some moment ∷ []))
@@ -117,32 +131,40 @@ goes_on_after [] = []
 goes_on_after (Refused Store ∷ replies) = true ∷ goes_on_after replies
 goes_on_after (_ ∷ replies) = goes_on_after replies
 
--- what the front said: after each such message whose reply was written, that its keeper can go on; but for the last, where it can't, and that ended the connection
+-- what the front said: after each such message whose reply was written, that its keeper can go on; but for the last,
+-- where it can't, and that ended the connection
 abbrev pub HaveSaid : Driven → Option SessionFault → List Reply → List Bool → Type 0
-HaveSaid Shut fault run said = (before : List Reply) × (run ≡ before ++ Refused Store ∷ []) × (said ≡ goes_on_after before ++ false ∷ [])
-HaveSaid WriteFault None run said = (before : List Reply) × (last : Reply) × (run ≡ before ++ last ∷ []) × (said ≡ goes_on_after before)
+HaveSaid Shut fault run said =
+    (before : List Reply) × (run ≡ before ++ Refused Store ∷ []) × (said ≡ goes_on_after before ++ false ∷ [])
+HaveSaid WriteFault None run said =
+    (before : List Reply) × (last : Reply) × (run ≡ before ++ last ∷ []) × (said ≡ goes_on_after before)
 HaveSaid _ fault run said = said ≡ goes_on_after run
 
--- why no message after the last is answered: the stream holds none that is whole, or there was no moment for the next, which is whole, or a write
--- failed, or the keeper can't go on, or memory was wanted, maybe for the piece that was read last. `fault` is that to which there is a reply, the last of all
+-- why no message after the last is answered: the stream holds none that is whole, or there was no moment for the next,
+-- which is whole, or a write failed, or the keeper can't go on, or memory was wanted, maybe for the piece that was
+-- read last. `fault` is that to which there is a reply, the last of all
 abbrev pub StopsAfter : Driven → Option SessionFault → List ReadEnd → Stream → Stream → Type 0
 StopsAfter Ended fault reads last after = StopsBy fault last after
 StopsAfter ReadFault None reads last after = IsNext last next.More after
 StopsAfter TooManyReads None reads last after = IsNext last next.More after
-StopsAfter NoClock None reads last after = (message : Message) × (rest : Stream) × IsFirst last message rest × (after ≡ last)
+StopsAfter NoClock None reads last after =
+    (message : Message) × (rest : Stream) × IsFirst last message rest × (after ≡ last)
 StopsAfter WriteFault (Some fault) reads last after = IsNext last (next.Fault fault) after
 StopsAfter WriteFault None reads last after = after ≡ last
 StopsAfter Shut None reads last after = after ≡ last
 StopsAfter Memory None reads last after =
     (after ≡ last)
-    ⊎ ((before : List ReadEnd) × (piece : List ℕ) × (reads ≡ before ++ gave 65_536 piece ∷ []) × (last ≡ fed after piece))
+    ⊎ ((before : List ReadEnd) × (piece : List ℕ) × (reads ≡ before ++ gave 65_536 piece ∷ [])
+    × (last ≡ fed after piece))
 StopsAfter _ (Some fault) reads last after = ⊥
 
 -- ---- a connection
 
--- one run of the server answered the messages at the front of what the connection held and was read, each at its moment, and these are the replies
--- that were written; each domain's replies are those of its own machine, used by it alone. No other connection has changed
-pub record IsDriven (driven : Driven) (conn : Conn) (old new : FrontState) (stream : Stream) (before now : Known) : Type 0 where
+-- one run of the server answered the messages at the front of what the connection held and was read, each at its
+-- moment, and these are the replies that were written; each domain's replies are those of its own machine, used by it
+-- alone. No other connection has changed
+pub record IsDriven (driven : Driven) (conn : Conn) (old new : FrontState) (stream : Stream) (before now : Known)
+    : Type 0 where
   pub calls : Calls
   pub events : List Event
   pub run : List Reply
@@ -165,13 +187,16 @@ pub record IsDriven (driven : Driven) (conn : Conn) (old new : FrontState) (stre
 
 -- so it was, with no more reads than `most`
 abbrev pub IsDrivenWithin : ℕ → Driven → Conn → FrontState → FrontState → Stream → Known → Known → Type 0
-IsDrivenWithin most driven conn old new stream before now = (is : IsDriven driven conn old new stream before now) × (length is.calls.reads ≤ most)
+IsDrivenWithin most driven conn old new stream before now =
+    (is : IsDriven driven conn old new stream before now) × (length is.calls.reads ≤ most)
 
 -- a connection was driven to its end; one that isn't open has ended, and nothing was done
 abbrev pub IsConnection : Driven → Option Stream → Conn → FrontState → FrontState → Known → Known → Type 0
-IsConnection driven (Some stream) conn old new before now = IsDrivenWithin 1_000_000 driven conn old new stream before now
+IsConnection driven (Some stream) conn old new before now =
+    IsDrivenWithin 1_000_000 driven conn old new stream before now
 IsConnection driven None conn old new before now = (driven ≡ Ended) × (new ≡ old) × (now ≡ before)
 
 -- whatever the keeper does, a connection that is open stays open, and no other changes
 unfoldable pub KeepsOpen : Conn → Lines → Lines → Type 0
-KeepsOpen conn old new = (stream : Stream) → IsOpen conn old stream → (after : Stream) × (new ≡ with_line conn (Some after) old)
+KeepsOpen conn old new =
+    (stream : Stream) → IsOpen conn old stream → (after : Stream) × (new ≡ with_line conn (Some after) old)

@@ -1,5 +1,6 @@
 -- The messages of a connection so far: words that only contracts of private functions cite.
-use Rattle.std.specs.Prelude.{◌≡◌, ◌<◌, ◌+◌, ◌⊎◌, ℕ, ℤ, List, [], ◌∷◌, length, map, Bool, true, false, Option, Some, None, Result, Ok, Err}
+use Rattle.std.specs.Prelude.{◌≡◌, ◌<◌, ◌+◌, ◌⊎◌, ℕ, ℤ, List, [], ◌∷◌, length, map, Bool, true, false, Option, Some}
+use Rattle.std.specs.Prelude.{None, Result, Ok, Err}
 use Rattle.std.specs.List.{All}
 use Rattle.xa_http.specs.declared.session.Next.{Next}
 use Rattle.xa_http.specs.declared.session.Next.TheVariants as next
@@ -35,8 +36,10 @@ use Rattle.xa_server.specs.Work.{IsWorkOfRun}
 -- ---- one call of the front
 
 -- an event was played alone; or nothing was done, for want of memory
-abbrev pub PlaysOne : {E : Type 0} → Event → FrontState → FrontState → Option (List Bool) → Option (List Bool) → Result Outcome E → Type 0
-PlaysOne event old new found finding (Ok outcome) = DoesEvent event old outcome new × Grows found finding (outcome_found_memory outcome ∷ [])
+abbrev pub PlaysOne : {E : Type 0} → Event → FrontState → FrontState → Option (List Bool) → Option (List Bool)
+    → Result Outcome E → Type 0
+PlaysOne event old new found finding (Ok outcome) =
+    DoesEvent event old outcome new × Grows found finding (outcome_found_memory outcome ∷ [])
 PlaysOne event old new found finding (Err _) = (new ≡ old) × Grows found finding (false ∷ [])
 
 -- what an outcome says of an answer, and of a piece
@@ -49,14 +52,16 @@ piece_of (outcome.Held result) = result
 piece_of _ = Err Memory
 
 -- the next of an open connection was answered, or there was no memory
-abbrev pub AnswersOne : Conn → ℤ → FrontState → FrontState → Option (List Bool) → Option (List Bool) → Result (Option Answer) FrontError → Type 0
+abbrev pub AnswersOne : Conn → ℤ → FrontState → FrontState → Option (List Bool) → Option (List Bool)
+    → Result (Option Answer) FrontError → Type 0
 AnswersOne conn moment old new found finding (Ok answer) =
     (given : Next) × IsAnswered conn moment old (Some given) (Ok answer) new × Grows found finding (true ∷ [])
 AnswersOne conn moment old new found finding (Err _) =
     ((new ≡ old) × Grows found finding (false ∷ [])) ⊎ (line_at conn old.lines ≡ None)
 
 -- a piece came to an open connection, or there was no memory
-abbrev pub FeedsOne : Conn → List ℕ → FrontState → FrontState → Option (List Bool) → Option (List Bool) → Result (Unit {0}) FrontError → Type 0
+abbrev pub FeedsOne : Conn → List ℕ → FrontState → FrontState → Option (List Bool) → Option (List Bool)
+    → Result (Unit {0}) FrontError → Type 0
 FeedsOne conn piece old new found finding (Ok _) =
     (stream : Stream) × IsOpen conn old.lines stream × (new.lines ≡ with_line conn (Some (fed stream piece)) old.lines)
     × (new.server ≡ old.server) × Grows found finding (true ∷ [])
@@ -74,32 +79,44 @@ turn_after true true last = Ends driven.Shut
 turn_after true false true = Ends driven.Ended
 turn_after true false false = Answered
 
--- what the front is asked after a reply that was written whole, and says: whether its keeper can go on, where the message was refused for want of storage
+-- what the front is asked after a reply that was written whole, and says: whether its keeper can go on, where the
+-- message was refused for want of storage
 abbrev pub IsAsked : Bool → Reply → Bool → Option (List Bool) → Option (List Bool) → Type 0
 IsAsked true (Refused Store) true said saying = Grows said saying (false ∷ [])
 IsAsked true (Refused Store) false said saying = Grows said saying (true ∷ [])
 IsAsked _ reply shut said saying = (shut ≡ false) × (saying ≡ said)
 
 -- an answer was written, or a part of it; without one there is no turn yet
-abbrev pub IsSentAs : Turn → Option Answer → Option (List ℕ) → Option (List ℕ) → Option (List WriteEnd) → Option (List WriteEnd) → Option (List Bool) → Option (List Bool) → Type 0
+abbrev pub IsSentAs : Turn → Option Answer → Option (List ℕ) → Option (List ℕ) → Option (List WriteEnd)
+    → Option (List WriteEnd) → Option (List Bool) → Option (List Bool) → Type 0
 IsSentAs turn (Some answer) before now written writing said saying =
-    (whole : Bool) × (shut : Bool) × IsWritten whole (bytes_of answer.reply) before now written writing × IsAsked whole answer.reply shut said saying
+    (whole : Bool) × (shut : Bool) × IsWritten whole (bytes_of answer.reply) before now written writing
+    × IsAsked whole answer.reply shut said saying
     × (turn ≡ turn_after whole shut answer.last)
-IsSentAs turn None before now written writing said saying = (turn ≡ Waits) × (now ≡ before) × (writing ≡ written) × (saying ≡ said)
+IsSentAs turn None before now written writing said saying =
+    (turn ≡ Waits) × (now ≡ before) × (writing ≡ written) × (saying ≡ said)
 
 -- the next of a connection was answered at that moment, and the reply was written; or there was no memory
-abbrev pub IsAnsweredAt : Turn → Conn → ℤ → FrontState → FrontState → Option (List Bool) → Option (List Bool) → Option (List ℕ) → Option (List ℕ) → Option (List WriteEnd) → Option (List WriteEnd) → Option (List Bool) → Option (List Bool) → Type 0
+abbrev pub IsAnsweredAt : Turn → Conn → ℤ → FrontState → FrontState → Option (List Bool) → Option (List Bool)
+    → Option (List ℕ) → Option (List ℕ) → Option (List WriteEnd) → Option (List WriteEnd) → Option (List Bool)
+    → Option (List Bool) → Type 0
 IsAnsweredAt turn conn moment old new found finding before now written writing said saying =
-    ((answer : Option Answer) × (given : Next) × IsAnswered conn moment old (Some given) (Ok answer) new × Grows found finding (true ∷ [])
+    ((answer : Option Answer) × (given : Next) × IsAnswered conn moment old (Some given) (Ok answer) new
+    × Grows found finding (true ∷ [])
     × IsSentAs turn answer before now written writing said saying)
-    ⊎ (((turn ≡ Ends driven.Memory) × (new ≡ old) × Grows found finding (false ∷ []) × (now ≡ before) × (writing ≡ written) × (saying ≡ said))
+    ⊎ (((turn ≡ Ends driven.Memory) × (new ≡ old) × Grows found finding (false ∷ []) × (now ≡ before)
+    × (writing ≡ written) × (saying ≡ said))
     ⊎ (line_at conn old.lines ≡ None))
 
 -- so it was at the clock's moment, where there was one
-abbrev pub IsAnsweredNow : Turn → Conn → FrontState → FrontState → Option (List Bool) → Option (List Bool) → Option (List ℕ) → Option (List ℕ) → Option (List WriteEnd) → Option (List WriteEnd) → Option (List (Option ℤ)) → Option (List (Option ℤ)) → Option (List Bool) → Option (List Bool) → Type 0
+abbrev pub IsAnsweredNow : Turn → Conn → FrontState → FrontState → Option (List Bool) → Option (List Bool)
+    → Option (List ℕ) → Option (List ℕ) → Option (List WriteEnd) → Option (List WriteEnd) → Option (List (Option ℤ))
+    → Option (List (Option ℤ)) → Option (List Bool) → Option (List Bool) → Type 0
 IsAnsweredNow turn conn old new found finding before now written writing told telling said saying =
-    ((moment : ℤ) × Grows told telling (Some moment ∷ []) × IsAnsweredAt turn conn moment old new found finding before now written writing said saying)
-    ⊎ ((turn ≡ Ends driven.NoClock) × Grows told telling (None ∷ []) × (new ≡ old) × (finding ≡ found) × (now ≡ before) × (writing ≡ written) × (saying ≡ said))
+    ((moment : ℤ) × Grows told telling (Some moment ∷ [])
+    × IsAnsweredAt turn conn moment old new found finding before now written writing said saying)
+    ⊎ ((turn ≡ Ends driven.NoClock) × Grows told telling (None ∷ []) × (new ≡ old) × (finding ≡ found) × (now ≡ before)
+    × (writing ≡ written) × (saying ≡ said))
 
 -- ---- messages
 
@@ -108,7 +125,8 @@ abbrev pub IsWaiting : Stream → Type 0
 IsWaiting stream = IsNext stream next.More stream
 
 -- after so many reads the messages of events were answered, each with one whole reply, and the connection goes on
-pub record GoesOn (count : ℕ) (conn : Conn) (old new : FrontState) (stream after : Stream) (before now : Known) : Type 0 where
+pub record GoesOn (count : ℕ) (conn : Conn) (old new : FrontState) (stream after : Stream) (before now : Known)
+    : Type 0 where
   pub calls : Calls
   pub events : List messages.Event
   pub run : List Reply
@@ -129,21 +147,25 @@ pub record GoesOn (count : ℕ) (conn : Conn) (old new : FrontState) (stream aft
 abbrev pub IsTurn : Turn → Conn → FrontState → FrontState → Stream → Known → Known → Type 0
 IsTurn Answered conn old new stream before now =
     (after : Stream) × GoesOn 0 conn old new stream after before now × (length after.held + 1 < length stream.held)
-IsTurn Waits conn old new stream before now = (after : Stream) × GoesOn 0 conn old new stream after before now × IsWaiting after
+IsTurn Waits conn old new stream before now =
+    (after : Stream) × GoesOn 0 conn old new stream after before now × IsWaiting after
 IsTurn (Ends driven) conn old new stream before now = IsDrivenWithin 0 driven conn old new stream before now
 
 -- all that the connection held was answered, and more bytes are wanted; or the connection has ended
 abbrev pub IsHeldAnswered : Option Driven → Option Stream → Conn → FrontState → FrontState → Known → Known → Type 0
 IsHeldAnswered None (Some stream) conn old new before now = IsTurn Waits conn old new stream before now
-IsHeldAnswered (Some driven) (Some stream) conn old new before now = IsDrivenWithin 0 driven conn old new stream before now
+IsHeldAnswered (Some driven) (Some stream) conn old new before now =
+    IsDrivenWithin 0 driven conn old new stream before now
 IsHeldAnswered result None conn old new before now = (result ≡ Some driven.Ended) × (new ≡ old) × (now ≡ before)
 
 -- bytes were read once and answered, and the connection goes on or has ended
 abbrev pub IsRead : Option Driven → Conn → FrontState → FrontState → Stream → Known → Known → Type 0
-IsRead None conn old new stream before now = (after : Stream) × GoesOn 1 conn old new stream after before now × IsWaiting after
+IsRead None conn old new stream before now =
+    (after : Stream) × GoesOn 1 conn old new stream after before now × IsWaiting after
 IsRead (Some driven) conn old new stream before now = IsDrivenWithin 1 driven conn old new stream before now
 
 -- after so many reads, and all that was held before, an open connection holds no whole message
 abbrev pub HasRead : ℕ → Conn → FrontState → FrontState → Known → Known → Type 0
 HasRead count conn old new before now =
-    (stream after : Stream) × IsOpen conn old.lines stream × GoesOn count conn old new stream after before now × IsWaiting after
+    (stream after : Stream) × IsOpen conn old.lines stream × GoesOn count conn old new stream after before now
+    × IsWaiting after

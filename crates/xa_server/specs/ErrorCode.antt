@@ -14,7 +14,8 @@ use Rattle.xa_notation.specs.declared.notation_error.NotationError.TheVariants a
 use Rattle.xa_records.specs.declared.refusal.Refusal.{Refusal}
 use Rattle.xa_records.specs.declared.refusal.Refusal.TheVariants as refusal
 use Rattle.xa_server.specs.declared.error_code.ErrorCode.{ErrorCode}
-use Rattle.xa_server.specs.declared.error_code.ErrorCode.TheVariants.{NoRoute, BadMethod, BadMediaType, Unauthorized, Forbidden, BadDomain, Body, Refused, Session}
+use Rattle.xa_server.specs.declared.error_code.ErrorCode.TheVariants.{NoRoute, BadMethod, BadMediaType, Unauthorized}
+use Rattle.xa_server.specs.declared.error_code.ErrorCode.TheVariants.{Forbidden, BadDomain, Body, Refused, Session}
 
 -- the name of a code, and its status
 pub record Row : Type 0 where

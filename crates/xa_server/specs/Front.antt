@@ -47,7 +47,8 @@ pub record FrontState : Type 0 where
 abbrev pub front_state : {R : Type 0} → (R → Custody) → Fronted R → FrontState
 front_state custody front = record { server = server_state custody front.server; lines = front.lines }
 
--- what a connection is answered, by what its session gives next: a message is served, and a fault has its reply; `after` is the rest of its stream
+-- what a connection is answered, by what its session gives next: a message is served, and a fault has its reply;
+-- `after` is the rest of its stream
 abbrev pub IsGiven : ℤ → ServerState → Next → Stream → Option Answer → ServerState → Type 0
 IsGiven moment old (next.Message message) after (Some answer) new =
     IsServed old.world new.world moment message answer.reply
@@ -58,7 +59,8 @@ IsGiven moment old next.More after None new = new ≡ old
 IsGiven moment old next.Ended after None new = new ≡ old
 IsGiven moment old _ after _ new = ⊥
 
--- the next of a connection's stream is answered, and no other connection changes; or nothing is done. `given` is what its session gave, where it was asked
+-- the next of a connection's stream is answered, and no other connection changes; or nothing is done. `given` is what
+-- its session gave, where it was asked
 abbrev pub IsAnswered : Conn → ℤ → FrontState → Option Next → Result (Option Answer) FrontError → FrontState → Type 0
 IsAnswered conn moment old (Some given) (Ok answer) new =
     (stream after : Stream) × IsOpen conn old.lines stream × IsNext stream given after
@@ -105,14 +107,16 @@ abbrev pub replies_given : List (Option Next) → List Outcome → List Reply
 replies_given (given ∷ nexts) (outcome ∷ outcomes) = reply_given given outcome ++ replies_given nexts outcomes
 replies_given _ _ = []
 
--- events were played: each did what it does; the messages that they cut off, of all connections in order, are one run of the
--- server; and each domain's replies in it are those of its own machine, used by it alone, whatever comes on which connection
--- and in which pieces
+-- events were played: each did what it does; the messages that they cut off, of all connections in order, are one run
+-- of the server; and each domain's replies in it are those of its own machine, used by it alone, whatever comes on
+-- which connection and in which pieces
 pub record IsPlayed (old new : FrontState) (events : List Event) (outcomes : List Outcome) : Type 0 where
   pub nexts : List (Option Next)
   pub plays : Plays events outcomes nexts old new
   pub run : IsRun old.server.world (messages_cut events nexts) (replies_given nexts outcomes) new.server.world
-  pub work : IsWorkOfRun old.server.world old.server.tally (messages_cut events nexts) (replies_given nexts outcomes) new.server.world new.server.tally
+  pub work : IsWorkOfRun old.server.world old.server.tally (messages_cut events nexts)
+      (replies_given nexts outcomes) new.server.world new.server.tally
   pub headline : IsIsolated old.server.world new.server.world (messages_cut events nexts) (replies_given nexts outcomes)
   pub beside_refusals :
-      IsIsolatedBesideRefusals old.server.world new.server.world (messages_cut events nexts) (replies_given nexts outcomes)
+      IsIsolatedBesideRefusals old.server.world new.server.world (messages_cut events nexts)
+      (replies_given nexts outcomes)

@@ -1,4 +1,5 @@
--- Law of a front: the messages of a connection are those of its own bytes, however the pieces of all connections are cut and mixed.
+-- Law of a front: the messages of a connection are those of its own bytes, however the pieces of all connections are
+-- cut and mixed.
 use Rattle.std.specs.Prelude.{◌≢◌, List, [], ◌∷◌, ◌++◌, Option, Some, Ok, map, nat_eq, if◌then◌else◌}
 use Rattle.xa_http.specs.declared.message.Message.{Message}
 use Rattle.xa_http.specs.declared.session.Next.{Next}
@@ -27,7 +28,8 @@ step_on conn _ given result = []
 
 -- what events do to it, one after another
 abbrev pub steps_on : Conn → List Event → List (Option Next) → List Outcome → List Step
-steps_on conn (event ∷ events) (given ∷ nexts) (outcome ∷ outcomes) = step_on conn event given outcome ++ steps_on conn events nexts outcomes
+steps_on conn (event ∷ events) (given ∷ nexts) (outcome ∷ outcomes) =
+    step_on conn event given outcome ++ steps_on conn events nexts outcomes
 steps_on conn _ nexts outcomes = []
 
 -- the message that an event cuts off the connection, with its reply
@@ -52,13 +54,16 @@ abbrev pub LeaveOpen : Conn → List Event → Type 0
 LeaveOpen conn [] = Unit {0}
 LeaveOpen conn (event ∷ events) = LeavesOpen conn event × LeaveOpen conn events
 
--- the law: from where a connection is open, the messages that are answered on it are the first of all the bytes that it has, and
--- takes, so that its k-th reply is that to the k-th message of its stream; and it holds the rest. Events of other connections
--- in between make no difference
+-- the law: from where a connection is open, the messages that are answered on it are the first of all the bytes that
+-- it has, and takes, so that its k-th reply is that to the k-th message of its stream; and it holds the rest. Events
+-- of other connections in between make no difference
 abbrev pub LinesAreStreams : Type 0
 LinesAreStreams =
-    (conn : Conn) (events : List Event) (outcomes : List Outcome) (nexts : List (Option Next)) (old new : FrontState) (stream : Stream)
+    (conn : Conn) (events : List Event) (outcomes : List Outcome) (nexts : List (Option Next)) (old new : FrontState)
+    (stream : Stream)
     → Plays events outcomes nexts old new → IsOpen conn old.lines stream → LeaveOpen conn events
-    → (after rest : Stream) × IsOpen conn new.lines after × GoesThrough stream (steps_on conn events nexts outcomes) after
-    × Cuts (fed stream (bytes_fed (steps_on conn events nexts outcomes))) (map (λ exchange. exchange.0) (exchanges_on conn events nexts outcomes)) rest
+    → (after rest : Stream) × IsOpen conn new.lines after
+    × GoesThrough stream (steps_on conn events nexts outcomes) after
+    × Cuts (fed stream (bytes_fed (steps_on conn events nexts outcomes)))
+    (map (λ exchange. exchange.0) (exchanges_on conn events nexts outcomes)) rest
     × StopsAt rest after

@@ -32,12 +32,15 @@ Answers conn moment old new result = (given : Option Next) × IsAnswered conn mo
 abbrev pub AnswersNext : ℤ → ServerState → ServerState → Stream → Stream → Result (Option Answer) FrontError → Type 0
 AnswersNext moment old new stream after (Ok answer) =
     (given : Next) × IsNext stream given after × IsGiven moment old given after answer new
-AnswersNext moment old new stream after (Err error) = (error ≡ Memory) × (stream.ended ≡ false) × (after ≡ stream) × (new ≡ old)
+AnswersNext moment old new stream after (Err error) =
+    (error ≡ Memory) × (stream.ended ≡ false) × (after ≡ stream) × (new ≡ old)
 
 -- the next of a stream that may not be there was answered, or nothing was done
-abbrev pub AnswersIn : ℤ → ServerState → ServerState → Option Stream → Option Stream → Result (Option Answer) FrontError → Type 0
+abbrev pub AnswersIn : ℤ → ServerState → ServerState → Option Stream → Option Stream → Result (Option Answer) FrontError
+    → Type 0
 AnswersIn moment old new line after (Ok answer) =
-    (stream rest : Stream) × (line ≡ Some stream) × AnswersNext moment old new stream rest (Ok answer) × (after ≡ Some rest)
+    (stream rest : Stream) × (line ≡ Some stream) × AnswersNext moment old new stream rest (Ok answer)
+    × (after ≡ Some rest)
 AnswersIn moment old new line after (Err NoSuchConnection) = (line ≡ None) × (after ≡ line) × (new ≡ old)
 AnswersIn moment old new line after (Err Memory) =
     (stream : Stream) × (line ≡ Some stream) × (stream.ended ≡ false) × (after ≡ line) × (new ≡ old)
@@ -59,7 +62,8 @@ TakesNext stream after (Err error) = (error ≡ Memory) × (stream.ended ≡ fal
 
 -- and of a stream that may not be there
 abbrev pub TakesIn : Option Stream → Option Stream → Result (Option Answer) FrontError → Type 0
-TakesIn old new (Ok answer) = (stream after : Stream) × (old ≡ Some stream) × TakesNext stream after (Ok answer) × (new ≡ Some after)
+TakesIn old new (Ok answer) =
+    (stream after : Stream) × (old ≡ Some stream) × TakesNext stream after (Ok answer) × (new ≡ Some after)
 TakesIn old new (Err NoSuchConnection) = (old ≡ None) × (new ≡ old)
 TakesIn old new (Err Memory) = (stream : Stream) × (old ≡ Some stream) × (stream.ended ≡ false) × (new ≡ old)
 TakesIn old new (Err _) = ⊥
@@ -67,7 +71,8 @@ TakesIn old new (Err _) = ⊥
 -- and of the connections
 abbrev pub TakesLine : Conn → Lines → Lines → Result (Option Answer) FrontError → Type 0
 TakesLine conn old new (Ok answer) =
-    (stream after : Stream) × IsOpen conn old stream × TakesNext stream after (Ok answer) × (new ≡ with_line conn (Some after) old)
+    (stream after : Stream) × IsOpen conn old stream × TakesNext stream after (Ok answer)
+    × (new ≡ with_line conn (Some after) old)
 TakesLine conn old new (Err NoSuchConnection) = (line_at conn old ≡ None) × (new ≡ old)
 TakesLine conn old new (Err Memory) = (stream : Stream) × IsOpen conn old stream × (stream.ended ≡ false) × (new ≡ old)
 TakesLine conn old new (Err _) = ⊥
@@ -87,13 +92,15 @@ DoesLines _ old _ new = ⊥
 -- what events do to them, one after another
 abbrev pub PlaysLines : List Event → List Outcome → Lines → Lines → Type 0
 PlaysLines [] [] old new = new ≡ old
-PlaysLines (event ∷ events) (outcome ∷ outcomes) old new = (mid : Lines) × DoesLines event old outcome mid × PlaysLines events outcomes mid new
+PlaysLines (event ∷ events) (outcome ∷ outcomes) old new =
+    (mid : Lines) × DoesLines event old outcome mid × PlaysLines events outcomes mid new
 PlaysLines _ _ old new = ⊥
 
 -- the fault by which a stream ends was answered; without memory nothing was done
 abbrev pub IsFaultGiven : SessionFault → Stream → Stream → Result (Option Answer) FrontError → Type 0
 IsFaultGiven fault stream after (Ok (Some answer)) =
-    IsNext stream (next.Fault fault) after × (answer.reply ≡ Sent (error_reply (code_of_session_fault fault))) × (answer.last ≡ true)
+    IsNext stream (next.Fault fault) after × (answer.reply ≡ Sent (error_reply (code_of_session_fault fault)))
+    × (answer.last ≡ true)
 IsFaultGiven fault stream after (Ok None) = ⊥
 IsFaultGiven fault stream after (Err error) = (error ≡ Memory) × (after ≡ stream)
 
@@ -112,7 +119,8 @@ abbrev pub IsFirstOf : Option Stream → Message → Type 0
 IsFirstOf None message = ⊥
 IsFirstOf (Some stream) message = (rest : Stream) × IsFirst stream message rest
 
--- what a crash after an answer may leave: what it might have left before, or all with the step made that the first message of the stream makes
+-- what a crash after an answer may leave: what it might have left before, or all with the step made that the first
+-- message of the stream makes
 abbrev pub LeavesAnswer : (Kept → Type 0) → (Kept → Type 0) → World → ℤ → Option Stream → Type 0
 LeavesAnswer before after old moment line =
     (left : Kept) → after left
@@ -135,4 +143,5 @@ CountsOutcome old new _ = new ≡ old
 
 abbrev pub CountsOutcomes : ℕ → ℕ → List Outcome → Type 0
 CountsOutcomes old new [] = new ≡ old
-CountsOutcomes old new (outcome ∷ outcomes) = (mid : ℕ) × CountsOutcome old mid outcome × CountsOutcomes mid new outcomes
+CountsOutcomes old new (outcome ∷ outcomes) =
+    (mid : ℕ) × CountsOutcome old mid outcome × CountsOutcomes mid new outcomes

@@ -1,4 +1,5 @@
--- Gates that are remembered, each under its domain's name, the one that was used last first: words that only private functions and the server's invariant cite.
+-- Gates that are remembered, each under its domain's name, the one that was used last first: words that only private
+-- functions and the server's invariant cite.
 use Rattle.std.specs.Prelude.{ℕ, List, Option, option_and_then, option_map, bytes_eq}
 use Rattle.std.specs.Map.{lookup, remove_entry}
 use Rattle.lru.specs.LruCache.{lru_cache, promoted, put_entries}

@@ -1,7 +1,8 @@
 -- How the code answers a message: words that only contracts of private functions cite.
 use Rattle.std.specs.Option.{ok_or}
 use Rattle.std.specs.FinMap.{get}
-use Rattle.std.specs.Prelude.{◌≡◌, ◌⊎◌, ℕ, ℤ, Bool, List, length, nat_le, Option, Some, None, option_and_then, option_map, Result, Ok, Err, if◌then◌else◌}
+use Rattle.std.specs.Prelude.{◌≡◌, ◌⊎◌, ℕ, ℤ, Bool, List, length, nat_le, OnErr, Option, Some, None, option_and_then}
+use Rattle.std.specs.Prelude.{option_map, Result, Ok, Err, if◌then◌else◌}
 use Rattle.xa_value.specs.Gives.{◌>>=◌}
 use Rattle.xa_notation.specs.declared.notation_error.NotationError.{NotationError}
 use Rattle.xa_notation.specs.declared.notation_error.NotationError.TheVariants.{NotJson}
@@ -14,6 +15,7 @@ use Rattle.xa_records.specs.declared.refusal.Failure.TheVariants.{Memory, Store}
 use Rattle.xa_records.specs.DomainState.{DomainState}
 use Rattle.xa_records.specs.Keeper.{Custody, IsOneMore}
 use Rattle.xa_records.specs.Kept.{Domain, IsChanged, Kept, names_of, state_of}
+use Rattle.xa_server.specs.declared.ask.Ask.{Ask}
 use Rattle.xa_server.specs.declared.error_code.ErrorCode.{ErrorCode}
 use Rattle.xa_server.specs.declared.error_code.ErrorCode.TheVariants as error
 use Rattle.xa_server.specs.declared.opened.Opened.{Opened}
@@ -23,21 +25,28 @@ use Rattle.xa_server.specs.declared.stop.Stop.TheVariants.{Code, Failed}
 use Rattle.xa_server.specs.declared.replies.Reply.{Reply}
 use Rattle.xa_server.specs.declared.replies.Reply.TheVariants.{Sent, Refused}
 use Rattle.xa_server.specs.ErrorCode.{error_reply}
+use Rattle.xa_server.specs.Gates.{opened_of}
 use Rattle.xa_server.specs.Replies.{decision_reply}
 use Rattle.xa_cache.specs.declared.key.Key.{Key}
 use Rattle.xa_decide.specs.Decision.{Viewed}
+use Rattle.xa_server.specs.Stock.{AllStand, Stock}
 use Rattle.xa_server.specs.Tally.{Tally}
 use Rattle.xa_server.specs.View.{view_of}
-use Rattle.xa_server.specs.Work.{IsWorkedOut, body_held, domain_of_message, domain_of_route, key_in, looked_up, worked_out}
-use Rattle.xa_server.specs.Machine.{Answer, answer, by_route, general_answer, general_by_route, or_body_fault, permitted}
+use Rattle.xa_server.specs.Work.{IsWorkedOut, body_held, domain_of_message, domain_of_route, key_in, looked_up}
+use Rattle.xa_server.specs.Work.{response_of, worked_out}
+use Rattle.xa_server.specs.Machine.{Answer, answer, by_route, general_answer, general_by_route, or_body_fault}
+use Rattle.xa_server.specs.Machine.{permitted}
 
 -- what is made of what a body says, or its fault
-abbrev pub by_body : {X : Type 0} → (X → Option DomainState → Answer) → Result X NotationError → Option DomainState → Answer
+abbrev pub by_body : {X : Type 0} → (X → Option DomainState → Answer) → Result X NotationError → Option DomainState
+    → Answer
 by_body answer given state = or_body_fault given >>= (λ x. answer x state)
 
--- a message of the domain of that name was answered as its machine answers it, or it failed; nothing has changed but by a reply
+-- a message of the domain of that name was answered as its machine answers it, or it failed; nothing has changed but
+-- by a reply
 abbrev pub Answers : Kept → Kept → List ℕ → Result (List ℕ) Stop → Answer → Type 0
-Answers old new name (Ok bytes) meant = (after : Option DomainState) × (meant ≡ Ok (bytes, after)) × IsChanged old new name after
+Answers old new name (Ok bytes) meant =
+    (after : Option DomainState) × (meant ≡ Ok (bytes, after)) × IsChanged old new name after
 Answers old new name (Err (Code code)) meant = (meant ≡ Err code) × (new ≡ old)
 Answers old new name (Err (Failed failure)) meant = new ≡ old
 
@@ -62,13 +71,17 @@ admitted_by for_decisions state shown = do
 
 -- a message that asks for this was answered, by the domain that its path names, if it names one
 abbrev pub AnswersRoute : List ℕ → Kept → Kept → Option (List ℕ) → Message → ℤ → Route → Result (List ℕ) Stop → Type 0
-AnswersRoute operator old new None message moment route result = Shows old new result (general_by_route operator (names_of old) message route)
-AnswersRoute operator old new (Some name) message moment route result = Answers old new name result (by_route operator (state_of name old) message moment route)
+AnswersRoute operator old new None message moment route result =
+    Shows old new result (general_by_route operator (names_of old) message route)
+AnswersRoute operator old new (Some name) message moment route result =
+    Answers old new name result (by_route operator (state_of name old) message moment route)
 
 -- a message was answered
 abbrev pub AnswersMessage : List ℕ → Kept → Kept → Option (List ℕ) → Message → ℤ → Result (List ℕ) Stop → Type 0
-AnswersMessage operator old new None message moment result = Shows old new result (general_answer operator (names_of old) message)
-AnswersMessage operator old new (Some name) message moment result = Answers old new name result (answer operator (state_of name old) message moment)
+AnswersMessage operator old new None message moment result =
+    Shows old new result (general_answer operator (names_of old) message)
+AnswersMessage operator old new (Some name) message moment result =
+    Answers old new name result (answer operator (state_of name old) message moment)
 
 -- the keeper has counted one more failure for want of storage, where that is why, and else none
 abbrev pub Counts : {X : Type 0} → ℕ → ℕ → Result X Stop → Type 0
@@ -85,13 +98,15 @@ IsReplyOf (Err (Code code)) reply = (reply ≡ Sent (error_reply code)) ⊎ (rep
 
 -- ---- asking for a decision
 
--- the body of the response, and whether it is the same at every moment; nothing of an absent domain, and where the body is no JSON
+-- the body of the response, and whether it is the same at every moment; nothing of an absent domain, and where the
+-- body is no JSON
 abbrev pub worked_in : Option DomainState → List ℕ → ℤ → Option (List ℕ × Bool)
 worked_in state body moment = option_and_then (λ s. worked_out s body moment) state
 
 -- the same, or why there is none
 abbrev pub response_told : List ℕ → ℤ → Option DomainState → Result (List ℕ × Bool) ErrorCode
-response_told body moment state = ok_or state (error.Refused Absent) >>= (λ s. ok_or (worked_out s body moment) (error.Body NotJson))
+response_told body moment state =
+    ok_or state (error.Refused Absent) >>= (λ s. ok_or (worked_out s body moment) (error.Body NotJson))
 
 -- what decides in a domain; nothing in an absent one
 abbrev pub view_told : Option DomainState → Result Viewed ErrorCode
@@ -130,9 +145,34 @@ key_within key = if nat_le (length key.body) 16_384 then Some key else None
 -- a decision was worked out, and counted; without a key it isn't held
 abbrev pub IsNoted : Option Key → List ℕ → Bool → Tally → Tally → Type 0
 IsNoted (Some key) body timeless old new = IsWorkedOut key (Some (body, timeless)) old new
-IsNoted None body timeless old new = IsOneMore old.evaluations new.evaluations × (new.held ≡ old.held) × (new.unkept ≡ old.unkept)
+IsNoted None body timeless old new =
+    IsOneMore old.evaluations new.evaluations × (new.held ≡ old.held) × (new.unkept ≡ old.unkept)
 
--- the decision was worked out, with success; by an error answer nothing was there to be worked out, and a failure has left all
+-- the domain that has let it in is there, with that number and that epoch
+abbrev pub IsLetIn : Kept → Ask → Type 0
+IsLetIn kept ask = opened_of ask.name.now kept ≡ Some ask.opened
+
+-- this holds where a domain has let it in, and where all that the server shares stood before and the keeper is sound
+-- after
+abbrev pub IfLetIn : Custody → Custody → Ask → Stock → Type 0 → Type 0
+IfLetIn old new ask before claim = IsLetIn old.kept ask → AllStand old.kept before → new.sound → claim
+
+-- under which key the decision on the body is held
+abbrev pub key_asked : Ask → List ℕ → Key
+key_asked ask body = key_opened ask.opened body
+
+-- what its response comes to, by what decides; by what decides in its domain; and the reply
+abbrev pub response_asked : Viewed → Ask → List ℕ → Option (List ℕ × Bool)
+response_asked view ask body = response_of view body ask.moment
+
+abbrev pub worked_asked : Kept → Ask → List ℕ → Option (List ℕ × Bool)
+worked_asked kept ask body = worked_in (state_of ask.name.now kept) body ask.moment
+
+abbrev pub reply_asked : Kept → Ask → List ℕ → Result (List ℕ) ErrorCode
+reply_asked kept ask body = reply_told body ask.moment (state_of ask.name.now kept)
+
+-- the decision was worked out, with success; by an error answer nothing was there to be worked out, and a failure has
+-- left all
 abbrev pub IsFresh : Key → Option (List ℕ × Bool) → Result (List ℕ) Stop → Tally → Tally → Type 0
 IsFresh key worked (Ok bytes) old new = IsWorkedOut key worked old new
 IsFresh key worked (Err (Code code)) old new = (worked ≡ None) × (new ≡ old)
@@ -156,13 +196,16 @@ IsAsked key None worked result old new = IsFresh key worked result old new
 abbrev pub WorksOf : Option Domain → List ℕ → ℤ → Result (List ℕ) Stop → Tally → Tally → Type 0
 WorksOf None body moment result old new = new ≡ old
 WorksOf (Some domain) body moment result old new =
-    IsAsked (key_in domain body) (body_held (key_in domain body) body old) (worked_out domain.state body moment) result old new
+    IsAsked (key_in domain body) (body_held (key_in domain body) body old)
+    (worked_out domain.state body moment) result old new
 
 abbrev pub WorksRoute : Kept → Message → ℤ → Route → Result (List ℕ) Stop → Tally → Tally → Type 0
-WorksRoute kept message moment route result old new = WorksOf (domain_of_route kept message route) message.body moment result old new
+WorksRoute kept message moment route result old new =
+    WorksOf (domain_of_route kept message route) message.body moment result old new
 
 abbrev pub WorksMessage : Kept → Message → ℤ → Result (List ℕ) Stop → Tally → Tally → Type 0
-WorksMessage kept message moment result old new = WorksOf (domain_of_message kept message (route_of message)) message.body moment result old new
+WorksMessage kept message moment result old new =
+    WorksOf (domain_of_message kept message (route_of message)) message.body moment result old new
 
 -- ---- what a crash may leave
 
@@ -176,7 +219,8 @@ IfTold (Err (Failed failure)) claim = Unit {0}
 abbrev pub LeavesNoMore : (Kept → Type 0) → (Kept → Type 0) → Type 0
 LeavesNoMore before after = (left : Kept) → after left → before left
 
--- what an answer of the machine changes was made: the domain of that name has gone over into its state, and no other has changed
+-- what an answer of the machine changes was made: the domain of that name has gone over into its state, and no other
+-- has changed
 abbrev pub IsAnswerMade : Kept → Kept → List ℕ → Answer → Type 0
 IsAnswerMade old left name (Ok (bytes, after)) = IsChanged old left name after
 IsAnswerMade old left name (Err code) = ⊥
@@ -186,19 +230,52 @@ abbrev pub LeavesAnswer : (Kept → Type 0) → (Kept → Type 0) → Kept → L
 LeavesAnswer before after old name meant = (left : Kept) → after left → before left ⊎ IsAnswerMade old left name meant
 
 -- after a message that asks for this
-abbrev pub LeavesRoute : (Kept → Type 0) → (Kept → Type 0) → List ℕ → Kept → Option (List ℕ) → Message → ℤ → Route → Type 0
+abbrev pub LeavesRoute : (Kept → Type 0) → (Kept → Type 0) → List ℕ → Kept → Option (List ℕ) → Message → ℤ → Route
+    → Type 0
 LeavesRoute before after operator old None message moment route = LeavesNoMore before after
-LeavesRoute before after operator old (Some name) message moment route = LeavesAnswer before after old name (by_route operator (state_of name old) message moment route)
+LeavesRoute before after operator old (Some name) message moment route =
+    LeavesAnswer before after old name (by_route operator (state_of name old) message moment route)
 
 -- after a message
 abbrev pub LeavesMessage : (Kept → Type 0) → (Kept → Type 0) → List ℕ → Kept → Option (List ℕ) → Message → ℤ → Type 0
 LeavesMessage before after operator old None message moment = LeavesNoMore before after
-LeavesMessage before after operator old (Some name) message moment = LeavesAnswer before after old name (answer operator (state_of name old) message moment)
+LeavesMessage before after operator old (Some name) message moment =
+    LeavesAnswer before after old name (answer operator (state_of name old) message moment)
 
 -- ---- what is done for a message
 
+-- what is told of the keeper after a part of a message was handled, where this a crash may leave
+pub record Keeping {X : Type 0} (old new : Custody) (result : Result X Stop) (leaves_so : Type 0) : Type 0 where
+  -- where it is sound it was, and where the disk has given back what was written it had before
+  pub sound : new.sound → old.sound
+  pub clean : new.clean → old.clean
+  -- and there it stays sound, unless that failed
+  pub stays : new.clean → old.sound → IfTold result new.sound
+  pub leaves : new.clean → old.sound → leaves_so
+  -- its calls that failed for want of storage are counted
+  pub counts : Counts old.faults new.faults result
+
+-- the keeper was asked to read, or wasn't asked: a crash leaves nothing that it might not have left before
+abbrev pub OnlyReads : {X : Type 0} → Custody → Custody → Result X Stop → Type 0
+OnlyReads old new result = Keeping old new result (LeavesNoMore old.may_leave new.may_leave)
+
+-- what is told of all that a server shares, after a part of a message was handled before which all of it stood: of
+-- what is held of decisions this was done, and all still stands; without success the views are as they were
+pub record Sharing {X : Type 0} (old new : Custody) (before after : Stock) (result : Result X Stop) (works_so : Type 0)
+    : Type 0 where
+  pub works : AllStand old.kept before → new.sound → works_so
+  pub stands : AllStand old.kept before → new.sound → AllStand new.kept after
+  pub room : OnErr result (after.room ≡ before.room)
+
+-- of it no more was touched than a gate that was remembered
+pub record OnlyForgets (old new : Custody) (before after : Stock) : Type 0 where
+  pub stands : AllStand old.kept before → new.sound → AllStand new.kept after
+  pub tally : after.tally ≡ before.tally
+  pub room : after.room ≡ before.room
+
 -- a part of a message was handled: so it was answered, and this a crash may leave, or it failed
-pub record Handles {X : Type 0} (old new : Custody) (result : Result X Stop) (is_answered leaves_so : Type 0) : Type 0 where
+pub record Handles {X : Type 0} (old new : Custody) (result : Result X Stop) (is_answered leaves_so : Type 0)
+    : Type 0 where
   pub answers : new.sound → is_answered
   pub sound : new.sound → old.sound
   pub clean : new.clean → old.clean
@@ -215,4 +292,5 @@ HandlesChange old new name result machine =
 -- as that machine answers, which changes nothing
 abbrev pub HandlesReading : Custody → Custody → List ℕ → Result (List ℕ) Stop → (Option DomainState → Answer) → Type 0
 HandlesReading old new name result machine =
-    Handles old new result (Answers old.kept new.kept name result (machine (state_of name old.kept))) (LeavesNoMore old.may_leave new.may_leave)
+    Handles old new result (Answers old.kept new.kept name result (machine (state_of name old.kept)))
+    (LeavesNoMore old.may_leave new.may_leave)

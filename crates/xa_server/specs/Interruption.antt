@@ -12,7 +12,8 @@ use Rattle.xa_server.specs.World.{Serving, World, world}
 
 -- each domain is in the state in which its own machine, used by it alone, leaves it after these messages
 abbrev pub AreStatesAfter : World → List Event → Kept → Type 0
-AreStatesAfter old events left = (domain : List ℕ) → state_of domain left ≡ state_after old.operator (state domain old) (own_events domain events)
+AreStatesAfter old events left =
+    (domain : List ℕ) → state_of domain left ≡ state_after old.operator (state domain old) (own_events domain events)
 
 module _ {R : Type 0} (custody : R → Custody) where
   -- a message was served: these are clauses of `Server::serve`
@@ -20,7 +21,8 @@ module _ {R : Type 0} (custody : R → Custody) where
     pub served : (custody new.records).sound → IsServed (world custody old) (world custody new) event.0 event.1 reply
     pub clean : (custody new.records).clean → (custody old.records).clean
     pub stays : (custody new.records).clean → (custody old.records).sound → IfSent reply (custody new.records).sound
-    pub crash : (custody new.records).clean → (custody old.records).sound → LeavesStep (custody old.records).may_leave (custody new.records).may_leave (world custody old) event.0 event.1
+    pub crash : (custody new.records).clean → (custody old.records).sound
+        → LeavesStep (custody old.records).may_leave (custody new.records).may_leave (world custody old) event.0 event.1
 
   -- after a refusal the keeper is sound still; after another reply it is by itself
   abbrev pub GoesOn : Serving R → Reply → Type 0
@@ -30,12 +32,14 @@ module _ {R : Type 0} (custody : R → Custody) where
   -- these messages were served one after another, and each time it went on
   abbrev pub ServesAll : Serving R → List Event → List Reply → Serving R → Type 0
   ServesAll old [] [] new = new ≡ old
-  ServesAll old (event ∷ events) (reply ∷ replies) new = (mid : Serving R) × Serves old mid event reply × GoesOn mid reply × ServesAll mid events replies new
+  ServesAll old (event ∷ events) (reply ∷ replies) new =
+      (mid : Serving R) × Serves old mid event reply × GoesOn mid reply × ServesAll mid events replies new
   ServesAll old [] (_ ∷ _) new = ⊥
   ServesAll old (_ ∷ _) [] new = ⊥
 
   -- these messages were served, and then one more, whatever its reply: in it, or after it, the server is stopped
-  pub record IsInterrupted (old new : Serving R) (events : List Event) (replies : List Reply) (last : Event) (reply : Reply) : Type 0 where
+  pub record IsInterrupted (old new : Serving R) (events : List Event) (replies : List Reply) (last : Event)
+      (reply : Reply) : Type 0 where
     pub sound : (custody old.records).sound
     pub mid : Serving R
     pub before : ServesAll old events replies mid
@@ -45,7 +49,8 @@ module _ {R : Type 0} (custody : R → Custody) where
   -- of messages of which so many were answered
   pub record LeavesFirst (old new : Serving R) (messages : List Event) (answered : ℕ) : Type 0 where
     -- a crash leaves the states after the first k messages, for some k: those that were answered are among them
-    pub states : (left : Kept) → (custody new.records).may_leave left → (k : ℕ) × (answered ≤ k) × AreStatesAfter (world custody old) (take k messages) left
+    pub states : (left : Kept) → (custody new.records).may_leave left
+        → (k : ℕ) × (answered ≤ k) × AreStatesAfter (world custody old) (take k messages) left
     -- and it doesn't leave just anything
     pub some : (other : Kept) × ¬ (custody new.records).may_leave other
 
@@ -54,4 +59,5 @@ module _ {R : Type 0} (custody : R → Custody) where
   KeepsAnswered old =
       (new : Serving R) (events : List Event) (replies : List Reply) (last : Event) (reply : Reply)
       → IsInterrupted old new events replies last reply
-      → LeavesFirst old new (answered_events events replies ++ last ∷ []) (length (answered_events (events ++ last ∷ []) (replies ++ reply ∷ [])))
+      → LeavesFirst old new (answered_events events replies ++ last ∷ [])
+      (length (answered_events (events ++ last ∷ []) (replies ++ reply ∷ [])))

@@ -19,9 +19,11 @@ replies_to domain (event ∷ events) [] = []
 replies_to domain (event ∷ events) (reply ∷ replies) =
     if is_own domain event then reply ∷ replies_to domain events replies else replies_to domain events replies
 
--- the domain was told what its own machine, used by it alone, tells it, and is left in the state in which that leaves it
+-- the domain was told what its own machine, used by it alone, tells it, and is left in the state in which that leaves
+-- it
 pub record IsAlone (old new : World) (events : List Event) (replies : List Reply) (domain : List ℕ) : Type 0 where
-  pub told : replies_to domain events replies ≡ map Sent (replies_alone old.operator (state domain old) (own_events domain events))
+  pub told : replies_to domain events replies ≡ map Sent
+      (replies_alone old.operator (state domain old) (own_events domain events))
   pub left : state domain new ≡ state_after old.operator (state domain old) (own_events domain events)
 
 -- the headline, of a run of which no message was refused
@@ -52,7 +54,8 @@ pub record AgreeOn (domain : List ℕ) (first second : World) (first_events seco
   pub state : state domain first ≡ state domain second
   pub messages : own_events domain first_events ≡ own_events domain second_events
 
--- the consequence, in two worlds: however the other domains differ, the domain is told the same and is left in one state
+-- the consequence, in two worlds: however the other domains differ, the domain is told the same and is left in one
+-- state
 abbrev pub TwoWorldsAgree : Type 0
 TwoWorldsAgree =
     (first first_after second second_after : World) (first_events second_events : List Event)

@@ -1,10 +1,12 @@
 -- The connections of a front, each with its stream.
-use Rattle.std.specs.Prelude.{◌≡◌, ◌+◌, ◌<◌, ◌≤◌, ℕ, false, suc, List, [], ◌∷◌, length, replicate, slice_index_or, slice_set, Option, Some, None, option_map, Result, Ok, Err}
+use Rattle.std.specs.Prelude.{◌≡◌, ◌+◌, ◌<◌, ◌≤◌, ℕ, false, suc, List, [], ◌∷◌, length, replicate, slice_index_or}
+use Rattle.std.specs.Prelude.{slice_set, Option, Some, None, option_map, Result, Ok, Err}
 use Rattle.xa_http.specs.declared.session.Look.{Look}
 use Rattle.xa_http.specs.Messages.{IsLook}
 use Rattle.xa_http.specs.Stream.{Stream, fed}
 use Rattle.xa_server.specs.declared.front_error.FrontError.{FrontError}
-use Rattle.xa_server.specs.declared.front_error.FrontError.TheVariants.{Memory, NoSuchConnection, TooManyConnections, Full}
+use Rattle.xa_server.specs.declared.front_error.FrontError.TheVariants.{Memory, NoSuchConnection, TooManyConnections}
+use Rattle.xa_server.specs.declared.front_error.FrontError.TheVariants.{Full}
 use Rattle.xa_server.specs.declared.lines.Conn.{Conn}
 
 -- the 64 connections by their numbers: the stream of each that is open
@@ -37,13 +39,15 @@ first_free (Some _ ∷ lines) = option_map suc (first_free lines)
 abbrev pub empty_stream : Stream
 empty_stream = record { held = []; ended = false }
 
--- a connection is opened by the least number of which none is open, and holds nothing; none can be where all 64 are open
+-- a connection is opened by the least number of which none is open, and holds nothing; none can be where all 64 are
+-- open
 abbrev pub IsOpened : Lines → Result Conn FrontError → Lines → Type 0
 IsOpened old (Ok conn) new = (first_free old ≡ Some conn.number) × (new ≡ with_line conn (Some empty_stream) old)
 IsOpened old (Err TooManyConnections) new = (first_free old ≡ None) × (new ≡ old)
 IsOpened old (Err _) new = ⊥
 
--- a piece comes to what the connection holds, whole, where both together are at most 1,048,576 bytes; or nothing of it does
+-- a piece comes to what the connection holds, whole, where both together are at most 1,048,576 bytes; or nothing of it
+-- does
 abbrev pub IsHeld : Conn → List ℕ → Lines → Result (Unit {0}) FrontError → Lines → Type 0
 IsHeld conn piece old (Ok _) new =
     (stream : Stream) × IsOpen conn old stream × (length stream.held + length piece ≤ 1_048_576)
@@ -58,10 +62,13 @@ IsHeld conn piece old (Err TooManyConnections) new = ⊥
 -- a stream takes a piece, whole or not at all, where there is one; word of a private function
 abbrev pub IsFed : Option Stream → List ℕ → Result (Unit {0}) FrontError → Option Stream → Type 0
 IsFed old piece (Ok _) new =
-    (stream : Stream) × (old ≡ Some stream) × (length stream.held + length piece ≤ 1_048_576) × (new ≡ Some (fed stream piece))
+    (stream : Stream) × (old ≡ Some stream) × (length stream.held + length piece ≤ 1_048_576)
+    × (new ≡ Some (fed stream piece))
 IsFed old piece (Err NoSuchConnection) new = (old ≡ None) × (new ≡ old)
-IsFed old piece (Err Full) new = (stream : Stream) × (old ≡ Some stream) × (1_048_576 < length stream.held + length piece) × (new ≡ old)
-IsFed old piece (Err Memory) new = (stream : Stream) × (old ≡ Some stream) × (length stream.held + length piece ≤ 1_048_576) × (new ≡ old)
+IsFed old piece (Err Full) new =
+    (stream : Stream) × (old ≡ Some stream) × (1_048_576 < length stream.held + length piece) × (new ≡ old)
+IsFed old piece (Err Memory) new =
+    (stream : Stream) × (old ≡ Some stream) × (length stream.held + length piece ≤ 1_048_576) × (new ≡ old)
 IsFed old piece (Err TooManyConnections) new = ⊥
 
 -- a connection is closed, and its bytes are gone

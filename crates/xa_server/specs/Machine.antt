@@ -1,6 +1,7 @@
--- The machine of one domain. It knows that domain and no other: from the digest of the operator's token, the domain's state, a message and the moment at
--- which it is answered, it gives the bytes of the reply and the state after it.
-use Rattle.std.specs.Prelude.{ℕ, ℤ, Bool, true, false, List, Option, Some, None, option_and_then, option_map, Result, Ok, Err, bytes_eq, if◌then◌else◌}
+-- The machine of one domain. It knows that domain and no other: from the digest of the operator's token, the domain's
+-- state, a message and the moment at which it is answered, it gives the bytes of the reply and the state after it.
+use Rattle.std.specs.Prelude.{ℕ, ℤ, Bool, true, false, List, Option, Some, None, option_and_then, option_map, Result}
+use Rattle.std.specs.Prelude.{Ok, Err, bytes_eq, if◌then◌else◌}
 use Rattle.std.specs.FinMap.{FinMap, get}
 use Rattle.std.specs.Option.{ok_or}
 use Rattle.sha2.specs.Sha256.{sha256}
@@ -29,12 +30,14 @@ use Rattle.xa_records.specs.declared.refusal.Refusal.{Refusal}
 use Rattle.xa_records.specs.declared.refusal.Refusal.TheVariants.{Absent}
 use Rattle.xa_records.specs.declared.upload.Upload.{Upload}
 use Rattle.xa_records.specs.declared.upload.Upload.TheVariants.{New, Same}
-use Rattle.xa_records.specs.Changes.{Change, activity_set, created, deleted, removed, root_set, source_set, token_dropped, token_put, upload_of, uploaded, within}
+use Rattle.xa_records.specs.Changes.{Change, activity_set, created, deleted, removed, root_set, source_set}
+use Rattle.xa_records.specs.Changes.{token_dropped, token_put, upload_of, uploaded, within}
 use Rattle.xa_records.specs.DomainState.{DomainState, compare_bytes, key_of}
 use Rattle.xa_records.specs.Listing.{listing_body, names_body}
 use Rattle.xa_records.specs.Readings.{listing_of_state, text_in}
 use Rattle.xa_server.specs.declared.error_code.ErrorCode.{ErrorCode}
-use Rattle.xa_server.specs.declared.error_code.ErrorCode.TheVariants.{NoRoute, Unauthorized, Forbidden, BadDomain, Body, Refused}
+use Rattle.xa_server.specs.declared.error_code.ErrorCode.TheVariants.{NoRoute, Unauthorized, Forbidden, BadDomain, Body}
+use Rattle.xa_server.specs.declared.error_code.ErrorCode.TheVariants.{Refused}
 use Rattle.xa_server.specs.Authorization.{token_in}
 use Rattle.xa_server.specs.DocumentKey.{key_of_parts}
 use Rattle.xa_server.specs.ErrorCode.{code_of_route_fault, error_reply}
@@ -116,7 +119,8 @@ abbrev pub by_operator_command : OperatorCommand → List ℕ → Option DomainS
 by_operator_command operator.Create body state = changed created_reply created state
 by_operator_command operator.Remove body state = changed done_reply removed state
 by_operator_command operator.PutToken body state =
-    or_body_fault (new_token_of body) >>= (λ new. changed done_reply (within (token_put (sha256 new.token) new.role)) state)
+    or_body_fault (new_token_of body)
+    >>= (λ new. changed done_reply (within (token_put (sha256 new.token) new.role)) state)
 by_operator_command operator.DropToken body state =
     or_body_fault (old_token_of body) >>= (λ token. changed done_reply (within (token_dropped (sha256 token))) state)
 
@@ -125,7 +129,9 @@ by_operator_command operator.DropToken body state =
 -- the response to a request, at a moment
 unfoldable pub response_to : List ℕ → ℤ → DomainState → Result (List ℕ) ErrorCode
 response_to body moment state =
-    ok_or (option_map (λ answered. decision_reply (decision.body_of answered)) (decision.answer (view_of state) body moment)) (Body NotJson)
+    ok_or
+    (option_map (λ answered. decision_reply (decision.body_of answered)) (decision.answer (view_of state) body moment))
+    (Body NotJson)
 
 -- an upload of what was there is no creation
 abbrev pub upload_reply : Upload → List ℕ
@@ -135,10 +141,15 @@ upload_reply Same = done_reply
 abbrev pub by_domain_command : DomainCommand → List ℕ → ℤ → Option DomainState → Answer
 by_domain_command domain.Decide body moment state = told (response_to body moment) state
 by_domain_command domain.Upload body moment state =
-    or_body_fault (document_of body) >>= (λ parsed. changed (upload_reply (upload_of (key_of parsed) state)) (within (uploaded (key_of parsed) body)) state)
-by_domain_command domain.List body moment state = told (λ kept. Ok (json_reply (listing_body (listing_of_state kept)))) state
-by_domain_command domain.SetRoot body moment state = or_body_fault (root_of body) >>= (λ root. changed done_reply (within (root_set root)) state)
-by_domain_command domain.SetSource body moment state = or_body_fault (rows_of body) >>= (λ rows. changed done_reply (within (source_set rows)) state)
+    or_body_fault (document_of body)
+    >>= (λ parsed.
+    changed (upload_reply (upload_of (key_of parsed) state)) (within (uploaded (key_of parsed) body)) state)
+by_domain_command domain.List body moment state =
+    told (λ kept. Ok (json_reply (listing_body (listing_of_state kept)))) state
+by_domain_command domain.SetRoot body moment state =
+    or_body_fault (root_of body) >>= (λ root. changed done_reply (within (root_set root)) state)
+by_domain_command domain.SetSource body moment state =
+    or_body_fault (rows_of body) >>= (λ rows. changed done_reply (within (source_set rows)) state)
 by_domain_command domain.Source body moment state = told (λ kept. Ok (json_reply (rows_body kept.source))) state
 
 -- ---- what is asked for of one document
@@ -182,11 +193,14 @@ reply_and_state state (Err code) = (error_reply code, state)
 unfoldable pub step : List ℕ → Option DomainState → Message → ℤ → List ℕ × Option DomainState
 step operator state message moment = reply_and_state state (answer operator state message moment)
 
--- ---- a message whose path names no domain. Of the domains there are, their names alone are looked at, and only by the operator's list
+-- ---- a message whose path names no domain
 
+-- of the domains there are, their names alone are looked at, and only by the operator's list
 abbrev pub general_by_route : List ℕ → List (List ℕ) → Message → Route → Result (List ℕ) ErrorCode
-general_by_route operator names message to.Domains = by_operator operator message >>= (λ _. Ok (json_reply (names_body names)))
-general_by_route operator names message (to.Operator name command) = by_operator operator message >>= (λ _. Err BadDomain)
+general_by_route operator names message to.Domains =
+    by_operator operator message >>= (λ _. Ok (json_reply (names_body names)))
+general_by_route operator names message (to.Operator name command) =
+    by_operator operator message >>= (λ _. Err BadDomain)
 general_by_route operator names message (to.Domain name command) = Err Unauthorized
 general_by_route operator names message (to.Document name parts command) = Err Unauthorized
 

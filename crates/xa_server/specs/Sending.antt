@@ -3,10 +3,12 @@ use Rattle.std.specs.Prelude.{◌≡◌, ℕ, Bool, true, false, List, [], ◌�
 use Rattle.std.specs.Io.KnownBytes.{Appends, Keeps}
 use Rattle.std.specs.List.{All}
 use Rattle.std.specs.declared.io.ErrorKind.{ErrorKind}
-use Rattle.xa_server.specs.Transfers.{Grows, HasFailed, IsBrokenOff, IsWrittenWhole, IsWrittenOn, WriteEnd, bytes_taken, flushed, unflushed}
+use Rattle.xa_server.specs.Transfers.{Grows, HasFailed, IsBrokenOff, IsWrittenWhole, IsWrittenOn, WriteEnd, bytes_taken}
+use Rattle.xa_server.specs.Transfers.{flushed, unflushed}
 
 -- a write after which there is another took so many bytes from the front of these
-pub record SendsSome (bytes : List ℕ) (count : ℕ) (before now : Option (List ℕ)) (written writing : Option (List WriteEnd)) : Type 0 where
+pub record SendsSome (bytes : List ℕ) (count : ℕ) (before now : Option (List ℕ))
+    (written writing : Option (List WriteEnd)) : Type 0 where
   pub write : WriteEnd
   pub on : IsWrittenOn write
   pub part : bytes_taken (write ∷ []) ≡ take count bytes
@@ -22,7 +24,8 @@ pub record SendsNone (before now : Option (List ℕ)) (written writing : Option 
   pub appends : Appends before now []
 
 -- so many writes took so many bytes from the front of these
-pub record SendsPart (bytes : List ℕ) (count tried : ℕ) (before now : Option (List ℕ)) (written writing : Option (List WriteEnd)) : Type 0 where
+pub record SendsPart (bytes : List ℕ) (count tried : ℕ) (before now : Option (List ℕ))
+    (written writing : Option (List WriteEnd)) : Type 0 where
   pub tries : List WriteEnd
   pub on : All IsWrittenOn tries
   pub counted : length tries ≡ tried
@@ -36,13 +39,16 @@ IsTaken true bytes writings = IsWrittenWhole bytes writings
 IsTaken false bytes writings = IsBrokenOff bytes writings
 
 -- so the bytes went to the writer
-pub record IsWritten (whole : Bool) (bytes : List ℕ) (before now : Option (List ℕ)) (written writing : Option (List WriteEnd)) : Type 0 where
+pub record IsWritten (whole : Bool) (bytes : List ℕ) (before now : Option (List ℕ))
+    (written writing : Option (List WriteEnd)) : Type 0 where
   pub writings : List WriteEnd
   pub taken : IsTaken whole bytes writings
   pub grows : Grows written writing writings
   pub appends : Appends before now (bytes_taken writings)
 
 -- the writer holds none of its bytes back any more, or failed to let them go
-abbrev pub IsFlushed : Bool → Option (List ℕ) → Option (List ℕ) → Option (List WriteEnd) → Option (List WriteEnd) → Type 0
+abbrev pub IsFlushed : Bool → Option (List ℕ) → Option (List ℕ) → Option (List WriteEnd) → Option (List WriteEnd)
+    → Type 0
 IsFlushed true before now written writing = Keeps before now × Grows written writing (flushed ∷ [])
-IsFlushed false before now written writing = (kind : ErrorKind) × Keeps before now × Grows written writing (unflushed kind ∷ [])
+IsFlushed false before now written writing =
+    (kind : ErrorKind) × Keeps before now × Grows written writing (unflushed kind ∷ [])

@@ -16,8 +16,9 @@ use Rattle.xa_server.specs.World.{World}
 abbrev pub state : List ℕ → World → Option DomainState
 state domain world = state_of domain world.kept
 
--- a domain's message was answered by its machine, and the domain has gone over into the state that this gives, with the number and the epoch that belong to it;
--- no other domain has changed in anything, and by an error answer nothing has
+-- a domain's message was answered by its machine, and the domain has gone over into the state that this gives, with
+-- the number and the epoch that belong to it; no other domain has changed in anything, and by an error answer nothing
+-- has
 pub record IsStep (old new : World) (domain : List ℕ) (moment : ℤ) (message : Message) (bytes : List ℕ) : Type 0 where
   pub reply : bytes ≡ (step old.operator (state domain old) message moment).0
   pub next : IsChanged old.kept new.kept domain (step old.operator (state domain old) message moment).1

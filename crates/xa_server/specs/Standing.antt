@@ -11,4 +11,6 @@ StandsFor epoch Holds domain = (epoch ≤ domain.epoch) × (epoch ≡ domain.epo
 -- the number was given to a domain, and where that domain is still there, this stands for it
 abbrev pub Stands : Kept → ℕ → ℕ → (DomainState → Type 0) → Type 0
 Stands kept number epoch Holds =
-    (number < kept.next) × ((name : List ℕ) (domain : Domain) → get kept.domains name ≡ Some domain → domain.number ≡ number → StandsFor epoch Holds domain)
+    (number < kept.next)
+    × ((name : List ℕ) (domain : Domain) → get kept.domains name ≡ Some domain → domain.number ≡ number
+    → StandsFor epoch Holds domain)

@@ -1,4 +1,5 @@
--- What a server holds for all domains, and that it still stands: words that only private functions and the server's invariant cite.
+-- What a server holds for all domains, and that it still stands: words that only private functions and the server's
+-- invariant cite.
 use Rattle.std.specs.Prelude.{◌≡◌, ℕ, List, [], Some}
 use Rattle.std.specs.List.{AllByRecursion}
 use Rattle.xa_records.specs.declared.gate.Gate.{Gate}
@@ -36,7 +37,8 @@ IsGate kept entry = gate_of entry.0 kept ≡ Some entry.1
 abbrev pub AreGates : Kept → List (List ℕ × Gate) → Type 0
 AreGates kept gates = AllByRecursion (IsGate kept) gates
 
--- each decision that is held may be given again, each view that is kept ready may decide, and each gate that is remembered is its domain's
+-- each decision that is held may be given again, each view that is kept ready may decide, and each gate that is
+-- remembered is its domain's
 pub record AllStand (kept : Kept) (stock : Stock) : Type 0 where
   pub held : AreValid kept stock.tally.held
   pub views : AreReady kept stock.room.views

@@ -1,5 +1,7 @@
--- Views that are kept ready, each under its domain's number, the one that was used last first: words that only private functions and the server's invariant cite.
-use Rattle.std.specs.Prelude.{◌+◌, ◌*◌, ◌-◌, ◌&&◌, ℕ, List, [], ◌∷◌, Option, Some, None, min, nat_eq, nat_le, nat_lt, option_and_then, take, ◌^◌, if◌then◌else◌}
+-- Views that are kept ready, each under its domain's number, the one that was used last first: words that only private
+-- functions and the server's invariant cite.
+use Rattle.std.specs.Prelude.{◌+◌, ◌*◌, ◌-◌, ◌&&◌, ℕ, List, [], ◌∷◌, Option, Some, None, min, nat_eq, nat_le, nat_lt}
+use Rattle.std.specs.Prelude.{option_and_then, take, ◌^◌, if◌then◌else◌}
 use Rattle.std.specs.Map.{lookup, remove_entry}
 use Rattle.lru.specs.LruCache.{promoted}
 use Rattle.xa_decide.specs.Decision.{Viewed}
@@ -53,7 +55,8 @@ added a b = min (a + b) (2 ^ 64 - 1)
 abbrev pub times : ℕ → ℕ → ℕ
 times a b = min (a * b) (2 ^ 64 - 1)
 
--- by how much memory a view is counted but for its tree: 8 bytes for each byte of the texts that were read for it, 512 for each row, and 524,288 for the rest
+-- by how much memory a view is counted but for its tree: 8 bytes for each byte of the texts that were read for it, 512
+-- for each row, and 524,288 for the rest
 abbrev pub bytes_of_view : ℕ → ℕ → ℕ
 bytes_of_view read rows = added (added (times read 8) (times rows 512)) 524_288
 

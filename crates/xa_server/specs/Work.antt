@@ -1,5 +1,6 @@
 -- The work of answering: what is held is given again, and all else is worked out and held, where it stays true.
-use Rattle.std.specs.Prelude.{◌≡◌, ◌⊎◌, ◌&&◌, ℕ, ℤ, Bool, true, false, List, [], ◌∷◌, Option, Some, None, option_and_then, option_map, Result, Ok, Err, length, nat_le, if◌then◌else◌}
+use Rattle.std.specs.Prelude.{◌≡◌, ◌⊎◌, ◌&&◌, ℕ, ℤ, Bool, true, false, List, [], ◌∷◌, Option, Some, None}
+use Rattle.std.specs.Prelude.{option_and_then, option_map, Result, Ok, Err, length, nat_le, if◌then◌else◌}
 use Rattle.std.specs.FinMap.{get}
 use Rattle.xa_cache.specs.Bodies.{fits, found, kept, looked}
 use Rattle.xa_cache.specs.declared.key.Key.{Key}
@@ -34,7 +35,8 @@ domain_if domain (Err code) = None
 
 -- the domain of that name, where it lets the message ask for decisions
 abbrev pub domain_asked : Kept → Message → List ℕ → Option Domain
-domain_asked kept message name = option_and_then (λ d. domain_if d (admitted true (Some d.state) message)) (get kept.domains name)
+domain_asked kept message name =
+    option_and_then (λ d. domain_if d (admitted true (Some d.state) message)) (get kept.domains name)
 
 -- the domain of which that route asks for a decision
 abbrev pub domain_of_route : Kept → Message → Route → Option Domain
@@ -49,9 +51,12 @@ domain_of_message kept message (Err fault) = None
 abbrev pub key_in : Domain → List ℕ → Key
 key_in domain body = record { number = domain.number; epoch = domain.epoch; body = body }
 
--- the body of the response that is worked out, and whether it is the same at every moment; nothing where the body is no JSON
+-- the body of the response that is worked out, and whether it is the same at every moment; nothing where the body is
+-- no JSON
 unfoldable pub response_of : Viewed → List ℕ → ℤ → Option (List ℕ × Bool)
-response_of view body moment = option_map (λ answered. (decision.body_of answered, is_timeless_answer view body)) (decision.answer view body moment)
+response_of view body moment =
+    option_map (λ answered. (decision.body_of answered, is_timeless_answer view body))
+    (decision.answer view body moment)
 
 abbrev pub worked_out : DomainState → List ℕ → ℤ → Option (List ℕ × Bool)
 worked_out state body moment = response_of (view_of state) body moment
@@ -69,13 +74,16 @@ looked_up key tally = record tally { held = looked key tally.held }
 -- a body that is to be held is held, or is counted as not held
 abbrev pub IsHeld : Bool → Key → List ℕ → Tally → Tally → Type 0
 IsHeld true key body old new =
-    ((new.held ≡ kept key body old.held) × (new.unkept ≡ old.unkept)) ⊎ ((new.held ≡ old.held) × IsOneMore old.unkept new.unkept)
+    ((new.held ≡ kept key body old.held) × (new.unkept ≡ old.unkept))
+    ⊎ ((new.held ≡ old.held) × IsOneMore old.unkept new.unkept)
 IsHeld false key body old new = (new.held ≡ old.held) × (new.unkept ≡ old.unkept)
 
--- a decision was worked out: it is counted, and held where it is the same at every moment and neither body is too large. Of no JSON nothing is worked out
+-- a decision was worked out: it is counted, and held where it is the same at every moment and neither body is too
+-- large. Of no JSON nothing is worked out
 abbrev pub IsWorkedOut : Key → Option (List ℕ × Bool) → Tally → Tally → Type 0
 IsWorkedOut key None old new = new ≡ old
-IsWorkedOut key (Some (body, timeless)) old new = IsOneMore old.evaluations new.evaluations × IsHeld (timeless && fits key body) key body old new
+IsWorkedOut key (Some (body, timeless)) old new =
+    IsOneMore old.evaluations new.evaluations × IsHeld (timeless && fits key body) key body old new
 
 -- an ask by a body that is held, or isn't. One that is refused may have done as much, or nothing
 abbrev pub IsAskWork : Key → Option (List ℕ) → Option (List ℕ × Bool) → Reply → Tally → Tally → Type 0
@@ -88,17 +96,20 @@ IsAskWork key None worked (Refused _) old new = (new ≡ old) ⊎ IsWorkedOut ke
 abbrev pub IsWorkOf : Option Domain → List ℕ → ℤ → Reply → Tally → Tally → Type 0
 IsWorkOf None body moment reply old new = new ≡ old
 IsWorkOf (Some domain) body moment reply old new =
-    IsAskWork (key_in domain body) (body_held (key_in domain body) body old) (worked_out domain.state body moment) reply old new
+    IsAskWork (key_in domain body) (body_held (key_in domain body) body old)
+    (worked_out domain.state body moment) reply old new
 
 -- the work of one message
 abbrev pub IsWork : Kept → ℤ → Message → Reply → Tally → Tally → Type 0
-IsWork kept moment message reply old new = IsWorkOf (domain_of_message kept message (route_of message)) message.body moment reply old new
+IsWork kept moment message reply old new =
+    IsWorkOf (domain_of_message kept message (route_of message)) message.body moment reply old new
 
 -- the work of one message after another
 abbrev pub IsWorkOfRun : World → Tally → List Event → List Reply → World → Tally → Type 0
 IsWorkOfRun old held [] [] new left = (new ≡ old) × (left ≡ held)
 IsWorkOfRun old held (event ∷ events) (reply ∷ replies) new left =
-    (mid : World) × (between : Tally) × IsServed old mid event.0 event.1 reply × IsWork old.kept event.0 event.1 reply held between
+    (mid : World) × (between : Tally) × IsServed old mid event.0 event.1 reply
+    × IsWork old.kept event.0 event.1 reply held between
     × IsWorkOfRun mid between events replies new left
 IsWorkOfRun old held [] (_ ∷ _) new left = ⊥
 IsWorkOfRun old held (_ ∷ _) [] new left = ⊥

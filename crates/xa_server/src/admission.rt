@@ -3,7 +3,7 @@ ghost use Rattle.std.specs.Prelude.{◌≡◌, true, Some};
 ghost use Rattle.xa_records.specs.Kept.{state_of};
 ghost use Rattle.xa_records.specs.Readings.{gate_of};
 ghost use Rattle.xa_server.specs.Gates.{opened_of};
-ghost use Rattle.xa_server.specs.Handling.{Counts, IfTold, LeavesNoMore, Opens, Shows, admitted_by};
+ghost use Rattle.xa_server.specs.Handling.{OnlyReads, Opens, Shows, admitted_by};
 ghost use Rattle.xa_server.specs.Machine.{admitted, by_operator, digest_shown, is_decision, permitted};
 ghost use Rattle.xa_server.specs.Stock.{AllStand};
 ghost use Rattle.xa_server.specs.Tokens.{role_in};
@@ -68,8 +68,8 @@ pub(crate) fn is_decision(command: DomainCommand) -> bool
     matches!(command, DomainCommand::Decide)
 }
 
-/// The domain's gate where the domain is there, and the digest is that of one of its tokens, whose role may ask for that. An absent domain and a wrong
-/// token both cost one call of the keeper.
+/// The domain's gate where the domain is there, and the digest is that of one of its tokens, whose role
+/// may ask for that. An absent domain and a wrong token both cost one call of the keeper.
 #[tactic(auto, using(crate::proofs::AdmissionLemmas::role_is))]
 fn gate_opened<R: Records>(
     alloc: Global,
@@ -79,11 +79,7 @@ fn gate_opened<R: Records>(
     digest: &Digest,
 ) -> Result<Gate, Stop>
     ensures tells { (R.custody records.new).sound → Opens (R.custody records.old).kept (R.custody records.new).kept (gate_of name.now (R.custody records.old).kept) result (admitted_by for_decisions (state_of name.now (R.custody records.old).kept) (Some digest.now)) }
-    ensures sound { (R.custody records.new).sound → (R.custody records.old).sound }
-    ensures clean { (R.custody records.new).clean → (R.custody records.old).clean }
-    ensures stays { (R.custody records.new).clean → (R.custody records.old).sound → IfTold result (R.custody records.new).sound }
-    ensures leaves { (R.custody records.new).clean → (R.custody records.old).sound → LeavesNoMore (R.custody records.old).may_leave (R.custody records.new).may_leave }
-    ensures counts { Counts (R.custody records.old).faults (R.custody records.new).faults result }
+    ensures keeper { OnlyReads (R.custody records.old) (R.custody records.new) result }
 {
     let gate = records.gate(alloc, name)?;
     let gate = gate.ok_or(ErrorCode::Unauthorized)?;
@@ -92,7 +88,8 @@ fn gate_opened<R: Records>(
     Ok(gate)
 }
 
-/// Nothing more where the domain is there, and the message shows one of its tokens, whose role may ask for that.
+/// Nothing more where the domain is there, and the message shows one of its tokens, whose role may ask
+/// for that.
 pub(crate) fn admission<R: Records>(
     alloc: Global,
     records: &mut R,
@@ -101,20 +98,17 @@ pub(crate) fn admission<R: Records>(
     message: &Message,
 ) -> Result<(), Stop>
     ensures tells { (R.custody records.new).sound → Shows (R.custody records.old).kept (R.custody records.new).kept result (admitted for_decisions (state_of name.now (R.custody records.old).kept) message.now) }
-    ensures sound { (R.custody records.new).sound → (R.custody records.old).sound }
-    ensures clean { (R.custody records.new).clean → (R.custody records.old).clean }
-    ensures stays { (R.custody records.new).clean → (R.custody records.old).sound → IfTold result (R.custody records.new).sound }
-    ensures leaves { (R.custody records.new).clean → (R.custody records.old).sound → LeavesNoMore (R.custody records.old).may_leave (R.custody records.new).may_leave }
-    ensures counts { Counts (R.custody records.old).faults (R.custody records.new).faults result }
+    ensures keeper { OnlyReads (R.custody records.old) (R.custody records.new) result }
 {
     let digest = digest_shown(message).ok_or(ErrorCode::Unauthorized)?;
     gate_opened(alloc, records, name, for_decisions, &digest)?;
     Ok(())
 }
 
-/// The number and the epoch of the domain where it lets a message in that asks for a decision: by the gate that is remembered, or else by the keeper's, which is
-/// remembered then. The remembered gate is asked only whether it has the token: where it hasn't, the keeper is asked as for an absent domain, so that the time which an
-/// answer takes doesn't tell a stranger which domains there are.
+/// The number and the epoch of the domain where it lets a message in that asks for a decision: by the
+/// gate that is remembered, or else by the keeper's, which is remembered then. The remembered gate is
+/// asked only whether it has the token: where it hasn't, the keeper is asked as for an absent domain, so
+/// that the time which an answer takes doesn't tell a stranger which domains there are.
 pub(crate) fn admitting_domain<R: Records>(
     alloc: Global,
     resources: &mut Resources,
@@ -126,11 +120,7 @@ pub(crate) fn admitting_domain<R: Records>(
     ensures stands { AllStand (R.custody records.old).kept resources.old → (R.custody records.new).sound → AllStand (R.custody records.old).kept resources.new }
     ensures tally { resources.new.tally ≡ resources.old.tally }
     ensures room { resources.new.room ≡ resources.old.room }
-    ensures sound { (R.custody records.new).sound → (R.custody records.old).sound }
-    ensures clean { (R.custody records.new).clean → (R.custody records.old).clean }
-    ensures stays { (R.custody records.new).clean → (R.custody records.old).sound → IfTold result (R.custody records.new).sound }
-    ensures leaves { (R.custody records.new).clean → (R.custody records.old).sound → LeavesNoMore (R.custody records.old).may_leave (R.custody records.new).may_leave }
-    ensures counts { Counts (R.custody records.old).faults (R.custody records.new).faults result }
+    ensures keeper { OnlyReads (R.custody records.old) (R.custody records.new) result }
 {
     let digest = digest_shown(message).ok_or(ErrorCode::Unauthorized)?;
     if let Some(opened) = resources.domain_by_gate(name, &digest) {

@@ -1,11 +1,11 @@
 //! The answer to one message: the questions in their order, and then what the message asks for.
-ghost use Rattle.std.specs.Prelude.{◌≡◌, ◌≢◌, ℕ, ℤ, IsTrue, List, OnErr, Some};
+ghost use Rattle.std.specs.Prelude.{◌≡◌, ◌≢◌, ℕ, ℤ, IsTrue, List, Some};
 ghost use Rattle.xa_http.specs.declared.command.DomainCommand.TheVariants as in_domain;
 ghost use Rattle.xa_http.specs.Routes.{named_by};
 ghost use Rattle.xa_http.specs.declared.route.Route.TheVariants as to;
 ghost use Rattle.xa_records.specs.DomainName.{is_domain_name};
 ghost use Rattle.xa_records.specs.Kept.{state_of};
-ghost use Rattle.xa_server.specs.Handling.{Answers, AnswersMessage, AnswersRoute, HandlesChange, Counts, IfTold, LeavesAnswer, LeavesMessage, LeavesNoMore, LeavesRoute, WorksMessage, WorksOf, WorksRoute};
+ghost use Rattle.xa_server.specs.Handling.{Answers, AnswersMessage, AnswersRoute, HandlesChange, Keeping, LeavesAnswer, LeavesMessage, LeavesRoute, OnlyForgets, OnlyReads, Sharing, WorksMessage, WorksOf, WorksRoute};
 ghost use Rattle.xa_server.specs.Machine.{by_document_command, by_domain_command, by_operator_command};
 ghost use Rattle.xa_server.specs.Owner.{name_if, owner};
 ghost use Rattle.xa_server.specs.Stock.{AllStand};
@@ -13,6 +13,7 @@ ghost use Rattle.xa_server.specs.Work.{domain_asked};
 ghost use Rattle.std.specs.Option.{option_and_then};
 
 use crate::admission::{admission, admitting_domain, by_operator, is_decision};
+use crate::ask::Ask;
 use crate::asking::decide;
 use crate::changes::{
     create, delete, drop_token, put_token, remove, set_active, set_root, set_source, upload,
@@ -60,11 +61,7 @@ fn by_domain_command<R: Records>(
 ) -> Result<Items<u8>, Stop>
     requires { command ≢ in_domain.Decide }
     ensures answers { (moment : ℤ) → (R.custody records.new).sound → Answers (R.custody records.old).kept (R.custody records.new).kept name.now result (by_domain_command command body.now moment (state_of name.now (R.custody records.old).kept)) }
-    ensures sound { (R.custody records.new).sound → (R.custody records.old).sound }
-    ensures clean { (R.custody records.new).clean → (R.custody records.old).clean }
-    ensures stays { (R.custody records.new).clean → (R.custody records.old).sound → IfTold result (R.custody records.new).sound }
-    ensures leaves { (moment : ℤ) → (R.custody records.new).clean → (R.custody records.old).sound → LeavesAnswer (R.custody records.old).may_leave (R.custody records.new).may_leave (R.custody records.old).kept name.now (by_domain_command command body.now moment (state_of name.now (R.custody records.old).kept)) }
-    ensures counts { Counts (R.custody records.old).faults (R.custody records.new).faults result }
+    ensures keeper { Keeping (R.custody records.old) (R.custody records.new) result ((moment : ℤ) → LeavesAnswer (R.custody records.old).may_leave (R.custody records.new).may_leave (R.custody records.old).kept name.now (by_domain_command command body.now moment (state_of name.now (R.custody records.old).kept))) }
 {
     match command {
         DomainCommand::Decide => unreachable!(),
@@ -94,7 +91,8 @@ fn by_document_command<R: Records>(
     }
 }
 
-/// Answers a message to one of the operator's paths of a domain. Once it is let in the domain's gate is forgotten, since it may change.
+/// Answers a message to one of the operator's paths of a domain. Once it is let in the domain's gate is
+/// forgotten, since it may change.
 #[tactic(auto, using(crate::proofs::GateLemmas::changed_stands))]
 fn operator_route<R: Records>(
     alloc: Global,
@@ -106,14 +104,8 @@ fn operator_route<R: Records>(
     command: OperatorCommand,
 ) -> Result<Items<u8>, Stop>
     ensures answers { (moment : ℤ) → (R.custody records.new).sound → AnswersRoute operator (R.custody records.old).kept (R.custody records.new).kept (name_if domain) message.now moment (to.Operator domain command) result }
-    ensures stands { AllStand (R.custody records.old).kept resources.old → (R.custody records.new).sound → AllStand (R.custody records.new).kept resources.new }
-    ensures tally { resources.new.tally ≡ resources.old.tally }
-    ensures room { resources.new.room ≡ resources.old.room }
-    ensures sound { (R.custody records.new).sound → (R.custody records.old).sound }
-    ensures clean { (R.custody records.new).clean → (R.custody records.old).clean }
-    ensures stays { (R.custody records.new).clean → (R.custody records.old).sound → IfTold result (R.custody records.new).sound }
-    ensures leaves { (moment : ℤ) → (R.custody records.new).clean → (R.custody records.old).sound → LeavesRoute (R.custody records.old).may_leave (R.custody records.new).may_leave operator (R.custody records.old).kept (name_if domain) message.now moment (to.Operator domain command) }
-    ensures counts { Counts (R.custody records.old).faults (R.custody records.new).faults result }
+    ensures shared { OnlyForgets (R.custody records.old) (R.custody records.new) resources.old resources.new }
+    ensures keeper { Keeping (R.custody records.old) (R.custody records.new) result ((moment : ℤ) → LeavesRoute (R.custody records.old).may_leave (R.custody records.new).may_leave operator (R.custody records.old).kept (name_if domain) message.now moment (to.Operator domain command)) }
 {
     by_operator(operator, message)?;
     let name = name_if(domain).ok_or(ErrorCode::BadDomain)?;
@@ -132,21 +124,20 @@ fn ask_reply<R: Records>(
     moment: Moment,
 ) -> Result<Items<u8>, Stop>
     ensures answers { (operator part : List ℕ) → AllStand (R.custody records.old).kept resources.old → (R.custody records.new).sound → AnswersRoute operator (R.custody records.old).kept (R.custody records.new).kept (Some name.now) message.now moment (to.Domain part in_domain.Decide) result }
-    ensures works { AllStand (R.custody records.old).kept resources.old → (R.custody records.new).sound → WorksOf (domain_asked (R.custody records.old).kept message.now name.now) message.now.body moment result resources.old.tally resources.new.tally }
-    ensures stands { AllStand (R.custody records.old).kept resources.old → (R.custody records.new).sound → AllStand (R.custody records.new).kept resources.new }
-    ensures room { OnErr result (resources.new.room ≡ resources.old.room) }
-    ensures sound { (R.custody records.new).sound → (R.custody records.old).sound }
-    ensures clean { (R.custody records.new).clean → (R.custody records.old).clean }
-    ensures stays { (R.custody records.new).clean → (R.custody records.old).sound → IfTold result (R.custody records.new).sound }
-    ensures leaves { (R.custody records.new).clean → (R.custody records.old).sound → LeavesNoMore (R.custody records.old).may_leave (R.custody records.new).may_leave }
-    ensures counts { Counts (R.custody records.old).faults (R.custody records.new).faults result }
+    ensures shared { Sharing (R.custody records.old) (R.custody records.new) resources.old resources.new result (WorksOf (domain_asked (R.custody records.old).kept message.now name.now) message.now.body moment result resources.old.tally resources.new.tally) }
+    ensures keeper { OnlyReads (R.custody records.old) (R.custody records.new) result }
 {
     let opened = admitting_domain(alloc, resources, records, name, message)?;
-    let body = message.body.as_slice();
-    decide(alloc, resources, records, name, opened, body, moment)
+    let ask = Ask {
+        name,
+        opened,
+        moment,
+    };
+    decide(alloc, resources, records, &ask, message.body.as_slice())
 }
 
-/// Answers a message to one of a domain's paths that asks for no decision. Once it is let in the domain's gate is forgotten, since it may change.
+/// Answers a message to one of a domain's paths that asks for no decision. Once it is let in the
+/// domain's gate is forgotten, since it may change.
 #[tactic(auto, using(crate::proofs::GateLemmas::changed_stands))]
 fn administration_reply<R: Records>(
     alloc: Global,
@@ -158,14 +149,8 @@ fn administration_reply<R: Records>(
 ) -> Result<Items<u8>, Stop>
     requires { command ≢ in_domain.Decide }
     ensures answers { (operator part : List ℕ) (moment : ℤ) → (R.custody records.new).sound → AnswersRoute operator (R.custody records.old).kept (R.custody records.new).kept (Some name.now) message.now moment (to.Domain part command) result }
-    ensures stands { AllStand (R.custody records.old).kept resources.old → (R.custody records.new).sound → AllStand (R.custody records.new).kept resources.new }
-    ensures tally { resources.new.tally ≡ resources.old.tally }
-    ensures room { resources.new.room ≡ resources.old.room }
-    ensures sound { (R.custody records.new).sound → (R.custody records.old).sound }
-    ensures clean { (R.custody records.new).clean → (R.custody records.old).clean }
-    ensures stays { (R.custody records.new).clean → (R.custody records.old).sound → IfTold result (R.custody records.new).sound }
-    ensures leaves { (operator part : List ℕ) (moment : ℤ) → (R.custody records.new).clean → (R.custody records.old).sound → LeavesRoute (R.custody records.old).may_leave (R.custody records.new).may_leave operator (R.custody records.old).kept (Some name.now) message.now moment (to.Domain part command) }
-    ensures counts { Counts (R.custody records.old).faults (R.custody records.new).faults result }
+    ensures shared { OnlyForgets (R.custody records.old) (R.custody records.new) resources.old resources.new }
+    ensures keeper { Keeping (R.custody records.old) (R.custody records.new) result ((operator part : List ℕ) (moment : ℤ) → LeavesRoute (R.custody records.old).may_leave (R.custody records.new).may_leave operator (R.custody records.old).kept (Some name.now) message.now moment (to.Domain part command)) }
 {
     admission(alloc, records, name, is_decision(command), message)?;
     resources.forget(name);
@@ -183,14 +168,8 @@ fn named_domain_route<R: Records>(
     command: DomainCommand,
 ) -> Result<Items<u8>, Stop>
     ensures answers { (operator part : List ℕ) → name_if part ≡ Some name.now → AllStand (R.custody records.old).kept resources.old → (R.custody records.new).sound → AnswersRoute operator (R.custody records.old).kept (R.custody records.new).kept (name_if part) message.now moment (to.Domain part command) result }
-    ensures works { (part : List ℕ) → name_if part ≡ Some name.now → AllStand (R.custody records.old).kept resources.old → (R.custody records.new).sound → WorksRoute (R.custody records.old).kept message.now moment (to.Domain part command) result resources.old.tally resources.new.tally }
-    ensures stands { AllStand (R.custody records.old).kept resources.old → (R.custody records.new).sound → AllStand (R.custody records.new).kept resources.new }
-    ensures room { OnErr result (resources.new.room ≡ resources.old.room) }
-    ensures sound { (R.custody records.new).sound → (R.custody records.old).sound }
-    ensures clean { (R.custody records.new).clean → (R.custody records.old).clean }
-    ensures stays { (R.custody records.new).clean → (R.custody records.old).sound → IfTold result (R.custody records.new).sound }
-    ensures leaves { (operator part : List ℕ) → name_if part ≡ Some name.now → (R.custody records.new).clean → (R.custody records.old).sound → LeavesRoute (R.custody records.old).may_leave (R.custody records.new).may_leave operator (R.custody records.old).kept (name_if part) message.now moment (to.Domain part command) }
-    ensures counts { Counts (R.custody records.old).faults (R.custody records.new).faults result }
+    ensures shared { Sharing (R.custody records.old) (R.custody records.new) resources.old resources.new result ((part : List ℕ) → name_if part ≡ Some name.now → WorksRoute (R.custody records.old).kept message.now moment (to.Domain part command) result resources.old.tally resources.new.tally) }
+    ensures keeper { Keeping (R.custody records.old) (R.custody records.new) result ((operator part : List ℕ) → name_if part ≡ Some name.now → LeavesRoute (R.custody records.old).may_leave (R.custody records.new).may_leave operator (R.custody records.old).kept (name_if part) message.now moment (to.Domain part command)) }
 {
     match command {
         DomainCommand::Decide => ask_reply(alloc, resources, records, name, message, moment),
@@ -209,20 +188,15 @@ fn domain_route<R: Records>(
     command: DomainCommand,
 ) -> Result<Items<u8>, Stop>
     ensures answers { (operator : List ℕ) → AllStand (R.custody records.old).kept resources.old → (R.custody records.new).sound → AnswersRoute operator (R.custody records.old).kept (R.custody records.new).kept (name_if domain) message.now moment (to.Domain domain command) result }
-    ensures works { AllStand (R.custody records.old).kept resources.old → (R.custody records.new).sound → WorksRoute (R.custody records.old).kept message.now moment (to.Domain domain command) result resources.old.tally resources.new.tally }
-    ensures stands { AllStand (R.custody records.old).kept resources.old → (R.custody records.new).sound → AllStand (R.custody records.new).kept resources.new }
-    ensures room { OnErr result (resources.new.room ≡ resources.old.room) }
-    ensures sound { (R.custody records.new).sound → (R.custody records.old).sound }
-    ensures clean { (R.custody records.new).clean → (R.custody records.old).clean }
-    ensures stays { (R.custody records.new).clean → (R.custody records.old).sound → IfTold result (R.custody records.new).sound }
-    ensures leaves { (operator : List ℕ) → (R.custody records.new).clean → (R.custody records.old).sound → LeavesRoute (R.custody records.old).may_leave (R.custody records.new).may_leave operator (R.custody records.old).kept (name_if domain) message.now moment (to.Domain domain command) }
-    ensures counts { Counts (R.custody records.old).faults (R.custody records.new).faults result }
+    ensures shared { Sharing (R.custody records.old) (R.custody records.new) resources.old resources.new result (WorksRoute (R.custody records.old).kept message.now moment (to.Domain domain command) result resources.old.tally resources.new.tally) }
+    ensures keeper { Keeping (R.custody records.old) (R.custody records.new) result ((operator : List ℕ) → LeavesRoute (R.custody records.old).may_leave (R.custody records.new).may_leave operator (R.custody records.old).kept (name_if domain) message.now moment (to.Domain domain command)) }
 {
     let name = name_if(domain).ok_or(ErrorCode::Unauthorized)?;
     named_domain_route(alloc, resources, records, &name, message, moment, command)
 }
 
-/// Answers a message to the path of a document. Once it is let in the domain's gate is forgotten, since it may change.
+/// Answers a message to the path of a document. Once it is let in the domain's gate is forgotten, since
+/// it may change.
 #[tactic(auto, using(crate::proofs::GateLemmas::changed_stands))]
 fn document_route<R: Records>(
     alloc: Global,
@@ -234,14 +208,8 @@ fn document_route<R: Records>(
     command: DocumentCommand,
 ) -> Result<Items<u8>, Stop>
     ensures answers { (operator : List ℕ) (moment : ℤ) → (R.custody records.new).sound → AnswersRoute operator (R.custody records.old).kept (R.custody records.new).kept (name_if domain) message.now moment (to.Document domain parts command) result }
-    ensures stands { AllStand (R.custody records.old).kept resources.old → (R.custody records.new).sound → AllStand (R.custody records.new).kept resources.new }
-    ensures tally { resources.new.tally ≡ resources.old.tally }
-    ensures room { resources.new.room ≡ resources.old.room }
-    ensures sound { (R.custody records.new).sound → (R.custody records.old).sound }
-    ensures clean { (R.custody records.new).clean → (R.custody records.old).clean }
-    ensures stays { (R.custody records.new).clean → (R.custody records.old).sound → IfTold result (R.custody records.new).sound }
-    ensures leaves { (operator : List ℕ) (moment : ℤ) → (R.custody records.new).clean → (R.custody records.old).sound → LeavesRoute (R.custody records.old).may_leave (R.custody records.new).may_leave operator (R.custody records.old).kept (name_if domain) message.now moment (to.Document domain parts command) }
-    ensures counts { Counts (R.custody records.old).faults (R.custody records.new).faults result }
+    ensures shared { OnlyForgets (R.custody records.old) (R.custody records.new) resources.old resources.new }
+    ensures keeper { Keeping (R.custody records.old) (R.custody records.new) result ((operator : List ℕ) (moment : ℤ) → LeavesRoute (R.custody records.old).may_leave (R.custody records.new).may_leave operator (R.custody records.old).kept (name_if domain) message.now moment (to.Document domain parts command)) }
 {
     let name = name_if(domain).ok_or(ErrorCode::Unauthorized)?;
     admission(alloc, records, &name, false, message)?;
@@ -261,14 +229,8 @@ fn answer_route<R: Records>(
     route: Route,
 ) -> Result<Items<u8>, Stop>
     ensures answers { AllStand (R.custody records.old).kept resources.old → (R.custody records.new).sound → AnswersRoute operator (R.custody records.old).kept (R.custody records.new).kept (option_and_then name_if (named_by route)) message.now moment route result }
-    ensures works { AllStand (R.custody records.old).kept resources.old → (R.custody records.new).sound → WorksRoute (R.custody records.old).kept message.now moment route result resources.old.tally resources.new.tally }
-    ensures stands { AllStand (R.custody records.old).kept resources.old → (R.custody records.new).sound → AllStand (R.custody records.new).kept resources.new }
-    ensures room { OnErr result (resources.new.room ≡ resources.old.room) }
-    ensures sound { (R.custody records.new).sound → (R.custody records.old).sound }
-    ensures clean { (R.custody records.new).clean → (R.custody records.old).clean }
-    ensures stays { (R.custody records.new).clean → (R.custody records.old).sound → IfTold result (R.custody records.new).sound }
-    ensures leaves { (R.custody records.new).clean → (R.custody records.old).sound → LeavesRoute (R.custody records.old).may_leave (R.custody records.new).may_leave operator (R.custody records.old).kept (option_and_then name_if (named_by route)) message.now moment route }
-    ensures counts { Counts (R.custody records.old).faults (R.custody records.new).faults result }
+    ensures shared { Sharing (R.custody records.old) (R.custody records.new) resources.old resources.new result (WorksRoute (R.custody records.old).kept message.now moment route result resources.old.tally resources.new.tally) }
+    ensures keeper { Keeping (R.custody records.old) (R.custody records.new) result (LeavesRoute (R.custody records.old).may_leave (R.custody records.new).may_leave operator (R.custody records.old).kept (option_and_then name_if (named_by route)) message.now moment route) }
 {
     match route {
         Route::Domains => {
@@ -302,14 +264,8 @@ pub(crate) fn answer<R: Records>(
     message: &Message,
 ) -> Result<Items<u8>, Stop>
     ensures answers { AllStand (R.custody records.old).kept resources.old → (R.custody records.new).sound → AnswersMessage operator (R.custody records.old).kept (R.custody records.new).kept (owner message.now) message.now moment result }
-    ensures works { AllStand (R.custody records.old).kept resources.old → (R.custody records.new).sound → WorksMessage (R.custody records.old).kept message.now moment result resources.old.tally resources.new.tally }
-    ensures stands { AllStand (R.custody records.old).kept resources.old → (R.custody records.new).sound → AllStand (R.custody records.new).kept resources.new }
-    ensures room { OnErr result (resources.new.room ≡ resources.old.room) }
-    ensures sound { (R.custody records.new).sound → (R.custody records.old).sound }
-    ensures clean { (R.custody records.new).clean → (R.custody records.old).clean }
-    ensures stays { (R.custody records.new).clean → (R.custody records.old).sound → IfTold result (R.custody records.new).sound }
-    ensures leaves { (R.custody records.new).clean → (R.custody records.old).sound → LeavesMessage (R.custody records.old).may_leave (R.custody records.new).may_leave operator (R.custody records.old).kept (owner message.now) message.now moment }
-    ensures counts { Counts (R.custody records.old).faults (R.custody records.new).faults result }
+    ensures shared { Sharing (R.custody records.old) (R.custody records.new) resources.old resources.new result (WorksMessage (R.custody records.old).kept message.now moment result resources.old.tally resources.new.tally) }
+    ensures keeper { Keeping (R.custody records.old) (R.custody records.new) result (LeavesMessage (R.custody records.old).may_leave (R.custody records.new).may_leave operator (R.custody records.old).kept (owner message.now) message.now moment) }
 {
     let route = routes.route(alloc, message)?;
     answer_route(alloc, operator, resources, records, message, moment, route)

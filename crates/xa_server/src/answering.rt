@@ -172,8 +172,8 @@ fn answer_fault<F: Multiplexer, W: Writer>(front: &mut F, conn: Conn, writer: &m
     answer_at(front, conn, moment, writer)
 }
 
-/// Answers the next whole message that the connection holds, or the fault by which its stream ends. No clock is asked where
-/// there is no message.
+/// Answers the next whole message that the connection holds, or the fault by which its stream ends. No
+/// clock is asked where there is no message.
 #[tactic(auto, using(crate::proofs::OpenLemmas::open_kept, crate::proofs::OpenLemmas::open_trans))]
 fn answer_next<F: Multiplexer, W: Writer, C: Clock>(
     front: &mut F,
@@ -199,7 +199,8 @@ fn answer_next<F: Multiplexer, W: Writer, C: Clock>(
     }
 }
 
-/// Answers all whole messages that the connection holds. How it has ended, if it has; one that isn't open has.
+/// Answers all whole messages that the connection holds. How it has ended, if it has; one that isn't
+/// open has.
 #[tactic(auto, using(crate::proofs::OpenLemmas::open_kept, crate::proofs::OpenLemmas::open_trans))]
 pub(crate) fn answer_held<F: Multiplexer, W: Writer, C: Clock>(
     front: &mut F,

@@ -1,6 +1,7 @@
-//! Asking for a decision. What is held is given again; all else is worked out by what decides in the domain, which is kept ready for the next, counted, and held
-//! where it stays the same. A body that doesn't ask the policies is answered without what decides, where that isn't ready.
-ghost use Rattle.std.specs.Prelude.{◌≡◌, ◌-◌, false, length, Some, IfOk, IfSome, OnErr};
+//! Asking for a decision. What is held is given again; all else is worked out by what decides in the
+//! domain, which is kept ready for the next, counted, and held where it stays the same. A body that
+//! doesn't ask the policies is answered without what decides, where that isn't ready.
+ghost use Rattle.std.specs.Prelude.{◌≡◌, ◌-◌, length, Some, IfOk, IfSome, OnErr};
 ghost use Rattle.xa_decide.specs.Asked.{asks_policies};
 ghost use Rattle.xa_http.specs.declared.command.DomainCommand.TheVariants as domain;
 ghost use Rattle.std.specs.Option.{ok_or};
@@ -8,41 +9,35 @@ ghost use Rattle.xa_records.specs.declared.refusal.Refusal.TheVariants.{Absent};
 ghost use Rattle.xa_records.specs.Kept.{state_of};
 ghost use Rattle.xa_server.specs.declared.error_code.ErrorCode.TheVariants.{Refused};
 ghost use Rattle.xa_records.specs.Readings.{view_of};
-ghost use Rattle.xa_server.specs.Gates.{opened_of};
-ghost use Rattle.xa_server.specs.Handling.{Answers, Counts, IfTold, IsAsked, IsFresh, IsResponseReply, IsResponse, LeavesNoMore, MakesReady, Shows, key_opened, key_within, reply_told, view_told, worked_in};
+ghost use Rattle.xa_server.specs.Handling.{Answers, IfLetIn, IsAsked, IsFresh, IsResponse, IsResponseReply, MakesReady, OnlyReads, Shows, key_asked, key_within, reply_asked, response_asked, view_told, worked_asked};
 ghost use Rattle.xa_server.specs.Machine.{by_domain_command};
 ghost use Rattle.xa_server.specs.Stock.{AllStand};
 ghost use Rattle.xa_server.specs.View.{AreKeyed, nothing_viewed};
 ghost use Rattle.xa_server.specs.Views.{added, bytes_of_tree, bytes_of_view};
 ghost use Rattle.xa_server.specs.Work.{body_held, response_of};
 
+use crate::ask::Ask;
 use crate::decisions::{Decisions, key_within};
 use crate::error_code::ErrorCode;
 use crate::limits::Limits;
-use crate::opened::Opened;
 use crate::ready::{Ready, bytes_of_tree, bytes_of_view};
 use crate::replies::decision_reply;
-use crate::resources::Resources;
+use crate::resources::{Resources, Texts};
 use crate::stop::Stop;
-use crate::unread::Unread;
 use crate::view::view_of_kept;
 use std::alloc::Global;
 use xa_cache::Key;
-use xa_decide::{Responded, View, asks_policies, respond};
+use xa_decide::{RequestBody, Responded, View, asks_policies, respond};
 use xa_notation::NotationError;
 use xa_records::{Failure, KeptView, Records, Refusal};
-use xa_shelf::{Shelf, TextReader};
+use xa_shelf::TextReader;
 use xa_value::{Items, Moment, Text};
 
 /// What is kept of the domain that decides there, with texts that are documents of their keys.
 fn kept_view<R: Records>(alloc: Global, records: &mut R, name: &Text) -> Result<KeptView, Stop>
     ensures tells { (R.custody records.new).sound → Shows (R.custody records.old).kept (R.custody records.new).kept result (ok_or (view_of name.now (R.custody records.old).kept) (Refused Absent)) }
     ensures keyed { (R.custody records.new).sound → IfOk result (λ kept. AreKeyed kept.texts) }
-    ensures sound { (R.custody records.new).sound → (R.custody records.old).sound }
-    ensures clean { (R.custody records.new).clean → (R.custody records.old).clean }
-    ensures stays { (R.custody records.new).clean → (R.custody records.old).sound → IfTold result (R.custody records.new).sound }
-    ensures leaves { (R.custody records.new).clean → (R.custody records.old).sound → LeavesNoMore (R.custody records.old).may_leave (R.custody records.new).may_leave }
-    ensures counts { Counts (R.custody records.old).faults (R.custody records.new).faults result }
+    ensures keeper { OnlyReads (R.custody records.old) (R.custody records.new) result }
 {
     let kept = records
         .view(alloc, name)?
@@ -60,26 +55,21 @@ fn ready_view<R: Records>(
     alloc: Global,
     reader: &mut TextReader<'_>,
     records: &mut R,
-    name: &Text,
-    epoch: u64,
+    ask: &Ask<'_>,
     limits: Limits,
 ) -> Result<Ready, Stop>
-    ensures tells { (R.custody records.new).sound → MakesReady (R.custody records.old).kept (R.custody records.new).kept epoch result (view_told (state_of name.now (R.custody records.old).kept)) }
-    ensures estimate { (R.custody records.new).sound → IfOk result (λ ready. IfSome (view_of name.now (R.custody records.old).kept) (λ kept. ready.bytes ≡ added (bytes_of_view (reader.old.left - reader.new.left) (length kept.source)) (bytes_of_tree ready.view))) }
-    ensures sound { (R.custody records.new).sound → (R.custody records.old).sound }
-    ensures clean { (R.custody records.new).clean → (R.custody records.old).clean }
-    ensures stays { (R.custody records.new).clean → (R.custody records.old).sound → IfTold result (R.custody records.new).sound }
-    ensures leaves { (R.custody records.new).clean → (R.custody records.old).sound → LeavesNoMore (R.custody records.old).may_leave (R.custody records.new).may_leave }
-    ensures counts { Counts (R.custody records.old).faults (R.custody records.new).faults result }
+    ensures tells { (R.custody records.new).sound → MakesReady (R.custody records.old).kept (R.custody records.new).kept ask.now.opened.epoch result (view_told (state_of ask.now.name.now (R.custody records.old).kept)) }
+    ensures estimate { (R.custody records.new).sound → IfOk result (λ ready. IfSome (view_of ask.now.name.now (R.custody records.old).kept) (λ kept. ready.bytes ≡ added (bytes_of_view (reader.old.left - reader.new.left) (length kept.source)) (bytes_of_tree ready.view))) }
+    ensures keeper { OnlyReads (R.custody records.old) (R.custody records.new) result }
 {
-    let kept = kept_view(alloc, records, name)?;
+    let kept = kept_view(alloc, records, ask.name)?;
     let rows = kept.source.len();
     let left = reader.left();
     let view = view_of_kept(alloc, reader, kept)?;
     let read = left.saturating_sub(reader.left()) as usize;
     let bytes = bytes_of_view(read, rows).saturating_add(bytes_of_tree(&view));
     Ok(Ready {
-        epoch,
+        epoch: ask.opened.epoch,
         view: limits.of_view(view),
         bytes,
     })
@@ -89,28 +79,31 @@ fn ready_view<R: Records>(
 /// of the domain.
 fn ready_within<R: Records>(
     alloc: Global,
-    shelf: &mut Shelf,
-    unread: &mut Unread,
+    texts: &mut Texts,
     limits: Limits,
     records: &mut R,
-    name: &Text,
-    opened: Opened,
+    ask: &Ask<'_>,
 ) -> Result<Ready, Stop>
-    ensures tells { (R.custody records.new).sound → MakesReady (R.custody records.old).kept (R.custody records.new).kept opened.epoch result (view_told (state_of name.now (R.custody records.old).kept)) }
-    ensures sound { (R.custody records.new).sound → (R.custody records.old).sound }
-    ensures clean { (R.custody records.new).clean → (R.custody records.old).clean }
-    ensures stays { (R.custody records.new).clean → (R.custody records.old).sound → IfTold result (R.custody records.new).sound }
-    ensures leaves { (R.custody records.new).clean → (R.custody records.old).sound → LeavesNoMore (R.custody records.old).may_leave (R.custody records.new).may_leave }
-    ensures counts { Counts (R.custody records.old).faults (R.custody records.new).faults result }
+    ensures tells { (R.custody records.new).sound → MakesReady (R.custody records.old).kept (R.custody records.new).kept ask.now.opened.epoch result (view_told (state_of ask.now.name.now (R.custody records.old).kept)) }
+    ensures keeper { OnlyReads (R.custody records.old) (R.custody records.new) result }
 {
-    let mut reader = TextReader::new(shelf, limits.reading);
-    let ready = ready_view(alloc, &mut reader, records, name, opened.epoch, limits);
-    unread.remember_if(reader.is_spent(), opened.number, opened.epoch);
+    let opened = ask.opened;
+    let mut reader = TextReader::new(&mut texts.shelf, limits.reading);
+    let ready = ready_view(alloc, &mut reader, records, ask, limits);
+    let is_spent = reader.is_spent();
+    texts
+        .unread
+        .remember_if(is_spent, opened.number, opened.epoch);
     ready
 }
 
 /// The response to the request of the body by what decides.
-fn response_by(alloc: Global, view: &View, body: &[u8], moment: Moment) -> Result<Responded, Stop>
+fn response_by(
+    alloc: Global,
+    view: &View,
+    body: &RequestBody<'_>,
+    moment: Moment,
+) -> Result<Responded, Stop>
     ensures { IsResponse (response_of view.now body.now moment) result }
 {
     match respond(alloc, view, body, moment)? {
@@ -123,17 +116,16 @@ fn response_by(alloc: Global, view: &View, body: &[u8], moment: Moment) -> Resul
 fn reply_by(
     alloc: Global,
     decisions: &mut Decisions,
-    opened: Opened,
+    ask: &Ask<'_>,
     key: Option<Key>,
     view: &View,
-    body: &[u8],
-    moment: Moment,
+    body: &RequestBody<'_>,
 ) -> Result<Items<u8>, Stop>
-    requires { key ≡ key_within (key_opened opened body.now) }
-    ensures tells { IsResponseReply (response_of view.now body.now moment) result }
-    ensures works { IsFresh (key_opened opened body.now) (response_of view.now body.now moment) result decisions.old decisions.new }
+    requires { key ≡ key_within (key_asked ask.now body.now) }
+    ensures tells { IsResponseReply (response_asked view.now ask.now body.now) result }
+    ensures works { IsFresh (key_asked ask.now body.now) (response_asked view.now ask.now body.now) result decisions.old decisions.new }
 {
-    let responded = response_by(alloc, view, body, moment)?;
+    let responded = response_by(alloc, view, body, ask.moment)?;
     let reply = decision_reply(alloc, responded.body.as_slice())?;
     decisions.note(key, responded);
     Ok(reply)
@@ -147,170 +139,140 @@ fn reply_by_kept<R: Records>(
     alloc: Global,
     resources: &mut Resources,
     records: &mut R,
-    name: &Text,
-    opened: Opened,
+    ask: &Ask<'_>,
     key: Option<Key>,
-    body: &[u8],
-    moment: Moment,
+    body: &RequestBody<'_>,
 ) -> Result<Items<u8>, Stop>
-    requires { key ≡ key_within (key_opened opened body.now) }
-    ensures tells { (R.custody records.new).sound → Shows (R.custody records.old).kept (R.custody records.new).kept result (reply_told body.now moment (state_of name.now (R.custody records.old).kept)) }
-    ensures works { (R.custody records.new).sound → IsFresh (key_opened opened body.now) (worked_in (state_of name.now (R.custody records.old).kept) body.now moment) result resources.old.tally resources.new.tally }
-    ensures stands { opened_of name.now (R.custody records.old).kept ≡ Some opened → AllStand (R.custody records.old).kept resources.old → (R.custody records.new).sound → AllStand (R.custody records.old).kept resources.new }
+    requires { key ≡ key_within (key_asked ask.now body.now) }
+    ensures tells { (R.custody records.new).sound → Shows (R.custody records.old).kept (R.custody records.new).kept result (reply_asked (R.custody records.old).kept ask.now body.now) }
+    ensures works { (R.custody records.new).sound → IsFresh (key_asked ask.now body.now) (worked_asked (R.custody records.old).kept ask.now body.now) result resources.old.tally resources.new.tally }
+    ensures stands { IfLetIn (R.custody records.old) (R.custody records.new) ask.now resources.old (AllStand (R.custody records.old).kept resources.new) }
     ensures room { OnErr result (resources.new.room ≡ resources.old.room) }
-    ensures sound { (R.custody records.new).sound → (R.custody records.old).sound }
-    ensures clean { (R.custody records.new).clean → (R.custody records.old).clean }
-    ensures stays { (R.custody records.new).clean → (R.custody records.old).sound → IfTold result (R.custody records.new).sound }
-    ensures leaves { (R.custody records.new).clean → (R.custody records.old).sound → LeavesNoMore (R.custody records.old).may_leave (R.custody records.new).may_leave }
-    ensures counts { Counts (R.custody records.old).faults (R.custody records.new).faults result }
+    ensures keeper { OnlyReads (R.custody records.old) (R.custody records.new) result }
 {
-    if resources.unread.has(opened.number, opened.epoch) {
+    let opened = ask.opened;
+    if resources.texts.unread.has(opened.number, opened.epoch) {
         return Err(Stop::Failed(Failure::Memory));
     }
-    let ready = ready_within(
-        alloc,
-        &mut resources.shelf,
-        &mut resources.unread,
-        resources.limits,
-        records,
-        name,
-        opened,
-    )?;
-    let reply = reply_by(
-        alloc,
-        &mut resources.decisions,
-        opened,
-        key,
-        &ready.view,
-        body,
-        moment,
-    )?;
+    let limits = resources.limits;
+    let ready = ready_within(alloc, &mut resources.texts, limits, records, ask)?;
+    let reply = reply_by(alloc, &mut resources.decisions, ask, key, &ready.view, body)?;
     resources.views.keep(opened.number, ready);
     Ok(reply)
 }
 
-/// The reply to a body that doesn't ask the policies: it is the same whatever decides, and nothing of the domain is read for it.
+/// The reply to a body that doesn't ask the policies: it is the same whatever decides, and nothing of
+/// the domain is read for it.
 fn reply_without_policies(
     alloc: Global,
     decisions: &mut Decisions,
     limits: Limits,
-    opened: Opened,
+    ask: &Ask<'_>,
     key: Option<Key>,
-    body: &[u8],
-    moment: Moment,
+    body: &RequestBody<'_>,
 ) -> Result<Items<u8>, Stop>
-    requires { key ≡ key_within (key_opened opened body.now) }
-    ensures tells { IsResponseReply (response_of nothing_viewed body.now moment) result }
-    ensures works { IsFresh (key_opened opened body.now) (response_of nothing_viewed body.now moment) result decisions.old decisions.new }
+    requires { key ≡ key_within (key_asked ask.now body.now) }
+    ensures tells { IsResponseReply (response_asked nothing_viewed ask.now body.now) result }
+    ensures works { IsFresh (key_asked ask.now body.now) (response_asked nothing_viewed ask.now body.now) result decisions.old decisions.new }
 {
     let nothing = limits.of_view(View::of_nothing(alloc)?);
-    reply_by(alloc, decisions, opened, key, &nothing, body, moment)
+    reply_by(alloc, decisions, ask, key, &nothing, body)
 }
 
-/// The reply where no view is kept ready: the body's own questions come first, and what is kept of the domain is read only for a body that asks the policies.
+/// The reply where no view is kept ready: the body's own questions come first, and what is kept of the
+/// domain is read only for a body that asks the policies.
 fn reply_without_view<R: Records>(
     alloc: Global,
     resources: &mut Resources,
     records: &mut R,
-    name: &Text,
-    opened: Opened,
+    ask: &Ask<'_>,
     key: Option<Key>,
-    body: &[u8],
-    moment: Moment,
+    body: &RequestBody<'_>,
 ) -> Result<Items<u8>, Stop>
-    requires { key ≡ key_within (key_opened opened body.now) }
-    ensures tells { opened_of name.now (R.custody records.old).kept ≡ Some opened → AllStand (R.custody records.old).kept resources.old → (R.custody records.new).sound → Shows (R.custody records.old).kept (R.custody records.new).kept result (reply_told body.now moment (state_of name.now (R.custody records.old).kept)) }
-    ensures works { opened_of name.now (R.custody records.old).kept ≡ Some opened → AllStand (R.custody records.old).kept resources.old → (R.custody records.new).sound → IsFresh (key_opened opened body.now) (worked_in (state_of name.now (R.custody records.old).kept) body.now moment) result resources.old.tally resources.new.tally }
-    ensures stands { opened_of name.now (R.custody records.old).kept ≡ Some opened → AllStand (R.custody records.old).kept resources.old → (R.custody records.new).sound → AllStand (R.custody records.old).kept resources.new }
+    requires { key ≡ key_within (key_asked ask.now body.now) }
+    ensures tells { IfLetIn (R.custody records.old) (R.custody records.new) ask.now resources.old (Shows (R.custody records.old).kept (R.custody records.new).kept result (reply_asked (R.custody records.old).kept ask.now body.now)) }
+    ensures works { IfLetIn (R.custody records.old) (R.custody records.new) ask.now resources.old (IsFresh (key_asked ask.now body.now) (worked_asked (R.custody records.old).kept ask.now body.now) result resources.old.tally resources.new.tally) }
+    ensures stands { IfLetIn (R.custody records.old) (R.custody records.new) ask.now resources.old (AllStand (R.custody records.old).kept resources.new) }
     ensures room { OnErr result (resources.new.room ≡ resources.old.room) }
-    ensures sound { (R.custody records.new).sound → (R.custody records.old).sound }
-    ensures clean { (R.custody records.new).clean → (R.custody records.old).clean }
-    ensures stays { (R.custody records.new).clean → (R.custody records.old).sound → IfTold result (R.custody records.new).sound }
-    ensures leaves { (R.custody records.new).clean → (R.custody records.old).sound → LeavesNoMore (R.custody records.old).may_leave (R.custody records.new).may_leave }
-    ensures counts { Counts (R.custody records.old).faults (R.custody records.new).faults result }
+    ensures keeper { OnlyReads (R.custody records.old) (R.custody records.new) result }
 {
     if asks_policies(alloc, body)? {
-        return reply_by_kept(alloc, resources, records, name, opened, key, body, moment);
+        return reply_by_kept(alloc, resources, records, ask, key, body);
     }
     let limits = resources.limits;
-    reply_without_policies(
-        alloc,
-        &mut resources.decisions,
-        limits,
-        opened,
-        key,
-        body,
-        moment,
-    )
+    reply_without_policies(alloc, &mut resources.decisions, limits, ask, key, body)
 }
 
-/// The reply by a decision that is worked out: by the view that is kept ready, where there is one, and no text is asked for; and else without it.
+/// The reply by a decision that is worked out: by the view that is kept ready, where there is one, and
+/// no text is asked for; and else without it.
 fn fresh_reply<R: Records>(
     alloc: Global,
     resources: &mut Resources,
     records: &mut R,
-    name: &Text,
-    opened: Opened,
+    ask: &Ask<'_>,
     key: Option<Key>,
-    body: &[u8],
-    moment: Moment,
+    body: &RequestBody<'_>,
 ) -> Result<Items<u8>, Stop>
-    requires { key ≡ key_within (key_opened opened body.now) }
-    ensures tells { opened_of name.now (R.custody records.old).kept ≡ Some opened → AllStand (R.custody records.old).kept resources.old → (R.custody records.new).sound → Shows (R.custody records.old).kept (R.custody records.new).kept result (reply_told body.now moment (state_of name.now (R.custody records.old).kept)) }
-    ensures works { opened_of name.now (R.custody records.old).kept ≡ Some opened → AllStand (R.custody records.old).kept resources.old → (R.custody records.new).sound → IsFresh (key_opened opened body.now) (worked_in (state_of name.now (R.custody records.old).kept) body.now moment) result resources.old.tally resources.new.tally }
-    ensures stands { opened_of name.now (R.custody records.old).kept ≡ Some opened → AllStand (R.custody records.old).kept resources.old → (R.custody records.new).sound → AllStand (R.custody records.old).kept resources.new }
+    requires { key ≡ key_within (key_asked ask.now body.now) }
+    ensures tells { IfLetIn (R.custody records.old) (R.custody records.new) ask.now resources.old (Shows (R.custody records.old).kept (R.custody records.new).kept result (reply_asked (R.custody records.old).kept ask.now body.now)) }
+    ensures works { IfLetIn (R.custody records.old) (R.custody records.new) ask.now resources.old (IsFresh (key_asked ask.now body.now) (worked_asked (R.custody records.old).kept ask.now body.now) result resources.old.tally resources.new.tally) }
+    ensures stands { IfLetIn (R.custody records.old) (R.custody records.new) ask.now resources.old (AllStand (R.custody records.old).kept resources.new) }
     ensures room { OnErr result (resources.new.room ≡ resources.old.room) }
-    ensures sound { (R.custody records.new).sound → (R.custody records.old).sound }
-    ensures clean { (R.custody records.new).clean → (R.custody records.old).clean }
-    ensures stays { (R.custody records.new).clean → (R.custody records.old).sound → IfTold result (R.custody records.new).sound }
-    ensures leaves { (R.custody records.new).clean → (R.custody records.old).sound → LeavesNoMore (R.custody records.old).may_leave (R.custody records.new).may_leave }
-    ensures counts { Counts (R.custody records.old).faults (R.custody records.new).faults result }
+    ensures keeper { OnlyReads (R.custody records.old) (R.custody records.new) result }
 {
+    let opened = ask.opened;
     if let Some(view) = resources.views.find(opened.number, opened.epoch) {
-        let reply = reply_by(
-            alloc,
-            &mut resources.decisions,
-            opened,
-            key,
-            view,
-            body,
-            moment,
-        )?;
+        let reply = reply_by(alloc, &mut resources.decisions, ask, key, view, body)?;
         resources.views.touch(opened.number);
         return Ok(reply);
     }
-    reply_without_view(alloc, resources, records, name, opened, key, body, moment)
+    reply_without_view(alloc, resources, records, ask, key, body)
 }
 
-/// The reply to the request of the body by the domain's policies: by the decision that is held, where one is, and else by one that is worked out.
+/// The same for a body that isn't read yet: it is read once, whatever is asked of it.
+fn read_reply<R: Records>(
+    alloc: Global,
+    resources: &mut Resources,
+    records: &mut R,
+    ask: &Ask<'_>,
+    key: Option<Key>,
+    body: &[u8],
+) -> Result<Items<u8>, Stop>
+    requires { key ≡ key_within (key_asked ask.now body.now) }
+    ensures tells { IfLetIn (R.custody records.old) (R.custody records.new) ask.now resources.old (Shows (R.custody records.old).kept (R.custody records.new).kept result (reply_asked (R.custody records.old).kept ask.now body.now)) }
+    ensures works { IfLetIn (R.custody records.old) (R.custody records.new) ask.now resources.old (IsFresh (key_asked ask.now body.now) (worked_asked (R.custody records.old).kept ask.now body.now) result resources.old.tally resources.new.tally) }
+    ensures stands { IfLetIn (R.custody records.old) (R.custody records.new) ask.now resources.old (AllStand (R.custody records.old).kept resources.new) }
+    ensures room { OnErr result (resources.new.room ≡ resources.old.room) }
+    ensures keeper { OnlyReads (R.custody records.old) (R.custody records.new) result }
+{
+    let read = RequestBody::read(alloc, body)?;
+    fresh_reply(alloc, resources, records, ask, key, &read)
+}
+
+/// The reply to the request of the body by the domain's policies: by the decision that is held, where
+/// one is, and else by one that is worked out.
 #[tactic(auto, using(crate::proofs::AskingLemmas::answers, crate::proofs::AskingLemmas::told_same))]
 pub(crate) fn decide<R: Records>(
     alloc: Global,
     resources: &mut Resources,
     records: &mut R,
-    name: &Text,
-    opened: Opened,
+    ask: &Ask<'_>,
     body: &[u8],
-    moment: Moment,
 ) -> Result<Items<u8>, Stop>
-    ensures answers { opened_of name.now (R.custody records.old).kept ≡ Some opened → AllStand (R.custody records.old).kept resources.old → (R.custody records.new).sound → Answers (R.custody records.old).kept (R.custody records.new).kept name.now result (by_domain_command domain.Decide body.now moment (state_of name.now (R.custody records.old).kept)) }
-    ensures same { opened_of name.now (R.custody records.old).kept ≡ Some opened → AllStand (R.custody records.old).kept resources.old → (R.custody records.new).sound → (R.custody records.new).kept ≡ (R.custody records.old).kept }
-    ensures works { opened_of name.now (R.custody records.old).kept ≡ Some opened → AllStand (R.custody records.old).kept resources.old → (R.custody records.new).sound → IsAsked (key_opened opened body.now) (body_held (key_opened opened body.now) body.now resources.old.tally) (worked_in (state_of name.now (R.custody records.old).kept) body.now moment) result resources.old.tally resources.new.tally }
-    ensures stands { opened_of name.now (R.custody records.old).kept ≡ Some opened → AllStand (R.custody records.old).kept resources.old → (R.custody records.new).sound → AllStand (R.custody records.old).kept resources.new }
+    ensures answers { IfLetIn (R.custody records.old) (R.custody records.new) ask.now resources.old (Answers (R.custody records.old).kept (R.custody records.new).kept ask.now.name.now result (by_domain_command domain.Decide body.now ask.now.moment (state_of ask.now.name.now (R.custody records.old).kept))) }
+    ensures same { IfLetIn (R.custody records.old) (R.custody records.new) ask.now resources.old ((R.custody records.new).kept ≡ (R.custody records.old).kept) }
+    ensures works { IfLetIn (R.custody records.old) (R.custody records.new) ask.now resources.old (IsAsked (key_asked ask.now body.now) (body_held (key_asked ask.now body.now) body.now resources.old.tally) (worked_asked (R.custody records.old).kept ask.now body.now) result resources.old.tally resources.new.tally) }
+    ensures stands { IfLetIn (R.custody records.old) (R.custody records.new) ask.now resources.old (AllStand (R.custody records.old).kept resources.new) }
     ensures room { OnErr result (resources.new.room ≡ resources.old.room) }
-    ensures sound { (R.custody records.new).sound → (R.custody records.old).sound }
-    ensures clean { (R.custody records.new).clean → (R.custody records.old).clean }
-    ensures stays { (R.custody records.new).clean → (R.custody records.old).sound → IfTold result (R.custody records.new).sound }
-    ensures leaves { (R.custody records.new).clean → (R.custody records.old).sound → LeavesNoMore (R.custody records.old).may_leave (R.custody records.new).may_leave }
-    ensures counts { Counts (R.custody records.old).faults (R.custody records.new).faults result }
+    ensures keeper { OnlyReads (R.custody records.old) (R.custody records.new) result }
 {
-    let Some(key) = key_within(alloc, opened, body)? else {
-        return fresh_reply(alloc, resources, records, name, opened, None, body, moment);
+    let Some(key) = key_within(alloc, ask.opened, body)? else {
+        return read_reply(alloc, resources, records, ask, None, body);
     };
     let most = resources.limits.reply;
     if let Some(reply) = resources.decisions.held_reply(alloc, &key, most)? {
         return Ok(reply);
     }
     let key = Some(key);
-    fresh_reply(alloc, resources, records, name, opened, key, body, moment)
+    read_reply(alloc, resources, records, ask, key, body)
 }

@@ -1,4 +1,5 @@
-//! The changes that messages make. Of each the body is read first and the bytes of the reply are made; the change itself is the last thing that can fail.
+//! The changes that messages make. Of each the body is read first and the bytes of the reply are made;
+//! the change itself is the last thing that can fail.
 ghost use Rattle.std.specs.Prelude.{◌≡◌, IfOk, IsTrue};
 ghost use Rattle.xa_http.specs.declared.command.DocumentCommand.TheVariants as document;
 ghost use Rattle.xa_http.specs.declared.command.OperatorCommand.TheVariants as operator;
@@ -90,7 +91,8 @@ fn key_of(parsed: &Parsed) -> Result<DocumentKey, AllocError>
     })
 }
 
-/// Keeps the document that the body is; the very text again changes nothing. Which of both it is isn't known before, so both replies are made.
+/// Keeps the document that the body is; the very text again changes nothing. Which of both it is isn't
+/// known before, so both replies are made.
 pub(crate) fn upload<R: Records>(
     alloc: Global,
     records: &mut R,

@@ -47,8 +47,8 @@ fn play_piece<F: Multiplexer>(front: &mut F, conn: Conn, piece: &[u8]) -> Result
     }
 }
 
-/// Reads once from a connection of which no whole message is left, and answers all messages that are whole then. How
-/// the connection has ended, if it has.
+/// Reads once from a connection of which no whole message is left, and answers all messages that are
+/// whole then. How the connection has ended, if it has.
 #[tactic(auto, using(crate::proofs::OpenLemmas::open_kept, crate::proofs::OpenLemmas::open_trans))]
 fn read_on<F: Multiplexer, I: Reader, W: Writer, C: Clock>(
     front: &mut F,
@@ -78,11 +78,11 @@ fn read_on<F: Multiplexer, I: Reader, W: Writer, C: Clock>(
     }
 }
 
-/// Answers the messages of a connection, each at the clock's moment, until it ends: first those that it holds already,
-/// then those that are read. Each reply is sent whole and once, before the next message is answered: a message is done
-/// only after the reply to the one before it was sent. At most 65,536 bytes are read at once, and at most 1,000,000
-/// times. An interrupted read is one of these, and the next follows it. A connection that isn't open has ended: nothing
-/// is read, and nothing changes.
+/// Answers the messages of a connection, each at the clock's moment, until it ends: first those that it
+/// holds already, then those that are read. Each reply is sent whole and once, before the next message
+/// is answered: a message is done only after the reply to the one before it was sent. At most 65,536
+/// bytes are read at once, and at most 1,000,000 times. An interrupted read is one of these, and the
+/// next follows it. A connection that isn't open has ended: nothing is read, and nothing changes.
 #[tactic(auto, using(crate::proofs::OpenLemmas::open_kept, crate::proofs::OpenLemmas::open_trans))]
 pub fn drive<F: Multiplexer, I: Reader, W: Writer, C: Clock>(
     front: &mut F,

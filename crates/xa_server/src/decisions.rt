@@ -39,7 +39,8 @@ impl Model for Decisions {
 }
 
 impl Decisions {
-    /// Nothing is held yet. The operator's token, of which tenants know nothing, makes the places of what is held unknown to them.
+    /// Nothing is held yet. The operator's token, of which tenants know nothing, makes the places of
+    /// what is held unknown to them.
     pub(crate) fn new(alloc: Global, operator: Digest) -> Result<Decisions, AllocError>
         ensures { IfOk result (λ d. d ≡ nothing_held) }
     {
@@ -64,7 +65,8 @@ impl Decisions {
         self.unkept
     }
 
-    /// The reply by the decision that is held under the key, which is its newest use then. A body of more bytes than that is refused here as where it is worked out.
+    /// The reply by the decision that is held under the key, which is its newest use then. A body of
+    /// more bytes than that is refused here as where it is worked out.
     pub(crate) fn held_reply(
         &mut self,
         alloc: Global,
@@ -91,7 +93,8 @@ impl Decisions {
         }
     }
 
-    /// Counts a decision that was worked out, and holds it where there is a key for it, it is the same at every moment and neither body is too large.
+    /// Counts a decision that was worked out, and holds it where there is a key for it, it is the same
+    /// at every moment and neither body is too large.
     pub(crate) fn note(&mut self, key: Option<Key>, responded: Responded)
         ensures { IsNoted key responded.body responded.timeless self.old self.new }
     {
@@ -105,7 +108,8 @@ impl Decisions {
     }
 }
 
-/// The key under which a decision on that body is looked up and held, in the domain that lets the message in. A body that is too large for that has none, and isn't copied.
+/// The key under which a decision on that body is looked up and held, in the domain that lets the
+/// message in. A body that is too large for that has none, and isn't copied.
 pub(crate) fn key_within(
     alloc: Global,
     opened: Opened,

@@ -31,7 +31,8 @@ pub(crate) fn text_if(part: Items<u8>) -> Option<Text>
     Some(Text::from_string(text))
 }
 
-/// The key that these parts write; nothing where the kind is another, the id is no text or the version doesn't read.
+/// The key that these parts write; nothing where the kind is another, the id is no text or the version
+/// doesn't read.
 #[tactic(auto, unfolding(crate::specs::DocumentKey::key_of_parts))]
 pub(crate) fn key_of_parts(parts: DocumentParts) -> Option<DocumentKey>
     ensures { result ≡ key_of_parts parts }

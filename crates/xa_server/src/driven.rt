@@ -3,15 +3,16 @@
 /// How a connection ended.
 #[derive(Clone, Copy, Debug, PartialEq, Eq)]
 pub enum Driven {
-    /// Its stream has ended, or its session: by a message that closes it, or by a fault, which was answered. Or it
-    /// wasn't open.
+    /// Its stream has ended, or its session: by a message that closes it, or by a fault, which was
+    /// answered. Or it wasn't open.
     Ended,
     /// A read failed; an interrupted one hasn't. All messages that were whole by then are answered.
     ReadFault,
-    /// A write or a flush failed; an interrupted write hasn't. The message whose reply it was is done, and of that reply a part
-    /// may have been sent.
+    /// A write or a flush failed; an interrupted write hasn't. The message whose reply it was is done,
+    /// and of that reply a part may have been sent.
     WriteFault,
-    /// The clock was asked and told no moment. The message that wanted one is not answered, and is held as before.
+    /// The clock was asked and told no moment. The message that wanted one is not answered, and is held
+    /// as before.
     NoClock,
     /// It was read from 1,000,000 times. All messages that were whole by then are answered.
     TooManyReads,

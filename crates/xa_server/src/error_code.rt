@@ -11,7 +11,8 @@ use xa_notation::NotationError;
 use xa_records::Refusal;
 use xa_value::Items;
 
-/// Why a message is turned away: the code that the body of the reply names (RFC 9110, section 15, has the statuses).
+/// Why a message is turned away: the code that the body of the reply names (RFC 9110, section 15, has
+/// the statuses).
 #[derive(Clone, Copy, Debug, PartialEq, Eq, Error)]
 pub enum ErrorCode {
     /// 404: nothing is served at the path.

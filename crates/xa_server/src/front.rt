@@ -20,8 +20,8 @@ use xa_http::{Look, Next, Session, SessionFault};
 use xa_records::Records;
 use xa_value::Moment;
 
-/// A server with 64 connections, which may all be open at once. The messages of each are cut from its own bytes,
-/// whatever comes on the others in between; all are answered by the one server.
+/// A server with 64 connections, which may all be open at once. The messages of each are cut from its
+/// own bytes, whatever comes on the others in between; all are answered by the one server.
 #[derive(Drop)]
 pub struct Front<R: Records> {
     alloc: Global,
@@ -70,8 +70,9 @@ impl<R: Records> Front<R> {
         self.lines.open(self.alloc)
     }
 
-    /// Takes a piece of the connection's stream, whole; or nothing of it, where the connection would hold more than
-    /// 1,048,576 bytes. A connection whose session has ended takes it too, and answers nothing to it.
+    /// Takes a piece of the connection's stream, whole; or nothing of it, where the connection would
+    /// hold more than 1,048,576 bytes. A connection whose session has ended takes it too, and answers
+    /// nothing to it.
     pub fn piece(&mut self, conn: Conn, piece: &[u8]) -> Result<(), FrontError>
         ensures held { IsHeld conn piece.now self.old.lines result self.new.lines }
         ensures server { self.new.server ≡ self.old.server }
@@ -87,9 +88,10 @@ impl<R: Records> Front<R> {
         self.lines.close(conn)
     }
 
-    /// Answers the first whole message of the connection's bytes, or the fault by which its stream ends; nothing where
-    /// there is neither. No other connection's bytes change. Without memory before the message is cut off, or for the
-    /// reply to the fault, nothing has changed. The reply to a fault is the same at every moment.
+    /// Answers the first whole message of the connection's bytes, or the fault by which its stream ends;
+    /// nothing where there is neither. No other connection's bytes change. Without memory before the
+    /// message is cut off, or for the reply to the fault, nothing has changed. The reply to a fault is
+    /// the same at every moment.
     pub fn answer(&mut self, conn: Conn, moment: Moment) -> Result<Option<Answer>, FrontError>
         ensures answered { (R.custody self.new.server.records).sound → Answers conn moment (front_state R.custody self.old) (front_state R.custody self.new) result }
         ensures line { TakesLine conn self.old.lines self.new.lines result }
@@ -130,10 +132,10 @@ impl<R: Records> Front<R> {
         self.lines.held_len(conn)
     }
 
-    /// Makes these calls, one after another. Whatever comes on which connection, and in which pieces, each domain's
-    /// replies are those of its own machine, used by it alone; with refusals, as if the refused messages had never come.
-    /// What becomes of the connections doesn't depend on the keeper. Room for all outcomes is taken first, and without it
-    /// nothing is done.
+    /// Makes these calls, one after another. Whatever comes on which connection, and in which pieces,
+    /// each domain's replies are those of its own machine, used by it alone; with refusals, as if the
+    /// refused messages had never come. What becomes of the connections doesn't depend on the keeper.
+    /// Room for all outcomes is taken first, and without it nothing is done.
     pub fn play(&mut self, events: &[Event<'_>]) -> Result<Vec<Outcome>, AllocError>
         ensures played { IfOk result (λ outcomes. (R.custody self.new.server.records).sound →
             IsPlayed (front_state R.custody self.old) (front_state R.custody self.new) events.now outcomes.items) }
@@ -245,7 +247,8 @@ fn answer_message<R: Records>(
     Ok(Some(Answer { reply, last }))
 }
 
-/// Answers the fault by which a stream ends. The session has ended then; without memory for the reply it hasn't.
+/// Answers the fault by which a stream ends. The session has ended then; without memory for the reply it
+/// hasn't.
 fn answer_fault(
     alloc: Global,
     session: &mut Session,
@@ -262,8 +265,8 @@ fn answer_fault(
     }))
 }
 
-/// Law: while a connection is open, the messages that are answered on it are the first of the bytes that it takes, each
-/// with its reply, however the pieces of all connections are cut and mixed.
+/// Law: while a connection is open, the messages that are answered on it are the first of the bytes that
+/// it takes, each with its reply, however the pieces of all connections are cut and mixed.
 pub fn lines_are_streams()
     ensures { LinesAreStreams }
 {}

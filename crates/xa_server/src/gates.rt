@@ -47,7 +47,8 @@ impl Gates {
         })
     }
 
-    /// The number and the epoch of the domain of that name, where its gate is remembered and one of its tokens has that digest: one look-up.
+    /// The number and the epoch of the domain of that name, where its gate is remembered and one of its
+    /// tokens has that digest: one look-up.
     pub(crate) fn find(&self, name: &Text, digest: &Digest) -> Option<Opened>
         ensures { result ≡ opened_in name.now digest.now self.now }
     {
@@ -68,7 +69,8 @@ impl Gates {
         self.gates.promote(name);
     }
 
-    /// Remembers the gate under a copy of that name, as the one that was used last, where there is memory. The 513th goes.
+    /// Remembers the gate under a copy of that name, as the one that was used last, where there is
+    /// memory. The 513th goes.
     pub(crate) fn remember(&mut self, name: &Text, gate: Gate)
         ensures { (self.new ≡ with_gate name.now gate self.old) ⊎ (self.new ≡ self.old) }
     {

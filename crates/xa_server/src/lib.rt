@@ -4,6 +4,7 @@
 mod admission;
 mod answer;
 mod answering;
+mod ask;
 mod asking;
 mod authorization;
 mod changes;

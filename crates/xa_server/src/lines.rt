@@ -14,8 +14,8 @@ const CONNECTIONS: usize = 64;
 /// How many bytes a connection holds at most.
 const MAX_HELD_BYTES: usize = 1_048_576;
 
-/// A connection of a front, by its number. Once it is closed, no call takes it, until its number is opened again; then
-/// it is that new connection.
+/// A connection of a front, by its number. Once it is closed, no call takes it, until its number is
+/// opened again; then it is that new connection.
 #[derive(Clone, Copy, Debug, PartialEq, Eq)]
 pub struct Conn {
     pub(crate) number: usize,
@@ -50,7 +50,8 @@ impl Lines {
         Ok(Lines { lines })
     }
 
-    /// Opens the connection of the least number that is free. It holds nothing, and no memory is taken for it.
+    /// Opens the connection of the least number that is free. It holds nothing, and no memory is taken
+    /// for it.
     pub(crate) fn open(&mut self, alloc: Global) -> Result<Conn, FrontError>
         ensures { IsOpened self.old result self.new }
     {

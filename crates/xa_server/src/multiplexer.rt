@@ -14,8 +14,8 @@ use std::alloc::AllocError;
 use xa_http::Look;
 use xa_records::Records;
 
-/// What a connection is driven on: a `Front`. Beside what a front says of its calls, it may say which of them have
-/// found memory.
+/// What a connection is driven on: a `Front`. Beside what a front says of its calls, it may say which of
+/// them have found memory.
 pub trait Multiplexer {
     /// Whether it does what its clauses say: a front does where its keeper is sound.
     ghost is_sound: { Self → Type 0 };

@@ -6,8 +6,8 @@ ghost use Rattle.xa_server.specs.Transfers.{Grows, ReadEnd, read_end};
 
 use std::io::{self, Read};
 
-/// What the bytes of a connection are read from: every `Read`. Beside what that says of its bytes, it may say how each
-/// of its reads has ended, and why one failed.
+/// What the bytes of a connection are read from: every `Read`. Beside what that says of its bytes, it
+/// may say how each of its reads has ended, and why one failed.
 pub trait Reader {
     /// The bytes that reads will give from here on, where they are known.
     ghost remaining: { Self → Option (List ℕ) } = { λ _. None };

@@ -5,7 +5,7 @@ ghost use Rattle.xa_decide.specs.Rows.{rows_body};
 ghost use Rattle.xa_records.specs.Kept.{names_of};
 ghost use Rattle.xa_records.specs.Listing.{listing_body, names_body};
 ghost use Rattle.xa_records.specs.Readings.{listing_of_state};
-ghost use Rattle.xa_server.specs.Handling.{Counts, IfTold, LeavesNoMore, HandlesReading, Shows};
+ghost use Rattle.xa_server.specs.Handling.{HandlesReading, OnlyReads, Shows};
 ghost use Rattle.xa_server.specs.Machine.{by_document_command, told};
 ghost use Rattle.xa_server.specs.Replies.{json_reply};
 
@@ -66,11 +66,7 @@ pub(crate) fn show<R: Records>(
 /// The names of all domains. What this costs grows with their number.
 pub(crate) fn domains<R: Records>(alloc: Global, records: &mut R) -> Result<Items<u8>, Stop>
     ensures tells { (R.custody records.new).sound → Shows (R.custody records.old).kept (R.custody records.new).kept result (Ok (json_reply (names_body (names_of (R.custody records.old).kept)))) }
-    ensures sound { (R.custody records.new).sound → (R.custody records.old).sound }
-    ensures clean { (R.custody records.new).clean → (R.custody records.old).clean }
-    ensures stays { (R.custody records.new).clean → (R.custody records.old).sound → IfTold result (R.custody records.new).sound }
-    ensures leaves { (R.custody records.new).clean → (R.custody records.old).sound → LeavesNoMore (R.custody records.old).may_leave (R.custody records.new).may_leave }
-    ensures counts { Counts (R.custody records.old).faults (R.custody records.new).faults result }
+    ensures keeper { OnlyReads (R.custody records.old) (R.custody records.new) result }
 {
     let names = records.domains(alloc)?;
     let body = write_names(alloc, names.as_slice())?;

@@ -38,7 +38,8 @@ pub(crate) fn bytes_of_view(read: usize, rows: usize) -> usize
     documents.saturating_add(rows).saturating_add(VIEW_BYTES)
 }
 
-/// An estimate of the memory that the view's linked tree takes, which may have far more places than the documents have bytes.
+/// An estimate of the memory that the view's linked tree takes, which may have far more places than the
+/// documents have bytes.
 pub(crate) fn bytes_of_tree(view: &View) -> usize
     ensures { result ≡ bytes_of_tree view.now }
 {

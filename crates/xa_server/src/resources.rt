@@ -1,6 +1,6 @@
-//! What a server shares among all domains: the shelf of policies, the views that are kept ready, the decisions that are held, the gates that are remembered, and
-//! what the decision on a message may cost.
-ghost use Rattle.std.specs.Prelude.{◌≡◌, ◌⊎◌, [], min, IfOk, IsSome, None, bytes_eq};
+//! What a server shares among all domains: the shelf of policies, the views that are kept ready, the
+//! decisions that are held, the gates that are remembered, and what the decision on a message may cost.
+ghost use Rattle.std.specs.Prelude.{◌≡◌, ◌⊎◌, [], IfOk, IsSome, None, bytes_eq};
 ghost use Rattle.std.specs.Map.{lookup};
 ghost use Rattle.xa_server.specs.Gates.{opened_in};
 ghost use Rattle.xa_server.specs.Stock.{empty_stock, forgetting, remembering, using_gate};
@@ -17,15 +17,22 @@ use xa_records::{Digest, Gate};
 use xa_shelf::Shelf;
 use xa_value::Text;
 
+/// The texts of policies, as far as a server remembers them.
+#[derive(Drop)]
+pub(crate) struct Texts {
+    /// The policies that were read.
+    pub(crate) shelf: Shelf,
+    /// The domains of which more would have to be read for a decision than may be.
+    pub(crate) unread: Unread,
+}
+
 /// What a server shares among all domains.
 #[derive(Drop)]
 pub(crate) struct Resources {
-    pub(crate) shelf: Shelf,
+    pub(crate) texts: Texts,
     pub(crate) views: Views,
     pub(crate) decisions: Decisions,
     gates: Gates,
-    /// The domains of which more would have to be read for a decision than may be.
-    pub(crate) unread: Unread,
     /// What the decision on a message may cost.
     pub(crate) limits: Limits,
 }
@@ -50,84 +57,29 @@ impl Resources {
         ensures { IfOk result (λ r. r ≡ empty_stock) }
     {
         Ok(Resources {
-            shelf: Shelf::new(alloc)?,
+            texts: Texts {
+                shelf: Shelf::new(alloc)?,
+                unread: Unread::new(alloc)?,
+            },
             views: Views::new(alloc)?,
             decisions: Decisions::new(alloc, operator)?,
             gates: Gates::new(alloc)?,
-            unread: Unread::new(alloc)?,
             limits: Limits::none(),
         })
     }
 
-    /// With room for at most so many views, of which none is kept yet.
-    pub(crate) fn with_views(self, most: usize) -> Resources
-        ensures { result ≡ record { tally = self.tally; room = record { views = []; most = min most 128; bytes = self.room.bytes }; gates = self.gates } }
+    /// From now on with these limits. The views that were kept had others; none is kept yet.
+    pub(crate) fn limit(&mut self, limits: Limits)
+        ensures { self.new ≡ record { tally = self.old.tally; room = record { views = []; most = self.old.room.most; bytes = self.old.room.bytes }; gates = self.old.gates } }
     {
-        let Resources {
-            shelf,
-            views,
-            decisions,
-            gates,
-            unread,
-            limits,
-        } = self;
-        Resources {
-            shelf,
-            views: views.with_room_for(most),
-            decisions,
-            gates,
-            unread,
-            limits,
-        }
+        self.views.clear();
+        self.texts.unread.clear();
+        self.limits = limits;
     }
 
-    /// With room for views that take so many bytes together, of which none is kept yet.
-    pub(crate) fn with_room(self, bytes: usize) -> Resources
-        ensures { result ≡ record { tally = self.tally; room = record { views = []; most = self.room.most; bytes = bytes }; gates = self.gates } }
-    {
-        let Resources {
-            shelf,
-            views,
-            decisions,
-            gates,
-            unread,
-            limits,
-        } = self;
-        Resources {
-            shelf,
-            views: views.with_room_of(bytes),
-            decisions,
-            gates,
-            unread,
-            limits,
-        }
-    }
-
-    /// With these limits. The views that were kept had others; none is kept yet.
-    pub(crate) fn with_limits(self, limits: Limits) -> Resources
-        ensures { result ≡ record { tally = self.tally; room = record { views = []; most = min self.room.most 128; bytes = self.room.bytes }; gates = self.gates } }
-    {
-        let Resources {
-            shelf,
-            views,
-            decisions,
-            gates,
-            unread,
-            limits: _,
-        } = self;
-        let most = views.most();
-        Resources {
-            shelf,
-            views: views.with_room_for(most),
-            decisions,
-            gates,
-            unread: unread.cleared(),
-            limits,
-        }
-    }
-
-    /// The number and the epoch of the domain of that name, where its gate is remembered and one of its tokens has that digest. That is the gate's newest use then;
-    /// where it has no such token it is none.
+    /// The number and the epoch of the domain of that name, where its gate is remembered and one of its
+    /// tokens has that digest. That is the gate's newest use then; where it has no such token it is
+    /// none.
     pub(crate) fn domain_by_gate(&mut self, name: &Text, digest: &Digest) -> Option<Opened>
         ensures opened { result ≡ opened_in name.now digest.now self.old.gates }
         ensures uses { IsSome result → self.new ≡ using_gate name.now self.old }

@@ -5,8 +5,8 @@ ghost use Rattle.xa_server.specs.Sending.{IsFlushed, IsWritten, SendsNone, Sends
 use crate::writer::Writer;
 use std::io::ErrorKind;
 
-/// Sends some of the bytes, from their front, and says how many; nothing where that failed, or where none are taken
-/// any more.
+/// Sends some of the bytes, from their front, and says how many; nothing where that failed, or where
+/// none are taken any more.
 #[tactic(auto, using(crate::proofs::SendingLemmas::took_none, crate::proofs::SendingLemmas::took_some, crate::proofs::SendingLemmas::interrupted, crate::proofs::SendingLemmas::failed))]
 fn send_some<W: Writer>(writer: &mut W, bytes: &[u8]) -> Option<usize>
     requires { 0 < length bytes.now }
@@ -33,8 +33,8 @@ fn flush<W: Writer>(writer: &mut W) -> bool
     }
 }
 
-/// Sends the bytes, whole and once, and lets none be held back. Whether that went well; if not, a part from their
-/// front may have been sent.
+/// Sends the bytes, whole and once, and lets none be held back. Whether that went well; if not, a part
+/// from their front may have been sent.
 #[tactic(auto, using(crate::proofs::SendingLemmas::nothing_sent))]
 pub(crate) fn send_whole<W: Writer>(writer: &mut W, bytes: &[u8]) -> bool
     ensures { IsWritten result bytes.now (W.contents writer.old) (W.contents writer.new) (W.writes writer.old) (W.writes writer.new) }

@@ -61,7 +61,8 @@ impl<R: Records> Server<R> {
     ghost use Rattle.xa_server.specs.Work.{IsWork, IsWorkOfRun};
     ghost use Rattle.xa_server.specs.World.{world};
 
-    /// A server over the keeper, with the digest of the operator's token. Without memory the keeper is handed back.
+    /// A server over the keeper, with the digest of the operator's token. Without memory the keeper is
+    /// handed back.
     pub fn new(alloc: Global, records: R, operator: Digest) -> Result<Server<R>, AllocFailed<R>>
         ensures { MatchResult result (λ server. (server.records ≡ records) × (server.operator ≡ operator) × (server.tally ≡ nothing_held)) (λ failed. failed.value ≡ records) }
     {
@@ -81,9 +82,9 @@ impl<R: Records> Server<R> {
     }
 
     /// The same server, which from now on refuses each message whose decision asks for more work than so
-    /// many units. A unit is a byte of a text or of a value that is made, copied or compared. A step,
-    /// such as an expression, a match or a rule that is looked at, is 32 units (`xa_expr::Budget`). Work
-    /// is counted and not timed, and each message begins anew. So the same message on the same state is
+    /// many units. A unit is a byte of a text or of a value that is made, copied or compared; a step, such
+    /// as an expression or a match, is 32, and a rule that is looked at 80 (`xa_expr::Budget`). Work is
+    /// counted and not timed, and each message begins anew. So the same message on the same state is
     /// refused, or is not, on every machine, whatever other domains ask. Reading (`with_reading`) and
     /// linking policies, administration, and decisions that are held aren't counted. A refusal is
     /// `Reply::Refused` as for want of memory: nothing has changed, and the reply is the fixed 503. A
@@ -99,10 +100,12 @@ impl<R: Records> Server<R> {
         self.with_limits(limits)
     }
 
-    /// The same server, which from now on refuses each message whose decision has a response of more than so many bytes. These are the bytes of the body, with
-    /// the escapes of its JSON; they are counted before they are written. The body follows from the domain's state, the message's body and the moment, and so does
-    /// the refusal, whatever is held and whatever other domains ask; it is that of `with_limit`. Documents and lists are shown whatever this is: how large they are
-    /// is bounded by what a domain may be given. A server that is new has no limit.
+    /// The same server, which from now on refuses each message whose decision has a response of more
+    /// than so many bytes. These are the bytes of the body, with the escapes of its JSON; they are
+    /// counted before they are written. The body follows from the domain's state, the message's body and
+    /// the moment, and so does the refusal, whatever is held and whatever other domains ask; it is that
+    /// of `with_limit`. Documents and lists are shown whatever this is: how large they are is bounded by
+    /// what a domain may be given. A server that is new has no limit.
     pub fn with_reply_limit(self, bytes: u64) -> Server<R>
         ensures { result ≡ self }
     {
@@ -133,65 +136,30 @@ impl<R: Records> Server<R> {
     }
 
     /// The same server, whose decisions may cost so much from now on.
-    fn with_limits(self, limits: Limits) -> Server<R>
+    fn with_limits(mut self, limits: Limits) -> Server<R>
         ensures { result ≡ self }
     {
-        let Server {
-            alloc,
-            routes,
-            operator,
-            records,
-            resources,
-        } = self;
-        Server {
-            alloc,
-            routes,
-            operator,
-            records,
-            resources: resources.with_limits(limits),
-        }
+        self.resources.limit(limits);
+        self
     }
 
-    /// The same server with room for at most so many views that are kept ready, or for 128, whichever is less; none is kept yet. What it answers doesn't depend on them.
-    pub fn with_views(self, most: usize) -> Server<R>
+    /// The same server with room for at most so many views that are kept ready, or for 128, whichever is
+    /// less; none is kept yet. What it answers doesn't depend on them.
+    pub fn with_views(mut self, most: usize) -> Server<R>
         ensures { result ≡ self }
     {
-        let Server {
-            alloc,
-            routes,
-            operator,
-            records,
-            resources,
-        } = self;
-        Server {
-            alloc,
-            routes,
-            operator,
-            records,
-            resources: resources.with_views(most),
-        }
+        self.resources.views.make_room_for(most);
+        self
     }
 
     /// The same server with room for views that are kept ready of so many bytes together, by an estimate
     /// of the memory that each takes. None is kept yet. One of them may take all. A server that is new
     /// has room for 256 MiB. What it answers doesn't depend on them.
-    pub fn with_room(self, bytes: usize) -> Server<R>
+    pub fn with_room(mut self, bytes: usize) -> Server<R>
         ensures { result ≡ self }
     {
-        let Server {
-            alloc,
-            routes,
-            operator,
-            records,
-            resources,
-        } = self;
-        Server {
-            alloc,
-            routes,
-            operator,
-            records,
-            resources: resources.with_room(bytes),
-        }
+        self.resources.views.make_room_of(bytes);
+        self
     }
 
     /// How many decisions were worked out; at the greatest number it stays.
@@ -210,7 +178,7 @@ impl<R: Records> Server<R> {
 
     /// How many texts of policies were read that weren't on the shelf; at the greatest number it stays.
     pub fn readings(&self) -> u64 {
-        self.resources.shelf.readings()
+        self.resources.texts.shelf.readings()
     }
 
     /// Whether the keeper can go on: one that can't answers `Store` to every call, so that every message
@@ -228,10 +196,12 @@ impl<R: Records> Server<R> {
         self.records
     }
 
-    /// Answers one message: by the machine of the domain that its path names, and no other domain's state moves; after a refusal none has moved.
-    /// It is refused for want of storage only where the keeper has counted a failure. Where the keeper was sound before and the disk gave back what was written,
-    /// a crash after the message leaves what one before it might have left, or that domain as its machine leaves it and all others as they were, whatever became
-    /// of it; once a reply of its own is there, the keeper is sound as before.
+    /// Answers one message: by the machine of the domain that its path names, and no other domain's
+    /// state moves; after a refusal none has moved. It is refused for want of storage only where the
+    /// keeper has counted a failure. Where the keeper was sound before and the disk gave back what was
+    /// written, a crash after the message leaves what one before it might have left, or that domain as
+    /// its machine leaves it and all others as they were, whatever became of it; once a reply of its own
+    /// is there, the keeper is sound as before.
     pub fn serve(&mut self, moment: Moment, message: &Message) -> Reply
         ensures served { (R.custody self.new.records).sound → IsServed (world R.custody self.old) (world R.custody self.new) moment message.now result }
         ensures sound { (R.custody self.new.records).sound → (R.custody self.old.records).sound }
@@ -253,9 +223,9 @@ impl<R: Records> Server<R> {
         reply_of(self.alloc, answered)
     }
 
-    /// Answers the messages one after another, each at its moment. Whatever the other domains do, each domain's replies
-    /// are those of its own machine, used by it alone; with refusals, as if the refused messages had never come. Room for
-    /// all replies is taken first, and without it nothing is answered.
+    /// Answers the messages one after another, each at its moment. Whatever the other domains do, each
+    /// domain's replies are those of its own machine, used by it alone; with refusals, as if the refused
+    /// messages had never come. Room for all replies is taken first, and without it nothing is answered.
     pub fn run(&mut self, events: &[(Moment, Message)]) -> Result<Vec<Reply>, AllocError>
         ensures headline { IfOk result (λ replies. (R.custody self.new.records).sound → IsIsolated (world R.custody self.old) (world R.custody self.new) events.now replies.items) }
         ensures beside_refusals { IfOk result (λ replies. (R.custody self.new.records).sound → IsIsolatedBesideRefusals (world R.custody self.old) (world R.custody self.new) events.now replies.items) }
@@ -273,8 +243,8 @@ impl<R: Records> Server<R> {
     }
 }
 
-/// The headline in two worlds: two runs with one operator, one beginning state of a domain and the same messages of its
-/// own give it the same replies, however the other domains differ.
+/// The headline in two worlds: two runs with one operator, one beginning state of a domain and the same
+/// messages of its own give it the same replies, however the other domains differ.
 pub fn two_worlds_agree()
     ensures { TwoWorldsAgree }
 {}

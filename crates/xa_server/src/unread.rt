@@ -24,11 +24,9 @@ impl Unread {
         })
     }
 
-    /// No domains, and the same room.
-    pub(crate) fn cleared(self) -> Unread {
-        let Unread { mut epochs } = self;
-        epochs.clear();
-        Unread { epochs }
+    /// None is remembered any longer.
+    pub(crate) fn clear(&mut self) {
+        self.epochs.clear();
     }
 
     /// Whether the domain of that number is one of them, at that epoch: one look-up.

@@ -16,7 +16,8 @@ const MAX_VIEWS: usize = 128;
 /// The most bytes that they take together, by their estimates, where nothing else is said: 256 MiB.
 const BYTES: usize = 268_435_456;
 
-/// Views that are kept ready, each under its domain's number. The map would hold any number of them: how many stay is said here.
+/// Views that are kept ready, each under its domain's number. The map would hold any number of them: how
+/// many stay is said here.
 #[derive(Drop)]
 pub(crate) struct Views {
     ready: LruCache<u64, Ready>,
@@ -51,41 +52,27 @@ impl Views {
         })
     }
 
-    /// No views, and room for so many, or for 128, whichever is less.
-    pub(crate) fn with_room_for(self, most: usize) -> Views
-        ensures { result ≡ record { views = []; most = min most 128; bytes = self.bytes } }
+    /// None is kept any longer.
+    pub(crate) fn clear(&mut self)
+        ensures { self.new ≡ record { views = []; most = self.old.most; bytes = self.old.bytes } }
     {
-        let Views {
-            mut ready,
-            most: _,
-            bytes,
-        } = self;
-        ready.clear();
-        Views {
-            ready,
-            most: cmp::min(most, MAX_VIEWS),
-            bytes,
-        }
+        self.ready.clear();
     }
 
-    /// No views, and room for so many bytes.
-    pub(crate) fn with_room_of(self, bytes: usize) -> Views
-        ensures { result ≡ record { views = []; most = self.most; bytes = bytes } }
+    /// None is kept any longer, and there is room for so many, or for 128, whichever is less.
+    pub(crate) fn make_room_for(&mut self, most: usize)
+        ensures { self.new ≡ record { views = []; most = min most 128; bytes = self.old.bytes } }
     {
-        let Views {
-            mut ready,
-            most,
-            bytes: _,
-        } = self;
-        ready.clear();
-        Views { ready, most, bytes }
+        self.ready.clear();
+        self.most = cmp::min(most, MAX_VIEWS);
     }
 
-    /// For how many views there is room.
-    pub(crate) fn most(&self) -> usize
-        ensures { result ≡ self.now.most }
+    /// None is kept any longer, and there is room for so many bytes.
+    pub(crate) fn make_room_of(&mut self, bytes: usize)
+        ensures { self.new ≡ record { views = []; most = self.old.most; bytes = bytes } }
     {
-        self.most
+        self.ready.clear();
+        self.bytes = bytes;
     }
 
     /// The view under that number, if it is of that epoch: one look-up.
@@ -105,9 +92,10 @@ impl Views {
         self.ready.promote(&number);
     }
 
-    /// Keeps the view under that number, in the place of any that was there, as the one that was used last, and answers whether it was kept: not where it is too
-    /// large, nor where there is no memory for it. The one that was not used for longest goes, until there is room for all. What this costs grows with the views
-    /// that are kept, of which each is looked at once, and with those that go.
+    /// Keeps the view under that number, in the place of any that was there, as the one that was used
+    /// last, and answers whether it was kept: not where it is too large, nor where there is no memory
+    /// for it. The one that was not used for longest goes, until there is room for all. What this costs
+    /// grows with the views that are kept, of which each is looked at once, and with those that go.
     pub(crate) fn keep(&mut self, number: u64, ready: Ready) -> bool
         ensures kept { result ≡ true → self.new ≡ with_view number ready self.old }
         ensures left { result ≡ false → self.new ≡ without number self.old }

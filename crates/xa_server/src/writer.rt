@@ -6,8 +6,8 @@ ghost use Rattle.xa_server.specs.Transfers.{Grows, WriteEnd, flush_end, write_en
 
 use std::io::{self, Write};
 
-/// What the bytes of a connection are written to: every `Write`. Beside what that says of its bytes, it may say how each
-/// of its writes and flushes has ended, and why one failed.
+/// What the bytes of a connection are written to: every `Write`. Beside what that says of its bytes, it
+/// may say how each of its writes and flushes has ended, and why one failed.
 pub trait Writer {
     /// The bytes that it holds, where they are known.
     ghost contents: { Self → Option (List ℕ) } = { λ _. None };

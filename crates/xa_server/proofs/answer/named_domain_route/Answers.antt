@@ -14,9 +14,17 @@ returns-in-Decide-clause-answers g c = λ operator part named stand sound.
     (subst (λ k. AnswersRoute operator old new (Some c.args.name.now) c.args.message.now c.args.moment (to.Domain part k) c.ask_reply.result) (sym c.in-Decide.is)
     (c.ask_reply.ensures.answers operator part stand sound))
 
-pub returns-in-Decide-clause-leaves : goal.returns-in-Decide-clause-leaves
-returns-in-Decide-clause-leaves g c = λ operator part named clean sound.
-    no_more_route (g.R.Records.custody c.args.records.now).may_leave (g.R.Records.custody c.ask_reply.new.records).may_leave _ _ _ _ _ (to.Domain part c.args.command) (c.ask_reply.ensures.leaves clean sound)
+pub returns-in-Decide-clause-keeper : goal.returns-in-Decide-clause-keeper
+returns-in-Decide-clause-keeper g c = record {
+  sound = c.ask_reply.ensures.keeper.sound;
+  clean = c.ask_reply.ensures.keeper.clean;
+  stays = c.ask_reply.ensures.keeper.stays;
+  leaves = λ clean sound operator part named.
+      let before = (g.R.Records.custody c.args.records.now).may_leave in
+      let after = (g.R.Records.custody c.ask_reply.new.records).may_leave in
+      no_more_route before after _ _ _ _ _ (to.Domain part c.args.command) (c.ask_reply.ensures.keeper.leaves clean sound);
+  counts = c.ask_reply.ensures.keeper.counts;
+}
 
 pub returns-in_default : goal.returns-in_default
 returns-in_default g c = record {
@@ -25,18 +33,26 @@ returns-in_default g c = record {
       let new = (g.R.Records.custody c.administration_reply.new.records).kept in
       subst (λ n. AnswersRoute operator old new n c.args.message.now c.args.moment (to.Domain part c.args.command) c.administration_reply.result) (sym named)
       (c.administration_reply.ensures.answers operator part c.args.moment sound);
-  works = λ part named stand sound.
-      asks_no_decision (g.R.Records.custody c.args.records.now).kept c.args.message.now c.args.moment part c.args.command c.administration_reply.result c.args.resources.now.tally c.administration_reply.new.resources.tally
-      c.in_default.not-Decide c.administration_reply.ensures.tally;
-  stands = search (rules, c.administration_reply.ensures.stands);
-  room = search (rules, c.administration_reply.ensures.room);
-  sound = search (rules, c.administration_reply.ensures.sound);
-  clean = search (rules, c.administration_reply.ensures.clean);
-  stays = search (rules, c.administration_reply.ensures.stays);
-  leaves = λ operator part named clean sound.
-      let before = (g.R.Records.custody c.args.records.now).may_leave in
-      let after = (g.R.Records.custody c.administration_reply.new.records).may_leave in
-      subst (λ n. LeavesRoute before after operator (g.R.Records.custody c.args.records.now).kept n c.args.message.now c.args.moment (to.Domain part c.args.command)) (sym named)
-      (c.administration_reply.ensures.leaves operator part c.args.moment clean sound);
-  counts = search (rules, c.administration_reply.ensures.counts);
+  shared = record {
+    works = λ stand sound part named.
+        let kept = (g.R.Records.custody c.args.records.now).kept in
+        let after = c.administration_reply.new.resources.tally in
+        asks_no_decision kept c.args.message.now c.args.moment part c.args.command c.administration_reply.result c.args.resources.now.tally after
+        c.in_default.not-Decide c.administration_reply.ensures.shared.tally;
+    stands = c.administration_reply.ensures.shared.stands;
+    room = search (rules, c.administration_reply.ensures.shared.room);
+  };
+  keeper = record {
+    sound = c.administration_reply.ensures.keeper.sound;
+    clean = c.administration_reply.ensures.keeper.clean;
+    stays = c.administration_reply.ensures.keeper.stays;
+    leaves = λ clean sound operator part named.
+        let before = (g.R.Records.custody c.args.records.now).may_leave in
+        let after = (g.R.Records.custody c.administration_reply.new.records).may_leave in
+        let kept = (g.R.Records.custody c.args.records.now).kept in
+        let route = to.Domain part c.args.command in
+        subst (λ n. LeavesRoute before after operator kept n c.args.message.now c.args.moment route) (sym named)
+        (c.administration_reply.ensures.keeper.leaves clean sound operator part c.args.moment);
+    counts = c.administration_reply.ensures.keeper.counts;
+  };
 }

@@ -14,12 +14,12 @@ pub returns-in-Some-2-clause-answers : goal.returns-in-Some-2-clause-answers
 returns-in-Some-2-clause-answers g c = λ opens stand sound.
     let kept = (g.R.Records.custody c.args.records.now).kept in
     let old = subst (AllStand kept) (sym c.resources.view_is) stand in
-    let whole = key_opened c.args.opened c.args.body.now in
+    let whole = key_opened c.args.ask.now.opened c.args.body.now in
     let given : Some c.in-Some.key ≡ key_within whole = first_of (search rules, cc) in
     let is : c.in_ok-reply.field-0 ≡ Some c.in-Some-2.reply = search rules in
     let held : Some c.in-Some-2.reply ≡ option_map decision_reply (body_held whole c.args.body.now c.resources.inside.decisions) =
     sym is ∙ c.in_ok-reply.ensures.found ∙ ap (option_map decision_reply) (sym (held_within whole c.in-Some.key c.resources.inside.decisions given)) in
-    hit_reply kept c.args.name.now c.args.body.now c.args.moment c.args.opened c.resources.inside.decisions c.in-Some-2.reply opens old.held held
+    hit_reply kept c.args.ask.now.name.now c.args.body.now c.args.ask.now.moment c.args.ask.now.opened c.resources.inside.decisions c.in-Some-2.reply opens old.held held
 
 pub returns-in_err-reply-clause-stands : goal.returns-in_err-reply-clause-stands
 returns-in_err-reply-clause-stands g c = λ opens stand sound.

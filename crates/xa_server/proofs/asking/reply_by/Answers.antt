@@ -6,6 +6,6 @@ use Rattle.xa_server.proofs.asking.reply_by.Goals as goal
 
 pub returns-clause-works : goal.returns-clause-works
 returns-clause-works c =
-    let key = key_opened c.args.opened c.args.body.now in
+    let key = key_opened c.args.ask.now.opened c.args.body.now in
     subst (λ worked. IsWorkedOut key worked c.args.decisions.now c.note.new.self) (sym c.in_ok-responded.ensures)
     (noted key c.args.key c.in_ok-responded.responded.body c.in_ok-responded.responded.timeless c.args.decisions.now c.note.new.self c.requires c.note.ensures)

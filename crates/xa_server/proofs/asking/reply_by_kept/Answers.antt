@@ -9,11 +9,11 @@ use Rattle.xa_server.proofs.asking.reply_by_kept.Goals as goal
 pub returns-clause-stands : goal.returns-clause-stands
 returns-clause-stands g c = λ opens stand sound.
     let kept = (g.R.Records.custody c.args.records.now).kept in
-    let state = state_of c.args.name.now kept in
+    let state = state_of c.args.ask.now.name.now kept in
     let old = subst (AllStand kept) (sym c.resources.view_is) stand in
     let made = c.in_ok-ready.ensures.tells sound in
-    let work = works_by state c.in_ok-ready.ready.view c.args.body.now c.args.moment (key_opened c.args.opened c.args.body.now) c.reply_by.result _ _ made.0 c.reply_by.ensures.works in
-    kept_stands kept c.args.name.now c.args.body.now c.args.moment c.args.opened (g.met.R.Records.numbered c.args.records.now (c.in_ok-ready.ensures.sound sound)) opens
+    let work = works_by state c.in_ok-ready.ready.view c.args.body.now c.args.ask.now.moment (key_opened c.args.ask.now.opened c.args.body.now) c.reply_by.result _ _ made.0 c.reply_by.ensures.works in
+    kept_stands kept c.args.ask.now.name.now c.args.body.now c.args.ask.now.moment c.args.ask.now.opened (g.met.R.Records.numbered c.args.records.now (c.in_ok-ready.ensures.keeper.sound sound)) opens
     c.reply_by.result c.in_ok-ready.ready c.keep.result
     (record { tally = c.resources.inside.decisions; room = c.resources.inside.views; gates = c.resources.inside.gates }) (record { tally = c.reply_by.new.decisions; room = c.keep.new.self; gates = c.resources.inside.gates })
     work

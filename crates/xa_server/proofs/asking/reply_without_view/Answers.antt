@@ -12,14 +12,14 @@ pub returns-clause-tells : goal.returns-clause-tells
 returns-clause-tells g c = λ opens stand sound.
     let kept = (g.R.Records.custody c.args.records.now).kept in
     let none : asks_policies c.args.body.now ≡ false = search rules in
-    unasked_reply kept c.args.name.now c.args.body.now c.args.moment c.args.opened opens none c.reply_without_policies.result c.reply_without_policies.ensures.tells
+    unasked_reply kept c.args.ask.now.name.now c.args.body.now c.args.ask.now.moment c.args.ask.now.opened opens none c.reply_without_policies.result c.reply_without_policies.ensures.tells
 
 pub returns-clause-works : goal.returns-clause-works
 returns-clause-works g c = λ opens stand sound.
     let kept = (g.R.Records.custody c.args.records.now).kept in
     let none : asks_policies c.args.body.now ≡ false = search rules in
     rw (← c.resources.view_is)
-    (unasked_works kept c.args.name.now c.args.body.now c.args.moment c.args.opened opens none (key_opened c.args.opened c.args.body.now) c.reply_without_policies.result _ _
+    (unasked_works kept c.args.ask.now.name.now c.args.body.now c.args.ask.now.moment c.args.ask.now.opened opens none (key_opened c.args.ask.now.opened c.args.body.now) c.reply_without_policies.result _ _
     c.reply_without_policies.ensures.works)
 
 pub returns-clause-stands : goal.returns-clause-stands
@@ -27,9 +27,9 @@ returns-clause-stands g c = λ opens stand sound.
     let kept = (g.R.Records.custody c.args.records.now).kept in
     let none : asks_policies c.args.body.now ≡ false = search rules in
     let old = subst (AllStand kept) (sym c.resources.view_is) stand in
-    let work = unasked_works kept c.args.name.now c.args.body.now c.args.moment c.args.opened opens none (key_opened c.args.opened c.args.body.now) c.reply_without_policies.result _ _
+    let work = unasked_works kept c.args.ask.now.name.now c.args.body.now c.args.ask.now.moment c.args.ask.now.opened opens none (key_opened c.args.ask.now.opened c.args.body.now) c.reply_without_policies.result _ _
     c.reply_without_policies.ensures.works in
-    left_stands kept c.args.name.now c.args.body.now c.args.moment c.args.opened (g.met.R.Records.numbered c.args.records.now sound) opens c.reply_without_policies.result
+    left_stands kept c.args.ask.now.name.now c.args.body.now c.args.ask.now.moment c.args.ask.now.opened (g.met.R.Records.numbered c.args.records.now sound) opens c.reply_without_policies.result
     (record { tally = c.resources.inside.decisions; room = c.resources.inside.views; gates = c.resources.inside.gates })
     (record { tally = c.reply_without_policies.new.decisions; room = c.resources.inside.views; gates = c.resources.inside.gates })
     work refl refl old
