@@ -24,6 +24,7 @@ from keeping import Keeping
 from mixing import Drives, Mixing
 from rows import encoded, line
 from small_bodies import SmallBodies
+from storing import Storing
 from streams import differing
 from texts import Texts
 from trees import Trees
@@ -33,7 +34,7 @@ from views import Decisions, Links
 
 # The kinds of rows, and of each how many there are to how many others.
 SHARES = {"values": 16, "expressions": 30, "requests": 15, "documents": 10, "links": 4, "decisions": 10, "servers": 1, "rooms": 1, "sockets": 1,
-          "fronts": 1, "drives": 1, "bodies": 8, "records": 6}
+          "fronts": 1, "drives": 1, "stores": 1, "bodies": 8, "records": 6}
 # One run of `rt try` answers at most 1 MiB, and gives up after ten minutes: this many rows a file, of this many bytes.
 ROWS_A_FILE, BYTES_A_FILE = 500, 1_500_000
 
@@ -51,7 +52,8 @@ class Rows:
         mixing = Mixing(exchanges)
         self.makers = {"values": self.of_values, "expressions": self.of_expressions, "requests": Bodies(self).next, "documents": documents.next,
                        "links": Links(self).next, "decisions": decisions.next, "servers": exchanges.next,
-                       "rooms": exchanges.rooms, "sockets": exchanges.sockets, "fronts": mixing.next, "drives": Drives(mixing).next, "bodies": SmallBodies(self).next, "records": Keeping(self).next}
+                       "rooms": exchanges.rooms, "sockets": exchanges.sockets, "fronts": mixing.next, "drives": Drives(mixing).next, "stores": Storing(exchanges).next,
+                       "bodies": SmallBodies(self).next, "records": Keeping(self).next}
 
     def sound(self, data_type, name=""):
         """A text that reads, and that the named function is likely to take."""

@@ -84,8 +84,10 @@ def returned(issuer=""):
     return POLICY[:-2] + b"," + duty.encode() + b"}}"
 
 
-def role(text):
-    assignment = f'"AttributeAssignment":[{{"AttributeId":"urn:a","DataType":"http://www.w3.org/2001/XMLSchema#string","Value":"{text}"}}],' if text else ""
+def roles(texts):
+    """The reply to an ask whose obligation returns these roles."""
+    each = [f'{{"AttributeId":"urn:a","DataType":"http://www.w3.org/2001/XMLSchema#string","Value":"{text}"}}' for text in texts]
+    assignment = f'"AttributeAssignment":[{",".join(each)}],' if each else ""
     return reply(200, PERMIT.split(b"\r\n\r\n")[1].replace(b'"Status"', f'"Obligations":[{{{assignment}"Id":"urn:o"}}],"Status"'.encode(), 1), "xacml+json")
 
 
@@ -154,10 +156,29 @@ def source(it):
     for name, text in (("acme", returned()), ("beta", returned(',"Issuer":"hr"'))):
         it.permit(name, text=text)
         it.say(DONE, f"PUT /domains/{name}/pip", body=f'{{"Row":[{row}]}}'.encode())
-    it.ask(role("staff"), f'{{"Request":{{"AccessSubject":{{"Attribute":[{alice}]}}}}}}'.encode())
-    it.ask(role("guest"), f'{{"Request":{{"AccessSubject":{{"Attribute":[{guest}]}}}}}}'.encode())
-    it.ask(role(""), f'{{"Request":{{"AccessSubject":{{"Attribute":[{alice}]}}}}}}'.encode(), domain="beta")
+    it.ask(roles(["staff"]), f'{{"Request":{{"AccessSubject":{{"Attribute":[{alice}]}}}}}}'.encode())
+    it.ask(roles(["guest"]), f'{{"Request":{{"AccessSubject":{{"Attribute":[{guest}]}}}}}}'.encode())
+    it.ask(roles([]), f'{{"Request":{{"AccessSubject":{{"Attribute":[{alice}]}}}}}}'.encode(), domain="beta")
     it.say(reply(200, f'{{"Row":[{shown}]}}'.encode()), "GET /domains/acme/pip")
+
+
+def issuers(it):
+    """Rows of two kinds: a designator without issuer sees both, one with an issuer the rows by that one."""
+    row = f'{{"Category":"{SUBJECTS}","Entity":"alice","AttributeId":"urn:role","DataType":"string"'
+    boss = (b'{"Row":[{"AttributeId":"urn:role","Category":"urn:oasis:names:tc:xacml:1.0:subject-category:access-subject",'
+            b'"DataType":"http://www.w3.org/2001/XMLSchema#string","Entity":"alice","Issuer":"hr","Value":"boss"}]}')
+    alice = f'{{"AttributeId":"{SUBJECT}","Value":"alice"}}'
+    guest = f'{alice},{{"AttributeId":"urn:role","Value":"guest"}}'
+    for name, issuer, plain, other in (("acme", "", ("staff", "boss"), ("guest",)), ("beta", ',"Issuer":"hr"', ("boss",), ("boss",)), ("gamma", ',"Issuer":"it"', (), ())):
+        it.permit(name, text=returned(issuer))
+        it.say(DONE, f"PUT /domains/{name}/pip", body=f'{{"Row":[{row},"Value":"staff"}},{row},"Issuer":"hr","Value":"boss"}}]}}'.encode())
+        for asked, values in ((alice, plain), (guest, other)):
+            it.ask(roles(values), f'{{"Request":{{"AccessSubject":{{"Attribute":[{asked}]}}}}}}'.encode(), domain=name)
+    it.say(DONE, "PUT /domains/acme/pip", body=f'{{"Row":[{row},"Issuer":"hr","Value":"boss"}}]}}'.encode())
+    it.say(reply(200, boss), "GET /domains/acme/pip")
+    it.say(DONE, "PUT /domains/acme/pip", body=boss)
+    it.say(error_reply("BadValue"), "PUT /domains/acme/pip", body=f'{{"Row":[{row},"Issuer":null,"Value":"boss"}}]}}'.encode())
+    it.say(reply(200, boss), "GET /domains/acme/pip")
 
 
 def two_domains(it):
@@ -253,7 +274,7 @@ def listings(it):
     it.say(UNAUTHORIZED, "GET /domains/acme/pip")
 
 
-CONVERSATIONS = [first_decision, tokens, same_and_other_text, roots, missing_attributes, greatest_versions, source, two_domains, other_version,
+CONVERSATIONS = [first_decision, tokens, same_and_other_text, roots, missing_attributes, greatest_versions, source, issuers, two_domains, other_version,
                  domain_made_anew, moments, circles, bodies_of_asks, most_documents, still_active, bodies_of_routes, listings]
 
 

@@ -14,6 +14,7 @@ import requests
 import route_bodies
 import routes
 import servers
+import stores
 import tripping
 import versions
 from contexts import FIRST_MOMENT, LAST_MOMENT, moment_as
@@ -186,7 +187,7 @@ KINDS = {
     "link": linking.link, "decide": decisions.decide, "request": requests.request, "individuals": requests.individuals,
     "new_token": route_bodies.new_token, "old_token": route_bodies.old_token, "root": route_bodies.root, "rows": route_bodies.rows,
     "keeper": records.keeper, "keeper_with": records.keeper_with,
-    "tripped": tripping.tripped, "tripped_after": tripping.tripped_after,
+    "tripped": tripping.tripped, "tripped_after": tripping.tripped_after, "opened": stores.opening, "stored": stores.stored,
 }
 
 

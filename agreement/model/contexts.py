@@ -10,7 +10,8 @@ ENVIRONMENT = SHORTHANDS["Environment"]
 CLOCK = {(IDS + "environment:current-" + data_type, data_type) for data_type in ("time", "date", "dateTime")}
 # the first and the last moment, in seconds after 1970: those of the years 1 to 9999
 FIRST_MOMENT, LAST_MOMENT = -62_135_596_800, 253_402_300_799
-SourceRow = collections.namedtuple("SourceRow", "category entity attribute_id value")
+# a row of a source; its issuer is None where it has none
+SourceRow = collections.namedtuple("SourceRow", "category entity attribute_id value issuer", defaults=[None])
 
 
 def moment_as(data_type, seconds):
@@ -47,9 +48,9 @@ class Context:
     def values_of(self, designator):
         data_type, category, attribute_id, issuer, _ = designator
         found = self.asked(category, attribute_id, data_type, issuer)
-        if found or issuer is not None:
+        if found:
             return found
-        if category == ENVIRONMENT and (attribute_id, data_type) in CLOCK:
+        if issuer is None and category == ENVIRONMENT and (attribute_id, data_type) in CLOCK:
             return [moment_as(data_type, self.moment)]
         place = category, self.entity(category), attribute_id
-        return [row.value for row in self.source if row[:3] == place and row.value[0] == data_type]
+        return [row.value for row in self.source if row[:3] == place and row.value[0] == data_type and issuer in (None, row.issuer)]

@@ -58,10 +58,10 @@ def response(view, held, moment):
 
 
 def row_of(field):
-    """The source row of a field `CATEGORY|ENTITY|ID|TYPE=TEXT`."""
+    """The source row of a field `CATEGORY|ENTITY|ID|TYPE=TEXT` or `CATEGORY|ENTITY|ID|TYPE|ISSUER=TEXT`."""
     place, held = field.split("=", 1)
-    category, entity, attribute_id, data_type = place.split("|")
-    return SourceRow(category_named(text_of(category)), text_of(entity), text_of(attribute_id), value_of(f"{data_type}:{held}"))
+    category, entity, attribute_id, data_type, *issuer = place.split("|")
+    return SourceRow(category_named(text_of(category)), text_of(entity), text_of(attribute_id), value_of(f"{data_type}:{held}"), *map(text_of, issuer))
 
 
 def given(fields):

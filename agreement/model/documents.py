@@ -37,7 +37,7 @@ TABLES = {
     "NewToken": "Role Token",
     "OldToken": "Token",
     "Source": "Row",
-    "SourceRow": "Category Entity AttributeId DataType Value",
+    "SourceRow": "Category Entity AttributeId DataType Value Issuer?",
 }
 ONE_OF = {
     "document": "Policy PolicySet",

@@ -3,7 +3,7 @@
 Their shape is checked by tables of members, as that of documents is (documents.py).
 """
 from contexts import SourceRow
-from documents import DocumentFault, among, array, category, kept, members, reference, text, typed_value
+from documents import DocumentFault, among, array, category, kept, members, optional, reference, text, typed_value
 from identifiers import NAMESPACE
 from json_texts import NotJson, json_of
 from replies import compact
@@ -53,7 +53,7 @@ def root_of(held):
 
 def source_row(value):
     found = members("SourceRow", value)
-    return SourceRow(category(found["Category"]), text(found["Entity"]), text(found["AttributeId"]), typed_value(found))
+    return SourceRow(category(found["Category"]), text(found["Entity"]), text(found["AttributeId"]), typed_value(found), optional(text, found, "Issuer"))
 
 
 def rows_of(held):
@@ -62,7 +62,8 @@ def rows_of(held):
 
 
 def row_shown(row):
-    return {"AttributeId": row.attribute_id, "Category": row.category, "DataType": NAMESPACE + row.value[0], "Entity": row.entity, "Value": plain(row.value)}
+    shown = {"AttributeId": row.attribute_id, "Category": row.category, "DataType": NAMESPACE + row.value[0], "Entity": row.entity, "Value": plain(row.value)}
+    return shown if row.issuer is None else {**shown, "Issuer": row.issuer}
 
 
 def rows_shown(found):

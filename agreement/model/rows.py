@@ -109,11 +109,17 @@ def parted(field):
     return re.findall(r"[)>]|[^ )>]+", field) if field.startswith(("(", "<")) else [field]
 
 
+def row_field(row):
+    """The field of a source row that stands in JSON."""
+    place = [category(row["Category"]), row["Entity"], row["AttributeId"], row["DataType"]]
+    return f"row:{'|'.join(place + ([row['Issuer']] if 'Issuer' in row else []))}={row['Value']}"
+
+
 def given(held):
     """The text that a definition gives: its own, or that of a file."""
     if held.startswith("rows:"):
         rows = json.loads((TOP / held.removeprefix("rows:")).read_text())["Row"]
-        return "  ".join(f"row:{category(row['Category'])}|{row['Entity']}|{row['AttributeId']}|{row['DataType']}={row['Value']}" for row in rows)
+        return "  ".join(map(row_field, rows))
     if not held.startswith("file:"):
         return held
     return encoded((TOP / held.removeprefix("file:")).read_bytes()).replace(" ", "\\x20")

@@ -49,10 +49,10 @@ def root(field):
 
 
 def row(field):
-    """A source row in JSON of a field `CATEGORY|ENTITY|ID|TYPE=TEXT`."""
+    """A source row in JSON of a field `CATEGORY|ENTITY|ID|TYPE=TEXT` or `CATEGORY|ENTITY|ID|TYPE|ISSUER=TEXT`."""
     place, held = field.split("=", 1)
-    names = ("Category", "Entity", "AttributeId", "DataType")
-    return json_object([(name, quoted(decoded(part))) for name, part in zip((*names, "Value"), (*place.split("|"), held))])
+    members = [*zip(("Category", "Entity", "AttributeId", "DataType", "Issuer"), place.split("|")), ("Value", held)]
+    return json_object([(name, quoted(decoded(part))) for name, part in members])
 
 
 def rows(fields):
@@ -210,6 +210,11 @@ def server(*fields, beginning=CountingServer):
         made = set_up(fields, beginning)
     except TurnedAway as reply:
         return [encoded(reply.args[0])]
+    return answered_by(made, fields)
+
+
+def answered_by(made, fields):
+    """What the server answers to the events among the fields."""
     stream, moment, shown = Stream(), 0, []
     for field in fields:
         word, _, text = field.partition(":")

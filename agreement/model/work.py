@@ -18,7 +18,9 @@ from values import Fault
 
 STEP, LOOK, VALUE = 32, 8, 16
 # a call of an inner function; a policy, a set or a rule that is looked at; an assignment that is made
-CALL, CHILD, ASSIGNMENT = 64, 64, 64
+CALL, CHILD, ASSIGNMENT = 64, 80, 64
+# the list of a call's arguments
+LIST = 16
 # beside its texts and values: an attribute, a Category object, an obligation and a result
 MEMBERS = 128
 # a byte that an escape adds to a text
@@ -39,11 +41,15 @@ def rate(function):
     """What a call of a function of values takes beside a step: for itself, and how often its arguments."""
     name = function.rsplit(":", 1)[1]
     if name == "string-substring":
-        return 0, 3
+        return VALUE, 3
+    if name in ("string-normalize-space", "string-concatenate"):
+        return VALUE, 1
     if name.endswith("-contains"):
         return 128, 4
     if name.startswith("string-from-"):
-        return PRINTING[name.removeprefix("string-from-")], 1
+        return VALUE + PRINTING[name.removeprefix("string-from-")], 1
+    if name.endswith("-from-string"):
+        return STEP, 1
     return (64, 1) if name.startswith(("dateTime-add-", "dateTime-subtract-", "date-add-", "date-subtract-")) else (0, 1)
 
 
@@ -134,27 +140,27 @@ class Asked(Context):
                 if (attribute.id, attribute.data_type) == (attribute_id, data_type) and issuer in (None, attribute.issuer) and attribute.values]
 
     def clock(self, designator):
-        data_type, category, attribute_id, _, _ = designator
-        return [moment_as(data_type, self.moment)] if category == ENVIRONMENT and (attribute_id, data_type) in CLOCK else []
+        data_type, category, attribute_id, issuer, _ = designator
+        return [moment_as(data_type, self.moment)] if issuer is None and category == ENVIRONMENT and (attribute_id, data_type) in CLOCK else []
 
     def rows(self, designator):
         """The values of the source's rows that it names; it is asked where there is any row at all."""
         if not self.source:
             return []
         entity = self.entity(designator.category)
-        self.spend(STEP + length(entity) + length(designator.attribute_id) + self.search + of_search(len(self.source)))
+        self.spend(STEP + length(entity) + length(designator.attribute_id) + length(designator.issuer) + self.search + of_search(len(self.source)))
         place = designator.category, entity, designator.attribute_id
-        return [row.value for row in self.source if row[:3] == place and row.value[0] == designator.data_type]
+        return [row.value for row in self.source if row[:3] == place and row.value[0] == designator.data_type and designator.issuer in (None, row.issuer)]
 
     def look_up(self, designator):
-        self.spend(STEP + length(designator.category) + length(designator.attribute_id) + self.search)
+        self.spend(STEP + length(designator.category) + length(designator.attribute_id) + length(designator.issuer) + self.search)
 
     def bag(self, designator):
         """The values that the designator names, which are copied."""
         self.look_up(designator)
         own = [value for attribute in self.named(designator) for value in attribute.values]
         self.spend(units(own))
-        if own or designator.issuer is not None:
+        if own:
             return own
         held = self.clock(designator)
         if not held:
@@ -169,7 +175,7 @@ class Asked(Context):
         for attribute in own:
             self.look_at(attribute.values, literal)
         found = [value for attribute in own for value in attribute.values]
-        if found or designator.issuer is not None:
+        if found:
             return found
         held = self.clock(designator)
         if held:
@@ -198,6 +204,10 @@ def comparisons(verb, arguments):
     if verb in ("intersection", "at-least-one-member-of", "subset", "set-equals"):
         return among(min(counts))
     return among(sum(counts)) if verb == "union" else 1
+
+
+def is_equality(function):
+    return function.endswith("-equal") and not function.endswith("-or-equal")
 
 
 def is_at_once(verb, inner, arguments):
@@ -263,6 +273,7 @@ class Charged:
             return self.by_places(verb == "or", arguments)
         if verb == "n-of":
             return self.n_of(*arguments)
+        self.spend(LIST)
         given = [self.value(argument) for argument in arguments]
         if name in FUNCTIONS:
             self.spend(of_calls(name, 1, units(given)))
@@ -296,6 +307,7 @@ class Charged:
         return boolean(found == wanted)
 
     def higher(self, verb, inner, arguments):
+        self.spend(LIST)
         given = [self.value(argument) for argument in arguments]
         lists = [listed(argument) for argument in given]
         self.spend(self.units_beside_calls(verb, inner, lists))
@@ -321,7 +333,7 @@ class Charged:
     def units_beside_calls(verb, inner, lists):
         """Of the arguments; where values are searched for, as often as they are compared; and of the choices that are begun, where a bag is empty."""
         whole = sum(map(units, lists))
-        if verb in ("any-of-any", "all-of-any") and inner.endswith("-equal"):
+        if verb in ("any-of-any", "all-of-any") and is_equality(inner):
             return whole * (among(min(map(len, lists))) if len(lists) == 2 else 1)
         if all(lists):
             return whole
@@ -331,7 +343,7 @@ class Charged:
         return begun
 
     def match(self, name, literal, designator):
-        if name.endswith("-equal"):
+        if is_equality(name):
             self.spend(STEP)
             found = self.context.look_for(designator, literal)
             if not found and designator.must_be_present:
@@ -344,7 +356,14 @@ class Charged:
                 return Matching("Indeterminate", status(fault))
             arguments = len(found) * units_of(literal) + units(found)
             self.spend(STEP + (len(found) + 1) * STEP + units_of(literal) + of_calls(name, len(found), arguments))
-        return first_of([TRUE if FUNCTIONS[name][2](literal, value)[1] else FALSE for value in found], TRUE, FALSE)
+        return first_of([self.matched(name, literal, value) for value in found], TRUE, FALSE)
+
+    @staticmethod
+    def matched(name, literal, value):
+        try:
+            return TRUE if FUNCTIONS[name][2](literal, value)[1] else FALSE
+        except Fault as fault:
+            return Matching("Indeterminate", status(fault))
 
     def all_in_turn(self, parts, settles, otherwise):
         """What the parts come to, each of which is looked at until one settles it."""

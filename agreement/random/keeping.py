@@ -58,7 +58,8 @@ class Keeping:
 
     def source_row(self):
         data_type, text = self.one_of(VALUES)
-        return {"Category": self.one_of(["Action", SHORTHANDS["Action"]]), "Entity": self.one_of(["", "", "e"]), "AttributeId": "a", "DataType": data_type, "Value": text}
+        issuer = {"Issuer": self.one_of(["", "i", "I"])} if self.seldom(0.3) else {}
+        return {"Category": self.one_of(["Action", SHORTHANDS["Action"]]), "Entity": self.one_of(["", "", "e"]), "AttributeId": "a", "DataType": data_type, "Value": text, **issuer}
 
     def rows(self):
         """Some rows as they may stand in a body; now and then as many as a domain may have, or one more."""

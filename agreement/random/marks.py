@@ -11,10 +11,11 @@ VERSIONS = ["1.0"] * 4 + ["1", "1.2", "1.9", "1.10", "2.0", "10"]
 IDS = ["urn:p", "urn:q", "urn:r"]
 ODD_IDS = ["a/b", "\u00e9\"\\", "%2F", " x?y#z", "active", "+", "..", "\u0001\u007f", "\U0001f600"]
 PEOPLE = ["alice", "bob"]
+ISSUERS = ["hr", "it", ""]
 
 
-def designator(category, attribute_id, data_type):
-    return {"AttributeDesignator": {"Category": category, "AttributeId": attribute_id, "DataType": data_type, "MustBePresent": False}}
+def designator(category, attribute_id, data_type, **issuer):
+    return {"AttributeDesignator": {"Category": category, "AttributeId": attribute_id, "DataType": data_type, "MustBePresent": False, **issuer}}
 
 
 class Marks:
@@ -31,10 +32,14 @@ class Marks:
     def id(self):
         return self.one_of(ODD_IDS if self.seldom(0.2) else IDS)
 
+    def issuer(self, chance):
+        """The member of an issuer, now and then."""
+        return {"Issuer": self.one_of(ISSUERS)} if self.seldom(chance) else {}
+
     def assignments(self):
-        """What the subject's roles are, and when it is asked; each now and then."""
-        found = [{"AttributeId": "urn:roles", "Expression": designator("AccessSubject", "urn:role", "string")}] * self.seldom(0.4)
-        return found + [{"AttributeId": "urn:now", "Expression": designator("Environment", NOW, "dateTime")}] * self.seldom(0.3)
+        """What the subject's roles are, also those by an issuer, and when it is asked; each now and then."""
+        found = [{"AttributeId": "urn:roles", "Expression": designator("AccessSubject", "urn:role", "string", **self.issuer(0.3))}] * self.seldom(0.4)
+        return found + [{"AttributeId": "urn:now", "Expression": designator("Environment", NOW, "dateTime", **self.issuer(0.1))}] * self.seldom(0.3)
 
     def duties(self, effect):
         return {"ObligationExpressions": [{"ObligationId": self.mark(), "FulfillOn": effect, "AttributeAssignmentExpression": self.assignments()}]}
@@ -56,7 +61,7 @@ class Marks:
 
     def row(self):
         return {"Category": self.one_of(["AccessSubject", SHORTHANDS["AccessSubject"]]), "Entity": self.one_of([*PEOPLE, ""]), "AttributeId": "urn:role",
-                "DataType": "string", "Value": self.mark()}
+                "DataType": "string", "Value": self.mark(), **self.issuer(0.4)}
 
     def source(self):
         """The rows of a source, now and then as many as there may be, or one more."""
@@ -67,5 +72,6 @@ class Marks:
     def request(self):
         """A request of one of the people, or of nobody."""
         attribute = {"AttributeId": SUBJECT_ID, "Value": self.one_of(PEOPLE)}
+        role = [{"AttributeId": "urn:role", "Value": "guest", **self.issuer(0.5)}] * self.seldom(0.1)
         identified = {"ReturnPolicyIdList": self.seldom(0.9)} if self.seldom(0.4) else {}
-        return {"Request": {**({"AccessSubject": {"Attribute": [attribute]}} if self.seldom(0.6) else {}), **identified}}
+        return {"Request": {**({"AccessSubject": {"Attribute": [attribute, *role]}} if self.seldom(0.6) else {}), **identified}}

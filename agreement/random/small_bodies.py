@@ -8,8 +8,8 @@ from rows import encoded
 
 WRONG = [None, True, False, "", "x", [], {}, [None], [{}], {"a": 1}, Raw("5"), Raw("-0"), Raw("7.5"), Raw("9223372036854775808"), Raw("1e2")]
 NO_JSON = ["", "{", "{}x", '{"Token":1e400}', '{"Role":"\\ud800"}', "{'Token':1}", '{"Row":[],}', "\ufeff{}", "[NaN]"]
-NAMES = ["Role", "Token", "Row", "Category", "Entity", "AttributeId", "DataType", "Value", "PolicyIdReference", "PolicySetIdReference", "Id", "Version",
-         "EarliestVersion", "LatestVersion", "X", "role", ""]
+NAMES = ["Role", "Token", "Row", "Category", "Entity", "AttributeId", "DataType", "Value", "Issuer", "PolicyIdReference", "PolicySetIdReference",
+         "Id", "Version", "EarliestVersion", "LatestVersion", "X", "role", ""]
 # what may stand, or nearly, as the value of the member of each name
 AIMED = {
     "Role": ["ask", "admin", "Ask", "ADMIN", "", "ask ", "root"],
@@ -17,6 +17,7 @@ AIMED = {
     "Version": ["1", "01.02", "000000001", "0000000001", "1.2.3.4.5.6.7.8", "1.2.3.4.5.6.7.8.9", "1.+", "+", "*", "*.+", "+.1", "1.", ""],
     "EarliestVersion": ["1", "01.02", "000000001", "0000000001", "1.+", "*", "1.", ""], "LatestVersion": ["1", "2.0", "999999999", "1000000000", "+", "1..2"],
     "Id": ["", "urn:p", "é|\n", "a" * 513], "Category": ["Action", "action", "", *SHORTHANDS.values()], "Entity": ["", "alice", "\u0001\"\\/\u007f"],
+    "Issuer": ["", "hr", "\u0001\"\\/\u007f"],
     "DataType": ["double", "", "String", NAMESPACE, NAMESPACE + "string", "integer", "time"],
     "Value": [True, "x", "", "7", Raw("7"), Raw("-9223372036854775809"), Raw("18446744073709551615"), "12:00:00", "true", []],
 }
@@ -50,8 +51,9 @@ class SmallBodies:
         held = self.one_of([text, text.strip(" \t\r\n") in ("true", "1")]) if data_type == "boolean" else text
         if data_type == "integer" and self.seldom(0.6):
             held = Raw(self.one_of(["0", "7", "-1", "9223372036854775807", "-9223372036854775808"]))
+        issuer = {"Issuer": self.one_of(["", "hr", "é\n\"\\"])} if self.seldom(0.4) else {}
         return {"Category": self.one_of(["urn:c", "", "é", *SHORTHANDS, *SHORTHANDS.values()]), "Entity": self.one_of(["", "alice", "é\n\"\\"]),
-                "AttributeId": self.one_of(["urn:a", "urn:b", ""]), "DataType": self.one_of(["", NAMESPACE]) + data_type, "Value": held}
+                "AttributeId": self.one_of(["urn:a", "urn:b", ""]), "DataType": self.one_of(["", NAMESPACE]) + data_type, "Value": held, **issuer}
 
     def rows_body(self):
         return {"Row": [self.source_row() for _ in range(self.one_of([0, 1, 1, 2, 3]))]}

@@ -42,6 +42,10 @@ class World:
         return self.one_of([(self.one_of(TYPES), category, name, issuer), (data_type, self.one_of(CATEGORIES), name, issuer),
                             (data_type, category, self.one_of(["urn:a", "urn:b", "urn:A"]), issuer), (data_type, category, name, self.one_of([None, "i", "j", ""]))])
 
+    def issuer_near(self, issuer):
+        """The issuer of a row, mostly that one or none."""
+        return self.one_of([issuer, issuer, None, self.one_of(["i", "j", ""])])
+
     def texts(self, data_type):
         return [encoded(self.rows.sound(data_type)) for _ in range(self.one_of([1, 1, 1, 2, 3]))]
 
@@ -52,7 +56,7 @@ class World:
         if whose < 0.6:
             self.given.append((place, self.texts(place[0])))
         if 0.5 < whose < 0.9:
-            self.of_source.append(((*place[:3], None), self.texts(place[0])))
+            self.of_source.append(((*place[:3], self.issuer_near(place[3])), self.texts(place[0])))
 
     def add_near(self, place):
         self.put(place)
@@ -68,16 +72,17 @@ class World:
 
     def clocks(self):
         """Places of what the clock gives, and of what it nearly does."""
-        found = [(data_type, ENVIRONMENT, name, None) for name, data_type in sorted(CLOCK) if self.seldom(0.3)]
+        found = [(data_type, ENVIRONMENT, name, self.one_of([None] * 4 + ["i"])) for name, data_type in sorted(CLOCK) if self.seldom(0.3)]
         return found + [self.one_of([self.varied(place), (self.one_of(["date", "time", "dateTime"]), *place[1:])]) for place in found if self.seldom(0.3)]
 
     def source(self):
         """The fields of the source's rows, most of them of the entities that the request names."""
         fields = []
-        for (data_type, category, name, _), texts in self.of_source:
+        for (data_type, category, name, issuer), texts in self.of_source:
+            by = "" if issuer is None else f"|{issuer}"
             for text in texts:
                 usual = self.entities[category] if category in NAMED else ""
-                fields.append(f"row:{category}|{usual if self.seldom(0.7) else self.one_of(ENTITIES)}|{name}|{data_type}={text}")
+                fields.append(f"row:{category}|{usual if self.seldom(0.7) else self.one_of(ENTITIES)}|{name}|{data_type}{by}={text}")
         return fields
 
     def attribute(self, place, texts):

@@ -51,12 +51,25 @@ pub fn keeper_of(alloc: Global, files: Files<File>) -> Result<SqlRecords<Store>,
     }
 }
 
-/// A file that never freezes, with all that was written to this one.
-fn as_written(alloc: Global, file: &File) -> Result<File, NoAnswer> {
+/// A file with all that was written to this one, which passes on so many calls.
+fn copy_of(alloc: Global, file: &File, calls: u64) -> Result<File, NoAnswer> {
     let mut copy = Memory::new(alloc);
     copy.write_at(0, file.inner().bytes())?;
     copy.sync()?;
-    Ok(Fuse::new(copy, u64::MAX))
+    Ok(Fuse::new(copy, calls))
+}
+
+/// Files with all that was written to these, of which each passes on so many calls.
+pub fn copies_of(
+    alloc: Global,
+    files: &Files<File>,
+    log: u64,
+    db: u64,
+) -> Result<Files<File>, NoAnswer> {
+    Ok(Files {
+        log: copy_of(alloc, &files.log, log)?,
+        db: copy_of(alloc, &files.db, db)?,
+    })
 }
 
 /// What a crash leaves at its two ends: what was synced alone, and all that was written.
@@ -64,10 +77,7 @@ pub fn after_crash(
     alloc: Global,
     mut files: Files<File>,
 ) -> Result<(Files<File>, Files<File>), NoAnswer> {
-    let written = Files {
-        log: as_written(alloc, &files.log)?,
-        db: as_written(alloc, &files.db)?,
-    };
+    let written = copies_of(alloc, &files, u64::MAX, u64::MAX)?;
     files.log.crash();
     files.db.crash();
     Ok((files, written))

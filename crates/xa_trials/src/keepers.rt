@@ -24,7 +24,7 @@ impl Reopen for SqlRecords<MemStore> {
 }
 
 /// A connection to a store in memory, without tables.
-fn connection(alloc: Global) -> Result<Connection<MemStore>, NoAnswer> {
+pub fn connection(alloc: Global) -> Result<Connection<MemStore>, NoAnswer> {
     match Connection::open_in_memory(alloc) {
         Ok(conn) => Ok(conn),
         Err(_) => Err(NoAnswer::Memory),

@@ -27,8 +27,10 @@ mod played;
 mod references;
 mod requests;
 mod runs;
+mod script;
 mod server;
 mod stops;
+mod stored;
 mod stores;
 mod tripped;
 mod tripping;
@@ -94,6 +96,7 @@ fn answer_many(answer: &mut Answer, kind: &str, fields: &[&str]) -> Result<(), N
         "front" => fronts::front(answer, fields),
         "played" => played::played(answer, fields),
         "driven" => driven::driven(answer, fields),
+        "stored" => stored::stored(answer, fields),
         "tripped" => tripped::tripped(answer, fields),
         "keeper" => keeper::keeper(answer, fields),
         "keeper_in_memory" => keeper::keeper_in_memory(answer, fields),

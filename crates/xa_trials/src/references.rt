@@ -50,11 +50,7 @@ pub fn key_of(alloc: Global, text: &[u8]) -> Result<DocumentKey, NoAnswer>
     ensures { IfOk result (λ key. IsDocumentOf key text.now) }
 {
     match Parsed::read(alloc, text) {
-        Ok(parsed) => Ok(DocumentKey {
-            kind: parsed.kind(),
-            id: parsed.id().clone()?,
-            version: *parsed.version(),
-        }),
+        Ok(parsed) => Ok(parsed.key()?),
         Err(_) => Err(NoAnswer::Malformed),
     }
 }

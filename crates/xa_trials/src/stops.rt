@@ -5,10 +5,10 @@
 use crate::answer::Answer;
 use crate::driven::happenings;
 use crate::field::number_of;
-use crate::files::{File, Store, after_crash, files_under, keeper_of, new_files};
+use crate::files::{File, Store, after_crash, copies_of, files_under, keeper_of, new_files};
 use crate::no_answer::NoAnswer;
+use crate::script::{Script, script_of};
 use crate::server::{answered, server_over};
-use crate::tripped::messages_of;
 use sqlite::{Alter, Files};
 use sqlite_disk::Disk;
 use std::alloc::Global;
@@ -28,11 +28,16 @@ enum Run {
     Ended,
 }
 
-/// The files of a run, of which the one that the word names passes on so many calls.
-fn files_of(alloc: Global, word: &str, calls: u64) -> Result<Files<File>, NoAnswer> {
+/// Files that hold what these do, of which the one that the word names passes on so many calls.
+fn files_of(
+    alloc: Global,
+    held: &Files<File>,
+    word: &str,
+    calls: u64,
+) -> Result<Files<File>, NoAnswer> {
     match word {
-        "log" => Ok(new_files(alloc, calls, u64::MAX)),
-        "db" => Ok(new_files(alloc, u64::MAX, calls)),
+        "log" => copies_of(alloc, held, calls, u64::MAX),
+        "db" => copies_of(alloc, held, u64::MAX, calls),
         _ => Err(NoAnswer::Malformed),
     }
 }
@@ -42,7 +47,8 @@ fn frozen_keeper(alloc: Global, text: &str) -> Result<SqlRecords<Store>, NoAnswe
     let Some((word, calls)) = text.split_once(' ') else {
         return Err(NoAnswer::Malformed);
     };
-    let files = files_of(alloc, word, number_of(calls)?)?;
+    let empty = new_files(alloc, u64::MAX, u64::MAX);
+    let files = files_of(alloc, &empty, word, number_of(calls)?)?;
     match keeper_of(alloc, files) {
         Ok(records) => Ok(records),
         Err(_) => Err(NoAnswer::Malformed),
@@ -114,16 +120,22 @@ fn run_of(
     Ok(Run::Ended)
 }
 
-/// A server over the keeper in memory, which has answered so many of the messages.
-fn server_after(
-    alloc: Global,
-    messages: &[(Moment, Message)],
-    count: usize,
-) -> Result<Server<PlainRecords>, NoAnswer> {
-    let mut server = server_over(alloc, PlainRecords::new(alloc))?;
+/// Has the messages answered.
+fn serve_all(server: &mut Server<PlainRecords>, messages: &[(Moment, Message)], count: usize) {
     for event in messages.iter().take(count) {
         server.serve(event.0, &event.1);
     }
+}
+
+/// A server over the keeper in memory, which has answered those of before and so many of the messages.
+fn server_after(
+    alloc: Global,
+    script: &Script,
+    count: usize,
+) -> Result<Server<PlainRecords>, NoAnswer> {
+    let mut server = server_over(alloc, PlainRecords::new(alloc))?;
+    serve_all(&mut server, &script.made, usize::MAX);
+    serve_all(&mut server, &script.messages, count);
     Ok(server)
 }
 
@@ -132,13 +144,13 @@ fn server_after(
 fn goes_on<R: Records>(
     alloc: Global,
     server: &mut Server<R>,
-    messages: &[(Moment, Message)],
+    script: &Script,
     struck: usize,
 ) -> Result<bool, NoAnswer> {
-    let mut without = server_after(alloc, messages, struck.saturating_sub(1))?;
-    let mut with = server_after(alloc, messages, struck)?;
+    let mut without = server_after(alloc, script, struck.saturating_sub(1))?;
+    let mut with = server_after(alloc, script, struck)?;
     let (mut is_without, mut is_with) = (true, true);
-    for event in messages.iter().skip(struck) {
+    for event in script.messages.iter().skip(struck) {
         let reply = server.serve(event.0, &event.1);
         if without.serve(event.0, &event.1).bytes() != reply.bytes() {
             is_without = false;
@@ -154,22 +166,22 @@ fn goes_on<R: Records>(
 fn keeper_goes_on<S: Alter + Drop>(
     alloc: Global,
     records: SqlRecords<S>,
-    messages: &[(Moment, Message)],
+    script: &Script,
     struck: usize,
 ) -> Result<bool, NoAnswer> {
     let mut server = server_over(alloc, records)?;
-    goes_on(alloc, &mut server, messages, struck)
+    goes_on(alloc, &mut server, script, struck)
 }
 
 /// Whether the store in the files is opened, and a server over it goes on behind that message.
 fn is_resumed(
     alloc: Global,
     files: Files<File>,
-    messages: &[(Moment, Message)],
+    script: &Script,
     struck: usize,
 ) -> Result<bool, NoAnswer> {
     match keeper_of(alloc, files) {
-        Ok(records) => keeper_goes_on(alloc, records, messages, struck),
+        Ok(records) => keeper_goes_on(alloc, records, script, struck),
         Err(_) => Ok(false),
     }
 }
@@ -186,10 +198,10 @@ struct Stop {
 fn resume(
     answer: &mut Answer,
     files: Files<File>,
-    messages: &[(Moment, Message)],
+    script: &Script,
     stop: Stop,
 ) -> Result<(), NoAnswer> {
-    if is_resumed(answer.alloc(), files, messages, stop.struck)? {
+    if is_resumed(answer.alloc(), files, script, stop.struck)? {
         return Ok(());
     }
     answer.name("!Differs ", &stop.calls);
@@ -276,7 +288,7 @@ fn push_files(all: &mut Vec<u8>, files: &Files<File>) -> Result<(), NoAnswer> {
 fn resume_after_crash(
     answer: &mut Answer,
     files: Files<File>,
-    messages: &[(Moment, Message)],
+    script: &Script,
     stop: Stop,
     sweep: &mut Sweep,
 ) -> Result<(), NoAnswer> {
@@ -289,8 +301,8 @@ fn resume_after_crash(
         return Ok(());
     }
     sweep.note(stop.struck, left);
-    resume(answer, synced, messages, stop)?;
-    resume(answer, written, messages, stop)
+    resume(answer, synced, script, stop)?;
+    resume(answer, written, script, stop)
 }
 
 /// Freezes the file that the word names behind so many calls. Whether a stop has come.
@@ -298,16 +310,16 @@ fn is_stopped(
     answer: &mut Answer,
     word: &str,
     calls: u64,
-    messages: &[(Moment, Message)],
+    script: &Script,
     sweep: &mut Sweep,
 ) -> Result<bool, NoAnswer> {
     let alloc = answer.alloc();
-    let files = files_of(alloc, word, calls)?;
-    match run_of(alloc, files, messages)? {
+    let files = files_of(alloc, &script.files, word, calls)?;
+    match run_of(alloc, files, &script.messages)? {
         Run::Stopped(struck, files) => {
             sweep.count(struck);
             let stop = Stop { calls, struck };
-            resume_after_crash(answer, files, messages, stop, sweep)?;
+            resume_after_crash(answer, files, script, stop, sweep)?;
             Ok(true)
         }
         Run::Ended => Ok(false),
@@ -318,11 +330,11 @@ fn is_stopped(
 fn each_in_turn(
     answer: &mut Answer,
     word: &str,
-    messages: &[(Moment, Message)],
+    script: &Script,
     sweep: &mut Sweep,
 ) -> Result<(), NoAnswer> {
     for calls in 0..u64::MAX {
-        if !is_stopped(answer, word, calls, messages, sweep)? {
+        if !is_stopped(answer, word, calls, script, sweep)? {
             return Ok(());
         }
     }
@@ -334,14 +346,14 @@ fn each_in_turn(
 /// all of it where none comes.
 pub fn stops(answer: &mut Answer, word: &str, events: &[&str]) -> Result<(), NoAnswer> {
     let alloc = answer.alloc();
-    let messages = messages_of(alloc, events)?;
-    let mut sweep = Sweep::new(alloc, messages.len())?;
-    each_in_turn(answer, word, &messages, &mut sweep)?;
+    let script = script_of(alloc, events)?;
+    let mut sweep = Sweep::new(alloc, script.messages.len())?;
+    each_in_turn(answer, word, &script, &mut sweep)?;
     sweep.push(answer);
-    let files = new_files(alloc, u64::MAX, u64::MAX);
+    let files = files_of(alloc, &script.files, word, u64::MAX)?;
     let stop = Stop {
         calls: u64::MAX,
         struck: 0,
     };
-    resume(answer, files, &messages, stop)
+    resume(answer, files, &script, stop)
 }

@@ -32,7 +32,7 @@ fn new_store(alloc: Global, word: &str) -> Result<Connection<Store>, NoAnswer> {
 }
 
 /// The store, in which the statements were run.
-fn store_after_statements(
+pub fn store_after_statements(
     alloc: Global,
     word: &str,
     statements: &[&str],

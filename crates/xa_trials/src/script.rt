@@ -1,0 +1,51 @@
+//! Scripts of stops: what the store holds before the first message, and the messages. Fields `sql:SQL`
+//! are statements, which are run in an empty store before a keeper is opened over it; fields
+//! `made:BYTES` are messages by which a keeper comes to hold the same.
+use crate::files::{File, files_under, new_files};
+use crate::no_answer::NoAnswer;
+use crate::stores::store_after_statements;
+use crate::tripped::messages_of;
+use sqlite::Files;
+use std::alloc::Global;
+use xa_http::Message;
+use xa_value::Moment;
+
+/// A script.
+#[derive(Drop)]
+pub struct Script {
+    /// The files of the store before.
+    pub files: Files<File>,
+    /// The messages by which a keeper comes to hold what is in them.
+    pub made: Vec<(Moment, Message)>,
+    /// The messages of the script itself.
+    pub messages: Vec<(Moment, Message)>,
+}
+
+/// The files of a store in which the statements were run; empty ones, where there are none.
+fn files_after(alloc: Global, statements: &[&str]) -> Result<Files<File>, NoAnswer> {
+    if statements.is_empty() {
+        return Ok(new_files(alloc, u64::MAX, u64::MAX));
+    }
+    let conn = store_after_statements(alloc, "empty", statements)?;
+    Ok(files_under(conn))
+}
+
+/// The script of these fields.
+pub fn script_of(alloc: Global, fields: &[&str]) -> Result<Script, NoAnswer> {
+    let mut statements = Vec::new(alloc);
+    let mut made = Vec::new(alloc);
+    let mut events = Vec::new(alloc);
+    for field in fields {
+        let (word, text) = field.split_once(':').unwrap_or((field, ""));
+        match word {
+            "sql" => statements.push(text)?,
+            "made" => made.push(*field)?,
+            _ => events.push(*field)?,
+        }
+    }
+    Ok(Script {
+        files: files_after(alloc, &statements)?,
+        made: messages_of(alloc, &made)?,
+        messages: messages_of(alloc, &events)?,
+    })
+}
