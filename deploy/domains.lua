@@ -22,29 +22,46 @@ end)
 -- ---- held back
 --
 -- HELD in the map is the second until which something is held, SHARD0 stands there for a shard that is
--- restarted, and `moving` is the place of a domain that moves. None of these is a domain's name. A message
--- waits five seconds at the most, and goes on as the map says then.
+-- restarted, and `moving` is the place of a domain that moves. None of these is a domain's name. The tool
+-- renews HELD for as long as it runs, and ends its shards' programs meanwhile: so a message that has waited
+-- for ten seconds is answered with 503, as one that gets no turn in a queue, and never goes on.
 
-local function is_held(txn, domain)
+local function place_of(name, converters)
+    return map:lookup(name) or tostring(converters:crc32(name) % shards)
+end
+
+local function is_held(domain, converters)
     local until_when = tonumber(map:lookup("HELD") or "0")
     if until_when < core.now().sec then return false end
     if not domain then return true end  -- the list is of all shards
-    local place = map:lookup(domain) or tostring(txn.c:crc32(domain) % shards)
+    local place = place_of(domain, converters)
     return place == "moving" or map:lookup("SHARD" .. place) ~= nil
 end
 
-core.register_action("pdpd_wait", { "http-req" }, function(txn)
-    local domain = txn:get_var("txn.domain")
-    for _ = 1, 500 do
-        if not is_held(txn, domain) then return end
+local function seconds()
+    local now = core.now()
+    return now.sec + now.usec / 1000000
+end
+
+-- whether it is held no more, at the latest after ten seconds
+local function is_let_go(domain, converters)
+    local ends = seconds() + 10
+    while is_held(domain, converters) do
+        if seconds() > ends then return false end
         core.msleep(10)
     end
+    return true
+end
+
+core.register_action("pdpd_wait", { "http-req" }, function(txn)
+    if not is_let_go(txn:get_var("txn.domain"), txn.c) then txn:set_var("txn.held", true) end
 end)
 
 -- ---- the list
 --
 -- GET /operator/domains over all shards: each is asked in its queue, through the frontend `inner`, and the
 -- names are merged in the order of their bytes. Where a shard doesn't answer 200, no list is given in part.
+-- Of a move that was cut both shards may have the domain, and it is listed once.
 
 local function answer(applet, status, body, name, value)
     applet:set_status(status)
@@ -80,16 +97,41 @@ local function listed(applet, shard)
     return reply.body:match('^{"Domain":%[(.*)%]}$'), 200
 end
 
-core.register_service("pdpd_domains", "http", function(applet)
-    local names = {}
+-- the names of all shards to whose domains messages are led; else nothing and a status
+local function gathered(applet)
+    local names, is_there = {}, {}
     for shard = 0, shards - 1 do
         local list, status = listed(applet, shard)
-        if status == 401 then
-            return answer(applet, 401, '{"Error":"Unauthorized"}', "www-authenticate", "Bearer")
+        if not list then return nil, status end
+        for name in list:gmatch('"([a-z0-9-]+)"') do
+            local place = place_of(name, applet.c)
+            if not is_there[name] and (place == tostring(shard) or place == "moving") then
+                is_there[name] = true
+                table.insert(names, name)
+            end
         end
-        if not list then return answer(applet, 503, '{"Error":"Unavailable"}') end
-        for name in list:gmatch('"([a-z0-9-]+)"') do table.insert(names, name) end
     end
+    return names, 200
+end
+
+-- those names as they are at one moment: while something is held a domain may go from shard to shard
+local function settled(applet)
+    for _ = 1, 10 do
+        -- LAST is another one once something is held, and it is set after HELD
+        local last = map:lookup("LAST")
+        if not is_let_go(nil, applet.c) then return nil, 503 end
+        local names, status = gathered(applet)
+        if map:lookup("LAST") == last then return names, status end
+    end
+    return nil, 503
+end
+
+core.register_service("pdpd_domains", "http", function(applet)
+    local names, status = settled(applet)
+    if status == 401 then
+        return answer(applet, 401, '{"Error":"Unauthorized"}', "www-authenticate", "Bearer")
+    end
+    if not names then return answer(applet, 503, '{"Error":"Unavailable"}') end
     table.sort(names)
     for i, name in ipairs(names) do names[i] = '"' .. name .. '"' end
     answer(applet, 200, '{"Domain":[' .. table.concat(names, ",") .. "]}")

@@ -22,7 +22,6 @@ import signal
 import sqlite3
 import subprocess
 import sys
-import zlib
 
 from . import backups, moving, proxy, status, supervisor, talk, watchdog
 from .settings import DOMAIN, ENDS, Wrong, alone, read
@@ -60,7 +59,9 @@ def services(settings, words):
 
 def reload(settings, words):
     talk.check(f"{settings.haproxy_etc}/haproxy.cfg")
-    talk.reload(settings, supervisor.of(settings))
+    # a process that begins while another tool holds messages back would know nothing of it
+    with alone(settings):
+        talk.reload(settings, supervisor.of(settings))
     told("HAProxy has read its files")
 
 
@@ -93,8 +94,7 @@ def where(settings, words):
     (domain,) = words
     if not DOMAIN.fullmatch(domain):
         raise Wrong(f"{domain!r} is no domain's name")
-    by_map = talk.map_in_file(settings).get(domain)
-    print(by_map if by_map is not None else zlib.crc32(domain.encode()) % settings.shards)
+    print(talk.place(settings, talk.map_in_file(settings), domain))
 
 
 def backup(settings, words):

@@ -12,13 +12,14 @@ import time
 from . import supervisor, talk
 from .settings import DOMAIN, Wrong, set_in_file, unbroken
 
-SCHEMA = 1
-# the tables of a domain's rows, beside `number`, which each file gives itself (crates/xa_store/README.md)
+SCHEMA = 2
+# The tables of a domain's rows, beside `number`, which each file gives itself (crates/xa_store/README.md).
+# `attributes` isn't among them: it is empty in schema 2.
 TABLES = {
     "tokens": "digest, role",
     "policies": "kind, id, version, body, active",
     "roots": "kind, id, pattern, earliest, latest",
-    "attributes": "place, category, entity, attribute, value_type, value",
+    "sources": "place, category, entity, attribute, value_type, value, issuer",
 }
 
 
@@ -47,7 +48,8 @@ def opened(settings, shard):
             base.execute("PRAGMA synchronous = FULL")
             schema = base.execute("SELECT schema_no FROM meta").fetchone()
         if schema != (SCHEMA,):
-            raise NotBegun(f"the schema of {path} isn't number {SCHEMA}: this tool isn't of that pdpd")
+            raise NotBegun(f"the schema of {path} isn't number {SCHEMA}: this tool isn't of the pdpd that had it "
+                           "open last")
         yield base
 
 
@@ -88,8 +90,8 @@ def same(one, other, domain):
 
 
 @contextlib.contextmanager
-def ended(settings, *shards):
-    """The shards' programs are ended meanwhile; they answer again behind it."""
+def stopped(settings, shards):
+    """The shards' programs are ended meanwhile, and started behind it."""
     by = supervisor.of(settings)
     with unbroken():
         try:
@@ -102,8 +104,24 @@ def ended(settings, *shards):
         finally:
             for shard in shards:
                 by.start(shard)
+
+
+def wait_until_up(settings, shards):
     for shard in shards:
         talk.wait_until_up(settings, shard)
+
+
+@contextlib.contextmanager
+def ended(settings, *shards):
+    """The shards' programs are ended meanwhile; they answer again behind it, also where nothing was changed."""
+    try:
+        with stopped(settings, shards):
+            yield
+    except Exception:
+        with contextlib.suppress(Wrong):
+            wait_until_up(settings, shards)
+        raise
+    wait_until_up(settings, shards)
 
 
 @contextlib.contextmanager
@@ -127,8 +145,9 @@ def carried(settings, domain, one, other):
                 put_rows(source, target, domain)
         if target.in_transaction:
             target.execute("COMMIT")
-        talk.set_in_map(settings, {domain: other})
+        # before the map: no shard that it names is beside another one with the domain
         source.execute("DELETE FROM domains WHERE name = ?", (domain,))
+        talk.set_in_map(settings, {domain: other})
 
 
 def move(settings, domain, one, other):
@@ -159,10 +178,14 @@ def grow(settings, shards):
     talk.settle(settings)
     # no domain is made from here on, and each that was asked for before is there or isn't
     talk.set_in_map(settings, {"NEW": "moving"})
+    time.sleep(talk.TURN)
     for shard in many:
         talk.wait_for_turn(settings, shard)
     known = talk.map_in_file(settings)
-    found = {name: shard for shard in many for name in talk.domains_of(settings, shard)}
+    there = [(name, shard) for shard in many for name in talk.domains_of(settings, shard)]
+    # of a domain that is in two shards that one counts to which its messages are led
+    there.sort(key=lambda it: talk.place(settings, known, it[0]) == it[1])
+    found = dict(there)
     talk.set_in_map(settings, {name: shard for name, shard in found.items() if name not in known})
     by.set_up(range(shards))
     larger = copy.copy(settings)

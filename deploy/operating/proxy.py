@@ -142,6 +142,7 @@ def route_rules(settings):
     return f"""\
     # a tool holds some messages back while it restarts a shard or moves a domain
     http-request lua.pdpd_wait if {{ str(HELD),map({file}) -m found }}
+    http-request {answers(503, "Unavailable")} if {{ var(txn.held) -m found }}
     http-request set-var(txn.shard) var(txn.domain),map({file})
     acl has_domain var(txn.domain) -m found
     acl has_shard var(txn.shard) -m found

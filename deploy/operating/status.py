@@ -18,11 +18,20 @@ def age(settings, shard):
     return time.time() - found[-1].stat().st_mtime if found else None
 
 
-def of_shard(settings, shard):
+def copies(settings, shard, known, names):
+    """What is wrong where a shard has domains whose messages go to another one."""
+    led = {name: talk.place(settings, known, name) for name in names}
+    return [f"shard {shard} has {name}, whose messages go to shard {where}: look which is right"
+            for name, where in led.items() if where not in (shard, "moving")]
+
+
+def of_shard(settings, shard, known):
     """A line on a shard, and what is wrong with it."""
     wrong, state, count = [], "up", "-"
     try:
-        count = str(len(talk.domains_of(settings, shard)))
+        names = talk.domains_of(settings, shard)
+        count = str(len(names))
+        wrong += copies(settings, shard, known, names)
     except backups.Wrong as fault:
         state = "up" if isinstance(fault, talk.OtherToken) else "down"
         wrong.append(str(fault))
@@ -38,8 +47,9 @@ def of_shard(settings, shard):
 def shown(settings):
     """The lines of a table, and what is wrong."""
     rows, wrong = [["shard", "state", "domains", "file MiB", "log MiB", "backup"]], []
+    known = talk.map_in_file(settings)
     for shard in range(settings.shards):
-        row, more = of_shard(settings, shard)
+        row, more = of_shard(settings, shard, known)
         rows.append(row)
         wrong += more
     for name, path in (("DATA", settings.data), ("BACKUPS", settings.backups)):
@@ -51,7 +61,7 @@ def shown(settings):
             wrong.append(f"the disk of {name} has only {free / 2 ** 20:.0f} MiB left")
     widths = [max(map(len, column)) for column in zip(*rows)]
     lines = ["  ".join(cell.ljust(width) for cell, width in zip(row, widths)).rstrip() for row in rows]
-    moving = [name for name, value in talk.map_in_file(settings).items() if value == "moving"]
+    moving = [name for name, value in known.items() if value == "moving"]
     wrong += ["no domain can be made: a growth was cut; give pdpd-shards grow again" if name == "NEW" else
               f"{name} is moving: if nobody moves it now, give pdpd-shards move again" for name in moving]
     return lines, list(dict.fromkeys(wrong))

@@ -38,9 +38,6 @@ class Systemd:
     def start(self, shard):
         run("systemctl", "start", f"pdpd@{shard}")
 
-    def kill(self, shard):
-        run("systemctl", "kill", "--signal=KILL", f"pdpd@{shard}")
-
     def reload_proxy(self):
         run("systemctl", "reload", "haproxy")
 
@@ -88,9 +85,6 @@ class Runit:
 
     def start(self, shard):
         self.sv("up", f"pdpd-{shard}")
-
-    def kill(self, shard):
-        self.sv("kill", f"pdpd-{shard}")
 
     def reload_proxy(self):
         self.sv("2", "haproxy")

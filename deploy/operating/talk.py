@@ -6,14 +6,20 @@ import os
 import re
 import socket
 import subprocess
+import threading
 import time
+import zlib
 
 from .proxy import configuration
-from .settings import LIBRARY, Wrong, written
+from .settings import LIBRARY, Wrong, unbroken, written
 
 # how long a message may wait for its turn, and then for its reply (`timeout queue`, `timeout server`)
 QUEUE, SERVER = 10, 12
 LONGEST = QUEUE + SERVER
+# how long messages are held back for a tool that doesn't renew it, in seconds
+LEASE = 10
+# after how long a message that has been led to a shard is in its queue
+TURN = 0.02
 # after how long a process of HAProxy has gone once another has begun (`hard-stop-after`)
 HARD_STOP = 15
 
@@ -122,6 +128,14 @@ def map_in_file(settings):
     return dict(line.split() for line in settings.map.read_text().splitlines() if line.strip())
 
 
+def place(settings, known, domain):
+    """The shard to which a domain's messages are led, where the map says that; `moving` for one that moves."""
+    said = known.get(domain)
+    if said is None:
+        return zlib.crc32(domain.encode()) % settings.shards
+    return int(said) if said.isdigit() else said
+
+
 def set_in_map(settings, changes):
     """Says where domains are, in the file first, for the next start of HAProxy; None takes a name out."""
     found = {**map_in_file(settings), **changes}
@@ -144,21 +158,47 @@ def set_while_it_runs(settings, changes):
             raise Wrong(f"HAProxy: {said}")
 
 
+def renews(settings, is_over):
+    """Renews what is held until that is over."""
+    while not is_over.wait(1):
+        # (a HAProxy that isn't there holds nothing)
+        with contextlib.suppress(OSError, Wrong):
+            set_while_it_runs(settings, {"HELD": int(time.time()) + LEASE})
+
+
+@contextlib.contextmanager
+def renewed(settings):
+    """What is held stays so meanwhile, and not for long where this process is killed."""
+    is_over = threading.Event()
+    thread = threading.Thread(target=renews, args=(settings, is_over), daemon=True)
+    # a thread takes no signal that the tool has put off
+    with unbroken():
+        thread.start()
+    try:
+        yield
+    finally:
+        is_over.set()
+        thread.join()
+
+
 @contextlib.contextmanager
 def held(settings, *shards):
     """Nothing is under way at these shards meanwhile: HAProxy holds their messages back (domains.lua).
 
-    So nothing is lost where their programs are ended. Should this end, it lets them go by itself after a while.
+    So nothing is lost where their programs are ended. Should this be killed, it lets them go by itself after a while.
     """
     keys = [f"SHARD{shard}" for shard in shards]
-    set_while_it_runs(settings, {**{key: "held" for key in keys}, "HELD": int(time.time()) + 3 * LONGEST})
+    until = int(time.time()) + LEASE
+    # LAST comes last: a list that sees it anew sees what is held, too
+    set_while_it_runs(settings, {**{key: "held" for key in keys}, "HELD": until, "LAST": time.time_ns()})
     try:
-        time.sleep(0.02)
-        for shard in shards:
-            wait_for_turn(settings, shard)
-        yield
+        with renewed(settings):
+            time.sleep(TURN)
+            for shard in shards:
+                wait_for_turn(settings, shard)
+            yield
     finally:
-        set_while_it_runs(settings, {**{key: None for key in keys}, "HELD": None})
+        set_while_it_runs(settings, {"HELD": None, **{key: None for key in keys}})
 
 
 # ---- its files and its processes

@@ -1,12 +1,15 @@
 """Kills a pdpd that is stuck, so that its supervisor starts it again.
 
 Each second each shard is asked for a decision through HAProxy, before all others in its queue: so the
-question waits for the message that is being answered, and for no other. Stuck is a shard that takes
+question waits for the message that is being answered, and for no other. Stuck is a program that takes
 connections and gives no reply for five seconds, which is more than a message may take under the limit of
 work. Its process is killed; what it has answered is kept. A shard that takes no connections is down, or
-still opening its file: its supervisor's affair.
+still opening its file: its supervisor's affair. So is one that has begun to take them meanwhile.
 """
+import contextlib
+import os
 import pathlib
+import signal
 import sys
 import threading
 import time
@@ -17,14 +20,21 @@ from . import supervisor, talk
 LIMIT, PAUSE = 5.0, 1.0
 
 
-def listens(port):
-    """Whether a program takes connections at 127.0.0.1 and that port, by the system's table."""
-    wanted = f"0100007F:{port:04X} 00000000:0000 0A"
-    return wanted in pathlib.Path("/proc/net/tcp").read_text(encoding="ascii")
+def listening(port):
+    """The number of the socket at which a program takes connections at 127.0.0.1 and that port, or None.
+
+    Another program has another one.
+    """
+    for line in pathlib.Path("/proc/net/tcp").read_text(encoding="ascii").splitlines():
+        words = line.split()
+        if words[1:4] == [f"0100007F:{port:04X}", "00000000:0000", "0A"]:
+            return words[9]
+    return None
 
 
 def found(settings, shard):
-    """`up`, `stuck`, or `down`."""
+    """`up`, `stuck`, or `down`, and the socket of the program that was there before."""
+    before = listening(settings.port(shard))
     try:
         # a domain that isn't there, and no token: 401 shows that it answers
         path = "/domains/watchdog/pdp"
@@ -32,10 +42,20 @@ def found(settings, shard):
     except TimeoutError:
         status = 504
     except OSError:
-        return "down"  # HAProxy isn't there
+        return "down", before  # HAProxy isn't there
     if status == 504:
-        return "stuck" if listens(settings.port(shard)) else "down"
-    return "down" if status in (502, 503) else "up"
+        # (the question may have waited for a program that has only just begun)
+        is_same = before and listening(settings.port(shard)) == before
+        return "stuck" if is_same else "down", before
+    return "down" if status in (502, 503) else "up", before
+
+
+def kill(settings, shard, before):
+    """Kills the shard's program, if it still is the one with that socket: a tool may have started another one."""
+    process = supervisor.of(settings).pid(shard)
+    if process and listening(settings.port(shard)) == before:
+        with contextlib.suppress(ProcessLookupError):
+            os.kill(process, signal.SIGKILL)
 
 
 def tell(what):
@@ -49,13 +69,13 @@ def watch(shard):
     before = "up"
     while True:
         settings = setting.read()
-        now = found(settings, shard)
+        now, socket = found(settings, shard)
         if now != before:
             tell(f"shard {shard} is {now}")
         if now == "stuck":
             try:
-                supervisor.of(settings).kill(shard)
-            except setting.Wrong as fault:
+                kill(settings, shard, socket)
+            except (setting.Wrong, OSError) as fault:
                 tell(fault)
         before = now
         time.sleep(PAUSE)

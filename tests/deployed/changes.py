@@ -1,16 +1,18 @@
 """Changes of the deployment itself while it is asked: domains that move, and more shards."""
+import itertools
 import os
 import pathlib
 import signal
 import sqlite3
 import subprocess
 import sys
+import threading
 import time
 import zlib
 
 from . import clients
-from .clients import Deciders, Makers, decision, many, message, once, read, status
-from .machine import LIBRARY, pid, sh, shards, wait_until
+from .clients import Deciders, Load, Makers, decision, many, message, once, read, status
+from .machine import LIBRARY, admin, pid, sh, shards, wait_until
 
 
 def shown_of(name):
@@ -29,9 +31,10 @@ def moves(machine, checks):
     moving = operator.makes("mover", "Deny")
     rows = '{"Row":[{"AttributeId":"a","Category":"Action","DataType":"string","Entity":"e","Value":"v"}]}'
     checks.expect("rows", status(once(message("PUT", "/domains/mover/pip", "mover-token-1", rows))), 200)
-    before, took = shown_of("mover"), []
+    before, took, lists = shown_of("mover"), [], []
     checks.expect("what it shows", [found[0] for found in before], [200] * 4)
-    with Deciders(asks, 6) as deciders, Deciders([(moving, "Deny")], 2) as movers:
+    lister = Load(lambda _number: lists.append(operator.names()), 1)
+    with Deciders(asks, 6) as deciders, Deciders([(moving, "Deny")], 2) as movers, lister:
         for _ in range(3):
             one = int(shards("where", "mover"))
             said = shards("move", "mover", one, (one + 1) % 4)
@@ -40,9 +43,10 @@ def moves(machine, checks):
             checks.expect("what it shows behind it", shown_of("mover"), before)
     checks.expect("the others", deciders.wrong, [])
     checks.expect("the domain that moves", movers.wrong, [])
-    checks.expect("it is listed once", operator.names().count("mover"), 1)
+    names = sorted([*(f"d{number}" for number in range(8)), "mover"])
+    checks.expect("each list has each domain once", [found for found in lists if found != names], [])
     checks.say(f"3 moves: the two shards were away for {max(took):.2f} s at the most; {deciders.answered} decisions "
-               f"of others, the longest after {deciders.longest:.2f} s")
+               f"of others, the longest after {deciders.longest:.2f} s; {len(lists)} lists")
     cut_moves(machine, checks, before)
 
 
@@ -64,42 +68,98 @@ def cut_moves(machine, checks, before):
     port = 7100 + one
     checks.expect("a second one", status(once(machine.operator.creates("mover"), port)), 201)
     said = shards("move", "mover", other, one, status=1)
-    checks.expect("it isn't moved", "both shards have" in said, True)
+    behind = status(once(machine.operator.message("GET", ""), port))
+    found = "both shards have" in said, behind
+    checks.expect("it isn't moved, and its shards answer behind that", found, (True, 200))
     checks.expect("and shows what it did", shown_of("mover"), before)
+    checks.expect("it is listed once", machine.operator.names().count("mover"), 1)
+    told = f"WRONG: shard {one} has mover, whose messages go to shard {other}"
+    checks.expect("the second one is told", told in shards("status", status=1), True)
     removes = machine.operator.message("DELETE", "/mover")
     checks.expect("the second one goes", status(once(removes, port)), 200)
 
 
+def crossed(machine, checks):
+    """A list that waits at shard 2 while a domain moves from the last shard to the first has that domain."""
+    machine.operator.clear()
+    machine.operator.makes("mover")
+    while (one := int(shards("where", "mover"))) != 3:
+        shards("move", "mover", one, one + 1)
+    found, stopped = [], pid(2)
+    lister = threading.Thread(target=lambda: found.append(status_and_names(machine)))
+    os.kill(stopped, signal.SIGSTOP)
+    try:
+        lister.start()
+        time.sleep(0.5)
+        shards("move", "mover", 3, 0)
+    finally:
+        # (if that took over five seconds the watchdog has killed it)
+        sh(f"kill -CONT {stopped} || true")
+        lister.join()
+    checks.expect("a list that a move crosses", found, [(200, b'{"Domain":["mover"]}')])
+
+
+def status_and_names(machine):
+    """The status and the body of the list."""
+    reply = read(once(machine.operator.message("GET", "")))
+    return reply and (reply[0], reply[2])
+
+
+# How a move is ended, at the entries of which system calls, and at each how manyth of them. It renames the map's
+# file, has the disk keep the shards' files (fdatasync), and connects to HAProxy.
+ENDINGS = (("KILL", "rename", 1), ("KILL", "fdatasync", 1), ("HUP", "rename", 1), ("HUP", "connect", 4))
+
+
 def killed(machine, checks):
     """A move that is ended at some moment, by a kill or since the terminal is closed: given again it is made whole.
-    By a closed terminal no shard stays away."""
+    Whatever the moment, the domain is listed once, and shows what it did or is away."""
     operator = machine.operator
     operator.clear()
     operator.makes("mover", "Deny")
-    before, place = shown_of("mover"), int(shards("where", "mover"))
+    before, counts = shown_of("mover"), []
     sys.path.insert(0, str(LIBRARY))
     from operating import settings, talk
     talk.settle(settings.read())
-    ends = [(how, delay) for how in (signal.SIGKILL, signal.SIGHUP) for delay in (0, 0.03, 0.08, 0.15)]
-    is_begun = lambda: "mover moving" in pathlib.Path("/etc/haproxy/domains.map").read_text()
-    found = []
-    for turn, (how, delay) in enumerate(ends):
-        one, other = (place + turn) % 4, (place + turn + 1) % 4
-        begun = subprocess.Popen(["pdpd-shards", "move", "mover", str(one), str(other)],
-                                 stdout=subprocess.DEVNULL, stderr=subprocess.DEVNULL)
-        wait_until(is_begun, "a move doesn't begin")
-        time.sleep(delay)
-        begun.send_signal(how)
-        found.append(begun.wait())
-        if how == signal.SIGHUP:
-            is_there = lambda: pid(one) and pid(other)
-            wait_until(is_there, "a shard stays away behind a move whose terminal was closed", 10)
-        shards("move", "mover", one, other)
-        checks.expect(f"behind {how.name} after {delay} s", shown_of("mover"), before)
-        checks.expect("it is listed once", operator.names(), ["mover"])
-    some = -signal.SIGKILL in found, 128 + signal.SIGHUP in found
-    checks.expect(f"some were ended on their way: {found}", some, (True, True))
-    checks.say(f"moves that were ended: {found.count(0)} of {len(found)} had been done by then")
+    for how, call, step in ENDINGS:
+        for number in itertools.count(step, step):
+            one = int(shards("where", "mover"))
+            other, what = (one + 1) % 4, f"behind {how} at {call} {number}"
+            found, said = ended_move(machine, (how, call, number), one, other)
+            if found == 0:
+                break
+            checks.expect(f"{what}: {said}", found, -signal.SIGKILL if how == "KILL" else 128 + signal.SIGHUP)
+            stands(machine, checks, what, before, (how, one, other))
+            shards("move", "mover", one, other)
+            checks.expect(f"{what}, given again", (shown_of("mover"), operator.names()), (before, ["mover"]))
+        counts.append(number // step - 1)
+        checks.expect(f"it is ended by {how} at {call}", counts[-1] > 0, True)
+    checks.say(f"a move was ended at {sum(counts)} moments: {counts}")
+
+
+def ended_move(machine, ending, one, other):
+    """The status of a move that is ended there, and what it says; 0 where it is over before."""
+    how, call, number = ending
+    # (whoever runs the test may ignore SIGHUP)
+    words = ["env", "--default-signal=HUP", "strace", "-qq", "-o", machine.folder / "ended", "-e", f"trace={call}",
+             "-e", f"inject={call}:signal={how}:when={number}", "pdpd-shards", "move", "mover", str(one), str(other)]
+    ran = subprocess.run(words, capture_output=True, text=True, check=False, timeout=120)
+    return ran.returncode, ran.stdout + ran.stderr
+
+
+def stands(machine, checks, what, before, ending):
+    """How the domain stands behind a move that was ended, also once the machine has been started again."""
+    how, one, other = ending
+    if how == "HUP":
+        wait_until(lambda: pid(one) and pid(other), f"{what}: a shard stays away", 10)
+    else:
+        sh(f"sv up /etc/service/pdpd-{one} /etc/service/pdpd-{other}")
+        admin("del map /etc/haproxy/domains.map HELD")
+    is_listed = lambda: status(once(machine.operator.message("GET", ""))) == 200
+    wait_until(is_listed, f"{what}: there is no list")
+    checks.expect(f"{what}: the list", machine.operator.names(), ["mover"])
+    found = shown_of("mover")
+    is_right = found == before or [it and it[0] for it in found] == [503] * 4
+    checks.expect(f"{what}: as before, or away: {found}", is_right, True)
 
 
 def copied(source, target):
@@ -123,6 +183,7 @@ def growth(machine, checks):
     operator = machine.operator
     operator.clear()
     asks = many(machine, 12)
+    twice, place = copied_by_mistake(machine)
     with Deciders(asks, 6) as deciders, Makers(operator, "g", 2, also=(503,)) as makers:
         time.sleep(1)
         began = time.time()
@@ -132,6 +193,8 @@ def growth(machine, checks):
     checks.expect("decisions", deciders.wrong, [])
     checks.expect("domains that are made", makers.wrong + makers.unanswered, [])
     names = operator.names()
+    checks.expect("a domain of which another shard has a copy", int(shards("where", twice)), place)
+    checks.expect("the copy goes", status(once(operator.message("DELETE", f"/{twice}"), 7103)), 200)
     checks.expect("each is there once", sorted(names), sorted(set(names)))
     wanted = {*makers.acknowledged, *(f"d{number}" for number in range(12))}
     checks.expect("each that was acknowledged, and no other", set(names), wanted)
@@ -143,6 +206,18 @@ def growth(machine, checks):
     checks.say(f"growth: {took:.0f} s, in which {len(makers.refused)} new domains were refused; "
                f"{len(makers.acknowledged)} were made")
     checks.expect("SHARDS can't be set back", "write 6 again" in refused_configuration(), True)
+
+
+def copied_by_mistake(machine):
+    """Makes one of d0 to d11 a second time, at the last shard; its name, and where its messages are led."""
+    for name in map("d{}".format, range(12)):
+        place = int(shards("where", name))
+        if place != 3:
+            break
+    made = status(once(machine.operator.creates(name), 7103))
+    if made != 201:
+        raise RuntimeError(f"{name} isn't made a second time: {made}")
+    return name, place
 
 
 def refused_configuration():

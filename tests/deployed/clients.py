@@ -13,7 +13,7 @@ from serving import Client, message  # noqa: E402
 
 from .machine import PLAIN  # noqa: E402
 
-# the fields of a reply that are compared: those that pdpd sends (docs/API.md), in small letters
+# the fields of a reply that are compared: those that pdpd sends (docs/guide/API.md), in small letters
 FIELDS = ("content-type", "content-length", "www-authenticate", "allow")
 
 
@@ -32,13 +32,33 @@ def status(reply):
     return found[0] if found else None
 
 
+# each message by the operator's token or of a changed domain: when it began and ended, where it went, and its reply
+SENT = []
+
+
 def once(data, port=PLAIN):
     """The reply to a message on a connection of its own; empty where the connection ends without one."""
+    began, fault = time.time(), ""
     try:
         with Client(port) as client:
-            return client.ask(data)
-    except OSError:
-        return b""
+            reply = client.ask(data)
+    except OSError as error:
+        reply, fault = b"", repr(error)
+    head = data[:data.index(b"\r\n")]
+    if not head.endswith(b"/pdp HTTP/1.1"):
+        is_list = b" /operator/domains " in head
+        SENT.append((began, time.time(), port, head, reply if is_list else reply[:60], fault))
+    return reply
+
+
+def history_of(domain):
+    """What was sent of a domain, with the replies."""
+    at = re.compile(rf"/domains/{re.escape(domain)}[/ ]".encode())
+    for began, ended, port, head, reply, fault in list(SENT):
+        if at.search(head) or b" /operator/domains " in head:
+            times = reply.count(f'"{domain}"'.encode())
+            listed = f" lists it {times} times" if b" /operator/domains " in head else ""
+            yield f"{began:.3f} to {ended:.3f} port {port} {head.decode()}: {reply[:60]!r}{listed} {fault}"
 
 
 class Operator:

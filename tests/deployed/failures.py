@@ -1,11 +1,15 @@
 """What goes wrong: restarts, kills, programs that are stuck."""
 import os
 import signal
+import socket
+import subprocess
+import sys
+import threading
 import time
 
 from . import clients
-from .clients import Client, Deciders, Makers, many
-from .machine import pid, shards, wait_until
+from .clients import Client, Deciders, Makers, decision, many, once, status
+from .machine import LIBRARY, pid, sh, shards, wait_until
 
 KILLS = 20
 
@@ -91,3 +95,63 @@ def says_nothing():
             behind.send(b"GET / HTTP/1.1\r\nConnection: close\r\n\r\n")
             behind.all()
             return time.time() - began
+
+
+class Mute:
+    """Takes connections at a shard's port after so many seconds, and never replies."""
+
+    def __init__(self, port, delay):
+        self.socket = socket.socket()
+        self.socket.setsockopt(socket.SOL_SOCKET, socket.SO_REUSEADDR, 1)
+        self.socket.bind(("127.0.0.1", port))
+        self.begins = threading.Timer(delay, self.socket.listen)
+
+    def __enter__(self):
+        self.begins.start()
+        if not self.begins.interval:
+            self.begins.join()
+
+    def __exit__(self, *what):
+        self.begins.join()
+        self.socket.close()
+
+
+def watched(machine, checks):
+    """The watchdog takes for stuck what gives no reply for five seconds, and not what began meanwhile: a shard that
+    was away for some seconds is not killed as it is there again."""
+    sys.path.insert(0, str(LIBRARY))
+    from operating import settings, watchdog
+    sh("sv down /etc/service/pdpd-3")
+    wait_until(lambda: not pid(3), "a shard isn't ended")
+    for delay, wanted in ((2, "down"), (0, "stuck")):
+        with Mute(7103, delay):
+            found, _ = watchdog.found(settings.read(), 3)
+        checks.expect(f"without a reply, and with connections taken after {delay} s", found, wanted)
+    sh("sv up /etc/service/pdpd-3")
+    is_there = lambda: status(once(machine.operator.message("GET", ""))) == 200
+    wait_until(is_there, "the shard isn't there again")
+
+
+def holding(machine, checks):
+    """What is held back for over ten seconds is refused, and never goes on while a tool has a shard's program
+    ended; what a tool holds that was killed goes on soon. A reload waits for the tools."""
+    sys.path.insert(0, str(LIBRARY))
+    from operating import settings, talk
+    machine.operator.clear()
+    asks, now = many(machine, 8), settings.read()
+    in_one = lambda number: shards("where", f"d{number}").strip() == "1"
+    (ask, wanted), (beside, other) = asks[next(filter(in_one, range(8)))], asks[next(n for n in range(8) if not in_one(n))]
+    began = time.time()
+    with settings.alone(now), talk.held(now, 1):
+        reload = subprocess.Popen(["pdpd-shards", "reload"], stdout=subprocess.DEVNULL)
+        checks.expect("beside what is held", decision(once(beside)), other)
+        found = decision(once(ask))
+        checks.expect("held for too long", (found, time.time() - began > 9.5), (503, True))
+        checks.expect("a reload waits", reload.poll(), None)
+    checks.expect("and comes", reload.wait(60), 0)
+    checks.expect("behind it", decision(once(ask)), wanted)
+    began = time.time()
+    talk.set_while_it_runs(now, {"SHARD1": "held", "HELD": int(began) + 3})
+    found = decision(once(ask))
+    checks.expect("held by nobody", (found, 2 < time.time() - began < 9), (wanted, True))
+    talk.set_while_it_runs(now, {"SHARD1": None, "HELD": None})

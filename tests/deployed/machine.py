@@ -3,6 +3,7 @@ import os
 import pathlib
 import re
 import shutil
+import signal
 import socket
 import subprocess
 import sys
@@ -11,7 +12,7 @@ import time
 import programs
 
 TOP = pathlib.Path(__file__).resolve().parent.parent.parent
-PAGE = TOP / "docs" / "OPERATING.md"
+PAGE = TOP / "docs" / "guide" / "OPERATING.md"
 SETTINGS = pathlib.Path("/etc/pdpd/shards.conf")
 LIBRARY = pathlib.Path("/usr/local/lib/pdpd")
 # Folders that the machine has for itself: what is written or removed there is so for it alone, and gone at the
@@ -49,6 +50,11 @@ def missing(program):
         yield f"{program}, which isn't there"
 
 
+def log_of(folder):
+    """The file beside the test's folder in which it keeps what it finds wrong."""
+    return pathlib.Path(f"{folder}.log")
+
+
 def enter(words):
     """Runs the test once more in namespaces of its own, and answers with its status."""
     folder = TOP / "build" / f"deploy-test-{os.getpid()}"
@@ -56,6 +62,10 @@ def enter(words):
         print(f"tests/deploy: missing: a clone that is in none of {', '.join(OWN)}")
         return 2
     folder.mkdir(mode=0o755, parents=True)
+    # who is told to end ends all that runs in there, and leaves nothing (`run` kills what it waits for)
+    for number in (signal.SIGTERM, signal.SIGHUP):
+        if signal.getsignal(number) is not signal.SIG_IGN:
+            signal.signal(number, lambda number, _: sys.exit(128 + number))
     kinds = ["--mount", "--net", "--pid", "--uts", "--ipc"]
     unshare = ["unshare", *kinds, "--fork", "--kill-child", "--mount-proc"]
     try:
@@ -63,6 +73,8 @@ def enter(words):
         return subprocess.run([*unshare, sys.executable, *words], env=surroundings, check=False).returncode
     finally:
         shutil.rmtree(folder, ignore_errors=True)
+        if log_of(folder).exists() and not log_of(folder).stat().st_size:
+            log_of(folder).unlink()
 
 
 def sh(command, **how):
@@ -156,7 +168,7 @@ def wait_until(holds, what, seconds=30.0):
     end = time.time() + seconds
     while not holds():
         if time.time() > end:
-            raise RuntimeError(f"after {seconds:.0f} s: {what}")
+            raise RuntimeError(f"after {seconds:.0f} s: {what() if callable(what) else what}")
         time.sleep(0.02)
 
 
@@ -168,10 +180,21 @@ def admin(command):
         return b"".join(iter(lambda: asked.recv(65_536), b"")).decode()
 
 
-def logs():
+def logs(lines=15):
     """What HAProxy has under way, and the ends of all logs."""
     try:
         sessions = admin("show sess")
     except OSError as fault:
         sessions = f"HAProxy isn't there: {fault}\n"
-    return sessions + sh("tail -n 15 /var/log/pdpd/*/current 2>&1 || true")
+    return sessions + sh(f"tail -n {lines} /var/log/pdpd/*/current 2>&1 || true")
+
+
+def clock():
+    """The time as runit's logs have it."""
+    return time.strftime("%Y-%m-%d_%H:%M:%S", time.gmtime()) + f".{time.time() % 1:.3f}"[2:]
+
+
+def where(name):
+    """Which shard a domain is in, by the command."""
+    ran = subprocess.run(["pdpd-shards", "where", name], capture_output=True, text=True, check=False)
+    return (ran.stdout + ran.stderr).strip()

@@ -12,8 +12,8 @@ from . import clients
 from .clients import Client, Load, message, once, read, status
 from .machine import PLAIN, TOP, admin, sh, shards, wait_until
 
-# The examples of docs/API.md that are answered otherwise than by pdpd alone, with what they have here
-# (docs/OPERATING.md, "What the proxy answers").
+# The examples of docs/guide/API.md that are answered otherwise than by pdpd alone, with what they have here
+# (docs/guide/OPERATING.md, "What the proxy answers").
 OTHERWISE = {
     # HAProxy's own, whatever its configuration says
     "bad-head": (400, b"<html><body><h1>400 Bad request</h1>\nYour browser sent an invalid request.\n"
@@ -35,7 +35,7 @@ def api():
 
 
 def examples(machine, checks):
-    """Each example of docs/API.md: every message before it, and its own, are answered as the page says."""
+    """Each example of docs/guide/API.md: every message before it, and its own, are answered as the page says."""
     module = api()
     pages, _ = module.read_page((TOP / module.PAGE).read_text(encoding="utf-8"))
     machine.change_token(module.OPERATOR_TOKEN)

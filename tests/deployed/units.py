@@ -8,7 +8,7 @@ import subprocess
 
 from .clients import Deciders, Makers, Operator, many, once, policy_text
 from .clients import status as status_of
-from .machine import LIBRARY, SETTINGS, TOP, pid, sh, shards
+from .machine import LIBRARY, PAGE, SETTINGS, TOP, pid, sh, shards
 
 SWITCHES = ("KEEP=1", "RETRY=1", "THREADS=4", "MAXCONN=4", "RATE=100", "PLAIN_BIND=127.0.0.1:8081",
             "TLS_BIND=", "TLS_BIND=[::]:443 v4v6", "HAPROXY_USER=", "LOG=/dev/log local0", "RETRY=1;THREADS=4;RATE=5")
@@ -37,11 +37,11 @@ def walk(machine, checks):
 
 
 def decision(machine, checks):
-    """The messages of docs/API.md up to a first decision, over TLS, as the page says."""
-    page = (TOP / "docs" / "API.md").read_text()
+    """The messages of docs/guide/API.md up to a first decision, over TLS, as the page says."""
+    page = (TOP / "docs" / "guide" / "API.md").read_text()
     block = re.search(r"(?ms)^## From nothing to a decision\n(.*?)^[A-Z]", page)[1]
     lines = [line.strip().removeprefix("$ ") for line in block.splitlines() if line.strip().startswith("$ curl ")]
-    settings = re.findall(r"(?m)^    # (operator=.*|at=.*); alias|^    # (operator=.*)", (TOP / "docs" / "OPERATING.md").read_text())
+    settings = re.findall(r"(?m)^    # (operator=.*|at=.*); alias|^    # (operator=.*)", PAGE.read_text())
     first = "\n".join(one or other for one, other in settings)
     trusting = 'curl() { command curl --silent --cacert /etc/haproxy/pdpd.crt "$@"; echo; }'
     said = sh("\n".join([first, trusting, "cd /usr/local/share/doc/pdpd", *lines])).splitlines()
@@ -100,7 +100,7 @@ def installed(machine, checks):
         checks.expect(f"the place in {file}", found, (True, False))
     said = sh(f"{there}/opt/pdpd/lib/pdpd/pdpd-shards 2>&1 || true")
     checks.expect("it runs", said.startswith("pdpd-shards:"), True)
-    lost = lost_links(folder / "docs" / "OPERATING.md")
+    lost = lost_links(folder / "docs" / "guide" / "OPERATING.md")
     checks.expect("links of the page that lead nowhere in the archive", lost, [])
     needed = sh(f"ldd {folder}/pdpd").split("\n")
     libraries = {line.split()[0].rpartition("/")[2] for line in needed if line.strip()}
@@ -112,7 +112,7 @@ def installed(machine, checks):
         program.truncate(os.path.getsize(folder / "pdpd") - 1)
     checks.expect("the archive", archive.stat().st_size > 10_000, True)
     drawn = sh(f"{TOP}/deploy/draw --show")
-    checks.expect("the drawing is that of its text", drawn, (TOP / "docs" / "deployment.svg").read_text())
+    checks.expect("the drawing is that of its text", drawn, (TOP / "docs" / "guide" / "deployment.svg").read_text())
 
 
 def calls(machine, checks):
