@@ -37,7 +37,7 @@ try: ## runs a crate's tests, or a program on its stored input, without proving
 check: ## proves a crate, over what earlier checks kept
 	@cd crates/$(crate); rt check
 
-api: pdpd ## proves and builds pdpd, and sends it every example of the API reference (docs/API.md, docs/openapi.yaml)
+api: pdpd ## proves and builds pdpd, and sends it every example of the API reference (docs/guide/API.md, docs/guide/openapi.yaml)
 	tests/api
 
 memory: ## refuses pdpd and xa_trials each of their allocations in turn, as `make test` does too; compiles a few lines of C with cc
@@ -72,5 +72,5 @@ dist: ## packs the proved program, the kit for several of them behind HAProxy, a
 install: ## the same, and installs it under PREFIX (/usr/local)
 	@deploy/dist --install $(or $(PREFIX),/usr/local)
 
-deploy-test: ## tries that kit with HAProxy, runit and the proved program (docs/OPERATING.md); takes the rights of root
+deploy-test: ## tries that kit with HAProxy, runit and the proved program (docs/guide/OPERATING.md); takes the rights of root
 	@tests/deploy

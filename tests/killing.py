@@ -92,7 +92,7 @@ class Load:
             return message("PUT", f"{at}/pap/root", token, json.dumps(body))
         if kind == "source":
             version, count = self.chance.randrange(10 ** 6), self.chance.choice((0, 1, MOST_ROWS))
-            rows = [{**ROW, "Value": f"{version}-{place}"} for place in range(count)]
+            rows = [{**ROW, "Value": f"{version}-{place}", **({"Issuer": f"i{place}"} if place % 3 == 1 else {})} for place in range(count)]
             return message("PUT", f"{at}/pip", token, json.dumps({"Row": rows}))
         return message("POST", f"{at}/pdp", token, '{"Request":{}}')
 

@@ -28,9 +28,9 @@ def active_in(held: bytes) -> linking.Active:
 
 
 def asked_by(document: Document) -> frozenset[tuple[str, str, str]]:
-    """The attributes that the document asks rows for: category, id and type of designators without issuer."""
+    """The attributes that the document asks rows for: category, id and type of its designators."""
     return frozenset((one.category, one.attribute_id, one.data_type) for inner in document.documents()
-                     for one in inner.designators() if one.issuer is None)
+                     for one in inner.designators())
 
 
 def references_of(document) -> list:
@@ -61,12 +61,12 @@ class Answering:
         self.views: dict[tuple, View] = {}
         self.size = 0
 
-    def placed(self, rows: list[contexts.SourceRow]) -> dict[tuple, dict[str, list[str]]]:
-        """The rows of each attribute, by the entities that have them."""
-        found: dict[tuple, dict[str, list[str]]] = {}
+    def placed(self, rows: list[contexts.SourceRow]) -> dict[tuple, dict[str, list[tuple[str | None, str]]]]:
+        """The rows of each attribute, by the entities that have them: issuers and values."""
+        found: dict[tuple, dict[str, list[tuple[str | None, str]]]] = {}
         for row in rows:
             place = found.setdefault((row.category, row.attribute_id, row.value[0]), {})
-            place.setdefault(row.entity, []).append(values.to_text(row.value))
+            place.setdefault(row.entity, []).append((row.issuer, values.to_text(row.value)))
         return found
 
     def resolved(self, reference: versions.Reference, active: frozenset[Key]) -> Key | None:

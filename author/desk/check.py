@@ -92,6 +92,7 @@ class SourceRow:
     entity: str | None
     attribute_id: str | None
     literal: Literal
+    issuer: str | None
 
 
 class RowShapes(Shapes):
@@ -103,7 +104,8 @@ class RowShapes(Shapes):
             return None
         held = self.optional(self.category, found, "Category"), self.optional(self.text, found,
                                                                               "Entity"), self.optional(self.text, found, "AttributeId")
-        return SourceRow(node, found.get("Category"), *held, self.typed(node, found))
+        literal = self.typed(node, found)
+        return SourceRow(node, found.get("Category"), *held, literal, self.optional(self.text, found, "Issuer"))
 
     def rows(self, node: Node) -> list[SourceRow | None]:
         found = self.members("Source", node)

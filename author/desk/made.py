@@ -83,16 +83,18 @@ def take_document(pools: Pools, document: Document) -> None:
 
 
 def take_rows(pools: Pools, setting: Setting) -> None:
-    """Takes in the entities of the rows, which requests name, and the rows' values."""
+    """Takes in the entities of the rows, which requests name, and the rows' values and issuers."""
     for row in setting.source_rows():
         name = contexts.entity_id(row.category)
         if name is not None and row.entity:
             place = row.category, name, "string"
             pools.issuers.setdefault(place, set()).add(None)
             pools.put(pools.of_attribute.setdefault(place, []), ("string", row.entity))
-        held = pools.of_attribute.get((row.category, row.attribute_id, row.value[0]))
+        place = row.category, row.attribute_id, row.value[0]
+        held = pools.of_attribute.get(place)
         if held is not None:
             pools.put(held, row.value)
+            pools.issuers.setdefault(place, set()).add(row.issuer)
 
 
 def pools_of(settings: list[Setting]) -> Pools:

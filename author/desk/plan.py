@@ -179,5 +179,5 @@ def reference_told(key: Key | None, reference: versions.Reference, old: Key | No
 
 def source_rows(rows) -> list[contexts.SourceRow]:
     """The rows of the model."""
-    return [contexts.SourceRow(row.category, row.entity, row.attribute_id, row.literal.value)
+    return [contexts.SourceRow(row.category, row.entity, row.attribute_id, row.literal.value, row.issuer)
             for row in (rows.rows if rows else [])]

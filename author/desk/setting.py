@@ -69,7 +69,7 @@ class Setting:
     def source_rows(self) -> list[contexts.SourceRow]:
         """The source rows of the model."""
         found = self.rows.rows if self.rows else []
-        return [contexts.SourceRow(row.category, row.entity, row.attribute_id, row.literal.value) for row in found]
+        return [contexts.SourceRow(row.category, row.entity, row.attribute_id, row.literal.value, row.issuer) for row in found]
 
     def view(self) -> decisions.View:
         """The view of the model."""
@@ -90,8 +90,9 @@ class Setting:
             bounds = [".".join(map(str, bound or [])) for bound in (earliest, latest)]
             found.append("root:" + "|".join([kind, part(name), ".".join(pattern or []), *bounds]))
         for row in self.source_rows():
-            place = "|".join(part(text) for text in row[:3])
-            found.append(f"row:{place}|{row.value[0]}={rows.encoded(values.to_text(row.value))}")
+            issuer = [] if row.issuer is None else [part(row.issuer)]
+            place = "|".join([*map(part, row[:3]), row.value[0], *issuer])
+            found.append(f"row:{place}={rows.encoded(values.to_text(row.value))}")
         return found
 
 

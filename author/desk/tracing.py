@@ -58,7 +58,8 @@ class Origins(contexts.Context):
             return "request"
         if not self.values_of(designator):
             return "nowhere"
-        return "clock" if category == contexts.ENVIRONMENT and (attribute_id, data_type) in contexts.CLOCK else "rows"
+        is_clock = issuer is None and category == contexts.ENVIRONMENT and (attribute_id, data_type) in contexts.CLOCK
+        return "clock" if is_clock else "rows"
 
     def found(self, designator: expressions.Designator) -> dict[str, object]:
         """What the designator finds, and where; where it finds nothing, also what is nearly it."""
@@ -87,13 +88,14 @@ class Origins(contexts.Context):
                                            attribute.issuer))
         entity = self.entity(category)
         for row in self.source:
-            same = (row.category == category, row.attribute_id == attribute_id, row.value[0] == data_type, issuer is None)
+            same = (row.category == category, row.attribute_id == attribute_id, row.value[0] == data_type,
+                    issuer in (None, row.issuer))
             if all(same):
                 found.append(f'a row has it for the entity "{row.entity}", and the request names '
                              + (f'"{entity}"' if entity else "none"))
             elif sum(same) == 3 and row.entity == entity and (same[1]
                                                               or names.likeness(row.attribute_id, attribute_id) >= MOST_ALIKE):
-                found.append(self.said("a row has it", same, row.category, row.attribute_id, row.value[0], None))
+                found.append(self.said("a row has it", same, row.category, row.attribute_id, row.value[0], row.issuer))
         return list(dict.fromkeys(found))
 
     def said(self, who: str, same: tuple[bool, ...], category: str, attribute_id: str, data_type: str, issuer: str | None) -> str:

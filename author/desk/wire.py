@@ -1,4 +1,4 @@
-"""Messages to a server (docs/API.md), and the token that they show. Each message has a connection of its
+"""Messages to a server (docs/guide/API.md), and the token that they show. Each message has a connection of its
 own, since a server serves one after another."""
 from __future__ import annotations
 
@@ -148,7 +148,7 @@ class Client:
         if reply.status not in (200, 201):
             code = reply.code
             advice = ADVICE.get(code, "that is no answer of such a server" if not code
-                                else "see docs/API.md")
+                                else "see docs/guide/API.md")
             raise Refused(f"{method} {path} is answered with {reply.status}{' ' + code if code else ''}: "
                           f"{advice}", code)
         return reply

@@ -47,7 +47,10 @@ CATEGORY = "AccessSubject"
 
 
 def designator(name: str) -> dict:
-    return {"Category": CATEGORY, "AttributeId": name, "DataType": "string", "MustBePresent": False}
+    """The designator of an attribute, by an issuer where it is named so: `urn:a by hr`."""
+    attribute, _, issuer = name.partition(" by ")
+    return {"Category": CATEGORY, "AttributeId": attribute, "DataType": "string", "MustBePresent": False,
+            **({"Issuer": issuer} if issuer else {})}
 
 
 def match(name: str, value: str) -> dict:
@@ -74,9 +77,9 @@ def policy_set(name: str, version: str, children: list[tuple[str, str | None]]) 
                                      "PolicyCombiningAlgId": COMBINING % ("policy", "deny-overrides")}})
 
 
-def row(entity: str, attribute: str, value: str = "yes") -> dict:
+def row(entity: str, attribute: str, value: str = "yes", issuer: str | None = None) -> dict:
     return {"Category": CATEGORY, "Entity": entity, "AttributeId": attribute, "DataType": "string",
-            "Value": value}
+            "Value": value, **({} if issuer is None else {"Issuer": issuer})}
 
 
 def rows(*held: dict) -> str:

@@ -173,6 +173,20 @@ class Commands(DeskTest):
         written = ask(held, "0", "--rows", "@rows.json", word="explain")[1]
         self.assertIn('nearly: a row has it for the entity "alice", and the request names "bob"', " ".join(written.split()))
 
+    def test_rows_of_an_issuer(self) -> None:
+        held = edited(REQUEST,
+                      ('{"AttributeId": "urn:test:role", "Value": "staff"}',
+                       '{"AttributeId": "urn:oasis:names:tc:xacml:1.0:subject:subject-id", "Value": "alice"}'))
+        by_hr = edited(POLICY, ('"AttributeId": "urn:test:role",', '"AttributeId": "urn:test:role", "Issuer": "hr",'))
+        for issuer, words in (("", "nearly: a row has it without an issuer"), (', "Issuer": "it"', "nearly: a row has it by it"),
+                              (', "Issuer": "hr"', '"staff" from the rows of "alice"')):
+            rows = edited(ROWS, ('"Value": "staff"', f'"Value": "staff"{issuer}'))
+            with self.subTest(words):
+                files = {"p.json": by_hr, "rows.json": rows}
+                written = ask(held, "2026-11-23T10:00:00Z", "--rows", "@rows.json", word="explain", **files)[1]
+                self.assertIn(words, " ".join(written.split()))
+                self.assertEqual("Permit" in written, "hr" in issuer)
+
     def test_explanation_as_json(self) -> None:
         held = json.loads(ask(REQUEST, "2026-11-23T10:00:00Z", "--json", word="explain")[1])
         tree = held["results"][0]["tree"]

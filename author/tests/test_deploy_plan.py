@@ -45,7 +45,7 @@ class Chance:
         """Policies p0 to p2 in versions 1 to 3, and sets s in versions 1 to 3 with references of all
         kinds."""
         for number, version in itertools.product(range(3), range(1, 4)):
-            attribute = self.random.choice((None, *ATTRIBUTES))
+            attribute = self.random.choice((None, *ATTRIBUTES, "urn:b by hr"))
             self.add(policy(f"urn:p{number}", str(version), f"urn:p{number}:{version}",
                             self.random.choice(("Permit", "Deny")), attribute))
         for version in range(1, 4):
@@ -54,8 +54,8 @@ class Chance:
             self.add(policy_set("urn:s", str(version), children))
 
     def rows(self) -> list[dict]:
-        return [row(who, attribute) for who in ("alice", "bob", "") for attribute in ATTRIBUTES
-                if self.random.random() < 0.5]
+        return [row(who, attribute, issuer=self.random.choice((None, None, "hr", "it")))
+                for who in ("alice", "bob", "") for attribute in ATTRIBUTES if self.random.random() < 0.5]
 
     def root(self) -> versions.Reference | None:
         pattern = self.random.choice((None, None, ["1"], ["2"], ["3"]))
@@ -91,9 +91,9 @@ class Orders(unittest.TestCase):
     def answers(self, chance: Chance, answering: Answering, state: State) -> list[str]:
         """What the model answers in a state."""
         active = [active_in(chance.held[key].source.held) for key in sorted(state.active)]
-        found = [contexts.SourceRow(place[0], entity, place[1], values.read(place[2], text))
+        found = [contexts.SourceRow(place[0], entity, place[1], values.read(place[2], text), issuer)
                  for place, entities in answering.rows[state.rows].items() for entity,
-                 texts in entities.items() for text in texts]
+                 held in entities.items() for issuer, text in held]
         return [decisions.response(decisions.View(active, state.root, found), body.encode(), 0)
                 for body in ASKED]
 

@@ -1,0 +1,307 @@
+"""What is generated in the pages (*.md), between the marks `<!-- pages: .. -->` and `<!-- end of pages -->`.
+
+Marks: `files PATTERN` is a table of the files with the first sentence of each; `definitions` the index of all
+definitions, crate by crate; `standing` the table of what each crate stands on; `lines` counts the lines of definitions
+that have to be read; `decisions ROOM,ROOM..` is the index of all decisions in docs/design/decisions, each of which is
+a heading and a line that begins with its date; `kinds PATTERN` an example of each kind of row; `tables FILE` the
+tables of SQL that a file of code makes; `said COMMAND,WORD..` what a command writes. `routes`, `route METHOD:PATH`,
+`errors`, `objects FIRST`, `states` and `examples METHOD:PATH` are parts of docs/guide, of what
+docs/guide/openapi.yaml has and the page doesn't write out.
+"""
+import ast
+import functools
+import importlib.machinery
+import importlib.util
+import json
+import pathlib
+import re
+import subprocess
+import textwrap
+
+TOP = pathlib.Path(__file__).resolve().parent.parent
+DECISIONS = TOP / "docs" / "design" / "decisions"
+COLUMNS = 100
+MARKED = re.compile(r"(<!-- pages: (\w+)(?: (\S+))? -->\n).*?(<!-- end of pages -->)", re.S)
+ITEM = re.compile(r"(\s*)([-*] |\d+\. |> )")
+EXAMPLE, GREATEST_EXAMPLE = 70, 110
+
+# What docs/audit/AUDIT.md counts: the statement of the headline, and all definitions.
+STATEMENT = [f"crates/xa_server/specs/{name}.antt" for name in "Machine Alone Owner World Isolation Served".split()]
+STATEMENT += [f"crates/xa_records/specs/{name}.antt" for name in "Changes Readings Kept DomainState".split()]
+COUNTED = {"the statement of the headline, files 1 to 4": STATEMENT, "all definitions": ["crates/*/specs/**/*.antt"]}
+
+
+def wrapped(lines):
+    """A paragraph or an item of a list, in lines of at most 100 columns; code spans and links aren't broken."""
+    item = ITEM.match(lines[0])
+    first = item[0] if item else ""
+    behind = first if first.endswith("> ") else " " * len(first)
+    strip = lambda line: line.strip().removeprefix("> ") if first.endswith("> ") else line.strip()
+    text = " ".join(strip(line) for line in [lines[0][len(first):], *lines[1:]])
+    text = re.sub(r"`[^`]+`|\[[^]]{1,50}\]\([^)]*\)", lambda span: span[0].replace(" ", "\0"), text)
+    text = re.sub(r" (?=(?:[-+*#>|]|\d+\.) )", "\0", text)
+    made = textwrap.wrap(text, COLUMNS, initial_indent=first, subsequent_indent=behind, break_long_words=False,
+                         break_on_hyphens=False)
+    return [line.replace("\0", " ") for line in made]
+
+
+# ---- what is generated
+
+def first_sentence(path):
+    """The first sentence of a file's docstring, or of the comment at its head."""
+    text = path.read_text(encoding="utf-8")
+    if path.suffix == ".py":
+        told = ast.get_docstring(ast.parse(text)) or ""
+    else:
+        mark = "--" if path.suffix == ".antt" else "#"
+        told = "\n".join(line.removeprefix(mark) for line in re.match(rf"(?:{mark}.*\n)*", text)[0].splitlines())
+    told = " ".join(told.split("\n\n")[0].split())
+    return re.split(r"(?<=[^.]\.) (?=[A-Z`<])", told)[0].rstrip(".")
+
+
+def cell(text):
+    return text.replace("|", r"\|").replace("<", r"\<")
+
+
+def files(pattern):
+    rows = [(path.name, first_sentence(path)) for path in sorted(TOP.glob(pattern)) if path.name != "__init__.py"]
+    return "| File | What it is about |\n|---|---|\n" + "".join(f"| `{name}` | {cell(told)} |\n" for name, told in rows)
+
+
+def crates():
+    """All crates with what each stands on, in the order of crates.txt."""
+    lines = (TOP / "crates.txt").read_text(encoding="utf-8").splitlines()
+    for line in lines:
+        if line.strip() and not line.startswith("#"):
+            name, _, rest = line.partition(":")
+            yield name, rest.split()
+
+
+def definitions(_):
+    text = ""
+    for name, _rest in crates():
+        folder = TOP / "crates" / name / "specs"
+        rows = []
+        for path in sorted(folder.rglob("*.antt")):
+            within = path.relative_to(folder).with_suffix("").as_posix()
+            if within != "Lib" and not within.startswith("declared") and (told := first_sentence(path)):
+                rows.append(f"| `{within}` | {cell(told)} |\n")
+        if rows:
+            text += f"\n## {name}\n\n| Module | What it says |\n|---|---|\n" + "".join(rows)
+    return text.lstrip("\n")
+
+
+def standing(_):
+    found = dict(crates())
+    text = "| Crate | Stands on, of this repository | Of the kit |\n|---|---|---|\n"
+    for name, rest in found.items():
+        ours, kit = ([f"`{each}`" for each in rest if (each in found) == own] for own in (True, False))
+        text += f"| `{name}` | {', '.join(ours)} | {', '.join(kit)} |\n"
+    return text
+
+
+def lines(_):
+    text = "| What | Lines | Without comments, imports and empty lines |\n|---|---|---|\n"
+    for what, patterns in COUNTED.items():
+        found = [line for pattern in patterns for path in TOP.glob(pattern) if "declared" not in path.parts
+                 for line in path.read_text(encoding="utf-8").splitlines()]
+        bare = [line for line in found if line.strip() and not line.startswith(("--", "use ", "pub mod ", "pub use "))]
+        counts = [len(each) if len(each) < 1000 else f"some {round(len(each), -3):,}" for each in (found, bare)]
+        text += f"| {what} | {counts[0]} | {counts[1]} |\n"
+    return text
+
+
+# ---- what commands say
+
+def said(words):
+    """What a command of the repository writes, as code: its path and its words, with commas between."""
+    ran = subprocess.run(words.split(","), cwd=TOP, capture_output=True, text=True, check=False)
+    return "```\n" + (ran.stdout or ran.stderr).strip("\n") + "\n```\n"
+
+
+def tables(path):
+    """The tables of SQL that a file of code makes, a line for each column."""
+    text = (TOP / path).read_text(encoding="utf-8")
+    found = re.findall(r'"(CREATE TABLE \w+) \((.*)\) (\w+)"', text)
+    made = "\n".join(f"{name} (\n    " + re.sub(r", (?![^(]*\))", ",\n    ", columns) + f"\n) {kind};"
+                     for name, columns, kind in found)
+    return f"```sql\n{made}\n```\n"
+
+
+# ---- rows
+
+def kinds(pattern):
+    """Each kind of row with how many lines of the files have it, and an example of some 70 characters."""
+    found = {}
+    for path in sorted(TOP.glob(pattern)):
+        for line in path.read_text(encoding="utf-8").splitlines():
+            asked = re.match(r"([a-z_]+)  ", line)
+            if asked and "  =>  " in line:
+                found.setdefault(asked[1], []).append(line)
+    text = "| Kind | Lines | A row and its answer |\n|---|---|---|\n"
+    for kind, lines in sorted(found.items()):
+        line = min(lines, key=lambda line: ("=>  !" in line, "\\(" in line, abs(len(line) - EXAMPLE), line))
+        shown = line.replace("|", r"\|") if len(line) <= GREATEST_EXAMPLE else f"{kind}  ..  =>  .."
+        text += f"| `{kind}` | {len(lines):,} | `{shown}` |\n"
+    return text
+
+
+# ---- the tables of docs/guide/API.md
+
+@functools.cache
+def openapi():
+    """The module tests/api, which reads docs/guide/openapi.yaml, and what it reads."""
+    loader = importlib.machinery.SourceFileLoader("api", str(TOP / "tests" / "api"))
+    module = importlib.util.module_from_spec(importlib.util.spec_from_loader("api", loader))
+    loader.exec_module(module)
+    return module, module.Yaml((TOP / module.OPENAPI).read_text(encoding="utf-8")).whole()
+
+
+def roles(operation):
+    return ", ".join(role for each in operation["security"] for names in each.values() for role in names)
+
+
+def routes(_):
+    module, page = openapi()
+    return "| Route | Token | What it does |\n|---|---|---|\n" + "".join(
+        f"| `{method} {path}` | {roles(operation)} | {operation['summary']} |\n"
+        for method, path, operation in module.operations(page))
+
+
+def route(name):
+    """What a route does, as docs/guide/openapi.yaml says it."""
+    module, page = openapi()
+    told = next(operation["description"] for method, path, operation in module.operations(page)
+                if f"{method}:{path}" == name)
+    return "".join("\n".join(wrapped(part.split("\n"))) + "\n\n" for part in told.strip().split("\n\n")).strip("\n") + "\n"
+
+
+def held_by(schema):
+    """What a member holds: the object's name, `[..]` of an array, the values if they are few; nothing of a text."""
+    if "items" in schema:
+        return f"[{held_by(schema['items'])}]"
+    if "properties" in schema:
+        return "{" + ", ".join(f"{name}: {held_by(each)}" for name, each in schema["properties"].items()) + "}"
+    name = schema.get("$ref", "").rpartition("/")[2]
+    values = openapi()[1]["components"]["schemas"][name].get("enum", ()) if name else ()
+    return " or ".join(values) if 0 < len(values) < 4 else name or schema["type"].replace("string", "")
+
+
+def member_told(name, schema, needed):
+    """A member, with what it holds if its name doesn't say it."""
+    held = held_by(schema)
+    return f"{name}{'' if name in needed else '?'}{f': {held}' if held not in ('', name) else ''}"
+
+
+def objects(first):
+    """The objects that an object of docs/guide/openapi.yaml leads to, each with its members."""
+    schemas, order = openapi()[1]["components"]["schemas"], [first]
+    for name in order:
+        order += [each for each in dict.fromkeys(re.findall(r"schemas/(\w+)", json.dumps(schemas[name])))
+                  if each not in order and "properties" in schemas[each]]
+    text = "| Object | Members | What it is |\n|---|---|---|\n"
+    for name in order:
+        schema, members = schemas[name], schemas[name]["properties"]
+        is_one = schema.get("minProperties") == schema.get("maxProperties") == 1
+        needed = list(members) if is_one else schema.get("required", ())
+        told = ", ".join(member_told(member, each, needed) for member, each in members.items())
+        text += f"| {name} | {'exactly one of ' * is_one}{told} | {cell(schema['description'])} |\n"
+    return text
+
+
+def errors(_):
+    text = "| Code | Status | What happened | What to do |\n|---|---|---|---|\n"
+    for code, each in openapi()[1]["x-errors"].items():
+        text += f"| `{code}` | {each['status']} | {cell(each['what'])} | {cell(each['do'])} |\n"
+    return text
+
+
+def states(_):
+    text = "| State | Messages before | What the server has then |\n|---|---|---|\n"
+    for name, state in openapi()[1]["x-states"].items():
+        steps = [f"`{item['example']}` with `{item['replace']}` made `{item['by']}`, n from {item['from']} to {item['to']}"
+                 if isinstance(item, dict) else f"`{item}`" for item in state["messages"]]
+        text += f"| `{name}` | {', '.join(steps) or 'none'} | {state['description']} |\n"
+    return text
+
+
+def examples_of(route):
+    """Each example of a route: its name, summary, state, target, body as it is written, status and reply."""
+    module, page = openapi()
+    for method, path, operation in module.operations(page):
+        bodies = {name: each["value"] for content in operation.get("requestBody", {}).get("content", {}).values()
+                  for name, each in content.get("examples", {}).items()}
+        for status, response in operation["responses"].items() if f"{method} {path}" == route else ():
+            for content in response.get("content", {}).values():
+                for name, each in content.get("examples", {}).items():
+                    request = each["x-request"]
+                    body = module.compact(request.get("body", bodies.get(name, "")))
+                    yield name, each["summary"], request["from"], request["target"], body, status, each["value"]
+
+
+def body_told(first, body):
+    """How a body differs from that of the section's first example."""
+    if not body:
+        return "with an empty body"
+    old, new = (re.findall(r'"[^"]*"|.', text) for text in (first, body))
+    others = [pair for pair in zip(old, new) if pair[0] != pair[1]]
+    if len(body) > 120 and len(old) == len(new) and len(others) == 1 and first.count(others[0][0]) == 1:
+        return f"with `{others[0][1]}` in place of `{others[0][0]}`"
+    return f"with `{body}`"
+
+
+def reply_told(status, value):
+    if "Error" in value:
+        return f"{status} `{value['Error']}`"
+    compact = json.dumps(value, separators=(",", ":"), ensure_ascii=False)
+    decision = re.fullmatch(r'.*"Decision":"(\w+)".*"urn:oasis:names:tc:xacml:1.0:status:([\w-]+)"}}}]}', compact)
+    if decision and compact == openapi()[0].decided(*decision.groups()):
+        return f"{status} {decision[1]} `{decision[2]}`"
+    return f"{status} `{compact}`"
+
+
+def examples(route, page):
+    """A table of the route's examples that the page doesn't write out."""
+    written = re.findall(r"^Example `([\w-]+)`, from", page, re.M)
+    found = list(examples_of(route.replace(":", " ", 1)))
+    first = min((each for each in found if each[0] in written), key=lambda each: written.index(each[0]))
+    text = "| Example | What | From | Request | Reply |\n" + "|---" * 5 + "|\n"
+    for name, summary, state, target, body, status, value in found:
+        if name not in written:
+            parts = [f"to `{target}`"] if target != first[3] else []
+            parts += [body_told(first[4], body)] if body != first[4] else []
+            asked = " and ".join(parts) or "the same"
+            text += f"| `{name}` | {summary} | `{state}` | {asked} | {reply_told(status, value)} |\n"
+    return text
+
+
+# ---- the index of decisions
+
+def anchor_of(heading):
+    return re.sub(r"[^\w\- ]", "", heading.lower()).replace(" ", "-")
+
+def decided(room):
+    """The decisions of a room: the heading of each, its date, and its state, which isn't written where it stands."""
+    text = (DECISIONS / f"{room}.md").read_text(encoding="utf-8")
+    for heading, behind in re.findall(r"^## (.*)\n\n(.*)", text, re.M):
+        found = re.match(r"\*(\d{4}-\d\d-\d\d)(?:, ([^*]+))?\.\*", behind)
+        yield heading, *(found.groups("stands") if found else ("no date", "no date"))
+
+
+def decisions(rooms):
+    text = ""
+    for room in rooms.split(","):
+        title = (DECISIONS / f"{room}.md").read_text(encoding="utf-8").partition("\n")[0].removeprefix("# ")
+        text += f"\n## {title}\n\n| Decision | Date | State |\n|---|---|---|\n"
+        for heading, date, state in decided(room):
+            text += f"| [{cell(heading)}](design/decisions/{room}.md#{anchor_of(heading)}) | {date} | {state} |\n"
+    return text.lstrip("\n")
+
+
+# ---- all
+
+def generated(text):
+    makers = {"files": files, "definitions": definitions, "standing": standing, "lines": lines, "states": states,
+              "decisions": decisions, "kinds": kinds, "said": said, "tables": tables, "routes": routes, "route": route, "errors": errors, "objects": objects,
+              "examples": lambda route: examples(route, text)}
+    return MARKED.sub(lambda found: found[1] + "\n" + makers[found[2]](found[3]) + "\n" + found[4], text)
