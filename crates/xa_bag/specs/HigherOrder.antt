@@ -51,11 +51,13 @@ abbrev pub all_of : {F : Type 0} → (List Value → Result Value F) → List Va
 all_of f arguments = and_of (map (holds f) (choices arguments))
 
 -- all-of-any: for each value of the first bag it holds with some value of the second
-abbrev pub all_of_any : {F : Type 0} → (List Value → Result Value F) → List Value → List Value → Result Bool (BagFault F)
+abbrev pub all_of_any : {F : Type 0} → (List Value → Result Value F) → List Value → List Value
+    → Result Bool (BagFault F)
 all_of_any f vs ws = and_of (map (λ v. or_of (map (λ w. holds f (v ∷ w ∷ [])) ws)) vs)
 
 -- all-of-all: for each value of the first bag it holds with each value of the second
-abbrev pub all_of_all : {F : Type 0} → (List Value → Result Value F) → List Value → List Value → Result Bool (BagFault F)
+abbrev pub all_of_all : {F : Type 0} → (List Value → Result Value F) → List Value → List Value
+    → Result Bool (BagFault F)
 all_of_all f vs ws = and_of (map (λ v. and_of (map (λ w. holds f (v ∷ w ∷ [])) ws)) vs)
 
 -- a value before others, where they are given
@@ -75,5 +77,6 @@ as_bag t (Ok vs) = Ok (bag_of t vs)
 as_bag t (Err e) = Err e
 
 -- map: the bag of what it gives for each choice, the type being that of its values
-abbrev pub bag_of_results : {F : Type 0} → DataType → (List Value → Result Value F) → List ValueOrBag → Result Contents (BagFault F)
+abbrev pub bag_of_results : {F : Type 0} → DataType → (List Value → Result Value F) → List ValueOrBag
+    → Result Contents (BagFault F)
 bag_of_results t f arguments = as_bag t (collected (map (λ vs. outcome (f vs)) (choices arguments)))

@@ -1,6 +1,7 @@
--- Or, and and n-of of some choice of a value for each argument, seen from how many arguments are True in one choice at the most:
--- what the code goes by where it needs no call of an inner function for each choice.
-use Rattle.std.specs.Prelude.{ℕ, suc, nat_le, nat_lt, int_lt, if◌then◌else◌, List, [], ◌∷◌, map, ℤ, pos, unsigned_abs, Option, Some, None, option_map, Bool, Result, Ok, Err}
+-- Or, and and n-of of some choice of a value for each argument, seen from how many arguments are True in one choice
+-- at the most: what the code goes by where it needs no call of an inner function for each choice.
+use Rattle.std.specs.Prelude.{ℕ, suc, nat_le, nat_lt, int_lt, if◌then◌else◌, List, [], ◌∷◌, map, ℤ}
+use Rattle.std.specs.Prelude.{pos, unsigned_abs, Option, Some, None, option_map, Bool, Result, Ok, Err}
 use Rattle.std.specs.List.{list_any}
 use Rattle.xa_value.specs.declared.value.Value.{Value}
 use Rattle.xa_value.specs.declared.value.Value.TheVariants as value
@@ -23,7 +24,8 @@ abbrev pub with_values : List Value → Option ℕ → Option ℕ
 with_values [] most = None
 with_values (v ∷ vs) most = option_map (λ n. if list_any is_true (v ∷ vs) then suc n else n) most
 
--- how many arguments are True in one choice at the most: those that have a True. Where one has no value, there is no choice
+-- how many arguments are True in one choice at the most: those that have a True. Where one has no value, there is no
+-- choice
 abbrev pub most_true : List ValueOrBag → Option ℕ
 most_true [] = Some 0
 most_true (argument ∷ arguments) = with_values (values_of argument) (most_true arguments)

@@ -1,5 +1,5 @@
--- Two values that are equal, or lie in an order, and all pairs of the values of two bags: what the code goes by where it needs no
--- call of an inner function for each pair.
+-- Two values that are equal, or lie in an order, and all pairs of the values of two bags: what the code goes by where
+-- it needs no call of an inner function for each pair.
 use Rattle.std.specs.Prelude.{Bool, if◌then◌else◌, List, [], ◌∷◌, Result, Ok}
 use Rattle.std.specs.List.{list_any, list_all}
 use Rattle.xa_value.specs.declared.value.Value.{Value}
@@ -7,7 +7,8 @@ use Rattle.xa_value.specs.declared.value.Value.TheVariants as value
 use Rattle.xa_value.specs.Order.{same}
 use Rattle.xa_func.specs.declared.fault.FuncFault.{FuncFault}
 use Rattle.xa_func.specs.declared.func_id.Comparison.{Comparison}
-use Rattle.xa_func.specs.declared.func_id.Comparison.TheVariants.{GreaterThan, GreaterThanOrEqual, LessThan, LessThanOrEqual}
+use Rattle.xa_func.specs.declared.func_id.Comparison.TheVariants.{GreaterThan, GreaterThanOrEqual}
+use Rattle.xa_func.specs.declared.func_id.Comparison.TheVariants.{LessThan, LessThanOrEqual}
 use Rattle.xa_func.specs.Arguments.{of_two}
 use Rattle.xa_func.specs.Comparison.{compared}
 use Rattle.xa_bag.specs.declared.relation.Relation.{Relation}

@@ -8,7 +8,8 @@ ghost use Rattle.xa_func.specs.declared.signature.Kind.TheVariants as kind;
 ghost use Rattle.xa_func.specs.Signature.{AcceptsKinds, bag_signature};
 ghost use Rattle.xa_bag.specs.HigherOrder.{EachInItsPlace};
 ghost use Rattle.xa_bag.specs.ValueOrBag.{kind_of_argument, kind_of_each};
-ghost use Rattle.xa_bag.specs.Applying.{bag_applied, grows, IsOfResultKind, boolean, higher_order_applied, kind_given};
+ghost use Rattle.xa_bag.specs.Applying.{bag_applied, grows, IsOfResultKind};
+ghost use Rattle.xa_bag.specs.Applying.{boolean, higher_order_applied, kind_given};
 
 use crate::arguments::{one_bag, two_bags, value_and_bag};
 use crate::fault::BagFault;
@@ -19,8 +20,8 @@ use std::alloc::Global;
 use xa_func::{BagFunction, HigherOrder};
 use xa_value::{DataType, OrMemory, Value};
 
-/// What the function of the type gives for arguments that its signature takes (XACML 3.0, core, appendix A.3.10 and A.3.11). The only fault is
-/// NotOne, of one-and-only.
+/// What the function of the type gives for arguments that its signature takes (XACML 3.0, core,
+/// appendix A.3.10 and A.3.11). The only fault is NotOne, of one-and-only.
 pub fn apply_bag_function<F>(
     alloc: Global,
     function: BagFunction,
@@ -29,7 +30,8 @@ pub fn apply_bag_function<F>(
 ) -> Result<ValueOrBag, OrMemory<BagFault<F>>>
     requires { AcceptsKinds (bag_signature function data_type) (map kind_of_argument arguments.now) }
     ensures value { Gives result (bag_applied function data_type arguments.now) }
-    ensures exact { grows function ≡ false → result ≡ answered (bag_applied function data_type arguments.now) }
+    ensures exact { grows function ≡ false
+        → result ≡ answered (bag_applied function data_type arguments.now) }
     ensures typed { IfOk result (IsOfResultKind (bag_signature function data_type)) }
 {
     match function {
@@ -57,7 +59,8 @@ fn the_one<F>(
     data_type: DataType,
     arguments: &[ValueOrBag],
 ) -> Result<ValueOrBag, OrMemory<BagFault<F>>>
-    requires { AcceptsKinds (bag_signature bag_function.OneAndOnly data_type) (map kind_of_argument arguments.now) }
+    requires { AcceptsKinds (bag_signature bag_function.OneAndOnly data_type)
+        (map kind_of_argument arguments.now) }
     ensures value { Gives result (bag_applied bag_function.OneAndOnly data_type arguments.now) }
     ensures typed { IfOk result (IsOfResultKind (bag_signature bag_function.OneAndOnly data_type)) }
 {
@@ -70,7 +73,8 @@ fn the_size<F>(
     data_type: DataType,
     arguments: &[ValueOrBag],
 ) -> Result<ValueOrBag, OrMemory<BagFault<F>>>
-    requires { AcceptsKinds (bag_signature bag_function.BagSize data_type) (map kind_of_argument arguments.now) }
+    requires { AcceptsKinds (bag_signature bag_function.BagSize data_type)
+        (map kind_of_argument arguments.now) }
     ensures value { result ≡ answered (bag_applied bag_function.BagSize data_type arguments.now) }
     ensures typed { IfOk result (IsOfResultKind (bag_signature bag_function.BagSize data_type)) }
 {
@@ -110,7 +114,8 @@ fn intersection_of<F>(
     data_type: DataType,
     arguments: &[ValueOrBag],
 ) -> Result<ValueOrBag, OrMemory<BagFault<F>>>
-    requires { AcceptsKinds (bag_signature bag_function.Intersection data_type) (map kind_of_argument arguments.now) }
+    requires { AcceptsKinds (bag_signature bag_function.Intersection data_type)
+        (map kind_of_argument arguments.now) }
     ensures value { Gives result (bag_applied bag_function.Intersection data_type arguments.now) }
     ensures typed { IfOk result (IsOfResultKind (bag_signature bag_function.Intersection data_type)) }
 {
@@ -124,7 +129,8 @@ fn union_of<F>(
     data_type: DataType,
     arguments: &[ValueOrBag],
 ) -> Result<ValueOrBag, OrMemory<BagFault<F>>>
-    requires { AcceptsKinds (bag_signature bag_function.Union data_type) (map kind_of_argument arguments.now) }
+    requires { AcceptsKinds (bag_signature bag_function.Union data_type)
+        (map kind_of_argument arguments.now) }
     ensures value { Gives result (bag_applied bag_function.Union data_type arguments.now) }
     ensures typed { IfOk result (IsOfResultKind (bag_signature bag_function.Union data_type)) }
 {
@@ -136,7 +142,8 @@ fn whether_some<F>(
     data_type: DataType,
     arguments: &[ValueOrBag],
 ) -> Result<ValueOrBag, OrMemory<BagFault<F>>>
-    requires { AcceptsKinds (bag_signature bag_function.AtLeastOneMemberOf data_type) (map kind_of_argument arguments.now) }
+    requires { AcceptsKinds (bag_signature bag_function.AtLeastOneMemberOf data_type)
+        (map kind_of_argument arguments.now) }
     ensures value { result ≡ answered (bag_applied bag_function.AtLeastOneMemberOf data_type arguments.now) }
     ensures typed { IfOk result (IsOfResultKind (bag_signature bag_function.AtLeastOneMemberOf data_type)) }
 {
@@ -149,7 +156,8 @@ fn whether_subset<F>(
     data_type: DataType,
     arguments: &[ValueOrBag],
 ) -> Result<ValueOrBag, OrMemory<BagFault<F>>>
-    requires { AcceptsKinds (bag_signature bag_function.Subset data_type) (map kind_of_argument arguments.now) }
+    requires { AcceptsKinds (bag_signature bag_function.Subset data_type)
+        (map kind_of_argument arguments.now) }
     ensures value { result ≡ answered (bag_applied bag_function.Subset data_type arguments.now) }
     ensures typed { IfOk result (IsOfResultKind (bag_signature bag_function.Subset data_type)) }
 {
@@ -162,7 +170,8 @@ fn whether_equal<F>(
     data_type: DataType,
     arguments: &[ValueOrBag],
 ) -> Result<ValueOrBag, OrMemory<BagFault<F>>>
-    requires { AcceptsKinds (bag_signature bag_function.SetEquals data_type) (map kind_of_argument arguments.now) }
+    requires { AcceptsKinds (bag_signature bag_function.SetEquals data_type)
+        (map kind_of_argument arguments.now) }
     ensures value { result ≡ answered (bag_applied bag_function.SetEquals data_type arguments.now) }
     ensures typed { IfOk result (IsOfResultKind (bag_signature bag_function.SetEquals data_type)) }
 {
@@ -170,9 +179,10 @@ fn whether_equal<F>(
     Ok(boolean(sets::set_equals(first, second)))
 }
 
-/// What the higher-order function gives for the inner function and the arguments after it, of each of whose values the inner
-/// function takes one. Arguments other than two bags are NotOne for all-of-any and all-of-all. Clause `law`: where one argument
-/// is a bag, the inner function is given each of its values in the bag's place (XACML 3.0, core, appendix A.3.12).
+/// What the higher-order function gives for the inner function and the arguments after it, of each
+/// of whose values the inner function takes one. Arguments other than two bags are NotOne for
+/// all-of-any and all-of-all. Clause `law`: where one argument is a bag, the inner function is
+/// given each of its values in the bag's place (XACML 3.0, core, appendix A.3.12).
 #[tactic(auto, using(crate::proofs::JoiningLemmas::each_in_its_place))]
 pub fn apply_higher_order<F: Inner>(
     alloc: Global,
@@ -181,8 +191,11 @@ pub fn apply_higher_order<F: Inner>(
     arguments: &[ValueOrBag],
 ) -> Result<ValueOrBag, OrMemory<BagFault<F::Fault>>>
     requires { F.can function.now (map kind_of_each arguments.now) }
-    ensures value { Gives result (higher_order_applied higher_order (F.result_type function.now) (F.gives function.now) arguments.now) }
-    ensures typed { IfOk result (λ given. kind_of_argument given ≡ kind_given higher_order (F.result_type function.now)) }
+    ensures value { Gives result
+        (higher_order_applied higher_order (F.result_type function.now)
+        (F.gives function.now) arguments.now) }
+    ensures typed { IfOk result (λ given.
+        kind_of_argument given ≡ kind_given higher_order (F.result_type function.now)) }
     ensures law { EachInItsPlace }
 {
     match function.at_once(higher_order, arguments) {
@@ -199,8 +212,11 @@ fn choice_by_choice<F: Inner>(
     arguments: &[ValueOrBag],
 ) -> Result<ValueOrBag, OrMemory<BagFault<F::Fault>>>
     requires { F.can function.now (map kind_of_each arguments.now) }
-    ensures value { Gives result (higher_order_applied higher_order (F.result_type function.now) (F.gives function.now) arguments.now) }
-    ensures typed { IfOk result (λ given. kind_of_argument given ≡ kind_given higher_order (F.result_type function.now)) }
+    ensures value { Gives result
+        (higher_order_applied higher_order (F.result_type function.now)
+        (F.gives function.now) arguments.now) }
+    ensures typed { IfOk result (λ given.
+        kind_of_argument given ≡ kind_given higher_order (F.result_type function.now)) }
 {
     match higher_order {
         HigherOrder::AnyOf => Ok(boolean(higher_order::any_of(alloc, function, arguments)?)),
@@ -219,7 +235,9 @@ fn each_with_some<F: Inner>(
     arguments: &[ValueOrBag],
 ) -> Result<ValueOrBag, OrMemory<BagFault<F::Fault>>>
     requires { F.can function.now (map kind_of_each arguments.now) }
-    ensures value { Gives result (higher_order_applied higher.AllOfAny (F.result_type function.now) (F.gives function.now) arguments.now) }
+    ensures value { Gives result
+        (higher_order_applied higher.AllOfAny (F.result_type function.now)
+        (F.gives function.now) arguments.now) }
     ensures typed { IfOk result (λ given. kind_of_argument given ≡ kind.Value data_type_named.Boolean) }
 {
     match arguments {
@@ -237,7 +255,9 @@ fn each_with_each<F: Inner>(
     arguments: &[ValueOrBag],
 ) -> Result<ValueOrBag, OrMemory<BagFault<F::Fault>>>
     requires { F.can function.now (map kind_of_each arguments.now) }
-    ensures value { Gives result (higher_order_applied higher.AllOfAll (F.result_type function.now) (F.gives function.now) arguments.now) }
+    ensures value { Gives result
+        (higher_order_applied higher.AllOfAll (F.result_type function.now)
+        (F.gives function.now) arguments.now) }
     ensures typed { IfOk result (λ given. kind_of_argument given ≡ kind.Value data_type_named.Boolean) }
 {
     match arguments {

@@ -1,5 +1,6 @@
 //! A bag: values of one data type, in order.
-ghost use Rattle.std.specs.Prelude.{◌≡◌, ◌↔◌, [], ◌∷◌, ◌++◌, ◌<◌, ◌^◌, length, if◌then◌else◌, IsTrue, IfOk, OnOk, OnErr};
+ghost use Rattle.std.specs.Prelude.{◌≡◌, ◌↔◌, [], ◌∷◌, ◌++◌, ◌<◌, ◌^◌, length};
+ghost use Rattle.std.specs.Prelude.{if◌then◌else◌, IsTrue, IfOk, OnOk, OnErr};
 ghost use Rattle.xa_value.specs.Order.{type_of};
 
 use std::alloc::{AllocError, Global};
@@ -9,7 +10,8 @@ use xa_value::{DataType, Shared, Value};
 /// From how many values on those of a bag are lent.
 const MANY: usize = 8;
 
-/// A bag: any number of values of one data type, in order (XACML 3.0, core, section 7.3.2). They are its own, or those that are lent to it.
+/// A bag: any number of values of one data type, in order (XACML 3.0, core, section 7.3.2). They
+/// are its own, or those that are lent to it.
 #[derive(Debug, Drop)]
 pub struct Bag {
     data_type: DataType,
@@ -24,7 +26,10 @@ impl Model for Bag {
 
     ghost Value = { Contents };
 
-    ghost view = { λ b. record { data_type = b.data_type; values = option_map_or (λ values. values.items) b.lent b.own.items } };
+    ghost view = { λ b. record {
+      data_type = b.data_type;
+      values = option_map_or (λ values. values.items) b.lent b.own.items;
+    } };
 
     ghost invariant = { λ b. OfType b.data_type (option_map_or (λ values. values.items) b.lent b.own.items) };
 }
@@ -43,7 +48,8 @@ impl Bag {
         }
     }
 
-    /// The same bag. From eight values on they are lent from now on: a copy of the bag takes no time, however many there are.
+    /// The same bag. From eight values on they are lent from now on: a copy of the bag takes no
+    /// time, however many there are.
     pub fn lent(self) -> Result<Bag, AllocError>
         ensures { IfOk result (λ bag. bag ≡ self) }
     {
@@ -122,11 +128,12 @@ impl Bag {
         }
     }
 
-    /// Puts the value at the end and answers true, if it is of the bag's type; else answers false, and nothing is changed.
-    /// Without memory nothing is changed either.
+    /// Puts the value at the end and answers true, if it is of the bag's type; else answers false,
+    /// and nothing is changed. Without memory nothing is changed either.
     pub fn push(&mut self, value: Value) -> Result<bool, AllocError>
         ensures taken { IfOk result (λ taken. IsTrue taken ↔ (type_of value ≡ self.old.data_type)) }
-        ensures ok { IfOk result (λ taken. self.new ≡ (if taken then bag_of self.old.data_type (self.old.values ++ value ∷ []) else self.old)) }
+        ensures ok { IfOk result (λ taken. self.new
+            ≡ (if taken then bag_of self.old.data_type (self.old.values ++ value ∷ []) else self.old)) }
         ensures err { OnErr result (self.new ≡ self.old) }
     {
         if !self.takes(&value) {

@@ -28,7 +28,8 @@ impl<'a> Model for Distinct<'a> {
 
     ghost view = { λ d. d.bag };
 
-    ghost invariant = { λ d. OfType d.bag.data_type d.bag.values × IfSome d.keys (λ keys. IsFromIterResult compare_keys (map key_of d.bag.values) keys) };
+    ghost invariant = { λ d. OfType d.bag.data_type d.bag.values
+        × IfSome d.keys (λ keys. IsFromIterResult compare_keys (map key_of d.bag.values) keys) };
 }
 
 impl<'a> Distinct<'a> {
@@ -48,7 +49,9 @@ impl<'a> Distinct<'a> {
     /// The values, and the value at their end, unless it is among them.
     pub(crate) fn with(self, value: &'a Value) -> Result<Distinct<'a>, AllocError>
         requires { type_of value.now ≡ self.data_type }
-        ensures { IfOk result (λ d. d ≡ bag_of self.entry.data_type (if is_among self.entry.values value.now then self.entry.values else self.entry.values ++ value.now ∷ [])) }
+        ensures { IfOk result (λ d. d ≡ bag_of self.entry.data_type
+            (if is_among self.entry.values value.now then self.entry.values
+            else self.entry.values ++ value.now ∷ [])) }
     {
         let Distinct { mut bag, keys } = self;
         let Some(mut keys) = keys else {
@@ -75,7 +78,10 @@ impl<'a> Distinct<'a> {
         value: &'a Value,
     ) -> Result<Distinct<'a>, AllocError>
         requires { type_of value.now ≡ self.data_type }
-        ensures { IfOk result (λ d. d ≡ bag_of self.entry.data_type (if is_among members.now.values value.now then (if is_among self.entry.values value.now then self.entry.values else self.entry.values ++ value.now ∷ []) else self.entry.values)) }
+        ensures { IfOk result (λ d. d ≡ bag_of self.entry.data_type
+            (if is_among members.now.values value.now then (if is_among self.entry.values value.now
+            then self.entry.values else self.entry.values ++ value.now ∷ [])
+            else self.entry.values)) }
     {
         if !members.contains(value) {
             return Ok(self);
@@ -87,7 +93,8 @@ impl<'a> Distinct<'a> {
     #[tactic(auto, using(crate::proofs::SetLemmas::joined_more, crate::proofs::SetLemmas::joined_none))]
     pub(crate) fn with_all(self, values: &'a [Value]) -> Result<Distinct<'a>, AllocError>
         requires { OfType self.data_type values.now }
-        ensures { IfOk result (λ d. d ≡ bag_of self.entry.data_type (self.entry.values ++ filter (λ v. not (is_among self.entry.values v)) (distinct values.now))) }
+        ensures { IfOk result (λ d. d ≡ bag_of self.entry.data_type
+            (self.entry.values ++ filter (λ v. not (is_among self.entry.values v)) (distinct values.now))) }
     {
         let mut all = self;
         for value in values {
@@ -106,7 +113,8 @@ impl<'a> Distinct<'a> {
 /// Puts the value at the end of the bag, unless it is there.
 fn push_new(bag: &mut Bag, value: &Value) -> Result<(), AllocError>
     requires { type_of value.now ≡ bag.old.data_type }
-    ensures { IfOk result (λ _. bag.new ≡ bag_of bag.old.data_type (if is_among bag.old.values value.now then bag.old.values else bag.old.values ++ value.now ∷ [])) }
+    ensures { IfOk result (λ _. bag.new ≡ bag_of bag.old.data_type
+        (if is_among bag.old.values value.now then bag.old.values else bag.old.values ++ value.now ∷ [])) }
 {
     if !is_among(bag.values(), value) {
         bag.put(value.clone()?)?;

@@ -63,7 +63,9 @@ fn compared_at_once(
     higher_order: HigherOrder,
     arguments: &[ValueOrBag],
 ) -> Option<Result<bool, BagFault<FuncFault>>>
-    ensures { IfSome result (λ answer. higher_order_applied higher_order data_type.Boolean (asked relation) arguments.now ≡ as_boolean answer) }
+    ensures { IfSome result (λ answer.
+        higher_order_applied higher_order data_type.Boolean (asked relation) arguments.now
+        ≡ as_boolean answer) }
 {
     let (first, second) = both_bags(arguments)?;
     let answer = relation.of_bags(higher_order, first, second)?;
@@ -77,7 +79,9 @@ fn decided_at_once(
     arguments: &[ValueOrBag],
 ) -> Option<Result<bool, BagFault<FuncFault>>>
     requires { TakesKinds (function_id.Logic function) (map kind_of_each arguments.now) }
-    ensures { IfSome result (λ answer. higher_order_applied higher_order data_type.Boolean (applied (function_id.Logic function)) arguments.now ≡ as_boolean answer) }
+    ensures { IfSome result (λ answer. higher_order_applied higher_order data_type.Boolean
+        (applied (function_id.Logic function)) arguments.now
+        ≡ as_boolean answer) }
 {
     match higher_order {
         HigherOrder::AnyOf | HigherOrder::AnyOfAny => any_of_logic(function, arguments),

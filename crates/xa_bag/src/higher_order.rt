@@ -1,4 +1,5 @@
-//! The higher-order functions (XACML 3.0, core, appendix A.3.12), of any inner function. Each stops at the result that decides.
+//! The higher-order functions (XACML 3.0, core, appendix A.3.12), of any inner function. Each stops
+//! at the result that decides.
 ghost use Rattle.std.specs.Prelude.{◌≡◌, List, [], ◌∷◌, ◌++◌, map, if◌then◌else◌, Ok, IfOk};
 ghost use Rattle.xa_value.specs.declared.value.Value.{Value};
 ghost use Rattle.xa_value.specs.Gives.{Gives};
@@ -6,7 +7,8 @@ ghost use Rattle.xa_value.specs.Order.{type_of};
 ghost use Rattle.xa_func.specs.declared.signature.Kind.TheVariants as kind;
 ghost use Rattle.xa_func.specs.Logic.{or_of, and_of};
 ghost use Rattle.xa_func.specs.Signature.{kind_of};
-ghost use Rattle.xa_bag.specs.HigherOrder.{choices, is_true, holds, outcome, collected, as_bag, any_of, all_of, all_of_any, all_of_all, bag_of_results};
+ghost use Rattle.xa_bag.specs.HigherOrder.{choices, is_true, holds, outcome, collected, as_bag};
+ghost use Rattle.xa_bag.specs.HigherOrder.{any_of, all_of, all_of_any, all_of_all, bag_of_results};
 ghost use Rattle.xa_bag.specs.ValueOrBag.{kind_of_each};
 
 use crate::bag::Bag;
@@ -68,8 +70,9 @@ fn drop_last(values: &mut Vec<Value>)
     values.pop();
 }
 
-/// Whether the function gives True for some of the choices that begin with those chosen, where `stop` is True, and for each of
-/// them, where it is False. No choice is tried after one for which it gives `stop` or a fault.
+/// Whether the function gives True for some of the choices that begin with those chosen, where
+/// `stop` is True, and for each of them, where it is False. No choice is tried after one for which
+/// it gives `stop` or a fault.
 fn verdict<F: Inner>(
     alloc: Global,
     function: &F,
@@ -78,7 +81,9 @@ fn verdict<F: Inner>(
     arguments: &[ValueOrBag],
 ) -> Result<bool, OrMemory<BagFault<F::Fault>>>
     requires { F.can function.now (map kind_of chosen.old.items ++ map kind_of_each arguments.now) }
-    ensures value { let found = map (λ vs. holds (F.gives function.now) (chosen.old.items ++ vs)) (choices arguments.now) in Gives result (if stop then or_of found else and_of found) }
+    ensures value { let found = map (λ vs. holds (F.gives function.now) (chosen.old.items ++ vs))
+        (choices arguments.now) in
+        Gives result (if stop then or_of found else and_of found) }
     ensures kept { IfOk result (λ _. chosen.new.items ≡ chosen.old.items) }
 {
     let [argument, rest @ ..] = arguments else {
@@ -105,7 +110,10 @@ fn results_of_choices<F: Inner>(
 ) -> Result<Bag, OrMemory<BagFault<F::Fault>>>
     requires can { F.can function.now (map kind_of chosen.old.items ++ map kind_of_each arguments.now) }
     requires of_type { results.data_type ≡ F.result_type function.now }
-    ensures value { Gives result (as_bag results.data_type (collected (map Ok results.values ++ map (λ vs. outcome (F.gives function.now (chosen.old.items ++ vs))) (choices arguments.now)))) }
+    ensures value { Gives result
+        (as_bag results.data_type
+        (collected (map Ok results.values
+        ++ map (λ vs. outcome (F.gives function.now (chosen.old.items ++ vs))) (choices arguments.now)))) }
     ensures typed { IfOk result (λ bag. bag.data_type ≡ results.data_type) }
     ensures kept { IfOk result (λ _. chosen.new.items ≡ chosen.old.items) }
 {
@@ -130,7 +138,9 @@ fn push_result<F: Inner>(
 ) -> Result<Bag, OrMemory<BagFault<F::Fault>>>
     requires can { F.can function.now (map kind_of arguments.now) }
     requires of_type { results.data_type ≡ F.result_type function.now }
-    ensures value { Gives result (as_bag results.data_type (collected (map Ok results.values ++ outcome (F.gives function.now arguments.now) ∷ []))) }
+    ensures value { Gives result
+        (as_bag results.data_type
+        (collected (map Ok results.values ++ outcome (F.gives function.now arguments.now) ∷ []))) }
     ensures typed { IfOk result (λ bag. bag.data_type ≡ results.data_type) }
 {
     let mut results = results;
@@ -139,8 +149,8 @@ fn push_result<F: Inner>(
     Ok(results)
 }
 
-/// For each value of the first bag, whether the function gives True with some value of the second, where `stop` is True,
-/// and with each, where it is False.
+/// For each value of the first bag, whether the function gives True with some value of the second,
+/// where `stop` is True, and with each, where it is False.
 fn each_with<F: Inner>(
     alloc: Global,
     function: &F,
@@ -149,7 +159,9 @@ fn each_with<F: Inner>(
     second: &Bag,
 ) -> Result<bool, OrMemory<BagFault<F::Fault>>>
     requires { F.can function.now (kind.Value first.now.data_type ∷ kind.Value second.now.data_type ∷ []) }
-    ensures { Gives result (and_of (map (λ v. let found = map (λ w. holds (F.gives function.now) (v ∷ w ∷ [])) second.now.values in if stop then or_of found else and_of found) first.now.values)) }
+    ensures { Gives result (and_of
+        (map (λ v. let found = map (λ w. holds (F.gives function.now) (v ∷ w ∷ [])) second.now.values in
+        if stop then or_of found else and_of found) first.now.values)) }
 {
     for value in first.values() {
         let answer = one_with(alloc, function, stop, value, second)?;
@@ -160,8 +172,8 @@ fn each_with<F: Inner>(
     Ok(true)
 }
 
-/// Whether the function gives True for the value with some value of the bag, where `stop` is True, and with each, where it is
-/// False.
+/// Whether the function gives True for the value with some value of the bag, where `stop` is True,
+/// and with each, where it is False.
 fn one_with<F: Inner>(
     alloc: Global,
     function: &F,
@@ -170,7 +182,8 @@ fn one_with<F: Inner>(
     second: &Bag,
 ) -> Result<bool, OrMemory<BagFault<F::Fault>>>
     requires { F.can function.now (kind_of value.now ∷ kind.Value second.now.data_type ∷ []) }
-    ensures { let found = map (λ w. holds (F.gives function.now) (value.now ∷ w ∷ [])) second.now.values in Gives result (if stop then or_of found else and_of found) }
+    ensures { let found = map (λ w. holds (F.gives function.now) (value.now ∷ w ∷ [])) second.now.values in
+        Gives result (if stop then or_of found else and_of found) }
 {
     for other in second.values() {
         let found = holds_of_both(alloc, function, value, other)?;
@@ -197,7 +210,8 @@ fn holds_of_both<F: Inner>(
     holds(alloc, function, arguments.as_slice())
 }
 
-/// Any-of: whether the function gives True with some value of the bag in the bag's place, where one argument is a bag.
+/// Any-of: whether the function gives True with some value of the bag in the bag's place, where one
+/// argument is a bag.
 pub(crate) fn any_of<F: Inner>(
     alloc: Global,
     function: &F,
@@ -210,7 +224,8 @@ pub(crate) fn any_of<F: Inner>(
     verdict(alloc, function, true, &mut chosen, arguments)
 }
 
-/// All-of: whether the function gives True with each value of the bag in the bag's place, where one argument is a bag.
+/// All-of: whether the function gives True with each value of the bag in the bag's place, where one
+/// argument is a bag.
 pub(crate) fn all_of<F: Inner>(
     alloc: Global,
     function: &F,
@@ -223,7 +238,8 @@ pub(crate) fn all_of<F: Inner>(
     verdict(alloc, function, false, &mut chosen, arguments)
 }
 
-/// Any-of-any: whether the function gives True for some choice of a value of each argument, the last argument fastest.
+/// Any-of-any: whether the function gives True for some choice of a value of each argument, the
+/// last argument fastest.
 pub(crate) fn any_of_any<F: Inner>(
     alloc: Global,
     function: &F,
@@ -235,14 +251,16 @@ pub(crate) fn any_of_any<F: Inner>(
     any_of(alloc, function, arguments)
 }
 
-/// Map: the bag of what the function gives with each value of the bag in the bag's place, where one argument is a bag.
+/// Map: the bag of what the function gives with each value of the bag in the bag's place, where one
+/// argument is a bag.
 pub(crate) fn map<F: Inner>(
     alloc: Global,
     function: &F,
     arguments: &[ValueOrBag],
 ) -> Result<Bag, OrMemory<BagFault<F::Fault>>>
     requires { F.can function.now (map kind_of_each arguments.now) }
-    ensures value { Gives result (bag_of_results (F.result_type function.now) (F.gives function.now) arguments.now) }
+    ensures value { Gives result
+        (bag_of_results (F.result_type function.now) (F.gives function.now) arguments.now) }
     ensures of_type { IfOk result (λ bag. bag.data_type ≡ F.result_type function.now) }
 {
     let mut chosen = Vec::new(alloc);

@@ -15,7 +15,8 @@ use std::alloc::Global;
 use xa_func::{HasKind, HigherOrder};
 use xa_value::{DataType, OrMemory, Value};
 
-/// A function of values, as a higher-order function takes it: any function from arguments to a value of one type, or a fault.
+/// A function of values, as a higher-order function takes it: any function from arguments to a
+/// value of one type, or a fault.
 pub trait Inner {
     /// Why the function gives no value.
     type Fault;
@@ -37,14 +38,17 @@ pub trait Inner {
     fn result_type(&self) -> DataType
         ensures { result ≡ result_type self.now };
 
-    /// What the higher-order function gives of this one, where that is found without a call for each choice of arguments.
+    /// What the higher-order function gives of this one, where that is found without a call for
+    /// each choice of arguments.
     fn at_once(
         &self,
         higher_order: HigherOrder,
         arguments: &[ValueOrBag],
     ) -> Option<Result<bool, BagFault<Self::Fault>>>
         requires { can self.now (map kind_of_each arguments.now) }
-        ensures { IfSome result (λ answer. higher_order_applied higher_order (result_type self.now) (gives self.now) arguments.now ≡ as_boolean answer) };
+        ensures { IfSome result (λ answer.
+            higher_order_applied higher_order (result_type self.now) (gives self.now) arguments.now
+            ≡ as_boolean answer) };
 
     /// What the function gives for the arguments.
     fn call(&self, alloc: Global, arguments: &[Value]) -> Result<Value, OrMemory<Self::Fault>>

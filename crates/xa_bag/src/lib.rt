@@ -1,4 +1,5 @@
-//! Bags of values, and the bag, set and higher-order functions of XACML 3.0 (core, appendix A.3.10 to A.3.12).
+//! Bags of values, and the bag, set and higher-order functions of XACML 3.0 (core, appendix A.3.10
+//! to A.3.12).
 #![tactic(auto)]
 
 mod apply;

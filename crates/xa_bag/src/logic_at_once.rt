@@ -1,5 +1,6 @@
-//! Or, and and n-of of some choice of a value for each argument: by how many arguments have a True, in place of a call for each
-//! choice, of which there are as many as the product of the bags' sizes. The work grows by the number of the values.
+//! Or, and and n-of of some choice of a value for each argument: by how many arguments have a True,
+//! in place of a call for each choice, of which there are as many as the product of the bags'
+//! sizes. The work grows by the number of the values.
 ghost use Rattle.std.specs.Prelude.{◌≡◌, nat_le, nat_lt, if◌then◌else◌, map, Ok, Err, IfSome};
 ghost use Rattle.std.specs.List.{list_any};
 ghost use Rattle.xa_value.specs.declared.data_type.DataType.TheVariants as data_type;
@@ -11,7 +12,8 @@ ghost use Rattle.xa_func.specs.declared.signature.Parameters.TheVariants.{OneAnd
 ghost use Rattle.xa_func.specs.Logic.{or_of};
 ghost use Rattle.xa_func.specs.Signature.{Every, Fits, TakesKinds};
 ghost use Rattle.xa_bag.specs.HigherOrder.{is_true};
-ghost use Rattle.xa_bag.specs.LogicAtOnce.{of_some_choice, most_true, EachOfItsType, n_of_counted, n_of_value};
+ghost use Rattle.xa_bag.specs.LogicAtOnce.{of_some_choice, most_true};
+ghost use Rattle.xa_bag.specs.LogicAtOnce.{EachOfItsType, n_of_counted, n_of_value};
 ghost use Rattle.xa_bag.specs.ValueOrBag.{kind_of_each};
 
 use crate::higher_order::is_true;
@@ -26,8 +28,9 @@ fn has_true(values: &[Value]) -> bool
     values.iter().any(|value| is_true(value))
 }
 
-/// How many arguments are True in one choice at the most: those that have a True. None, where there is no choice, an argument being
-/// an empty bag. Clause `of_type`: what was looked at is of the arguments' types.
+/// How many arguments are True in one choice at the most: those that have a True. None, where there
+/// is no choice, an argument being an empty bag. Clause `of_type`: what was looked at is of the
+/// arguments' types.
 fn most_true(arguments: &[ValueOrBag]) -> Option<usize>
     ensures value { result ≡ most_true arguments.now }
     ensures of_type { IfSome result (λ _. EachOfItsType arguments.now) }
@@ -111,7 +114,8 @@ fn n_of_some(trues: usize, booleans: usize, numbers: &[Value]) -> Result<bool, F
 
 /// Whether n-of is True of some choice, or the fault of the first choice of which it is one.
 fn n_of_some_choice(arguments: &[ValueOrBag]) -> Result<bool, FuncFault>
-    requires { Fits (OneAndMore (kind.Value data_type.Integer) (kind.Value data_type.Boolean)) (map kind_of_each arguments.now) }
+    requires { Fits (OneAndMore (kind.Value data_type.Integer) (kind.Value data_type.Boolean))
+        (map kind_of_each arguments.now) }
     ensures { of_some_choice logic.NOf arguments.now ≡ result }
 {
     let [numbers, booleans @ ..] = arguments else {
@@ -123,7 +127,8 @@ fn n_of_some_choice(arguments: &[ValueOrBag]) -> Result<bool, FuncFault>
     }
 }
 
-/// Whether the function is True of some choice of a value for each argument, or the fault of the first choice of which it is one.
+/// Whether the function is True of some choice of a value for each argument, or the fault of the
+/// first choice of which it is one.
 pub(crate) fn of_some_choice(
     function: Logic,
     arguments: &[ValueOrBag],

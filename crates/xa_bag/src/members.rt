@@ -9,11 +9,13 @@ use std::alloc::{AllocError, Global};
 use std::marker::Model;
 use xa_value::{DataType, SortKey, Value};
 
-/// From this many values and this many searches on, the values are ordered by their keys; fewer are faster one after another.
+/// From this many values and this many searches on, the values are ordered by their keys; fewer are
+/// faster one after another.
 pub(crate) const ORDERED_FROM: usize = 32;
 
-/// The values of a bag, to be searched: of many that are searched often the order is made once, and then a search takes the logarithm of their
-/// number. Where there is no memory for that, they are searched one after another.
+/// The values of a bag, to be searched: of many that are searched often the order is made once, and
+/// then a search takes the logarithm of their number. Where there is no memory for that, they are
+/// searched one after another.
 #[derive(Drop)]
 pub struct Members<'a> {
     data_type: DataType,
@@ -31,7 +33,8 @@ impl<'a> Model for Members<'a> {
 
     ghost view = { λ m. bag_of m.data_type m.values.now };
 
-    ghost invariant = { λ m. OfType m.data_type m.values.now × IfSome m.keys (λ keys. IsPermutation (map key_of m.values.now) keys.items × IsSorted compare_keys keys.items) };
+    ghost invariant = { λ m. OfType m.data_type m.values.now × IfSome m.keys (λ keys.
+        IsPermutation (map key_of m.values.now) keys.items × IsSorted compare_keys keys.items) };
 }
 
 impl<'a> Members<'a> {
@@ -96,7 +99,8 @@ fn keys_of<'a>(alloc: Global, values: &'a [Value]) -> Result<Vec<SortKey<'a>>, A
 
 /// The keys of the values, in order.
 fn ordered_keys_of<'a>(alloc: Global, values: &'a [Value]) -> Result<Vec<SortKey<'a>>, AllocError>
-    ensures { IfOk result (λ keys. IsPermutation (map key_of values.now) keys.items × IsSorted compare_keys keys.items) }
+    ensures { IfOk result (λ keys.
+        IsPermutation (map key_of values.now) keys.items × IsSorted compare_keys keys.items) }
 {
     let mut keys = keys_of(alloc, values)?;
     keys.sort_unstable();

@@ -1,5 +1,6 @@
-//! All pairs of the values of two bags, where a pair is compared by equality or by order: by a search for each value of the first
-//! bag, or by the least or the greatest value of the second, in place of a look at each pair.
+//! All pairs of the values of two bags, where a pair is compared by equality or by order: by a
+//! search for each value of the first bag, or by the least or the greatest value of the second, in
+//! place of a look at each pair.
 ghost use Rattle.std.specs.Prelude.{◌≡◌, [], ◌∷◌, Ok, IfSome};
 ghost use Rattle.std.specs.List.{list_any, list_all};
 ghost use Rattle.xa_value.specs.declared.data_type.DataType.TheVariants as data_type;
@@ -7,7 +8,8 @@ ghost use Rattle.xa_value.specs.Order.{same};
 ghost use Rattle.xa_func.specs.Comparison.{compared};
 ghost use Rattle.xa_bag.specs.declared.value_or_bag.ValueOrBag.TheVariants as given;
 ghost use Rattle.xa_bag.specs.Applying.{boolean, higher_order_applied};
-ghost use Rattle.xa_bag.specs.Relation.{related, asked, some_to_some, each_to_some, each_to_each, to_easiest, to_hardest, further, furthest};
+ghost use Rattle.xa_bag.specs.Relation.{related, asked, some_to_some, each_to_some};
+ghost use Rattle.xa_bag.specs.Relation.{each_to_each, to_easiest, to_hardest, further, furthest};
 
 use crate::bag::Bag;
 use crate::sets::{at_least_one_member_of, subset};
@@ -24,15 +26,18 @@ pub(crate) enum Relation {
 }
 
 impl Relation {
-    /// What the higher-order function gives for two bags, of the function that compares so, where it takes two bags. The work grows
-    /// by the sum of the bags' sizes, of equality by that and its logarithm.
+    /// What the higher-order function gives for two bags, of the function that compares so, where
+    /// it takes two bags. The work grows by the sum of the bags' sizes, of equality by that and its
+    /// logarithm.
     pub(crate) fn of_bags(
         self,
         higher_order: HigherOrder,
         first: &Bag,
         second: &Bag,
     ) -> Option<bool>
-        ensures { IfSome result (λ answer. higher_order_applied higher_order data_type.Boolean (asked self) (given.Bag first.now ∷ given.Bag second.now ∷ []) ≡ Ok (boolean answer)) }
+        ensures { IfSome result (λ answer. higher_order_applied higher_order data_type.Boolean (asked self)
+            (given.Bag first.now ∷ given.Bag second.now ∷ [])
+            ≡ Ok (boolean answer)) }
     {
         match higher_order {
             HigherOrder::AnyOfAny => Some(self.some_to_some(first, second)),
@@ -169,7 +174,8 @@ fn each_to_hardest(comparison: Comparison, first: &Bag, second: &Bag) -> bool
     all_as_asked(comparison, first.values(), hardest)
 }
 
-/// Whether each value of the first bag is equal to each value of the second: where there are any, all are equal to one of them.
+/// Whether each value of the first bag is equal to each value of the second: where there are any,
+/// all are equal to one of them.
 fn all_equal(first: &Bag, second: &Bag) -> bool
     ensures { result ≡ each_to_each same first.now.values second.now.values }
 {

@@ -1,4 +1,5 @@
-//! The bag and set functions (XACML 3.0, core, appendix A.3.10 and A.3.11), one definition for all data types.
+//! The bag and set functions (XACML 3.0, core, appendix A.3.10 and A.3.11), one definition for all
+//! data types.
 ghost use Rattle.std.specs.Prelude.{◌≡◌, ◌++◌, length, map, pos, IfOk};
 ghost use Rattle.xa_value.specs.Gives.{Gives};
 ghost use Rattle.xa_value.specs.Order.{type_of};
@@ -78,7 +79,8 @@ pub fn set_equals<'a>(first: &'a Bag, second: &'a Bag) -> bool
 /// The values of the first bag that are in the second, each once, at its first appearance.
 #[tactic(auto, using(crate::proofs::SetLemmas::joined_more, crate::proofs::SetLemmas::joined_none, crate::proofs::SetLemmas::joined_all))]
 pub fn intersection<'a>(alloc: Global, first: &'a Bag, second: &'a Bag) -> Result<Bag, AllocError>
-    ensures { IfOk result (λ bag. bag ≡ contents first.now.data_type (sets.intersection first.now.values second.now.values)) }
+    ensures { IfOk result (λ bag.
+        bag ≡ contents first.now.data_type (sets.intersection first.now.values second.now.values)) }
 {
     let others = Members::new(second, first.len());
     let mut both = Distinct::new(alloc, first.data_type(), first.len());
@@ -134,7 +136,8 @@ pub(crate) fn union(
 #[tactic(auto, using(crate::proofs::SetLemmas::put_more, crate::proofs::SetLemmas::put_none))]
 fn push_all(bag: &mut Bag, argument: &ValueOrBag) -> Result<(), AllocError>
     requires { type_of_each argument.now ≡ bag.old.data_type }
-    ensures { IfOk result (λ _. bag.new ≡ contents bag.old.data_type (bag.old.values ++ values_of argument.now)) }
+    ensures { IfOk result (λ _.
+        bag.new ≡ contents bag.old.data_type (bag.old.values ++ values_of argument.now)) }
 {
     for value in argument.values() {
         bag.put(value.clone()?)?;

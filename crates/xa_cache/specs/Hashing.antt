@@ -1,4 +1,5 @@
--- How keys are hashed: by the value of a polynomial at a secret point, modulo the prime 2^61 - 1. Nothing rests on it but time.
+-- How keys are hashed: by the value of a polynomial at a secret point, modulo the prime 2^61 - 1. Nothing rests on it
+-- but time.
 use Rattle.std.specs.Prelude.{ℕ, ◌+◌, ◌*◌, ◌/◌, ◌%◌, ◌^◌, List, [], ◌∷◌, length, drop, map, sum, zip}
 use Rattle.std.specs.List.{fold}
 use Rattle.std.specs.Simd.{first_chunks}
@@ -32,7 +33,8 @@ powers hasher = hasher.fourth ∷ hasher.cube ∷ hasher.square ∷ hasher.point
 
 -- the value once four parts were written at once
 abbrev pub terms : Polynomial → ℕ → List (List ℕ) → ℕ
-terms hasher value parts = folded (folded (sum (map (λ p. folded (p.1 * p.0)) (zip (powers hasher) (value ∷ map part parts)))))
+terms hasher value parts =
+    folded (folded (sum (map (λ p. folded (p.1 * p.0)) (zip (powers hasher) (value ∷ map part parts)))))
 
 -- the value once so many times four parts were written
 abbrev pub valued_by_four : Polynomial → List (List (List ℕ)) → ℕ
@@ -45,7 +47,13 @@ hashed hasher bytes =
     let parts = first_chunks 7 whole bytes in
     let fours = length parts / 4 in
     let value = valued hasher.point (valued_by_four hasher (first_chunks 4 fours parts)) (drop (fours * 4) parts) in
-    record { point = hasher.point; square = hasher.square; cube = hasher.cube; fourth = hasher.fourth; value = term hasher.point value (part (drop (whole * 7) bytes)) }
+    record {
+      point = hasher.point;
+      square = hasher.square;
+      cube = hasher.cube;
+      fourth = hasher.fourth;
+      value = term hasher.point value (part (drop (whole * 7) bytes));
+    }
 
 -- the hasher at a point, with its powers, that begins with a value
 abbrev pub hasher_at : ℕ → ℕ → Polynomial
@@ -54,7 +62,8 @@ hasher_at point value =
     let cube = term point square 0 in
     record { point = point; square = square; cube = cube; fourth = term point cube 0; value = value }
 
--- hashers that begin with a secret: their point follows from its SipHash, and their value from that of the secret written twice, without the last three bits of each
+-- hashers that begin with a secret: their point follows from its SipHash, and their value from that of the secret
+-- written twice, without the last three bits of each
 abbrev pub seeded_by : List ℕ → Seeded
 seeded_by secret =
     let once = siphash.write siphash.initial secret in

@@ -14,10 +14,12 @@ use xa_value::Items;
 /// The most bodies that are kept: with those of their requests they come to 16 MiB at most.
 const MAX_BODIES: usize = 512;
 
-/// The most bytes of a body of a request, and of a decision, that is kept: two that long are compared in about a microsecond.
+/// The most bytes of a body of a request, and of a decision, that is kept: two that long are
+/// compared in about a microsecond.
 const MAX_BODY_BYTES: usize = 16_384;
 
-/// Bodies of decisions, each under its key. Contracts see the keys and bodies, the one that was used last first.
+/// Bodies of decisions, each under its key. Contracts see the keys and bodies, the one that was
+/// used last first.
 #[derive(Drop)]
 pub struct Cache {
     bodies: LruCache<Key, Items<u8>, Seeded>,
@@ -48,7 +50,8 @@ pub fn fits(key: &Key, body: &Items<u8>) -> bool
 impl Cache {
     ghost use Rattle.xa_cache.specs.Ends.{ends_as};
 
-    /// No bodies. Keys are hashed with the secret, so that nobody who doesn't know it can choose requests whose hashes collide.
+    /// No bodies. Keys are hashed with the secret, so that nobody who doesn't know it can choose
+    /// requests whose hashes collide.
     pub fn new(alloc: Global, secret: &[u8]) -> Result<Cache, AllocError>
         ensures { IfOk result (λ cache. cache ≡ []) }
     {
@@ -69,8 +72,9 @@ impl Cache {
         }
     }
 
-    /// Keeps the body under the key, in the place of the one that was under an equal key, as the one that was used last, and answers whether
-    /// it was kept. The 513th goes. A body that doesn't fit isn't kept, nor one for which there is no memory.
+    /// Keeps the body under the key, in the place of the one that was under an equal key, as the
+    /// one that was used last, and answers whether it was kept. The 513th goes. A body that doesn't
+    /// fit isn't kept, nor one for which there is no memory.
     pub fn keep(&mut self, key: Key, body: Items<u8>) -> bool
         ensures kept { result ≡ true → self.new ≡ kept key body self.old }
         ensures left { result ≡ false → self.new ≡ self.old }
@@ -92,7 +96,8 @@ fn put(bodies: &mut LruCache<Key, Items<u8>, Seeded>, key: Key, body: Items<u8>)
     ensures left { result ≡ false → bodies.new ≡ bodies.old }
     ensures again { IsSome (found key bodies.old.entries) → result ≡ true }
 {
-    // Nothing is done with the length: by the clause `valid` of this look the prover knows that no more bodies stand in the map than it has places.
+    // Nothing is done with the length: by the clause `valid` of this look the prover knows that no
+    // more bodies stand in the map than it has places.
     let _length = bodies.len();
     match bodies.put(key, body) {
         Ok(_) => true,

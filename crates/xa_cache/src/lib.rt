@@ -1,4 +1,5 @@
-//! The bodies of decisions that were worked out and may be sent again, each under its domain's number and epoch and its request's body.
+//! The bodies of decisions that were worked out and may be sent again, each under its domain's
+//! number and epoch and its request's body.
 #![tactic(auto)]
 
 mod cache;

@@ -1,6 +1,8 @@
-//! How keys are hashed: a body's parts of seven bytes are the coefficients of a polynomial, whose value at a secret point is the hash.
+//! How keys are hashed: a body's parts of seven bytes are the coefficients of a polynomial, whose
+//! value at a secret point is the hash.
 ghost use Rattle.std.specs.Prelude.{◌≡◌, ◌+◌, ◌*◌, ◌<◌, ◌^◌, fold, drop};
-ghost use Rattle.xa_cache.specs.Hashing.{folded, hashed, hasher_at, seeded_by, term, terms, valued, valued_by_four, part};
+ghost use Rattle.xa_cache.specs.Hashing.{folded, hashed, hasher_at, seeded_by};
+ghost use Rattle.xa_cache.specs.Hashing.{term, terms, valued, valued_by_four, part};
 
 use std::hash::{BuildHasher, DefaultHasher, Hasher};
 
@@ -13,7 +15,8 @@ pub(crate) struct Seeded {
     start: Polynomial,
 }
 
-/// A hasher: the point and its powers, by which four parts are taken at once, and the polynomial's value there as far as it was written.
+/// A hasher: the point and its powers, by which four parts are taken at once, and the polynomial's
+/// value there as far as it was written.
 #[derive(Clone, Copy)]
 pub(crate) struct Polynomial {
     point: u64,
@@ -64,7 +67,8 @@ impl Polynomial {
         }
     }
 
-    /// The value once four parts and a value before them were written: each is multiplied by its power of the point, none of which waits for another.
+    /// The value once four parts and a value before them were written: each is multiplied by its
+    /// power of the point, none of which waits for another.
     fn terms(&self, value: u64, parts: &[[u8; 7]; 4]) -> u64
         ensures { result ≡ terms self.now value parts.now }
     {
@@ -147,7 +151,8 @@ fn whole_part(bytes: &[u8; 7]) -> u64
     u64::from_be_bytes([1, a, b, c, d, e, f, g])
 }
 
-/// A part of at most seven bytes as a number below 2^57. That it begins with a one tells parts of different lengths apart.
+/// A part of at most seven bytes as a number below 2^57. That it begins with a one tells parts of
+/// different lengths apart.
 fn part(bytes: &[u8]) -> u64
     ensures { result ≡ part bytes.now }
 {

@@ -1,4 +1,5 @@
--- How variables are added one by one, as `Variables::define` says it. What a policy's variables are, `specs/Variables` says.
+-- How variables are added one by one, as `Variables::define` says it. What a policy's variables are,
+-- `specs/Variables` says.
 use Rattle.std.specs.Prelude.{ℕ, Bool, true, false, if◌then◌else◌, List, [], ◌∷◌, ◌++◌, Result, Ok, Err}
 use Rattle.xa_value.specs.Gives.{◌>>=◌}
 use Rattle.xa_expr.specs.declared.check_error.CheckError.{CheckError}
@@ -8,7 +9,8 @@ use Rattle.xa_expr.specs.declared.variables.Definition.{Definition}
 use Rattle.xa_expr.specs.Typing.{checked}
 use Rattle.xa_expr.specs.Variables.{is_defined}
 
--- whether a variable is put behind others: not where one of its name is there, and else where its expression passes under those
+-- whether a variable is put behind others: not where one of its name is there, and else where its expression passes
+-- under those
 abbrev pub may_be_defined : List Definition → List ℕ → Expr → Result Bool CheckError
 may_be_defined definitions name expression =
     if is_defined definitions name then Ok false else checked definitions expression >>= (λ t. Ok true)

@@ -1,5 +1,5 @@
--- The designators that stand in checked expressions, in the definitions of variables and in targets: nothing else is asked of the context
--- (XACML 3.0, core, sections 5.29 and 7.3).
+-- The designators that stand in checked expressions, in the definitions of variables and in targets: nothing else is
+-- asked of the context (XACML 3.0, core, sections 5.29 and 7.3).
 use Rattle.std.specs.Prelude.{◌≡◌, List, [], ◌∷◌}
 use Rattle.std.specs.List.{flat_map}
 use Rattle.xa_expr.specs.declared.designator.Designator.{Designator}

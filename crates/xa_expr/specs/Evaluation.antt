@@ -1,5 +1,6 @@
 -- The values of checked expressions (XACML 3.0, core, sections 7.3.5, 7.4 and 7.8).
-use Rattle.std.specs.Prelude.{ℤ, pos, Bool, true, false, ◌&&◌, if◌then◌else◌, List, [], ◌∷◌, ◌++◌, map, slice_get, Option, Some, None, Result, Ok, Err}
+use Rattle.std.specs.Prelude.{ℤ, pos, Bool, true, false, ◌&&◌, if◌then◌else◌, List, [], ◌∷◌}
+use Rattle.std.specs.Prelude.{◌++◌, map, slice_get, Option, Some, None, Result, Ok, Err}
 use Rattle.xa_value.specs.declared.value.Value.{Value}
 use Rattle.xa_value.specs.declared.value.Value.TheVariants as value
 use Rattle.xa_value.specs.Gives.{◌>>=◌}
@@ -42,8 +43,9 @@ attribute values_of d =
     if is_empty (values_of d) && d.must_be_present then Err MissingAttribute
     else Ok (given.Bag (bag_of d.data_type (values_of d)))
 
--- What is answered of arguments of other kinds than a function takes, and of a variable that isn't there: a value, a boolean, a number and a fault. Evaluation
--- never comes to one of these words, of an expression that a type check gives a kind: that is a law (`MeetsNoMisfit` of `specs/Misfits`).
+-- What is answered of arguments of other kinds than a function takes, and of a variable that isn't there: a value, a
+-- boolean, a number and a fault. Evaluation never comes to one of these words, of an expression that a type check
+-- gives a kind: that is a law (`MeetsNoMisfit` of `specs/Misfits`).
 abbrev pub misfit_value : Value
 misfit_value = value.Boolean false
 
@@ -85,7 +87,8 @@ n_of_places (Err fault ∷ rs) = Err fault
 abbrev pub applied_to_values : FuncId → List Outcome → Outcome
 applied_to_values f rs = collected rs >>= (λ given. as_argument (of_function (func.applied f (map value_in given))))
 
--- a function of values and bags on what its arguments come to: or, and, n-of by places over all of them; every other on all their values, or the first fault
+-- a function of values and bags on what its arguments come to: or, and, n-of by places over all of them; every other
+-- on all their values, or the first fault
 abbrev pub applied : FuncId → List Outcome → Outcome
 applied (function.Logic logic.Or) rs = as_boolean (or_of (map place rs))
 applied (function.Logic logic.And) rs = as_boolean (and_of (map place rs))
@@ -95,7 +98,9 @@ applied f rs = applied_to_values f rs
 
 -- a higher-order function and its inner function on what the arguments after that come to (A.3.12)
 abbrev pub higher_applied : HigherOrder → FuncId → List Outcome → Outcome
-higher_applied h f rs = collected rs >>= (λ given. of_bag_function (higher_order_applied h (result_type_of (signature_of f)) (func.applied f) given))
+higher_applied h f rs =
+    collected rs
+    >>= (λ given. of_bag_function (higher_order_applied h (result_type_of (signature_of f)) (func.applied f) given))
 
 -- the result of the variable at a place; a type check lets through no place that none is at
 abbrev pub result_at : Option Outcome → Outcome
@@ -116,7 +121,8 @@ outcome values_of variables = fold-Typed Outcome (outcome_step values_of variabl
 -- what the definitions come to, each by those before it (7.8)
 abbrev pub outcomes_after : Attributes → List Outcome → List Definition → List Outcome
 outcomes_after values_of before [] = before
-outcomes_after values_of before (d ∷ ds) = outcomes_after values_of (before ++ outcome values_of before d.expression ∷ []) ds
+outcomes_after values_of before (d ∷ ds) =
+    outcomes_after values_of (before ++ outcome values_of before d.expression ∷ []) ds
 
 abbrev pub outcomes : Attributes → List Definition → List Outcome
 outcomes values_of definitions = outcomes_after values_of [] definitions

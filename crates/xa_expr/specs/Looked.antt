@@ -1,4 +1,5 @@
--- What a look at the values of a bag for one value comes to (XACML 3.0, core, section 7.6, where the function of a match is an equality).
+-- What a look at the values of a bag for one value comes to (XACML 3.0, core, section 7.6, where the function of a
+-- match is an equality).
 use Rattle.std.specs.Prelude.{Bool, true, false, if◌then◌else◌, List, [], ◌∷◌}
 use Rattle.std.specs.List.{list_any}
 use Rattle.xa_value.specs.declared.value.Value.{Value}

@@ -1,8 +1,10 @@
--- Where a checked expression is evaluated, no wrong type is met: every function is given what it takes (XACML 3.0, core, sections 5.27, 7.3.2,
--- 7.3.5 and 7.4, appendix A.3). The definitions of values are total, so they answer something for arguments of other kinds too, by words like
--- `misfit`. Of an expression that a type check gives a kind, none of these lines is ever reached: that is what `MeetsNoMisfit` says of one
--- expression, and clause `fits` of `Evaluator::value` of all.
-use Rattle.std.specs.Prelude.{◌≡◌, ◌&&◌, IsTrue, List, [], ◌∷◌, ◌++◌, map, slice_get, Option, Some, None, Result, Ok, Err}
+-- Where a checked expression is evaluated, no wrong type is met: every function is given what it takes (XACML 3.0,
+-- core, sections 5.27, 7.3.2, 7.3.5 and 7.4, appendix A.3). The definitions of values are total, so they answer
+-- something for arguments of other kinds too, by words like `misfit`. Of an expression that a type check gives a
+-- kind, none of these lines is ever reached: that is what `MeetsNoMisfit` says of one expression, and clause `fits`
+-- of `Evaluator::value` of all.
+use Rattle.std.specs.Prelude.{◌≡◌, ◌&&◌, IsTrue, List, [], ◌∷◌, ◌++◌, map}
+use Rattle.std.specs.Prelude.{slice_get, Option, Some, None, Result, Ok, Err}
 use Rattle.xa_value.specs.declared.value.Value.{Value}
 use Rattle.xa_func.specs.declared.func_id.FuncId.{FuncId}
 use Rattle.xa_func.specs.declared.signature.Kind.{Kind}
@@ -41,8 +43,9 @@ EachComesTo [] (r ∷ rs) = ⊥
 EachComesTo (k ∷ ks) [] = ⊥
 EachComesTo (k ∷ ks) (r ∷ rs) = ComesTo k r × EachComesTo ks rs
 
--- Arguments that come to these are what a function takes that takes arguments of such kinds: each is of the kind at its place, or a fault. So this says
--- it of each place by itself, as or, and and n-of need it, and of all together where none is a fault.
+-- Arguments that come to these are what a function takes that takes arguments of such kinds: each is of the kind at
+-- its place, or a fault. So this says it of each place by itself, as or, and and n-of need it, and of all together
+-- where none is a fault.
 pub record AreTaken (Takes : List Kind → Type 0) (rs : List Outcome) : Type 0 where
   pub kinds : List Kind
   pub taken : Takes kinds
@@ -67,22 +70,27 @@ abbrev pub IsThere : Option Outcome → Kind → Type 0
 IsThere (Some r) k = ComesTo k r
 IsThere None k = ⊥
 
--- an expression, by what those in it come to, is given what it takes; where the variables come to these. A literal and an attribute take nothing
+-- an expression, by what those in it come to, is given what it takes; where the variables come to these. A literal
+-- and an attribute take nothing
 abbrev pub Fits : List Outcome → Typed-F Outcome → Type 0
 Fits variables (Typed-F.Literal v) = Unit {0}
 Fits variables (Typed-F.Attribute d) = Unit {0}
 Fits variables (Typed-F.Variable place k) = IsThere (slice_get variables place) k
 Fits variables (Typed-F.Apply f rs) = AreTaken (AcceptsKinds (signature_of f)) rs
-Fits variables (Typed-F.HigherOrder h f rs) = AreTaken (λ ks. IsTrue (is_scalar f && higher_accepted h f ks)) rs × AnswersChoices f (collected rs)
+Fits variables (Typed-F.HigherOrder h f rs) =
+    AreTaken (λ ks. IsTrue (is_scalar f && higher_accepted h f ks)) rs × AnswersChoices f (collected rs)
 
 -- so is every expression in it, and the whole
 abbrev pub FitsThroughout : Attributes → List Outcome → Typed → Type 0
-FitsThroughout source variables = every-Typed (λ part. Fits variables (map-Typed Typed Outcome (outcome source variables) part))
+FitsThroughout source variables =
+    every-Typed (λ part. Fits variables (map-Typed Typed Outcome (outcome source variables) part))
 
 -- and every expression in the definitions of variables, each under those before it, which come to these
 abbrev pub DefinitionsFit : Attributes → List Outcome → List Definition → Type 0
 DefinitionsFit source before [] = Unit {0}
-DefinitionsFit source before (d ∷ ds) = FitsThroughout source before d.expression × DefinitionsFit source (before ++ outcome source before d.expression ∷ []) ds
+DefinitionsFit source before (d ∷ ds) =
+    FitsThroughout source before d.expression
+    × DefinitionsFit source (before ++ outcome source before d.expression ∷ []) ds
 
 -- no wrong type is met where an expression is evaluated under definitions
 pub record MeetsNoMisfit (source : Attributes) (definitions : List Definition) (expression : Typed) : Type 0 where

@@ -1,4 +1,5 @@
--- What was worked out of a policy's variables so far: the outcomes of the first definitions, in order (XACML 3.0, core, section 7.8).
+-- What was worked out of a policy's variables so far: the outcomes of the first definitions, in order (XACML 3.0,
+-- core, section 7.8).
 use Rattle.std.specs.Prelude.{◌≡◌, ℕ, suc, max, List, [], ◌∷◌, length, drop, Option, Some, None, Ok, Err}
 use Rattle.xa_func.specs.declared.signature.Kind.{Kind}
 use Rattle.xa_bag.specs.ValueOrBag.{kind_of_argument}
@@ -19,7 +20,8 @@ AreOfKinds ks [] = Unit {0}
 AreOfKinds [] (r ∷ rs) = ⊥
 AreOfKinds (k ∷ ks) (r ∷ rs) = IsOfKind k r × AreOfKinds ks rs
 
--- the results are the outcomes of the first definitions, each of its kind: the other definitions after them give those of all
+-- the results are the outcomes of the first definitions, each of its kind: the other definitions after them give
+-- those of all
 pub record AreFirst (values_of : Attributes) (definitions : List Definition) (results : List Outcome) : Type 0 where
   pub value : outcomes_after values_of results (drop (length results) definitions) ≡ outcomes values_of definitions
   pub typed : AreOfKinds (kinds definitions) results

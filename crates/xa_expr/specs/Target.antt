@@ -52,7 +52,8 @@ matching_of (Err fault) = matching.Indeterminate fault
 abbrev pub answer : Match → Value → Matching
 answer q v = matching_of (of_function (applied q.function (q.literal ∷ v ∷ [])))
 
--- a match on what its designator gives: Indeterminate at a fault, else whether the function gives True for some value of the bag
+-- a match on what its designator gives: Indeterminate at a fault, else whether the function gives True for some value
+-- of the bag
 abbrev pub match_on : Match → Outcome → Matching
 match_on q (Err fault) = matching.Indeterminate fault
 match_on q (Ok bag) = some_match (map (answer q) (values_of bag))

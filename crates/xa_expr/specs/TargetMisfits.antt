@@ -1,6 +1,7 @@
--- Where a target is looked at, no wrong type is met: the function of each match is given what it takes, and gives a boolean for it (XACML 3.0, core,
--- sections 5.9, 7.3.5 and 7.6). The definition of a match's answer is total, so it says No match of a value that is no boolean (`matching_of` of
--- `specs/Target`): that line is never reached where the value isn't False. So says clause `fits` of `Target::matching` of every target.
+-- Where a target is looked at, no wrong type is met: the function of each match is given what it takes, and gives a
+-- boolean for it (XACML 3.0, core, sections 5.9, 7.3.5 and 7.6). The definition of a match's answer is total, so it
+-- says No match of a value that is no boolean (`matching_of` of `specs/Target`): that line is never reached where the
+-- value isn't False. So says clause `fits` of `Target::matching` of every target.
 use Rattle.std.specs.Prelude.{◌≡◌, Bool, List, [], ◌∷◌, map, Ok}
 use Rattle.std.specs.List.{AllByRecursion}
 use Rattle.xa_value.specs.declared.value.Value.{Value}
@@ -14,7 +15,8 @@ use Rattle.xa_expr.specs.declared.target.AnyOf.{AnyOf}
 use Rattle.xa_expr.specs.declared.target.Target.{Target}
 use Rattle.xa_expr.specs.Evaluation.{Attributes}
 
--- a value of a match's bag is of the designator's type, the function takes the literal and the value, and what it gives for them is True or False, or a fault
+-- a value of a match's bag is of the designator's type, the function takes the literal and the value, and what it
+-- gives for them is True or False, or a fault
 pub record Asks (m : Match) (v : Value) : Type 0 where
   pub of_type : type_of v ≡ m.designator.data_type
   pub taken : TakesKinds m.function (map kind_of (m.literal ∷ v ∷ []))

@@ -1,5 +1,6 @@
 -- The kind of a checked expression, and what makes it right under variables (XACML 3.0, core, appendix A.3).
-use Rattle.std.specs.Prelude.{◌≡◌, ℕ, suc, Bool, true, false, ◌&&◌, ◌==◌, nat_le, if◌then◌else◌, List, [], ◌∷◌, map, length, slice_get, Option, Some, None}
+use Rattle.std.specs.Prelude.{◌≡◌, ℕ, suc, Bool, true, false, ◌&&◌, ◌==◌, nat_le, if◌then◌else◌}
+use Rattle.std.specs.Prelude.{List, [], ◌∷◌, map, length, slice_get, Option, Some, None}
 use Rattle.std.specs.List.{list_all}
 use Rattle.xa_value.specs.declared.data_type.DataType.TheVariants as type
 use Rattle.xa_value.specs.Types.{same_type}
@@ -70,7 +71,8 @@ bag_count [] = 0
 bag_count (kind.Bag t ∷ ks) = suc (bag_count ks)
 bag_count (kind.Value t ∷ ks) = bag_count ks
 
--- the number of arguments that a higher-order function takes after its inner one: what that one takes, but two for all-of-any and all-of-all
+-- the number of arguments that a higher-order function takes after its inner one: what that one takes, but two for
+-- all-of-any and all-of-all
 abbrev pub higher_counted : HigherOrder → FuncId → ℕ → Bool
 higher_counted higher.AllOfAny f n = n == 2
 higher_counted higher.AllOfAll f n = n == 2
@@ -120,14 +122,17 @@ abbrev pub variable_kind : Option Kind → Kind → Option Kind
 variable_kind (Some l) k = if same_kind l k then Some k else None
 variable_kind None k = None
 
--- the kind that a checked expression has under variables of these kinds, or none: every function takes the arguments that it has, and
--- every variable is there and of the kind that was found
+-- the kind that a checked expression has under variables of these kinds, or none: every function takes the arguments
+-- that it has, and every variable is there and of the kind that was found
 abbrev pub under_step : List Kind → Typed-F (Option Kind) → Option Kind
 under_step variables (Typed-F.Literal v) = Some (kind_of v)
 under_step variables (Typed-F.Attribute d) = Some (kind.Bag d.data_type)
 under_step variables (Typed-F.Variable place k) = variable_kind (slice_get variables place) k
-under_step variables (Typed-F.Apply f ks) = kind_where (accepted (signature_of f)) (result_kind (signature_of f)) (all_there ks)
-under_step variables (Typed-F.HigherOrder h f ks) = kind_where (λ given. is_scalar f && higher_accepted h f given) (kind_given h (result_type_of (signature_of f))) (all_there ks)
+under_step variables (Typed-F.Apply f ks) =
+    kind_where (accepted (signature_of f)) (result_kind (signature_of f)) (all_there ks)
+under_step variables (Typed-F.HigherOrder h f ks) =
+    kind_where (λ given. is_scalar f && higher_accepted h f given)
+    (kind_given h (result_type_of (signature_of f))) (all_there ks)
 
 abbrev pub kind_under : List Kind → Typed → Option Kind
 kind_under variables = fold-Typed (Option Kind) (under_step variables)

@@ -1,6 +1,7 @@
--- The type check of expressions (XACML 3.0, core, sections 5.25, 5.27 to 5.29, 5.31 and 7.4, appendix A.3): from an expression as a policy has it to one
--- whose functions and variables are found, or its first fault.
-use Rattle.std.specs.Prelude.{◌≡◌, ℕ, suc, not, nat_lt, bytes_eq, if◌then◌else◌, List, [], ◌∷◌, map, length, Option, Some, None, Result, Ok, Err}
+-- The type check of expressions (XACML 3.0, core, sections 5.25, 5.27 to 5.29, 5.31 and 7.4, appendix A.3): from an
+-- expression as a policy has it to one whose functions and variables are found, or its first fault.
+use Rattle.std.specs.Prelude.{◌≡◌, ℕ, suc, not, nat_lt, bytes_eq, if◌then◌else◌, List}
+use Rattle.std.specs.Prelude.{[], ◌∷◌, map, length, Option, Some, None, Result, Ok, Err}
 use Rattle.xa_value.specs.Gives.{◌>>=◌}
 use Rattle.xa_func.specs.declared.func_id.FuncId.{FuncId}
 use Rattle.xa_func.specs.declared.func_id.FuncId.TheVariants as function
@@ -10,7 +11,8 @@ use Rattle.xa_func.specs.Signature.{signature_of}
 use Rattle.xa_func.specs.Table.{is_scalar}
 use Rattle.xa_bag.specs.HigherOrder.{collected}
 use Rattle.xa_expr.specs.declared.check_error.CheckError.{CheckError}
-use Rattle.xa_expr.specs.declared.check_error.CheckError.TheVariants.{UnknownFunction, WrongCount, WrongType, UnknownVariable, TooDeep}
+use Rattle.xa_expr.specs.declared.check_error.CheckError.TheVariants.{UnknownFunction, WrongCount}
+use Rattle.xa_expr.specs.declared.check_error.CheckError.TheVariants.{WrongType, UnknownVariable, TooDeep}
 use Rattle.xa_expr.specs.declared.expr.Expr.{Expr, fold-Expr, out-Expr}
 use Rattle.xa_expr.specs.declared.expr.Expr.TheOpen.{Expr-F}
 use Rattle.xa_expr.specs.declared.typed.Typed.{Typed}
@@ -18,7 +20,8 @@ use Rattle.xa_expr.specs.declared.typed.Typed.TheVariants as typed
 use Rattle.xa_expr.specs.declared.variables.Definition.{Definition}
 use Rattle.xa_expr.specs.Typed.{kind_of_typed, counted, accepted, higher_counted, higher_accepted}
 
--- what an expression is at its place: the name of a function, where it is a Function; and what it comes to as an argument at a depth
+-- what an expression is at its place: the name of a function, where it is a Function; and what it comes to as an
+-- argument at a depth
 pub record Judged : Type 0 where
   pub function : Option (List ℕ)
   pub argument : ℕ → Result Typed CheckError
@@ -30,7 +33,9 @@ at_depth depth answer = if nat_lt 24 depth then Err TooDeep else answer
 -- the variable of the name, which the definition at a place has
 abbrev pub variable_from : ℕ → List Definition → List ℕ → Result Typed CheckError
 variable_from place [] name = Err UnknownVariable
-variable_from place (d ∷ ds) name = if bytes_eq d.name name then Ok (typed.Variable place (kind_of_typed d.expression)) else variable_from (suc place) ds name
+variable_from place (d ∷ ds) name =
+    if bytes_eq d.name name then Ok (typed.Variable place (kind_of_typed d.expression))
+    else variable_from (suc place) ds name
 
 abbrev pub variable_named : List Definition → List ℕ → Result Typed CheckError
 variable_named definitions name = variable_from 0 definitions name
@@ -66,7 +71,8 @@ inner_named None = Err WrongType
 -- a higher-order Apply whose arguments are at the depth
 abbrev pub higher_order : HigherOrder → ℕ → List Judged → Result Typed CheckError
 higher_order h depth [] = Err WrongCount
-higher_order h depth (j ∷ js) = at_depth depth (inner_named j.function) >>= (λ f. arguments depth js >>= higher_applied h f)
+higher_order h depth (j ∷ js) =
+    at_depth depth (inner_named j.function) >>= (λ f. arguments depth js >>= higher_applied h f)
 
 -- an Apply of a function of values and bags, whose arguments are at the depth
 abbrev pub first_order : FuncId → ℕ → List Judged → Result Typed CheckError
@@ -87,7 +93,8 @@ abbrev pub judged_step : List Definition → Expr-F Judged → Judged
 judged_step variables (Expr-F.Value v) = argument (λ depth. Ok (typed.Literal v))
 judged_step variables (Expr-F.Designator d) = argument (λ depth. Ok (typed.Attribute d))
 judged_step variables (Expr-F.Apply name js) = argument (λ depth. apply (function_named name) (suc depth) js)
-judged_step variables (Expr-F.Function name) = record { function = Some name; argument = λ depth. at_depth depth (Err WrongType) }
+judged_step variables (Expr-F.Function name) =
+    record { function = Some name; argument = λ depth. at_depth depth (Err WrongType) }
 judged_step variables (Expr-F.Variable name) = argument (λ depth. variable_named variables name)
 
 abbrev pub judged : List Definition → Expr → Judged
@@ -104,6 +111,7 @@ NamesNone (Expr-F.Variable name) = ⊥
 abbrev pub AppliesNone : Expr → Type 0
 AppliesNone expression = NamesNone (out-Expr expression)
 
--- the checked expression, or the first fault, where the expression stands in no other and these variables are defined before it
+-- the checked expression, or the first fault, where the expression stands in no other and these variables are defined
+-- before it
 abbrev pub checked : List Definition → Expr → Result Typed CheckError
 checked variables expression = (judged variables expression).argument 1

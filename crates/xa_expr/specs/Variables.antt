@@ -12,7 +12,8 @@ kinds definitions = map (λ d. kind_of_typed d.expression) definitions
 -- each definition has its kind under those before it, these kinds being before all
 abbrev pub AreTypedAfter : List Kind → List Definition → Type 0
 AreTypedAfter before [] = Unit {0}
-AreTypedAfter before (d ∷ ds) = IsTyped before d.expression × AreTypedAfter (before ++ kind_of_typed d.expression ∷ []) ds
+AreTypedAfter before (d ∷ ds) =
+    IsTyped before d.expression × AreTypedAfter (before ++ kind_of_typed d.expression ∷ []) ds
 
 abbrev pub AreTyped : List Definition → Type 0
 AreTyped definitions = AreTypedAfter [] definitions

@@ -7,8 +7,12 @@ ghost use Rattle.xa_func.specs.Signature.{of_each, signature_of};
 ghost use Rattle.xa_func.specs.Table.{is_scalar};
 ghost use Rattle.xa_expr.specs.declared.check_error.CheckError.TheVariants.{UnknownFunction};
 ghost use Rattle.xa_expr.specs.declared.variables.Definition.{Definition as Defined};
-ghost use Rattle.xa_expr.specs.Typed.{IsTyped, kind_of_typed, kind_under, counted, accepted, higher_counted, bag_count, are_two_bags, has_bags, gives_boolean, higher_accepted, all_there};
-ghost use Rattle.xa_expr.specs.Typing.{at_depth, judged, arguments as arguments_of, apply, first_order, applied, higher_order, higher_applied, inner_named, known_inner, AppliesNone, checked};
+ghost use Rattle.xa_expr.specs.Typed.{IsTyped, kind_of_typed, kind_under, counted};
+ghost use Rattle.xa_expr.specs.Typed.{accepted, higher_counted, bag_count, are_two_bags};
+ghost use Rattle.xa_expr.specs.Typed.{has_bags, gives_boolean, higher_accepted, all_there};
+ghost use Rattle.xa_expr.specs.Typing.{at_depth, judged, arguments as arguments_of, apply};
+ghost use Rattle.xa_expr.specs.Typing.{first_order, applied, higher_order, higher_applied};
+ghost use Rattle.xa_expr.specs.Typing.{inner_named, known_inner, AppliesNone, checked};
 ghost use Rattle.xa_expr.specs.Variables.{kinds};
 
 use crate::check_error::CheckError;
@@ -74,7 +78,8 @@ fn check_apply(
     variables: &Variables,
     depth: usize,
 ) -> Result<Typed, OrMemory<CheckError>>
-    ensures value { Gives result (apply (function_named name.now) depth (map (judged variables.now) arguments.now)) }
+    ensures value { Gives result
+        (apply (function_named name.now) depth (map (judged variables.now) arguments.now)) }
     ensures typed { IfOk result (IsTyped (kinds variables.now)) }
     ensures unknown { function_named name.now ≡ None → result ≡ Err (Error UnknownFunction) }
 {
@@ -131,7 +136,8 @@ fn check_function_and_others(
     variables: &Variables,
     depth: usize,
 ) -> Result<Typed, OrMemory<CheckError>>
-    ensures value { Gives result (higher_order function depth (map (judged variables.now) (first.now ∷ others.now))) }
+    ensures value { Gives result
+        (higher_order function depth (map (judged variables.now) (first.now ∷ others.now))) }
     ensures typed { IfOk result (IsTyped (kinds variables.now)) }
 {
     let inner = inner_function(first, depth)?;
@@ -148,7 +154,8 @@ fn check_each(
     depth: usize,
 ) -> Result<Items<Typed>, OrMemory<CheckError>>
     ensures value { Gives result (arguments_of depth (map (judged variables.now) arguments.now)) }
-    ensures typed { IfOk result (λ ts. all_there (map (kind_under (kinds variables.now)) ts) ≡ Some (map kind_of_typed ts)) }
+    ensures typed { IfOk result (λ ts.
+        all_there (map (kind_under (kinds variables.now)) ts) ≡ Some (map kind_of_typed ts)) }
 {
     let mut done = Items::new(alloc);
     for argument in arguments {
@@ -160,7 +167,8 @@ fn check_each(
 /// The function of values that the expression names, where it is a Function that stands at the depth.
 fn inner_function(expression: &Expr, depth: usize) -> Result<FuncId, CheckError>
     ensures scalar { IfOk result (λ f. IsTrue (is_scalar f)) }
-    ensures value { (vs : List Defined) → result ≡ at_depth depth (inner_named (judged vs expression.now).function) }
+    ensures value { (vs : List Defined)
+        → result ≡ at_depth depth (inner_named (judged vs expression.now).function) }
 {
     if depth > MAX_DEPTH {
         return Err(CheckError::TooDeep);
@@ -249,7 +257,8 @@ fn is_accepted(function: HigherOrder, inner: FuncId, arguments: &[Typed]) -> boo
 
 /// Whether the function is one of values, and takes a value of each argument.
 fn takes_each(function: FuncId, arguments: &[Typed]) -> bool
-    ensures { result ≡ is_scalar function && accepted (signature_of function) (map of_each (map kind_of_typed arguments.now)) }
+    ensures { result ≡ is_scalar function
+        && accepted (signature_of function) (map of_each (map kind_of_typed arguments.now)) }
 {
     function.takes_each(arguments)
 }

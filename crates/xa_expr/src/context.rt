@@ -21,7 +21,8 @@ pub trait Context {
 
     /// The bag of the designator, whether or not it must be present.
     fn bag(&self, alloc: Global, designator: &Designator) -> Result<Bag, AllocError>
-        ensures { IfOk result (λ bag. bag ≡ bag_of designator.now.data_type (values_of self.now designator.now)) };
+        ensures { IfOk result (λ bag.
+            bag ≡ bag_of designator.now.data_type (values_of self.now designator.now)) };
 
     /// The bag that a designator gives is of its data type (core, section 7.3.5): a law, which each
     /// context proves. It does nothing when it runs.

@@ -4,14 +4,16 @@ ghost use Rattle.std.specs.Prelude.{◌≡◌, map, if◌then◌else◌, Some, I
 ghost use Rattle.xa_value.specs.Gives.{Gives};
 ghost use Rattle.xa_func.specs.declared.func_id.FuncId.TheVariants as function_id;
 ghost use Rattle.xa_func.specs.Logic.{or_of, and_of, n_among};
-ghost use Rattle.xa_func.specs.Signature.{AcceptsKinds, TakesKinds, kind_of, signature_of, bag_signature, of_each, result_type_of};
+ghost use Rattle.xa_func.specs.Signature.{AcceptsKinds, TakesKinds, kind_of, signature_of};
+ghost use Rattle.xa_func.specs.Signature.{bag_signature, of_each, result_type_of};
 ghost use Rattle.xa_bag.specs.declared.value_or_bag.ValueOrBag.TheVariants as given_variant;
 ghost use Rattle.xa_bag.specs.Applying.{boolean, kind_given};
 ghost use Rattle.xa_bag.specs.HigherOrder.{collected};
 ghost use Rattle.xa_bag.specs.ValueOrBag.{kind_of_argument};
 ghost use Rattle.xa_expr.specs.declared.fault.Fault.TheVariants.{ProcessingError};
 ghost use Rattle.xa_expr.specs.Arguments.{AreTypedUnder, AreValueKinds, value_result};
-ghost use Rattle.xa_expr.specs.Evaluation.{applied, applied_to_values, higher_applied, n_of_places, number, outcome, place, truth, value_in};
+ghost use Rattle.xa_expr.specs.Evaluation.{applied, applied_to_values, higher_applied};
+ghost use Rattle.xa_expr.specs.Evaluation.{n_of_places, number, outcome, place, truth, value_in};
 ghost use Rattle.xa_expr.specs.Results.{AreOfKinds};
 ghost use Rattle.xa_expr.specs.Typed.{IsTyped, kind_of_typed, result_kind};
 ghost use Rattle.xa_expr.specs.Variables.{kinds};
@@ -37,7 +39,8 @@ pub(crate) fn evaluate<'a, C: Context>(
 ) -> Result<ValueOrBag, OrMemory<Fault>>
     requires right { AreOfKinds (kinds scope.now.definitions.now) scope.now.results.now }
     requires typed { IsTyped (kinds scope.now.definitions.now) expression.now }
-    ensures value { Gives result (outcome (C.values_of scope.now.context.now) scope.now.results.now expression.now) }
+    ensures value { Gives result
+        (outcome (C.values_of scope.now.context.now) scope.now.results.now expression.now) }
     ensures typed { IfOk result (λ given. kind_of_argument given ≡ kind_of_typed expression.now) }
 {
     scope.context.spend(STEP)?;
@@ -75,7 +78,8 @@ fn apply<'a, C: Context>(
     requires right { AreOfKinds (kinds scope.now.definitions.now) scope.now.results.now }
     requires typed { AreTypedUnder (kinds scope.now.definitions.now) arguments.now }
     requires accepted { AcceptsKinds (signature_of function) (map kind_of_typed arguments.now) }
-    ensures value { Gives result (applied function (map (outcome (C.values_of scope.now.context.now) scope.now.results.now) arguments.now)) }
+    ensures value { Gives result (applied function
+        (map (outcome (C.values_of scope.now.context.now) scope.now.results.now) arguments.now)) }
     ensures typed { IfOk result (λ given. kind_of_argument given ≡ result_kind (signature_of function)) }
 {
     match function {
@@ -97,9 +101,13 @@ fn apply_logic<'a, C: Context>(
 ) -> Result<ValueOrBag, OrMemory<Fault>>
     requires right { AreOfKinds (kinds scope.now.definitions.now) scope.now.results.now }
     requires typed { AreTypedUnder (kinds scope.now.definitions.now) arguments.now }
-    requires accepted { AcceptsKinds (signature_of (function_id.Logic function)) (map kind_of_typed arguments.now) }
-    ensures value { Gives result (applied (function_id.Logic function) (map (outcome (C.values_of scope.now.context.now) scope.now.results.now) arguments.now)) }
-    ensures typed { IfOk result (λ given. kind_of_argument given ≡ result_kind (signature_of (function_id.Logic function))) }
+    requires accepted { AcceptsKinds (signature_of (function_id.Logic function))
+        (map kind_of_typed arguments.now) }
+    ensures value { Gives result
+        (applied (function_id.Logic function)
+        (map (outcome (C.values_of scope.now.context.now) scope.now.results.now) arguments.now)) }
+    ensures typed { IfOk result (λ given.
+        kind_of_argument given ≡ result_kind (signature_of (function_id.Logic function))) }
 {
     match function {
         Logic::Or => Ok(boolean(decide(alloc, scope, true, arguments)?)),
@@ -157,7 +165,9 @@ fn decide<'a, C: Context>(
 ) -> Result<bool, OrMemory<Fault>>
     requires right { AreOfKinds (kinds scope.now.definitions.now) scope.now.results.now }
     requires typed { AreTypedUnder (kinds scope.now.definitions.now) arguments.now }
-    ensures { let found = map place (map (outcome (C.values_of scope.now.context.now) scope.now.results.now) arguments.now) in Gives result (if stop then or_of found else and_of found) }
+    ensures { let found = map place
+        (map (outcome (C.values_of scope.now.context.now) scope.now.results.now) arguments.now) in
+        Gives result (if stop then or_of found else and_of found) }
 {
     for argument in arguments {
         let given = evaluate(alloc, scope, argument)?;
@@ -177,7 +187,8 @@ fn n_of<'a, C: Context>(
 ) -> Result<bool, OrMemory<Fault>>
     requires right { AreOfKinds (kinds scope.now.definitions.now) scope.now.results.now }
     requires typed { AreTypedUnder (kinds scope.now.definitions.now) arguments.now }
-    ensures { Gives result (n_of_places (map (outcome (C.values_of scope.now.context.now) scope.now.results.now) arguments.now)) }
+    ensures { Gives result (n_of_places
+        (map (outcome (C.values_of scope.now.context.now) scope.now.results.now) arguments.now)) }
 {
     let [first, booleans @ ..] = arguments else {
         return Err(OrMemory::Error(Fault::ProcessingError));
@@ -201,7 +212,9 @@ fn n_among<'a, C: Context>(
 ) -> Result<bool, OrMemory<Fault>>
     requires right { AreOfKinds (kinds scope.now.definitions.now) scope.now.results.now }
     requires typed { AreTypedUnder (kinds scope.now.definitions.now) booleans.now }
-    ensures { Gives result (n_among ProcessingError wanted (map place (map (outcome (C.values_of scope.now.context.now) scope.now.results.now) booleans.now))) }
+    ensures { Gives result
+        (n_among ProcessingError wanted
+        (map place (map (outcome (C.values_of scope.now.context.now) scope.now.results.now) booleans.now))) }
 {
     if wanted > booleans.len() {
         return Err(OrMemory::Error(Fault::ProcessingError));
@@ -239,7 +252,9 @@ fn apply_to_values<'a, C: Context>(
     requires right { AreOfKinds (kinds scope.now.definitions.now) scope.now.results.now }
     requires typed { AreTypedUnder (kinds scope.now.definitions.now) arguments.now }
     requires takes { TakesKinds function (map kind_of_typed arguments.now) }
-    ensures value { Gives result (applied_to_values function (map (outcome (C.values_of scope.now.context.now) scope.now.results.now) arguments.now)) }
+    ensures value { Gives result
+        (applied_to_values function
+        (map (outcome (C.values_of scope.now.context.now) scope.now.results.now) arguments.now)) }
     ensures typed { IfOk result (λ given. kind_of_argument given ≡ result_kind (signature_of function)) }
 {
     let values = all_values(alloc, scope, arguments)?;
@@ -258,8 +273,11 @@ fn apply_to_bags<'a, C: Context>(
     requires right { AreOfKinds (kinds scope.now.definitions.now) scope.now.results.now }
     requires typed { AreTypedUnder (kinds scope.now.definitions.now) arguments.now }
     requires accepted { AcceptsKinds (bag_signature function data_type) (map kind_of_typed arguments.now) }
-    ensures value { Gives result (applied (function_id.Bag function data_type) (map (outcome (C.values_of scope.now.context.now) scope.now.results.now) arguments.now)) }
-    ensures typed { IfOk result (λ given. kind_of_argument given ≡ result_kind (bag_signature function data_type)) }
+    ensures value { Gives result
+        (applied (function_id.Bag function data_type)
+        (map (outcome (C.values_of scope.now.context.now) scope.now.results.now) arguments.now)) }
+    ensures typed { IfOk result (λ given.
+        kind_of_argument given ≡ result_kind (bag_signature function data_type)) }
 {
     let given = all_given(alloc, scope, arguments)?;
     of_bags(alloc, scope.context, function, data_type, given.as_slice())
@@ -277,8 +295,11 @@ fn apply_higher_order<'a, C: Context>(
     requires right { AreOfKinds (kinds scope.now.definitions.now) scope.now.results.now }
     requires typed { AreTypedUnder (kinds scope.now.definitions.now) arguments.now }
     requires takes { TakesKinds inner (map of_each (map kind_of_typed arguments.now)) }
-    ensures value { Gives result (higher_applied function inner (map (outcome (C.values_of scope.now.context.now) scope.now.results.now) arguments.now)) }
-    ensures typed { IfOk result (λ given. kind_of_argument given ≡ kind_given function (result_type_of (signature_of inner))) }
+    ensures value { Gives result
+        (higher_applied function inner
+        (map (outcome (C.values_of scope.now.context.now) scope.now.results.now) arguments.now)) }
+    ensures typed { IfOk result (λ given.
+        kind_of_argument given ≡ kind_given function (result_type_of (signature_of inner))) }
 {
     let given = all_given(alloc, scope, arguments)?;
     of_function(alloc, scope.context, function, inner, given.as_slice())
@@ -295,7 +316,9 @@ fn all_values<'a, C: Context>(
     requires right { AreOfKinds (kinds scope.now.definitions.now) scope.now.results.now }
     requires typed { AreTypedUnder (kinds scope.now.definitions.now) arguments.now }
     requires values { AreValueKinds (map kind_of_typed arguments.now) }
-    ensures value { Gives result (collected (map value_result (map (outcome (C.values_of scope.now.context.now) scope.now.results.now) arguments.now))) }
+    ensures value { Gives result
+        (collected (map value_result
+        (map (outcome (C.values_of scope.now.context.now) scope.now.results.now) arguments.now))) }
     ensures typed { IfOk result (λ values. map kind_of values ≡ map kind_of_typed arguments.now) }
 {
     scope.context.spend(LIST)?;
@@ -316,7 +339,8 @@ fn all_given<'a, C: Context>(
 ) -> Result<Items<ValueOrBag>, OrMemory<Fault>>
     requires right { AreOfKinds (kinds scope.now.definitions.now) scope.now.results.now }
     requires typed { AreTypedUnder (kinds scope.now.definitions.now) arguments.now }
-    ensures value { Gives result (collected (map (outcome (C.values_of scope.now.context.now) scope.now.results.now) arguments.now)) }
+    ensures value { Gives result
+        (collected (map (outcome (C.values_of scope.now.context.now) scope.now.results.now) arguments.now)) }
     ensures typed { IfOk result (λ given. map kind_of_argument given ≡ map kind_of_typed arguments.now) }
 {
     scope.context.spend(LIST)?;

@@ -58,7 +58,8 @@ fn prepare<C: Context>(
     requires right { AreFirst (C.values_of context.now) definitions.now results.old.items }
     requires typed { AreTyped definitions.now }
     ensures right { AreFirst (C.values_of context.now) definitions.now results.new.items }
-    ensures exact { IfOk result (λ _. length results.new.items ≡ max (length results.old.items) (min (reach expression.now) (length definitions.now))) }
+    ensures exact { IfOk result (λ _. length results.new.items
+        ≡ max (length results.old.items) (min (reach expression.now) (length definitions.now))) }
 {
     if results.len() == definitions.len() {
         return Ok(());
@@ -119,7 +120,8 @@ impl<'a, C: Context> Evaluator<'a, C> {
     ) -> Result<ValueOrBag, OrMemory<Fault>>
         requires { IsTyped (kinds self.old.1) expression.now }
         ensures value { Gives result (value_of (C.values_of self.old.0) self.old.1 expression.now) }
-        ensures typed { IfOk result (λ given. Some (kind_of_argument given) ≡ kind_under (kinds self.old.1) expression.now) }
+        ensures typed { IfOk result (λ given.
+            Some (kind_of_argument given) ≡ kind_under (kinds self.old.1) expression.now) }
         ensures fits { MeetsNoMisfit (C.values_of self.old.0) self.old.1 expression.now }
         ensures kept { self.new ≡ self.old }
     {
@@ -144,7 +146,8 @@ pub fn value<C: Context>(
 ) -> Result<ValueOrBag, OrMemory<Fault>>
     requires { IsTyped (kinds variables.now) expression.now }
     ensures value { Gives result (value_of (C.values_of context.now) variables.now expression.now) }
-    ensures typed { IfOk result (λ given. Some (kind_of_argument given) ≡ kind_under (kinds variables.now) expression.now) }
+    ensures typed { IfOk result (λ given.
+        Some (kind_of_argument given) ≡ kind_under (kinds variables.now) expression.now) }
     ensures fits { MeetsNoMisfit (C.values_of context.now) variables.now expression.now }
 {
     Evaluator::new(alloc, context, variables).value(alloc, expression)

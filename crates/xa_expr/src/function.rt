@@ -4,7 +4,8 @@
 ghost use Rattle.std.specs.Prelude.{◌≡◌, map, IfOk};
 ghost use Rattle.xa_value.specs.Gives.{Gives};
 ghost use Rattle.xa_func.specs.Application as func;
-ghost use Rattle.xa_func.specs.Signature.{AcceptsKinds, TakesKinds, kind_of, signature_of, bag_signature, result_type_of};
+ghost use Rattle.xa_func.specs.Signature.{AcceptsKinds, TakesKinds, kind_of};
+ghost use Rattle.xa_func.specs.Signature.{signature_of, bag_signature, result_type_of};
 ghost use Rattle.xa_bag.specs.Applying.{as_argument, bag_applied, higher_order_applied, kind_given};
 ghost use Rattle.xa_bag.specs.ValueOrBag.{kind_of_argument, kind_of_each};
 ghost use Rattle.xa_expr.specs.Fault.{of_function, of_bag_function};
@@ -51,7 +52,8 @@ pub(crate) fn of_bags<C: Context>(
 ) -> Result<ValueOrBag, OrMemory<Fault>>
     requires { AcceptsKinds (bag_signature function data_type) (map kind_of_argument arguments.now) }
     ensures value { Gives result (of_bag_function (bag_applied function data_type arguments.now)) }
-    ensures typed { IfOk result (λ given. kind_of_argument given ≡ result_kind (bag_signature function data_type)) }
+    ensures typed { IfOk result (λ given.
+        kind_of_argument given ≡ result_kind (bag_signature function data_type)) }
 {
     context.spend(units_of_bag_function(function, arguments))?;
     match apply_bag_function(alloc, function, data_type, arguments) {
@@ -70,8 +72,11 @@ pub(crate) fn of_function<C: Context>(
     arguments: &[ValueOrBag],
 ) -> Result<ValueOrBag, OrMemory<Fault>>
     requires { TakesKinds inner (map kind_of_each arguments.now) }
-    ensures value { Gives result (of_bag_function (higher_order_applied function (result_type_of (signature_of inner)) (func.applied inner) arguments.now)) }
-    ensures typed { IfOk result (λ given. kind_of_argument given ≡ kind_given function (result_type_of (signature_of inner))) }
+    ensures value { Gives result
+        (of_bag_function (higher_order_applied function (result_type_of (signature_of inner))
+        (func.applied inner) arguments.now)) }
+    ensures typed { IfOk result (λ given.
+        kind_of_argument given ≡ kind_given function (result_type_of (signature_of inner))) }
 {
     context.spend(units_of_higher_order(function, inner, arguments))?;
     let charged = Charged {

@@ -87,7 +87,8 @@ impl Match {
     /// What a look for the literal says of the match. It takes two steps, as asking for the bag and
     /// looking at it do, and one where a value is missing.
     fn literal_in<C: Context>(&self, alloc: Global, context: &C) -> Result<Matching, AllocError>
-        ensures { IfOk result (λ m. m ≡ match_by self.now.designator.must_be_present (looked self.now.literal (C.values_of context.now self.now.designator))) }
+        ensures { IfOk result (λ m. m ≡ match_by self.now.designator.must_be_present
+            (looked self.now.literal (C.values_of context.now self.now.designator))) }
     {
         context.spend(STEP)?;
         let found = context.look_for(alloc, &self.designator, &self.literal)?;

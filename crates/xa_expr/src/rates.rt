@@ -1,7 +1,7 @@
 //! What a call of a function of values costs more than a step and its arguments. A unit is to take no
 //! more than some nanosecond and a half wherever it is spent: what was measured to take longer is
 //! charged more (`bench/units` measures all of it).
-use crate::work::{STEP, VALUE};
+use crate::work::STEP;
 use xa_func::{FuncId, TextFunction, TextPart};
 use xa_value::DataType;
 
@@ -12,17 +12,17 @@ struct Rate {
     times: u64,
 }
 
-/// What a call of the function costs. A text that a function gives is a value that is made, and a
-/// substring is made of a list of characters. A search of a text in a text begins with tables of the
-/// first, and may go back at each byte.
+/// What a call of the function costs. A text that a function gives is made, a substring of a list of
+/// characters. A search of a text in a text begins with tables of the first, and may go back at each
+/// byte.
 fn rate_of(function: FuncId) -> Rate {
     match function {
         FuncId::Text(TextFunction::Substring) => Rate {
-            call: VALUE,
+            call: STEP,
             times: 3,
         },
         FuncId::Text(TextFunction::NormalizeSpace | TextFunction::Concatenate) => Rate {
-            call: VALUE,
+            call: STEP,
             times: 1,
         },
         FuncId::Part(TextPart::Contains, _) => Rate {
@@ -30,14 +30,10 @@ fn rate_of(function: FuncId) -> Rate {
             times: 4,
         },
         FuncId::StringFrom(printed) => Rate {
-            call: VALUE.saturating_add(units_of_printing(printed.data_type())),
+            call: STEP.saturating_add(units_of_printing(printed.data_type())),
             times: 1,
         },
-        FuncId::FromString(_) => Rate {
-            call: STEP,
-            times: 1,
-        },
-        FuncId::Move(..) => Rate {
+        FuncId::FromString(_) | FuncId::Move(..) => Rate {
             call: 2 * STEP,
             times: 1,
         },

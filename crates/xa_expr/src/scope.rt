@@ -71,7 +71,8 @@ impl<'a, C: Context> Scope<'a, C> {
     pub(crate) fn variable(&self, place: usize) -> Result<ValueOrBag, OrMemory<Fault>>
         requires { AreOfKinds (kinds self.now.definitions.now) self.now.results.now }
         ensures value { Gives result (result_at (slice_get self.now.results.now place)) }
-        ensures typed { IfOk result (λ given. slice_get (kinds self.now.definitions.now) place ≡ Some (kind_of_argument given)) }
+        ensures typed { IfOk result (λ given.
+            slice_get (kinds self.now.definitions.now) place ≡ Some (kind_of_argument given)) }
     {
         let Some(outcome) = self.results.get(place) else {
             return Err(OrMemory::Error(Fault::ProcessingError));

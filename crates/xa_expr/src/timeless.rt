@@ -1,7 +1,8 @@
 //! Whether the clock is asked for the time by the designators that stand in something.
 ghost use Rattle.std.specs.Prelude.{◌≡◌, List, map, flat_map};
 ghost use Rattle.xa_expr.specs.declared.designator.Designator.{Designator};
-ghost use Rattle.xa_expr.specs.Designators.{designators, designators_of_all_of, designators_of_any_of, designators_of_match, designators_of_target};
+ghost use Rattle.xa_expr.specs.Designators.{designators, designators_of_all_of, designators_of_any_of};
+ghost use Rattle.xa_expr.specs.Designators.{designators_of_match, designators_of_target};
 ghost use Rattle.xa_expr.specs.Timeless.{is_clock_id, is_some_clock_id, is_timeless, names_the_clock};
 
 use crate::designator::Designator;

@@ -48,7 +48,8 @@ impl Model for Variables {
 
     ghost view = { λ v. v.definitions.items };
 
-    ghost invariant = { λ v. AreTyped v.definitions.items × ((name : List ℕ) → get (slice_cmp nat_cmp) v.places name ≡ place_named v.definitions.items name) };
+    ghost invariant = { λ v. AreTyped v.definitions.items
+        × ((name : List ℕ) → get (slice_cmp nat_cmp) v.places name ≡ place_named v.definitions.items name) };
 }
 
 impl Variables {
@@ -108,7 +109,8 @@ impl Variables {
     fn put(&mut self, name: Text, expression: Typed) -> Result<(), AllocError>
         requires other { is_defined self.old name ≡ false }
         requires typed { IsTyped (kinds self.old) expression }
-        ensures ok { OnOk result (self.new ≡ self.old ++ record { name = name; expression = expression } ∷ []) }
+        ensures ok { OnOk result
+            (self.new ≡ self.old ++ record { name = name; expression = expression } ∷ []) }
         ensures err { OnErr result (self.new ≡ self.old) }
     {
         let place = self.definitions.len();

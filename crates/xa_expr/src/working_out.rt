@@ -67,7 +67,8 @@ fn next_outcome<C: Context>(
     requires right { AreFirst (C.values_of context.now) definitions.now results.now }
     requires typed { AreTyped definitions.now }
     requires defined { length results.now < length definitions.now }
-    ensures { IfOk result (λ outcome. AreFirst (C.values_of context.now) definitions.now (results.now ++ outcome ∷ [])) }
+    ensures { IfOk result (λ outcome.
+        AreFirst (C.values_of context.now) definitions.now (results.now ++ outcome ∷ [])) }
 {
     let place = results.len();
     let scope = Scope {
@@ -114,7 +115,8 @@ pub(crate) fn work_out<C: Context>(
     requires right { AreFirst (C.values_of context.now) definitions.now results.old.items }
     requires typed { AreTyped definitions.now }
     ensures right { AreFirst (C.values_of context.now) definitions.now results.new.items }
-    ensures exact { IfOk result (λ _. length results.new.items ≡ max (length results.old.items) (min (suc place) (length definitions.now))) }
+    ensures exact { IfOk result (λ _. length results.new.items
+        ≡ max (length results.old.items) (min (suc place) (length definitions.now))) }
 {
     while results.len() < definitions.len() && results.len() <= place {
         let outcome = next_outcome(alloc, context, definitions, results.as_slice())?;

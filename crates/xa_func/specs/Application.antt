@@ -21,7 +21,8 @@ use Rattle.xa_func.specs.Arguments.{misfit, as_value, integers, texts, of_one, o
 use Rattle.xa_func.specs.Arithmetic.{arithmetic, absolute}
 use Rattle.xa_func.specs.Comparison.{compared}
 use Rattle.xa_func.specs.Conversion.{value_of}
-use Rattle.xa_func.specs.Dates.{directed, date_after_months, date_time_after_months, date_time_after_nanos, time_in_range}
+use Rattle.xa_func.specs.Dates.{directed, date_after_months, date_time_after_months}
+use Rattle.xa_func.specs.Dates.{date_time_after_nanos, time_in_range}
 use Rattle.xa_func.specs.Logic.{logical}
 use Rattle.xa_func.specs.Table.{printed_type}
 use Rattle.xa_func.specs.Text.{has_part, substring}
@@ -45,9 +46,12 @@ read_result t _ = misfit
 
 -- dates, and dates with a time, moved by durations
 abbrev pub move_result : Moved → Direction → List Value → Result Value FuncFault
-move_result DateTimeByDayTime d (value.DateTime date_time ∷ value.DayTimeDuration nanos ∷ []) = as_value value.DateTime (date_time_after_nanos date_time (directed d nanos))
-move_result DateTimeByYearMonth d (value.DateTime date_time ∷ value.YearMonthDuration months ∷ []) = as_value value.DateTime (date_time_after_months date_time (directed d months))
-move_result DateByYearMonth d (value.Date date ∷ value.YearMonthDuration months ∷ []) = as_value value.Date (date_after_months date (directed d months))
+move_result DateTimeByDayTime d (value.DateTime date_time ∷ value.DayTimeDuration nanos ∷ []) =
+    as_value value.DateTime (date_time_after_nanos date_time (directed d nanos))
+move_result DateTimeByYearMonth d (value.DateTime date_time ∷ value.YearMonthDuration months ∷ []) =
+    as_value value.DateTime (date_time_after_months date_time (directed d months))
+move_result DateByYearMonth d (value.Date date ∷ value.YearMonthDuration months ∷ []) =
+    as_value value.Date (date_after_months date (directed d months))
 move_result _ _ _ = misfit
 
 -- a time in a range of times

@@ -5,8 +5,9 @@ use Rattle.xa_value.specs.declared.value.Value.TheVariants as value
 use Rattle.xa_func.specs.declared.fault.FuncFault.{FuncFault}
 use Rattle.xa_func.specs.declared.fault.FuncFault.TheVariants.{Position}
 
--- arguments that do not fit the signature: no caller gives them, since `FuncId::apply` asks of each that they fit. Of expressions a law says it of the definitions too:
--- evaluation never comes to this word (`MeetsNoMisfit` of `xa_expr/specs/Misfits`)
+-- arguments that do not fit the signature: no caller gives them, since `FuncId::apply` asks of each that they fit. Of
+-- expressions a law says it of the definitions too: evaluation never comes to this word (`MeetsNoMisfit` of
+-- `xa_expr/specs/Misfits`)
 abbrev pub misfit : {X : Type 0} → Result X FuncFault
 misfit = Err Position
 

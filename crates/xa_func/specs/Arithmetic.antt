@@ -1,5 +1,6 @@
 -- Whole numbers without bound, and what of them fits 64 bits (XACML 3.0, core, appendix A.3.2).
-use Rattle.std.specs.Prelude.{Bool, ◌&&◌, if◌then◌else◌, List, [], ◌∷◌, ℤ, pos, neg_ℤ, unsigned_abs, int_le, int_div, int_rem, ◌+ℤ◌, ◌-ℤ◌, ◌*ℤ◌, Result, Ok, Err}
+use Rattle.std.specs.Prelude.{Bool, ◌&&◌, if◌then◌else◌, List, [], ◌∷◌, ℤ, pos, neg_ℤ, unsigned_abs}
+use Rattle.std.specs.Prelude.{int_le, int_div, int_rem, ◌+ℤ◌, ◌-ℤ◌, ◌*ℤ◌, Result, Ok, Err}
 use Rattle.std.specs.Ordering.{int_eq}
 use Rattle.xa_func.specs.declared.func_id.Arithmetic.{Arithmetic}
 use Rattle.xa_func.specs.declared.func_id.Arithmetic.TheVariants.{Add, Multiply, Subtract, Divide, Mod}

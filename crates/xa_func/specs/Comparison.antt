@@ -5,7 +5,8 @@ use Rattle.std.specs.declared.cmp.Ordering.TheVariants.{Less, Greater}
 use Rattle.xa_value.specs.declared.value.Value.{Value}
 use Rattle.xa_value.specs.Order.{order}
 use Rattle.xa_func.specs.declared.func_id.Comparison.{Comparison}
-use Rattle.xa_func.specs.declared.func_id.Comparison.TheVariants.{GreaterThan, GreaterThanOrEqual, LessThan, LessThanOrEqual}
+use Rattle.xa_func.specs.declared.func_id.Comparison.TheVariants.{GreaterThan, GreaterThanOrEqual}
+use Rattle.xa_func.specs.declared.func_id.Comparison.TheVariants.{LessThan, LessThanOrEqual}
 
 -- what each question asks of the order
 abbrev pub meets : Comparison → Ordering → Bool

@@ -1,5 +1,6 @@
 -- Days, times and durations (XACML 3.0, core, appendices A.3.7 and A.3.8; XML Schema, part 2, appendix E).
-use Rattle.std.specs.Prelude.{ℕ, ◌+◌, ◌-◌, ◌*◌, min, Bool, ◌&&◌, if◌then◌else◌, ℤ, pos, neg_ℤ, unsigned_abs, nat_le, int_le, ◌+ℤ◌, ◌-ℤ◌, ◌*ℤ◌, Option, Result, Ok, Err}
+use Rattle.std.specs.Prelude.{ℕ, ◌+◌, ◌-◌, ◌*◌, min, Bool, ◌&&◌, if◌then◌else◌, ℤ, pos, neg_ℤ}
+use Rattle.std.specs.Prelude.{unsigned_abs, nat_le, int_le, ◌+ℤ◌, ◌-ℤ◌, ◌*ℤ◌, Option, Result, Ok, Err}
 use Rattle.std.specs.Int.{int_div_euclid, int_rem_euclid}
 use Rattle.std.specs.Option.{option_or}
 use Rattle.jiff_core.specs.Calendar.{days_in_month}
@@ -37,8 +38,11 @@ is_year year = int_le (pos 1) year && int_le year (pos 9999)
 -- the same day of the month with that number, or its last day where it is shorter
 unfoldable pub day_in_month : ℕ → ℤ → Result Day FuncFault
 day_in_month day months =
-    if is_year (year_at months)
-    then Ok (record { year = unsigned_abs (year_at months); month = month_at months; day = min day (days_in_month (year_at months) (month_at months)) })
+    if is_year (year_at months) then Ok (record {
+      year = unsigned_abs (year_at months);
+      month = month_at months;
+      day = min day (days_in_month (year_at months) (month_at months));
+    })
     else Err CalendarRange
 
 -- the day this many months later
@@ -72,12 +76,14 @@ date_after_months d months = months_later (day_of_date d) months >>= λ day. Ok 
 
 -- a day and time some months later, at the same time of day
 abbrev pub date_time_after_months : CivilDateTime → ℤ → Result CivilDateTime FuncFault
-date_time_after_months d months = months_later (day_of_date_time d) months >>= λ day. Ok (date_time_on d.nanos d.zone day)
+date_time_after_months d months =
+    months_later (day_of_date_time d) months >>= λ day. Ok (date_time_on d.nanos d.zone day)
 
 -- the day and time of this many nanoseconds
 abbrev pub date_time_at : ℤ → Option ℤ → Result CivilDateTime FuncFault
 date_time_at nanos zone =
-    day_at (int_div_euclid nanos (pos day_nanos)) >>= λ day. Ok (date_time_on (unsigned_abs (int_rem_euclid nanos (pos day_nanos))) zone day)
+    day_at (int_div_euclid nanos (pos day_nanos))
+    >>= λ day. Ok (date_time_on (unsigned_abs (int_rem_euclid nanos (pos day_nanos))) zone day)
 
 -- a day and time some nanoseconds later, as written
 abbrev pub date_time_after_nanos : CivilDateTime → ℤ → Result CivilDateTime FuncFault

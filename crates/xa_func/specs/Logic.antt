@@ -1,5 +1,6 @@
 -- Or, and, n-of, by places (XACML 3.0, core, appendix A.3.5), over what was computed at each place.
-use Rattle.std.specs.Prelude.{ℕ, zero, suc, Bool, true, false, not, nat_lt, int_lt, if◌then◌else◌, List, [], ◌∷◌, map, length, find, unwrap_or, ℤ, pos, unsigned_abs, Result, Ok, Err}
+use Rattle.std.specs.Prelude.{ℕ, zero, suc, Bool, true, false, not, nat_lt, int_lt, if◌then◌else◌, List}
+use Rattle.std.specs.Prelude.{[], ◌∷◌, map, length, find, unwrap_or, ℤ, pos, unsigned_abs, Result, Ok, Err}
 use Rattle.xa_value.specs.declared.value.Value.{Value}
 use Rattle.xa_value.specs.declared.value.Value.TheVariants as value
 use Rattle.xa_func.specs.declared.func_id.Logic.{Logic}
@@ -25,7 +26,8 @@ or_of rs = by_places (λ b. b) false rs
 abbrev pub and_of : {F : Type 0} → List (Result Bool F) → Result Bool F
 and_of rs = by_places not true rs
 
--- n of the places, from first to last: a fault that is reached is the result, a True is one of the n, and after a False too few may be left
+-- n of the places, from first to last: a fault that is reached is the result, a True is one of the n, and after a
+-- False too few may be left
 abbrev pub n_places : {F : Type 0} → ℕ → List (Result Bool F) → Result Bool F
 n_places zero rs = Ok true
 n_places (suc n) [] = Ok false

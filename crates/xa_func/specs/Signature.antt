@@ -1,5 +1,6 @@
 -- What each function takes and gives (XACML 3.0, core, appendix A.3).
-use Rattle.std.specs.Prelude.{◌≡◌, ℕ, ◌≤◌, ◌<◌, Bool, IsTrue, nat_le, ◌==◌, if◌then◌else◌, List, [], ◌∷◌, length, slice_get, Option, Some}
+use Rattle.std.specs.Prelude.{◌≡◌, ℕ, ◌≤◌, ◌<◌, Bool, IsTrue, nat_le, ◌==◌, if◌then◌else◌}
+use Rattle.std.specs.Prelude.{List, [], ◌∷◌, length, slice_get, Option, Some}
 use Rattle.xa_value.specs.declared.data_type.DataType.{DataType}
 use Rattle.xa_value.specs.declared.data_type.DataType.TheVariants as type
 use Rattle.xa_value.specs.declared.value.Value.{Value}
@@ -93,7 +94,8 @@ signature_of (function.Part p t) = question (Two (kind.Value type.String) (kind.
 signature_of (function.StringFrom t) = of_values (one (printed_type t)) type.String
 signature_of (function.FromString t) = of_values (one type.String) (printed_type t)
 signature_of (function.Move m d) = move_signature m
-signature_of function.TimeInRange = question (Three (kind.Value type.Time) (kind.Value type.Time) (kind.Value type.Time))
+signature_of function.TimeInRange =
+    question (Three (kind.Value type.Time) (kind.Value type.Time) (kind.Value type.Time))
 signature_of (function.Bag f t) = bag_signature f t
 signature_of (function.HigherOrder f) = HigherOrder f
 
@@ -126,7 +128,8 @@ type_of_kind (kind.Bag t) = t
 abbrev pub of_each : Kind → Kind
 of_each k = kind.Value (type_of_kind k)
 
--- the type of what a function of the signature gives. A function that takes a function counts as one that gives a boolean
+-- the type of what a function of the signature gives. A function that takes a function counts as one that gives a
+-- boolean
 abbrev pub result_type_of : Signature → DataType
 result_type_of (FirstOrder parameters k) = type_of_kind k
 result_type_of (HigherOrder f) = type.Boolean

@@ -1,5 +1,6 @@
--- The functions of XACML 3.0 and their names (core, appendix A.3). A name has three parts: the version of the standard, the subject that
--- the function is of, and the verb that tells what it does. Each family of functions is one row of the table.
+-- The functions of XACML 3.0 and their names (core, appendix A.3). A name has three parts: the version of the
+-- standard, the subject that the function is of, and the verb that tells what it does. Each family of functions is
+-- one row of the table.
 use Rattle.std.specs.Prelude.{ℕ, Bool, true, false, ◌&&◌, ◌||◌, if◌then◌else◌, List, [], ◌++◌, codes, bytes_eq}
 use Rattle.xa_value.specs.declared.data_type.DataType.{DataType}
 use Rattle.xa_value.specs.declared.data_type.DataType.TheVariants as type
@@ -140,11 +141,14 @@ text_row text_function.Substring = row third_version (codes "string") (codes "-s
 
 abbrev pub move_row : Moved → Direction → Name
 move_row moved.DateTimeByDayTime direction.Add = row third_version (codes "dateTime") (codes "-add-dayTimeDuration")
-move_row moved.DateTimeByDayTime direction.Subtract = row third_version (codes "dateTime") (codes "-subtract-dayTimeDuration")
+move_row moved.DateTimeByDayTime direction.Subtract =
+    row third_version (codes "dateTime") (codes "-subtract-dayTimeDuration")
 move_row moved.DateTimeByYearMonth direction.Add = row third_version (codes "dateTime") (codes "-add-yearMonthDuration")
-move_row moved.DateTimeByYearMonth direction.Subtract = row third_version (codes "dateTime") (codes "-subtract-yearMonthDuration")
+move_row moved.DateTimeByYearMonth direction.Subtract =
+    row third_version (codes "dateTime") (codes "-subtract-yearMonthDuration")
 move_row moved.DateByYearMonth direction.Add = row third_version (codes "date") (codes "-add-yearMonthDuration")
-move_row moved.DateByYearMonth direction.Subtract = row third_version (codes "date") (codes "-subtract-yearMonthDuration")
+move_row moved.DateByYearMonth direction.Subtract =
+    row third_version (codes "date") (codes "-subtract-yearMonthDuration")
 
 abbrev pub higher_row : HigherOrder → Name
 higher_row higher.AnyOf = row third_version [] (codes "any-of")
@@ -182,4 +186,5 @@ uri_in version name = version ++ (name.subject ++ name.verb)
 -- the text is a name of the function
 unfoldable pub names : List ℕ → FuncId → Bool
 names text f =
-    bytes_eq text (uri_in (row_of f).version (row_of f)) || (has_later_name f && bytes_eq text (uri_in third_version (row_of f)))
+    bytes_eq text (uri_in (row_of f).version (row_of f))
+    || (has_later_name f && bytes_eq text (uri_in third_version (row_of f)))

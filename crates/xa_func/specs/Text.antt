@@ -1,5 +1,6 @@
 -- Texts, as lists of characters and as their UTF-8 bytes (XACML 3.0, core, appendices A.3.3 and A.3.9).
-use Rattle.std.specs.Prelude.{ℕ, Bool, ◌&&◌, ◌||◌, nat_eq, if◌then◌else◌, List, [], ◌∷◌, length, slice_range, chars, encode_utf8_all, ℤ, pos, negsuc, unsigned_abs, int_le, Result, Ok, Err}
+use Rattle.std.specs.Prelude.{ℕ, Bool, ◌&&◌, ◌||◌, nat_eq, if◌then◌else◌, List, [], ◌∷◌, length, slice_range}
+use Rattle.std.specs.Prelude.{chars, encode_utf8_all, ℤ, pos, negsuc, unsigned_abs, int_le, Result, Ok, Err}
 use Rattle.std.specs.Ordering.{int_eq}
 use Rattle.std.specs.List.{starts_with, ends_with}
 use Rattle.xa_func.specs.declared.func_id.TextPart.{TextPart}
@@ -7,8 +8,8 @@ use Rattle.xa_func.specs.declared.func_id.TextPart.TheVariants.{StartsWith, Ends
 use Rattle.xa_func.specs.declared.fault.FuncFault.{FuncFault}
 use Rattle.xa_func.specs.declared.fault.FuncFault.TheVariants.{Position}
 
--- the text, or what follows one of its bytes, begins with the part. By bytes is by characters: in UTF-8 no character's bytes begin
--- inside another's
+-- the text, or what follows one of its bytes, begins with the part. By bytes is by characters: in UTF-8 no
+-- character's bytes begin inside another's
 abbrev pub contains : List ℕ → List ℕ → Bool
 contains [] part = starts_with nat_eq [] part
 contains (c ∷ cs) part = starts_with nat_eq (c ∷ cs) part || contains cs part

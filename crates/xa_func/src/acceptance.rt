@@ -84,7 +84,8 @@ fn every<T: HasKind, W: Counting>(kind: Kind, arguments: &[T]) -> bool
 
 /// Whether the arguments are one of the first kind, and then any number of the second.
 fn one_and_more<T: HasKind, W: Counting>(first: Kind, more: Kind, arguments: &[T]) -> bool
-    ensures { IsTrue result ↔ Fits (Parameters.OneAndMore first more) (map (λ a. W.counts_as (T.kind_of a)) arguments.now) }
+    ensures { IsTrue result
+        ↔ Fits (Parameters.OneAndMore first more) (map (λ a. W.counts_as (T.kind_of a)) arguments.now) }
 {
     let [argument, others @ ..] = arguments else {
         return false;
@@ -119,7 +120,8 @@ fn just_three<T: HasKind, W: Counting>(
     third: Kind,
     arguments: &[T],
 ) -> bool
-    ensures { IsTrue result ↔ (map (λ a. W.counts_as (T.kind_of a)) arguments.now ≡ first ∷ second ∷ third ∷ []) }
+    ensures { IsTrue result
+        ↔ (map (λ a. W.counts_as (T.kind_of a)) arguments.now ≡ first ∷ second ∷ third ∷ []) }
 {
     let [argument, others @ ..] = arguments else {
         return false;
@@ -129,7 +131,8 @@ fn just_three<T: HasKind, W: Counting>(
 
 /// Whether there are this many arguments of the kind, or more.
 fn at_least<T: HasKind, W: Counting>(least: usize, kind: Kind, arguments: &[T]) -> bool
-    ensures { IsTrue result ↔ Fits (Parameters.AtLeast least kind) (map (λ a. W.counts_as (T.kind_of a)) arguments.now) }
+    ensures { IsTrue result
+        ↔ Fits (Parameters.AtLeast least kind) (map (λ a. W.counts_as (T.kind_of a)) arguments.now) }
 {
     least <= arguments.len() && every::<T, W>(kind, arguments)
 }

@@ -47,7 +47,8 @@ fn compare(
     ordered: OrderedType,
     arguments: &[Value],
 ) -> Result<Value, FuncFault>
-    requires { AcceptsKinds (signature_of (function_id.Compare comparison ordered)) (map kind_of arguments.now) }
+    requires { AcceptsKinds (signature_of (function_id.Compare comparison ordered))
+        (map kind_of arguments.now) }
     ensures value { result ≡ applied (function_id.Compare comparison ordered) arguments.now }
     ensures typed { IfOk result (IsResult (signature_of (function_id.Compare comparison ordered))) }
 {
@@ -94,7 +95,8 @@ fn from_string(
 ) -> Result<Value, OrMemory<FuncFault>>
     requires { AcceptsKinds (signature_of (function_id.FromString printed)) (map kind_of arguments.now) }
     ensures value { Gives result (applied (function_id.FromString printed) arguments.now) }
-    ensures exact { reading_grows (printed_type printed) ≡ false → result ≡ answered (applied (function_id.FromString printed) arguments.now) }
+    ensures exact { reading_grows (printed_type printed) ≡ false
+        → result ≡ answered (applied (function_id.FromString printed) arguments.now) }
     ensures typed { IfOk result (IsResult (signature_of (function_id.FromString printed))) }
 {
     value_of(
@@ -149,7 +151,8 @@ fn compose(
 
 /// The text without white space at its ends.
 fn normalize_space(alloc: Global, arguments: &[Value]) -> Result<Value, OrMemory<FuncFault>>
-    requires { AcceptsKinds (signature_of (function_id.Text text_function.NormalizeSpace)) (map kind_of arguments.now) }
+    requires { AcceptsKinds (signature_of (function_id.Text text_function.NormalizeSpace))
+        (map kind_of arguments.now) }
     ensures value { Gives result (applied (function_id.Text text_function.NormalizeSpace) arguments.now) }
     ensures typed { IfOk result (IsResult (signature_of (function_id.Text text_function.NormalizeSpace))) }
 {
@@ -158,7 +161,8 @@ fn normalize_space(alloc: Global, arguments: &[Value]) -> Result<Value, OrMemory
 
 /// The characters of a text from one place up to another.
 fn string_substring(alloc: Global, arguments: &[Value]) -> Result<Value, OrMemory<FuncFault>>
-    requires { AcceptsKinds (signature_of (function_id.Text text_function.Substring)) (map kind_of arguments.now) }
+    requires { AcceptsKinds (signature_of (function_id.Text text_function.Substring))
+        (map kind_of arguments.now) }
     ensures value { Gives result (applied (function_id.Text text_function.Substring) arguments.now) }
     ensures typed { IfOk result (IsResult (signature_of (function_id.Text text_function.Substring))) }
 {
@@ -196,9 +200,11 @@ fn move_by(moved: Moved, direction: Direction, arguments: &[Value]) -> Result<Va
 
 /// A day and time, moved by days, hours, minutes and seconds.
 fn date_time_by_day_time(direction: Direction, arguments: &[Value]) -> Result<Value, FuncFault>
-    requires { AcceptsKinds (signature_of (function_id.Move moved_by.DateTimeByDayTime direction)) (map kind_of arguments.now) }
+    requires { AcceptsKinds (signature_of (function_id.Move moved_by.DateTimeByDayTime direction))
+        (map kind_of arguments.now) }
     ensures value { result ≡ applied (function_id.Move moved_by.DateTimeByDayTime direction) arguments.now }
-    ensures typed { IfOk result (IsResult (signature_of (function_id.Move moved_by.DateTimeByDayTime direction))) }
+    ensures typed { IfOk result
+        (IsResult (signature_of (function_id.Move moved_by.DateTimeByDayTime direction))) }
 {
     let (date_time, duration) = two(arguments);
     let nanos = directed_nanos(direction, day_time_of(duration));
@@ -207,9 +213,11 @@ fn date_time_by_day_time(direction: Direction, arguments: &[Value]) -> Result<Va
 
 /// A day and time, moved by years and months.
 fn date_time_by_year_month(direction: Direction, arguments: &[Value]) -> Result<Value, FuncFault>
-    requires { AcceptsKinds (signature_of (function_id.Move moved_by.DateTimeByYearMonth direction)) (map kind_of arguments.now) }
+    requires { AcceptsKinds (signature_of (function_id.Move moved_by.DateTimeByYearMonth direction))
+        (map kind_of arguments.now) }
     ensures value { result ≡ applied (function_id.Move moved_by.DateTimeByYearMonth direction) arguments.now }
-    ensures typed { IfOk result (IsResult (signature_of (function_id.Move moved_by.DateTimeByYearMonth direction))) }
+    ensures typed { IfOk result
+        (IsResult (signature_of (function_id.Move moved_by.DateTimeByYearMonth direction))) }
 {
     let (date_time, duration) = two(arguments);
     let months = directed_months(direction, year_month_of(duration));
@@ -218,9 +226,11 @@ fn date_time_by_year_month(direction: Direction, arguments: &[Value]) -> Result<
 
 /// A day, moved by years and months.
 fn date_by_year_month(direction: Direction, arguments: &[Value]) -> Result<Value, FuncFault>
-    requires { AcceptsKinds (signature_of (function_id.Move moved_by.DateByYearMonth direction)) (map kind_of arguments.now) }
+    requires { AcceptsKinds (signature_of (function_id.Move moved_by.DateByYearMonth direction))
+        (map kind_of arguments.now) }
     ensures value { result ≡ applied (function_id.Move moved_by.DateByYearMonth direction) arguments.now }
-    ensures typed { IfOk result (IsResult (signature_of (function_id.Move moved_by.DateByYearMonth direction))) }
+    ensures typed { IfOk result
+        (IsResult (signature_of (function_id.Move moved_by.DateByYearMonth direction))) }
 {
     let (date, duration) = two(arguments);
     let months = directed_months(direction, year_month_of(duration));
@@ -238,9 +248,10 @@ fn is_in_range(arguments: &[Value]) -> Result<Value, FuncFault>
 }
 
 impl FuncId {
-    /// What the function of values gives, of arguments that it takes (XACML 3.0, core, appendix A.3), or its fault: ZeroDivisor and Overflow
-    /// of arithmetic, BadText of a string that is read as another type, Position of substring and n-of, and CalendarRange of a day that is
-    /// moved out of the years 1 to 9999. Clause `exact`: only what makes a text may want memory.
+    /// What the function of values gives, of arguments that it takes (XACML 3.0, core, appendix
+    /// A.3), or its fault: ZeroDivisor and Overflow of arithmetic, BadText of a string that is read
+    /// as another type, Position of substring and n-of, and CalendarRange of a day that is moved
+    /// out of the years 1 to 9999. Clause `exact`: only what makes a text may want memory.
     pub fn apply(self, alloc: Global, arguments: &[Value]) -> Result<Value, OrMemory<FuncFault>>
         requires { TakesKinds self (map kind_of arguments.now) }
         ensures value { Gives result (applied self arguments.now) }

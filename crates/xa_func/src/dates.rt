@@ -7,7 +7,9 @@ ghost use Rattle.jiff_core.specs.Calendar.{IsBetween, IsWithin};
 ghost use Rattle.jiff_core.specs.Date.{epoch_day};
 ghost use Rattle.xa_value.specs.Duration.{IsMonths, IsNanos};
 ghost use Rattle.xa_func.specs.Civil.{day_of, day_result};
-ghost use Rattle.xa_func.specs.Dates.{directed, months_later, month_number, day_in_month, day_at, date_after_months, date_time_after_months, date_time_at, date_time_after_nanos, nanos_in_utc, distance, time_in_range};
+ghost use Rattle.xa_func.specs.Dates.{directed, months_later, month_number, day_in_month, day_at};
+ghost use Rattle.xa_func.specs.Dates.{date_after_months, date_time_after_months, date_time_at};
+ghost use Rattle.xa_func.specs.Dates.{date_time_after_nanos, nanos_in_utc, distance, time_in_range};
 
 use crate::fault::FuncFault;
 use crate::func_id::Direction;

@@ -1,4 +1,5 @@
-//! The functions of XACML 3.0 on values: their names, their signatures and what they give (core, appendix A.3).
+//! The functions of XACML 3.0 on values: their names, their signatures and what they give (core,
+//! appendix A.3).
 #![tactic(auto)]
 
 mod acceptance;
@@ -11,6 +12,7 @@ mod dates;
 mod fault;
 mod func_id;
 mod logic;
+mod name;
 mod names;
 mod signature;
 mod status;

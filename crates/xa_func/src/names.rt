@@ -1,7 +1,7 @@
-//! The names of the functions: what each is called, and the function that a URI names.
-ghost use Rattle.std.specs.Prelude.{◌≡◌, ◌↔◌, ◌++◌, map, find, flat_map, bytes_eq, IsTrue, Option, Some};
+//! The function that a URI names.
+ghost use Rattle.std.specs.Prelude.{◌≡◌, ◌↔◌, map, find, flat_map, IsTrue, Option, Some};
 ghost use Rattle.xa_func.specs.Names.{function_named};
-ghost use Rattle.xa_func.specs.Table.{row_of, text_row, move_row, higher_row, comparison_verb, arithmetic_verb, logic_verb, part_verb, printed_verb, bag_verb, has_later_name, is_duration, names};
+ghost use Rattle.xa_func.specs.Table.{names};
 ghost use Rattle.xa_func.specs.declared.func_id.FuncId.{FuncId};
 ghost use Rattle.xa_func.specs.declared.func_id.FuncId.TheVariants as function_id;
 
@@ -10,296 +10,6 @@ use crate::func_id::{
     PrintedType, TextFunction, TextPart, TextType,
 };
 use xa_value::DataType;
-
-/// What each version of the standard puts before the names of its functions.
-const FIRST: &str = "urn:oasis:names:tc:xacml:1.0:function:";
-
-const SECOND: &str = "urn:oasis:names:tc:xacml:2.0:function:";
-
-const THIRD: &str = "urn:oasis:names:tc:xacml:3.0:function:";
-
-/// A name: the version of the standard, what the function is of, and what it does.
-#[derive(Clone, Copy)]
-struct Name {
-    version: &'static str,
-    subject: &'static str,
-    verb: &'static str,
-}
-
-impl Name {
-    /// The name of the three parts.
-    fn new(version: &'static str, subject: &'static str, verb: &'static str) -> Name
-        ensures version { result.version.now ≡ version.now }
-        ensures subject { result.subject.now ≡ subject.now }
-        ensures verb { result.verb.now ≡ verb.now }
-    {
-        Name {
-            version,
-            subject,
-            verb,
-        }
-    }
-
-    /// Whether the text is the name, in the version.
-    #[tactic(auto, using(crate::proofs::NameLemmas::stripped, crate::proofs::NameLemmas::unstripped))]
-    fn is_written(&self, version: &str, uri: &str) -> bool
-        ensures { result ≡ bytes_eq uri.now (version.now ++ (self.now.subject.now ++ self.now.verb.now)) }
-    {
-        match uri.as_bytes().strip_prefix(version.as_bytes()) {
-            None => false,
-            Some(name) => is_joined(name, self.subject.as_bytes(), self.verb.as_bytes()),
-        }
-    }
-}
-
-/// Whether the text is the head and then the rest.
-#[tactic(auto, using(crate::proofs::NameLemmas::stripped, crate::proofs::NameLemmas::unstripped))]
-fn is_joined(text: &[u8], head: &[u8], rest: &[u8]) -> bool
-    ensures { result ≡ bytes_eq text.now (head.now ++ rest.now) }
-{
-    match text.strip_prefix(head) {
-        None => false,
-        Some(found) => found == rest,
-    }
-}
-
-/// Whether the data type is one of the two durations.
-fn is_duration(data_type: DataType) -> bool
-    ensures { result ≡ is_duration data_type }
-{
-    matches!(
-        data_type,
-        DataType::DayTimeDuration | DataType::YearMonthDuration
-    )
-}
-
-impl Comparison {
-    /// What it asks, as its name says.
-    fn verb(self) -> &'static str
-        ensures { result.now ≡ comparison_verb self }
-    {
-        match self {
-            Comparison::GreaterThan => "-greater-than",
-            Comparison::GreaterThanOrEqual => "-greater-than-or-equal",
-            Comparison::LessThan => "-less-than",
-            Comparison::LessThanOrEqual => "-less-than-or-equal",
-        }
-    }
-}
-
-impl Arithmetic {
-    /// What it does, as its name says.
-    fn verb(self) -> &'static str
-        ensures { result.now ≡ arithmetic_verb self }
-    {
-        match self {
-            Arithmetic::Add => "-add",
-            Arithmetic::Multiply => "-multiply",
-            Arithmetic::Subtract => "-subtract",
-            Arithmetic::Divide => "-divide",
-            Arithmetic::Mod => "-mod",
-        }
-    }
-}
-
-impl Logic {
-    /// What it does, as its name says.
-    fn verb(self) -> &'static str
-        ensures { result.now ≡ logic_verb self }
-    {
-        match self {
-            Logic::Or => "or",
-            Logic::And => "and",
-            Logic::NOf => "n-of",
-            Logic::Not => "not",
-        }
-    }
-}
-
-impl TextPart {
-    /// What it asks, as its name says.
-    fn verb(self) -> &'static str
-        ensures { result.now ≡ part_verb self }
-    {
-        match self {
-            TextPart::StartsWith => "-starts-with",
-            TextPart::EndsWith => "-ends-with",
-            TextPart::Contains => "-contains",
-        }
-    }
-}
-
-impl PrintedType {
-    /// What a function that gives a string reads, as its name says.
-    fn verb(self) -> &'static str
-        ensures { result.now ≡ printed_verb self }
-    {
-        match self {
-            PrintedType::Boolean => "-from-boolean",
-            PrintedType::Integer => "-from-integer",
-            PrintedType::Date => "-from-date",
-            PrintedType::Time => "-from-time",
-            PrintedType::DateTime => "-from-dateTime",
-            PrintedType::AnyUri => "-from-anyURI",
-            PrintedType::DayTimeDuration => "-from-dayTimeDuration",
-            PrintedType::YearMonthDuration => "-from-yearMonthDuration",
-        }
-    }
-}
-
-impl BagFunction {
-    /// What it does, as its name says.
-    fn verb(self) -> &'static str
-        ensures { result.now ≡ bag_verb self }
-    {
-        match self {
-            BagFunction::OneAndOnly => "-one-and-only",
-            BagFunction::BagSize => "-bag-size",
-            BagFunction::IsIn => "-is-in",
-            BagFunction::Bag => "-bag",
-            BagFunction::Intersection => "-intersection",
-            BagFunction::Union => "-union",
-            BagFunction::AtLeastOneMemberOf => "-at-least-one-member-of",
-            BagFunction::Subset => "-subset",
-            BagFunction::SetEquals => "-set-equals",
-        }
-    }
-}
-
-/// The name of the equality of the type.
-fn equality_name(data_type: DataType) -> Name
-    ensures version { result.version.now ≡ (row_of (function_id.Equal data_type)).version }
-    ensures subject { result.subject.now ≡ (row_of (function_id.Equal data_type)).subject }
-    ensures verb { result.verb.now ≡ (row_of (function_id.Equal data_type)).verb }
-{
-    let version = if is_duration(data_type) { THIRD } else { FIRST };
-    Name::new(version, data_type.name(), "-equal")
-}
-
-/// The name of a function of texts.
-fn text_name(function: TextFunction) -> Name
-    ensures version { result.version.now ≡ (text_row function).version }
-    ensures subject { result.subject.now ≡ (text_row function).subject }
-    ensures verb { result.verb.now ≡ (text_row function).verb }
-{
-    match function {
-        TextFunction::NormalizeSpace => Name::new(FIRST, "string", "-normalize-space"),
-        TextFunction::Concatenate => Name::new(SECOND, "string", "-concatenate"),
-        TextFunction::Substring => Name::new(THIRD, "string", "-substring"),
-    }
-}
-
-/// The name of what moves a date, or a date with a time.
-fn move_name(moved: Moved, direction: Direction) -> Name
-    ensures version { result.version.now ≡ (move_row moved direction).version }
-    ensures subject { result.subject.now ≡ (move_row moved direction).subject }
-    ensures verb { result.verb.now ≡ (move_row moved direction).verb }
-{
-    match (moved, direction) {
-        (Moved::DateTimeByDayTime, Direction::Add) => Name::new(
-            THIRD,
-            "dateTime",
-            "-add-dayTimeDuration",
-        ),
-        (Moved::DateTimeByDayTime, Direction::Subtract) => Name::new(
-            THIRD,
-            "dateTime",
-            "-subtract-dayTimeDuration",
-        ),
-        (Moved::DateTimeByYearMonth, Direction::Add) => Name::new(
-            THIRD,
-            "dateTime",
-            "-add-yearMonthDuration",
-        ),
-        (Moved::DateTimeByYearMonth, Direction::Subtract) => Name::new(
-            THIRD,
-            "dateTime",
-            "-subtract-yearMonthDuration",
-        ),
-        (Moved::DateByYearMonth, Direction::Add) => Name::new(
-            THIRD,
-            "date",
-            "-add-yearMonthDuration",
-        ),
-        (Moved::DateByYearMonth, Direction::Subtract) => Name::new(
-            THIRD,
-            "date",
-            "-subtract-yearMonthDuration",
-        ),
-    }
-}
-
-/// The name of a function of a function.
-fn higher_name(function: HigherOrder) -> Name
-    ensures version { result.version.now ≡ (higher_row function).version }
-    ensures subject { result.subject.now ≡ (higher_row function).subject }
-    ensures verb { result.verb.now ≡ (higher_row function).verb }
-{
-    match function {
-        HigherOrder::AnyOf => Name::new(THIRD, "", "any-of"),
-        HigherOrder::AllOf => Name::new(THIRD, "", "all-of"),
-        HigherOrder::AnyOfAny => Name::new(THIRD, "", "any-of-any"),
-        HigherOrder::Map => Name::new(THIRD, "", "map"),
-        HigherOrder::AllOfAny => Name::new(FIRST, "", "all-of-any"),
-        HigherOrder::AllOfAll => Name::new(FIRST, "", "all-of-all"),
-    }
-}
-
-impl FuncId {
-    /// The function's name, in the version that brought it.
-    fn name(self) -> Name
-        ensures version { result.version.now ≡ (row_of self).version }
-        ensures subject { result.subject.now ≡ (row_of self).subject }
-        ensures verb { result.verb.now ≡ (row_of self).verb }
-    {
-        match self {
-            FuncId::Equal(data_type) => equality_name(data_type),
-            FuncId::Compare(comparison, ordered) => Name::new(
-                FIRST,
-                ordered.data_type().name(),
-                comparison.verb(),
-            ),
-            FuncId::Arithmetic(function) => Name::new(FIRST, "integer", function.verb()),
-            FuncId::IntegerAbs => Name::new(FIRST, "integer", "-abs"),
-            FuncId::Logic(function) => Name::new(FIRST, "", function.verb()),
-            FuncId::Text(function) => text_name(function),
-            FuncId::Part(part, text_type) => Name::new(
-                THIRD,
-                text_type.data_type().name(),
-                part.verb(),
-            ),
-            FuncId::StringFrom(printed) => Name::new(THIRD, "string", printed.verb()),
-            FuncId::FromString(printed) => Name::new(
-                THIRD,
-                printed.data_type().name(),
-                "-from-string",
-            ),
-            FuncId::Move(moved, direction) => move_name(moved, direction),
-            FuncId::TimeInRange => Name::new(SECOND, "", "time-in-range"),
-            FuncId::Bag(function, data_type) => Name::new(FIRST, data_type.name(), function.verb()),
-            FuncId::HigherOrder(function) => higher_name(function),
-        }
-    }
-
-    /// Whether it has a name in the third version beside that in the first.
-    fn has_later_name(self) -> bool
-        ensures { result ≡ has_later_name self }
-    {
-        match self {
-            FuncId::Bag(_, data_type) => is_duration(data_type),
-            _ => false,
-        }
-    }
-
-    /// Whether the text is a name of the function.
-    #[tactic(auto, unfolding(crate::specs::Table::names))]
-    fn is_named(self, uri: &str) -> bool
-        ensures { result ≡ names uri.now self }
-    {
-        let name = self.name();
-        name.is_written(name.version, uri) || (self.has_later_name() && name.is_written(THIRD, uri))
-    }
-}
 
 impl Comparison {
     /// All comparisons.
@@ -441,7 +151,8 @@ fn comparison_named(comparison: Comparison, uri: &str) -> Option<FuncId>
 
 /// The comparison of one of these sorts that the text names.
 fn compare_named(comparisons: &[Comparison], uri: &str) -> Option<FuncId>
-    ensures { result ≡ find (names uri.now) (flat_map (λ c. map (function_id.Compare c) OrderedType.ALL) comparisons.now) }
+    ensures { result
+        ≡ find (names uri.now) (flat_map (λ c. map (function_id.Compare c) OrderedType.ALL) comparisons.now) }
 {
     for comparison in comparisons {
         match comparison_named(*comparison, uri) {
@@ -464,7 +175,8 @@ fn bag_function_named(function: BagFunction, uri: &str) -> Option<FuncId>
 
 /// The function of one of these sorts, of bags, that the text names.
 fn bag_named(functions: &[BagFunction], uri: &str) -> Option<FuncId>
-    ensures { result ≡ find (names uri.now) (flat_map (λ f. map (function_id.Bag f) DataType.ALL) functions.now) }
+    ensures { result
+        ≡ find (names uri.now) (flat_map (λ f. map (function_id.Bag f) DataType.ALL) functions.now) }
 {
     for function in functions {
         match bag_function_named(*function, uri) {
@@ -476,7 +188,8 @@ fn bag_named(functions: &[BagFunction], uri: &str) -> Option<FuncId>
 }
 
 impl FuncId {
-    /// The function that the URI names (XACML 3.0, core, appendix A.3); none, where it names no function that is known here.
+    /// The function that the URI names (XACML 3.0, core, appendix A.3); none, where it names no
+    /// function that is known here.
     pub fn from_uri(uri: &str) -> Option<FuncId>
         ensures each { (f : FuncId) → (result ≡ Some f) ↔ IsTrue (names uri.now f) }
         ensures named { result ≡ function_named uri.now }

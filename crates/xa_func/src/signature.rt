@@ -1,6 +1,8 @@
 //! What each function takes and gives.
 ghost use Rattle.std.specs.Prelude.{◌≡◌, slice_get};
-ghost use Rattle.xa_func.specs.Signature.{takes, kind_at, IsByPlaces, of_values, question, type_of_kind, of_each, result_type_of, one, pair, integers, booleans, texts, moving, move_signature, bag_signature, signature_of};
+ghost use Rattle.xa_func.specs.Signature.{takes, kind_at, IsByPlaces, of_values, question, type_of_kind};
+ghost use Rattle.xa_func.specs.Signature.{of_each, result_type_of, one, pair, integers, booleans};
+ghost use Rattle.xa_func.specs.Signature.{texts, moving, move_signature, bag_signature, signature_of};
 
 use crate::func_id::{Arithmetic, BagFunction, FuncId, HigherOrder, Logic, Moved, TextFunction};
 use xa_value::DataType;
@@ -65,7 +67,8 @@ impl Kind {
 }
 
 impl Signature {
-    /// The type of what a function of the signature gives. A function that takes a function counts as one that gives a boolean.
+    /// The type of what a function of the signature gives. A function that takes a function counts
+    /// as one that gives a boolean.
     pub fn result_type(self) -> DataType
         ensures { result ≡ result_type_of self }
     {
@@ -206,8 +209,8 @@ fn bag_signature(function: BagFunction, data_type: DataType) -> Signature
 }
 
 impl Parameters {
-    /// Whether the function takes this many arguments. Clause `law`: arguments fit exactly where their number does, and each of
-    /// them at its place.
+    /// Whether the function takes this many arguments. Clause `law`: arguments fit exactly where
+    /// their number does, and each of them at its place.
     #[tactic(auto, using(crate::proofs::PlaceLemmas::by_places))]
     pub fn takes(self, count: usize) -> bool
         ensures value { result ≡ takes self count }

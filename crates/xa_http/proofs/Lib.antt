@@ -1,6 +1,5 @@
 pub mod NumberLemmas
 pub mod FrontLemmas
-pub mod RouteLemmas
 pub mod SizeLemmas
 pub mod LawLemmas
 pub mod TrimLemmas

@@ -1,4 +1,5 @@
--- Which media types a body may have that is read (RFC 9110, sections 8.3 and 8.3.1; JSON Profile of XACML 3.0, section 7).
+-- Which media types a body may have that is read (RFC 9110, sections 8.3 and 8.3.1; JSON Profile of XACML 3.0,
+-- section 7).
 use Rattle.std.specs.Prelude.{ℕ, Bool, true, false, ◌||◌, List, [], ◌∷◌, codes}
 use Rattle.std.specs.Str.{str_eq_ignore_ascii_case}
 use Rattle.httparse.specs.Grammar.{trim_ows}

@@ -35,7 +35,9 @@ IsCutOff stream = (message : Message) (rest : Stream) → ¬ (IsFirst stream mes
 
 -- a piece that is fed leaves the messages that were taken, and comes to what is held
 abbrev pub FeedsOn : Type 0
-FeedsOn = (first : Stream) (taken : List Message) (now : Stream) (piece : List ℕ) → Cuts first taken now → Cuts (fed first piece) taken (fed now piece)
+FeedsOn =
+    (first : Stream) (taken : List Message) (now : Stream) (piece : List ℕ) → Cuts first taken now
+    → Cuts (fed first piece) taken (fed now piece)
 
 -- a message that is taken joins them
 abbrev pub TakesOn : Type 0
@@ -83,9 +85,11 @@ messages_answered (answers answer ∷ steps) = with_answer answer (messages_answ
 -- the session is where the messages leave the stream, or has ended there by a fault
 abbrev pub StopsAt : Stream → Stream → Type 0
 StopsAt rest new =
-    (rest ≡ new) ⊎ ((fault : SessionFault) × (rest.ended ≡ false) × IsFaulty rest.held fault × (new ≡ record rest { ended = true }))
+    (rest ≡ new)
+    ⊎ ((fault : SessionFault) × (rest.ended ≡ false) × IsFaulty rest.held fault × (new ≡ record rest { ended = true }))
 
--- so however a stream is cut into pieces, and whenever a session is asked, what it answers are the first messages of the whole stream
+-- so however a stream is cut into pieces, and whenever a session is asked, what it answers are the first messages of
+-- the whole stream
 abbrev pub AnswersFirstMessages : Type 0
 AnswersFirstMessages =
     (stream : Stream) (steps : List Step) (new : Stream) → GoesThrough stream steps new

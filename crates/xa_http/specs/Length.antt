@@ -1,5 +1,6 @@
 -- How many bytes of body a head announces, or why the message is not taken (RFC 9112, section 6).
-use Rattle.std.specs.Prelude.{ℕ, Bool, ◌&&◌, List, [], ◌∷◌, length, map, nat_lt, nat_le, ◌==◌, if◌then◌else◌, Result, Ok, Err, codes}
+use Rattle.std.specs.Prelude.{ℕ, Bool, ◌&&◌, List, [], ◌∷◌, length, map, nat_lt}
+use Rattle.std.specs.Prelude.{nat_le, ◌==◌, if◌then◌else◌, Result, Ok, Err, codes}
 use Rattle.std.specs.List.{filter, list_all, list_any}
 use Rattle.std.specs.Str.{str_eq_ignore_ascii_case}
 use Rattle.std.specs.Str.Parse.{digits_value}
@@ -24,14 +25,15 @@ within_limit n = if nat_le n 524_288 then Ok n else Err BodyTooLarge
 abbrev pub writes_same : List ℕ → List ℕ → Bool
 writes_same digits text = is_number text && (digits_value 10 text == digits_value 10 digits)
 
--- the length that the values of Content-Length agree on: the first is digits alone, and the others write the same number; without one there is no body
+-- the length that the values of Content-Length agree on: the first is digits alone, and the others write the same
+-- number; without one there is no body
 unfoldable pub agreed_length : List (List ℕ) → Result ℕ SessionFault
 agreed_length [] = Ok 0
 agreed_length (first ∷ others) =
     if is_number first && list_all (writes_same first) others then within_limit (digits_value 10 first) else Err BadHead
 
--- the length of the body after a head of those fields, or the first reason why the message is not taken: more than 64 fields,
--- a transfer coding, a Content-Length that isn't a number or differs from another, a body that is too large
+-- the length of the body after a head of those fields, or the first reason why the message is not taken: more than 64
+-- fields, a transfer coding, a Content-Length that isn't a number or differs from another, a body that is too large
 unfoldable pub body_length : List Field → Result ℕ SessionFault
 body_length fields =
     if nat_lt 64 (length fields) then Err HeadTooLarge else (

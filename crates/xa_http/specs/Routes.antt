@@ -1,5 +1,6 @@
 -- What a message asks for: the path that its target names, the place at that path, and the method.
-use Rattle.std.specs.Prelude.{ℕ, Bool, ◌||◌, not, List, [], length, take, drop, get_or, nat_eq, if◌then◌else◌, Option, Some, None, Result, Ok, Err, codes, bytes_eq}
+use Rattle.std.specs.Prelude.{ℕ, Bool, ◌||◌, not, List, [], length, take, drop, get_or, nat_eq}
+use Rattle.std.specs.Prelude.{if◌then◌else◌, Option, Some, None, Result, Ok, Err, codes, bytes_eq}
 use Rattle.std.specs.List.{list_any}
 use Rattle.std.specs.Option.{ok_or, option_and_then, option_map}
 use Rattle.std.specs.Str.{is_utf8}
@@ -19,7 +20,8 @@ use Rattle.xa_http.specs.ContentType.{allows_json}
 use Rattle.xa_http.specs.Parts.{before, from_first, parts_of}
 use Rattle.xa_http.specs.Table.{command_at, domain_part, reads_body, table}
 
--- the path of a target without its query: of an absolute one (RFC 9112, section 3.2.2) it begins at the slash after the authority
+-- the path of a target without its query: of an absolute one (RFC 9112, section 3.2.2) it begins at the slash after
+-- the authority
 unfoldable pub path_of_plain : List ℕ → Option (List ℕ)
 path_of_plain target =
     if bytes_eq (take 7 target) (codes "http://") then from_first 47 (drop 7 target) else Some target
@@ -36,8 +38,8 @@ later_parts path = drop 1 (parts_of 47 path)
 unfoldable pub has_empty_part : List ℕ → Bool
 has_empty_part path = list_any (λ part. nat_eq (length part) 0) (later_parts path)
 
--- the place at a path: the one that the router finds. It reads a text, as it was sent: percent-encoded bytes of a pattern's own parts
--- (RFC 3986, section 2.1) aren't decoded. Nothing is at a path with an empty part
+-- the place at a path: the one that the router finds. It reads a text, as it was sent: percent-encoded bytes of a
+-- pattern's own parts (RFC 3986, section 2.1) aren't decoded. Nothing is at a path with an empty part
 unfoldable pub place_at : List ℕ → Option Place
 place_at path =
     if has_empty_part path || not (is_utf8 path) then None else option_map (λ route. route.value) (first table path)
@@ -71,6 +73,7 @@ document_parts path = record { kind = decoded_part path 4; id = decoded_part pat
 abbrev pub route_to : List ℕ → Command → Route
 route_to path asks.Domains = to.Domains
 route_to path (asks.Operator command) = to.Operator (decoded_part path 3) command
+route_to path asks.Decide = to.Decide (decoded_part path 2)
 route_to path (asks.Domain command) = to.Domain (decoded_part path 2) command
 route_to path (asks.Document command) = to.Document (decoded_part path 2) (document_parts path) command
 
@@ -78,6 +81,7 @@ route_to path (asks.Document command) = to.Document (decoded_part path 2) (docum
 abbrev pub named_by : Route → Option (List ℕ)
 named_by to.Domains = None
 named_by (to.Operator domain command) = Some domain
+named_by (to.Decide domain) = Some domain
 named_by (to.Domain domain command) = Some domain
 named_by (to.Document domain parts command) = Some domain
 
@@ -85,7 +89,8 @@ named_by (to.Document domain parts command) = Some domain
 abbrev pub takes_body : Message → Command → Bool
 takes_body message command = not (reads_body command) || allows_json message.fields
 
--- what a message asks for, or why that is nothing that is served: where it leads, what its method asks for there, and then the media type of its body
+-- what a message asks for, or why that is nothing that is served: where it leads, what its method asks for there, and
+-- then the media type of its body
 unfoldable pub route_of : Message → Result Route RouteFault
 route_of message = do
   address ← ok_or (address_of message.target) NoRoute

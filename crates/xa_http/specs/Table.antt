@@ -1,5 +1,7 @@
--- What is served: the pattern of each path, as the router `matchit` reads it, the place there, and what each method asks for there.
-use Rattle.std.specs.Prelude.{ℕ, Bool, true, false, is_none, List, [], ◌∷◌, ◌++◌, Option, Some, None, Result, Ok, Err, codes, bytes_eq, if◌then◌else◌}
+-- What is served: the pattern of each path, as the router `matchit` reads it, the place there, and what each method
+-- asks for there.
+use Rattle.std.specs.Prelude.{ℕ, Bool, true, false, is_none, List, [], ◌∷◌, ◌++◌, Option}
+use Rattle.std.specs.Prelude.{Some, None, Result, Ok, Err, codes, bytes_eq, if◌then◌else◌}
 use Rattle.matchit.specs.Rows.{RowsOf}
 use Rattle.matchit.specs.Order.{placed}
 use Rattle.matchit.specs.Route.{Scan, parse_route}
@@ -34,7 +36,7 @@ abbrev pub commands : Place → List (Method × Command)
 commands place.Domains = (Get, asks.Domains) ∷ []
 commands place.OneDomain = (Delete, asks.Operator operator.Remove) ∷ (Put, asks.Operator operator.Create) ∷ []
 commands place.Tokens = (Delete, asks.Operator operator.DropToken) ∷ (Post, asks.Operator operator.PutToken) ∷ []
-commands place.Decisions = (Post, asks.Domain domain.Decide) ∷ []
+commands place.Decisions = (Post, asks.Decide) ∷ []
 commands place.Documents = (Get, asks.Domain domain.List) ∷ (Post, asks.Domain domain.Upload) ∷ []
 commands place.Root = (Put, asks.Domain domain.SetRoot) ∷ []
 commands place.Source = (Get, asks.Domain domain.Source) ∷ (Put, asks.Domain domain.SetSource) ∷ []
@@ -45,7 +47,7 @@ commands place.Activity = (Delete, asks.Document document.Deactivate) ∷ (Put, 
 abbrev pub reads_body : Command → Bool
 reads_body (asks.Operator operator.PutToken) = true
 reads_body (asks.Operator operator.DropToken) = true
-reads_body (asks.Domain domain.Decide) = true
+reads_body asks.Decide = true
 reads_body (asks.Domain domain.Upload) = true
 reads_body (asks.Domain domain.SetRoot) = true
 reads_body (asks.Domain domain.SetSource) = true
@@ -73,9 +75,11 @@ name_of Put = codes "PUT"
 -- what the method of that name asks for, by these rows
 abbrev pub command_in : List ℕ → List (Method × Command) → Option Command
 command_in name [] = None
-command_in name ((method, command) ∷ rows) = if bytes_eq name (name_of method) then Some command else command_in name rows
+command_in name ((method, command) ∷ rows) =
+    if bytes_eq name (name_of method) then Some command else command_in name rows
 
--- what the method of that name asks for at a place; names of methods compare with their letter case (RFC 9110, section 9.1)
+-- what the method of that name asks for at a place; names of methods compare with their letter case (RFC 9110,
+-- section 9.1)
 abbrev pub command_at : List ℕ → Place → Option Command
 command_at name place = command_in name (commands place)
 

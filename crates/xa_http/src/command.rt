@@ -15,11 +15,9 @@ pub enum OperatorCommand {
     DropToken,
 }
 
-/// What is asked for in a domain.
+/// What is asked for in a domain, but for decisions.
 #[derive(Clone, Copy, Debug, PartialEq, Eq)]
 pub enum DomainCommand {
-    /// Decisions on a request.
-    Decide,
     /// To keep a policy or a policy set, not active yet.
     Upload,
     /// The keys of all documents, and whether they are active.
@@ -52,7 +50,9 @@ pub enum Command {
     Domains,
     /// What the operator asks for of one domain.
     Operator(OperatorCommand),
-    /// What is asked for in a domain.
+    /// Decisions of a domain on a request.
+    Decide,
+    /// What else is asked for in a domain.
     Domain(DomainCommand),
     /// What is asked for of one document of a domain.
     Document(DocumentCommand),
@@ -66,11 +66,9 @@ impl Command {
         matches!(
             self,
             Command::Operator(OperatorCommand::PutToken | OperatorCommand::DropToken)
+                | Command::Decide
                 | Command::Domain(
-                    DomainCommand::Decide
-                        | DomainCommand::Upload
-                        | DomainCommand::SetRoot
-                        | DomainCommand::SetSource
+                    DomainCommand::Upload | DomainCommand::SetRoot | DomainCommand::SetSource
                 )
         )
     }

@@ -15,7 +15,8 @@ use httparse::{Error, Status};
 use std::alloc::{AllocError, Global};
 use xa_value::Items;
 
-/// The offsets of at most this many field lines are read. More don't fit into a head: each has a colon and a line end.
+/// The offsets of at most this many field lines are read. More don't fit into a head: each has a
+/// colon and a line end.
 const HEADER_ROOM: usize = 8_192;
 
 /// A whole head.
@@ -39,8 +40,8 @@ pub(crate) enum Front {
     Fault(SessionFault),
 }
 
-/// What stands at the front of the bytes. Only bytes with more field lines than a head may have want the large room: they
-/// may still begin no head at all.
+/// What stands at the front of the bytes. Only bytes with more field lines than a head may have
+/// want the large room: they may still begin no head at all.
 #[tactic(auto, using(crate::proofs::FrontLemmas::too_many))]
 pub(crate) fn read_front(alloc: Global, held: &[u8]) -> Result<Front, AllocError>
     ensures { IfOk result (IsFront held.now) }
@@ -63,7 +64,8 @@ fn front_in(
     held: &[u8],
     room: &mut [HeaderSpan],
 ) -> Result<Option<Front>, AllocError>
-    ensures { IfOk result (λ front. MatchOption front (RequestExceeds (length room.old) (window held.now)) (IsFront held.now)) }
+    ensures { IfOk result (λ front.
+        MatchOption front (RequestExceeds (length room.old) (window held.now)) (IsFront held.now)) }
 {
     let window = window(held);
     match parse_request(window, room) {
@@ -144,7 +146,9 @@ pub(crate) fn whole_body(
     head: &Head,
 ) -> Result<Option<Items<u8>>, AllocError>
     requires { HasHead held.now head.now }
-    ensures message { IfOk result (λ body. MatchOption body (IsUnfinished held.now) (λ bytes. BeginsWithMessage held.now (record head.now.message { body = bytes }) (drop (head.now.len + head.now.body_len) held.now))) }
+    ensures message { IfOk result (λ body.
+        MatchOption body (IsUnfinished held.now) (λ bytes. BeginsWithMessage held.now
+        (record head.now.message { body = bytes }) (drop (head.now.len + head.now.body_len) held.now))) }
     ensures within { IfOk result (λ body. IsSome body → head.now.len + head.now.body_len ≤ length held.now) }
 {
     let (_, after) = held.split_at(head.len);

@@ -1,5 +1,6 @@
 //! The law of a stream: however it is cut into pieces, its messages are the same.
-ghost use Rattle.xa_http.specs.Laws.{KeepsMessages, KeepsFaults, FaultsAreFinal, AnswersMessages, FeedsOn, TakesOn, HasOneCut, AnswersFirstMessages};
+ghost use Rattle.xa_http.specs.Laws.{KeepsMessages, KeepsFaults, FaultsAreFinal, AnswersMessages};
+ghost use Rattle.xa_http.specs.Laws.{FeedsOn, TakesOn, HasOneCut, AnswersFirstMessages};
 
 /// Law: however a stream is cut into pieces, its messages are the same.
 pub fn pieces_make_no_difference()
@@ -18,6 +19,7 @@ pub fn pieces_make_no_difference()
     ensures takes { TakesOn }
     ensures one_cut { HasOneCut }
 
-    // However the stream is cut into pieces, and whenever a session is asked, it answers the first messages of the whole stream.
+    // However the stream is cut into pieces, and whenever a session is asked, it answers the first
+    // messages of the whole stream.
     ensures answers_first { AnswersFirstMessages }
 {}

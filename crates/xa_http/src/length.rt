@@ -3,7 +3,8 @@ ghost use Rattle.std.specs.Prelude.{◌≡◌, ◌==◌, ◌∷◌, [], drop, Is
 ghost use Rattle.std.specs.List.{list_all, list_any, prefix_len};
 ghost use Rattle.std.specs.Str.Parse.{digits_value};
 ghost use Rattle.xa_value.specs.Digits.{is_number};
-ghost use Rattle.xa_http.specs.Length.{is_named, values_of, writes_same, within_limit, agreed_length, body_length};
+ghost use Rattle.xa_http.specs.Length.{is_named, values_of, writes_same};
+ghost use Rattle.xa_http.specs.Length.{within_limit, agreed_length, body_length};
 
 use crate::fault::SessionFault;
 use crate::limits::{MAX_BODY_BYTES, MAX_FIELDS};
@@ -60,7 +61,8 @@ fn agreed_length(fields: &[Field], name: &str) -> Result<usize, SessionFault>
 
 /// The value of the first field of that name, and the fields after it.
 pub(crate) fn first_value<'a>(fields: &'a [Field], name: &str) -> Option<(&'a [u8], &'a [Field])>
-    ensures { MatchOption result (values_of name.now fields.now ≡ []) (λ found. values_of name.now fields.now ≡ found.0.now ∷ values_of name.now found.1.now) }
+    ensures { MatchOption result (values_of name.now fields.now ≡ [])
+        (λ found. values_of name.now fields.now ≡ found.0.now ∷ values_of name.now found.1.now) }
 {
     for (i, field) in fields.iter().enumerate() {
         if is_named(field, name) {

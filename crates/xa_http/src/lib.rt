@@ -1,4 +1,5 @@
-//! HTTP/1.x as this server speaks it: the messages of a stream, what a message's path asks for, and the bytes of a reply.
+//! HTTP/1.x as this server speaks it: the messages of a stream, what a message's path asks for, and
+//! the bytes of a reply.
 #![tactic(auto)]
 
 mod closing;

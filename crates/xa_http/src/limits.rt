@@ -1,10 +1,12 @@
 //! The bounds of a message.
 
-/// A head has at most this many bytes, the empty lines before it included: a client can't make the server hold more of one.
+/// A head has at most this many bytes, the empty lines before it included: a client can't make the
+/// server hold more of one.
 pub const MAX_HEAD_BYTES: usize = 16_384;
 
 /// A head has at most this many field lines: the offsets of so many are read without memory.
 pub const MAX_FIELDS: usize = 64;
 
-/// A body has at most this many bytes: a message that announces more is refused by its head, and isn't waited for.
+/// A body has at most this many bytes: a message that announces more is refused by its head, and
+/// isn't waited for.
 pub const MAX_BODY_BYTES: usize = 524_288;

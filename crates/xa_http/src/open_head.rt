@@ -48,8 +48,8 @@ impl OpenHead {
         }
     }
 
-    /// Follows the bytes held as far as it is certain that a head may go on so. Each byte is looked at once, but for the
-    /// end of the request line and the empty line at the end.
+    /// Follows the bytes held as far as it is certain that a head may go on so. Each byte is looked
+    /// at once, but for the end of the request line and the empty line at the end.
     pub(crate) fn advanced(self, held: &[u8]) -> OpenHead
         requires { IsOpenHead held.now self }
         ensures { IsOpenHead held.now result }
@@ -61,7 +61,8 @@ impl OpenHead {
         head
     }
 
-    /// Whether all that is held was followed, and isn't more than a head may have: then more bytes may make a message of it.
+    /// Whether all that is held was followed, and isn't more than a head may have: then more bytes
+    /// may make a message of it.
     #[tactic(auto, using(crate::proofs::OpenHeadLemmas::unfinished))]
     pub(crate) fn is_unfinished(self, held: &[u8]) -> bool
         requires { IsOpenHead held.now self }
@@ -95,8 +96,9 @@ impl OpenHead {
     }
 }
 
-/// The part in which a head goes on with the next byte. There is none where the byte is no longer in a head, or where it
-/// isn't the byte alone that tells: at the end of the target and of the head.
+/// The part in which a head goes on with the next byte. There is none where the byte is no
+/// longer in a head, or where it isn't the byte alone that tells: at the end of the target and
+/// of the head.
 fn part_after(part: HeadPart, held: &[u8], at: usize) -> Option<HeadPart>
     requires within { at < length held.now }
     requires open { EndsIn part (take at held.now) }

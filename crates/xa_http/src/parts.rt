@@ -1,5 +1,6 @@
 //! Parts of a text between bytes of one value.
-ghost use Rattle.std.specs.Prelude.{◌≡◌, ◌<◌, ◌∷◌, [], length, MatchOption, IfSome, get_or, nat_eq, option_map};
+ghost use Rattle.std.specs.Prelude.{◌≡◌, ◌<◌, ◌∷◌, [], length, MatchOption};
+ghost use Rattle.std.specs.Prelude.{IfSome, get_or, nat_eq, option_map};
 ghost use Rattle.std.specs.List.{list_any};
 ghost use Rattle.xa_http.specs.Routes.{has_empty_part};
 ghost use Rattle.xa_http.specs.Parts.{before, from_first, parts_of};
@@ -7,7 +8,8 @@ ghost use Rattle.xa_http.specs.Parts.{before, from_first, parts_of};
 /// The text before the first byte of that value, and the text after it.
 #[tactic(auto, using(crate::proofs::PartLemmas::none_more))]
 pub(crate) fn split_once(text: &[u8], by: u8) -> Option<(&[u8], &[u8])>
-    ensures parts { MatchOption result (parts_of by text.now ≡ text.now ∷ []) (λ found. parts_of by text.now ≡ found.0.now ∷ parts_of by found.1.now) }
+    ensures parts { MatchOption result (parts_of by text.now ≡ text.now ∷ [])
+        (λ found. parts_of by text.now ≡ found.0.now ∷ parts_of by found.1.now) }
     ensures shorter { IfSome result (λ found. length found.1.now < length text.now) }
 {
     for (i, byte) in text.iter().enumerate() {

@@ -42,7 +42,8 @@ impl Media {
 /// Any head of a reply fits into this many bytes.
 const HEAD_ROOM: usize = 256;
 
-/// The bytes of a reply (RFC 9112, section 4): its status line, the fields Content-Type and Content-Length and the extra one, and the body.
+/// The bytes of a reply (RFC 9112, section 4): its status line, the fields Content-Type and
+/// Content-Length and the extra one, and the body.
 #[tactic(auto, unfolding(crate::specs::Reply::http_bytes))]
 pub fn reply(
     alloc: Global,
@@ -106,7 +107,8 @@ fn push_extra_lines(bytes: &mut Vec<u8>, extra: Extra) -> Result<(), AllocError>
 /// The field `Allow`, with the methods that are served at the place.
 #[tactic(auto, unfolding(crate::specs::Reply::field_line))]
 fn push_allow(bytes: &mut Vec<u8>, place: Place) -> Result<(), AllocError>
-    ensures { OnOk result (bytes.new.items ≡ bytes.old.items ++ field_line (codes "Allow") (methods_text place)) }
+    ensures { OnOk result
+        (bytes.new.items ≡ bytes.old.items ++ field_line (codes "Allow") (methods_text place)) }
 {
     bytes.extend_from_slice(b"Allow: ")?;
     place.push_methods(bytes)?;

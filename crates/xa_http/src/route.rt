@@ -18,7 +18,8 @@ pub struct DocumentParts {
     pub version: Items<u8>,
 }
 
-/// What a message asks for. The part of the path that names the domain, percent-decoded, needn't be a domain name, nor a text.
+/// What a message asks for. The part of the path that names the domain, percent-decoded, needn't be
+/// a domain name, nor a text.
 #[derive(Debug, Drop)]
 pub enum Route {
     /// The names of all domains, for the operator.
@@ -28,7 +29,11 @@ pub enum Route {
         domain: Items<u8>,
         command: OperatorCommand,
     },
-    /// What is asked for in a domain.
+    /// Decisions of a domain on a request.
+    Decide {
+        domain: Items<u8>,
+    },
+    /// What else is asked for in a domain.
     Domain {
         domain: Items<u8>,
         command: DomainCommand,

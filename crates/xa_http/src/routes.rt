@@ -1,7 +1,8 @@
 //! The route of a message, by its target, its method and the media type of its body.
 ghost use Rattle.std.specs.Prelude.{◌≡◌, Some, codes, IfOk, IsErr, option_and_then, option_map};
 ghost use Rattle.xa_value.specs.Gives.{Gives, answered};
-ghost use Rattle.xa_http.specs.Routes.{address_of, decoded_part, document_parts, named_by, named_part, path_of_plain, path_of, place_at, route_of, route_to, takes_body};
+ghost use Rattle.xa_http.specs.Routes.{address_of, decoded_part, document_parts, named_by, named_part};
+ghost use Rattle.xa_http.specs.Routes.{path_of_plain, path_of, place_at, route_of, route_to, takes_body};
 ghost use Rattle.xa_http.specs.Table.{table};
 
 use crate::command::Command;
@@ -39,13 +40,15 @@ impl Routes {
         })
     }
 
-    /// What the message asks for: where its target leads, what its method asks for there, and then the media type of its body. The parts of the
-    /// path are percent-decoded once (RFC 3986, section 2.4). The faults are, in that order, NoRoute, BadMethod and BadMediaType.
+    /// What the message asks for: where its target leads, what its method asks for there, and then
+    /// the media type of its body. The parts of the path are percent-decoded once (RFC 3986,
+    /// section 2.4). The faults are, in that order, NoRoute, BadMethod and BadMediaType.
     #[tactic(auto, unfolding(crate::specs::Routes::route_of))]
     pub fn route(&self, alloc: Global, message: &Message) -> Result<Route, OrMemory<RouteFault>>
         ensures route { Gives result (route_of message.now) }
         ensures exact { IsErr (route_of message.now) → result ≡ answered (route_of message.now) }
-        ensures named { IfOk result (λ route. named_by route ≡ option_and_then named_part (address_of message.now.target)) }
+        ensures named { IfOk result (λ route.
+            named_by route ≡ option_and_then named_part (address_of message.now.target)) }
     {
         let Some((place, path)) = self.address_of(message.target.as_slice()) else {
             return Err(OrMemory::Error(RouteFault::NoRoute));
@@ -62,7 +65,8 @@ impl Routes {
     /// The place where the target leads, and the path that leads there.
     #[tactic(auto, unfolding(crate::specs::Routes::address_of))]
     fn address_of<'a>(&self, target: &'a [u8]) -> Option<(Place, &'a [u8])>
-        ensures { option_map (λ found. record { place = found.0; path = found.1.now }) result ≡ address_of target.now }
+        ensures { option_map (λ found. record { place = found.0; path = found.1.now }) result
+            ≡ address_of target.now }
     {
         let path = path_of(target)?;
         let place = self.place_at(path)?;
@@ -70,7 +74,7 @@ impl Routes {
     }
 
     /// The place at the path.
-    #[tactic(auto, using(crate::proofs::RouteLemmas::is_text, crate::proofs::RouteLemmas::is_no_text), unfolding(crate::specs::Routes::place_at))]
+    #[tactic(auto, using(xa_value::proofs::TextLemmas::is_text, xa_value::proofs::TextLemmas::is_no_text), unfolding(crate::specs::Routes::place_at))]
     fn place_at(&self, path: &[u8]) -> Option<Place>
         ensures { result ≡ place_at path.now }
     {
@@ -96,6 +100,9 @@ fn route_to(alloc: Global, path: &[u8], command: Command) -> Result<Route, Alloc
         Command::Operator(command) => Route::Operator {
             domain: decoded_part(alloc, path, 3)?,
             command,
+        },
+        Command::Decide => Route::Decide {
+            domain: decoded_part(alloc, path, 2)?,
         },
         Command::Domain(command) => Route::Domain {
             domain: decoded_part(alloc, path, 2)?,
@@ -138,7 +145,7 @@ fn decoded_part(alloc: Global, path: &[u8], part: usize) -> Result<Items<u8>, Al
 }
 
 /// The path that the target names.
-#[tactic(auto, using(crate::proofs::RouteLemmas::is_text, crate::proofs::RouteLemmas::is_no_text), unfolding(crate::specs::Routes::path_of))]
+#[tactic(auto, using(xa_value::proofs::TextLemmas::is_text, xa_value::proofs::TextLemmas::is_no_text), unfolding(crate::specs::Routes::path_of))]
 fn path_of(target: &[u8]) -> Option<&[u8]>
     ensures { option_map (λ path. path.now) result ≡ path_of target.now }
 {

@@ -1,5 +1,6 @@
 //! The session of one stream: its whole messages, in whatever pieces the bytes come.
-ghost use Rattle.std.specs.Prelude.{◌≡◌, ◌≤◌, ◌++◌, [], true, false, length, drop, IfOk, IsTrue, MatchResult, Ok, OnOk, OnErr};
+ghost use Rattle.std.specs.Prelude.{◌≡◌, ◌≤◌, ◌++◌, [], true, false, length, drop};
+ghost use Rattle.std.specs.Prelude.{IfOk, IsTrue, MatchResult, Ok, OnOk, OnErr};
 ghost use Rattle.xa_http.specs.parsing.Front.{HasHead};
 ghost use Rattle.xa_http.specs.Messages.{IsLook, IsNext, IsUnfinished, Stands};
 ghost use Rattle.xa_http.specs.declared.session.Look.TheVariants as look;
@@ -61,7 +62,9 @@ impl Model for Session {
 
     ghost view = { λ s. record { held = drop s.start s.buffer.items; ended = s.ended } };
 
-    ghost invariant = { λ s. (s.start ≤ length s.buffer.items) × KeepsHead (drop s.start s.buffer.items) s.head × IsOpenHead (drop s.start s.buffer.items) s.followed };
+    ghost invariant = { λ s.
+        (s.start ≤ length s.buffer.items) × KeepsHead (drop s.start s.buffer.items) s.head
+        × IsOpenHead (drop s.start s.buffer.items) s.followed };
 }
 
 impl Session {
@@ -100,8 +103,8 @@ impl Session {
         self.ended = true;
     }
 
-    /// What stands at the front of the stream. Nothing is changed, and no message is cut off. A session that has ended takes
-    /// no memory for it.
+    /// What stands at the front of the stream. Nothing is changed, and no message is cut off. A
+    /// session that has ended takes no memory for it.
     pub fn look(&mut self) -> Result<Look, AllocError>
         ensures look { IfOk result (IsLook self.old) }
         ensures same { self.new ≡ self.old }
@@ -130,8 +133,8 @@ impl Session {
         }
     }
 
-    /// Takes the next piece of the stream. A session that has ended takes it too, and answers nothing to it. Without
-    /// memory nothing is taken.
+    /// Takes the next piece of the stream. A session that has ended takes it too, and answers
+    /// nothing to it. Without memory nothing is taken.
     pub fn feed(&mut self, piece: &[u8]) -> Result<(), AllocError>
         ensures ok { OnOk result (self.new ≡ record self.old { held = self.old.held ++ piece.now }) }
         ensures err { OnErr result (self.new ≡ self.old) }
@@ -143,7 +146,8 @@ impl Session {
 
     /// The next message of the stream, cut off its front. Without memory nothing is changed.
     pub fn next(&mut self) -> Result<Next, AllocError>
-        ensures next { MatchResult result (λ answer. IsNext self.old answer self.new) (λ _. self.new ≡ self.old) }
+        ensures next { MatchResult result (λ answer. IsNext self.old answer self.new)
+            (λ _. self.new ≡ self.old) }
         ensures ended { self.old.ended ≡ true → result ≡ Ok Ended }
     {
         if self.ended {
@@ -168,8 +172,8 @@ impl Session {
         }
     }
 
-    /// Whether the head at the start goes on to be open, as the new bytes alone tell. A head that comes in one piece is
-    /// read at once, and no byte of it is followed before.
+    /// Whether the head at the start goes on to be open, as the new bytes alone tell. A head that
+    /// comes in one piece is read at once, and no byte of it is followed before.
     fn is_surely_open(&mut self) -> bool
         ensures unfinished { IsTrue result → IsUnfinished self.old.held }
         ensures same { self.new ≡ self.old }
@@ -207,7 +211,8 @@ impl Session {
     }
 }
 
-/// What stands at the front of bytes that begin with that head: a message, where the body that follows it is whole.
+/// What stands at the front of bytes that begin with that head: a message, where the body that
+/// follows it is whole.
 fn look_behind(held: &[u8], head: &Head) -> Look
     requires { HasHead held.now head.now }
     ensures { Stands held.now result }

@@ -1,7 +1,8 @@
 //! What is served: the pattern of each path, the place there, and what each method asks for there.
 ghost use Rattle.std.specs.Prelude.{◌≡◌, ◌++◌, IfOk, IsTrue, OnOk};
 ghost use Rattle.matchit.specs.Route.{parse_route};
-ghost use Rattle.xa_http.specs.Table.{command_at, command_in, commands, methods_text, names_in, table, takes, with_read};
+ghost use Rattle.xa_http.specs.Table.{command_at, command_in, commands, methods_text};
+ghost use Rattle.xa_http.specs.Table.{names_in, table, takes, with_read};
 
 use crate::command::{Command, DocumentCommand, DomainCommand, OperatorCommand};
 use crate::method::Method;
@@ -49,7 +50,7 @@ impl Place {
                 ),
                 (Method::Post, Command::Operator(OperatorCommand::PutToken)),
             ],
-            Place::Decisions => &[(Method::Post, Command::Domain(DomainCommand::Decide))],
+            Place::Decisions => &[(Method::Post, Command::Decide)],
             Place::Documents => &[
                 (Method::Get, Command::Domain(DomainCommand::List)),
                 (Method::Post, Command::Domain(DomainCommand::Upload)),
@@ -73,7 +74,8 @@ impl Place {
         }
     }
 
-    /// Adds the names of the methods that are served there, in their order, with a comma and a space between two.
+    /// Adds the names of the methods that are served there, in their order, with a comma and a
+    /// space between two.
     pub(crate) fn push_methods(self, bytes: &mut Vec<u8>) -> Result<(), AllocError>
         ensures { OnOk result (bytes.new.items ≡ bytes.old.items ++ methods_text self) }
     {

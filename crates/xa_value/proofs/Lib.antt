@@ -30,3 +30,4 @@ pub mod DigitLemmas
 pub mod TypeLemmas
 pub mod DayLemmas
 pub mod PlainLemmas
+pub mod TextLemmas

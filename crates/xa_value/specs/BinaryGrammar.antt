@@ -1,6 +1,7 @@
--- The shapes of bytes (XML Schema, part 2, sections 3.2.15 and 3.2.16). Each is a tree, the text that it prints as, a fact that says
--- which trees are valid, and its value.
-use Rattle.std.specs.Prelude.{◌≡◌, ℕ, ◌+◌, ◌-◌, ◌*◌, ◌/◌, ◌%◌, ◌<◌, Bool, ◌&&◌, ◌||◌, nat_le, if◌then◌else◌, List, [], ◌∷◌, map, codes, slice_index, IsTrue, ⊤}
+-- The shapes of bytes (XML Schema, part 2, sections 3.2.15 and 3.2.16). Each is a tree, the text that it prints as, a
+-- fact that says which trees are valid, and its value.
+use Rattle.std.specs.Prelude.{◌≡◌, ℕ, ◌+◌, ◌-◌, ◌*◌, ◌/◌, ◌%◌, ◌<◌, Bool, ◌&&◌, ◌||◌, nat_le}
+use Rattle.std.specs.Prelude.{if◌then◌else◌, List, [], ◌∷◌, map, codes, slice_index, IsTrue, ⊤}
 
 -- ---- hexBinary
 
@@ -63,4 +64,5 @@ abbrev pub base64_value : Base64 → List ℕ
 base64_value end = []
 base64_value (one_byte a b) = (a * 4 + b / 16) ∷ []
 base64_value (two_bytes a b c) = (a * 4 + b / 16) ∷ (b % 16 * 16 + c / 4) ∷ []
-base64_value (three_bytes a b c d rest) = (a * 4 + b / 16) ∷ (b % 16 * 16 + c / 4) ∷ (c % 4 * 64 + d) ∷ base64_value rest
+base64_value (three_bytes a b c d rest) =
+    (a * 4 + b / 16) ∷ (b % 16 * 16 + c / 4) ∷ (c % 4 * 64 + d) ∷ base64_value rest

@@ -1,7 +1,9 @@
 -- The attribute categories that have a shorthand (XACML 3.0, core, appendix B.2, and its JSON profile).
 use Rattle.std.specs.Prelude.{ℕ, Bool, true, false, List, [], ◌∷◌, codes, bytes_eq, find, Option, Some, None}
 use Rattle.xa_value.specs.declared.category.Category.{Category}
-use Rattle.xa_value.specs.declared.category.Category.TheVariants.{AccessSubject, RecipientSubject, IntermediarySubject, Codebase, RequestingMachine, Resource, Action, Environment}
+use Rattle.xa_value.specs.declared.category.Category.TheVariants.{AccessSubject, RecipientSubject}
+use Rattle.xa_value.specs.declared.category.Category.TheVariants.{IntermediarySubject, Codebase}
+use Rattle.xa_value.specs.declared.category.Category.TheVariants.{RequestingMachine, Resource, Action, Environment}
 
 -- a category's shorthand
 abbrev pub shorthand_of : Category → List ℕ
@@ -38,7 +40,9 @@ is_subject Environment = false
 
 -- all of them
 abbrev pub all_categories : List Category
-all_categories = AccessSubject ∷ RecipientSubject ∷ IntermediarySubject ∷ Codebase ∷ RequestingMachine ∷ Resource ∷ Action ∷ Environment ∷ []
+all_categories =
+    AccessSubject ∷ RecipientSubject ∷ IntermediarySubject ∷ Codebase ∷ RequestingMachine ∷ Resource
+    ∷ Action ∷ Environment ∷ []
 
 -- the category whose shorthand the text is
 unfoldable pub of_shorthand : List ℕ → Option Category

@@ -1,5 +1,7 @@
--- Digits as they are written: what the shapes of numbers, times and durations are made of (XML Schema, part 2, section 3.2.3.1).
-use Rattle.std.specs.Prelude.{◌≡◌, ℕ, ◌<◌, Bool, true, List, [], ◌++◌, codes, length, nat_le, if◌then◌else◌, IsTrue, ⊤, Option, Some, None}
+-- Digits as they are written: what the shapes of numbers, times and durations are made of (XML Schema, part 2,
+-- section 3.2.3.1).
+use Rattle.std.specs.Prelude.{◌≡◌, ℕ, ◌<◌, Bool, true, List, [], ◌++◌, codes, length}
+use Rattle.std.specs.Prelude.{nat_le, if◌then◌else◌, IsTrue, ⊤, Option, Some, None}
 use Rattle.std.specs.List.{list_all}
 use Rattle.std.specs.Char.{is_ascii_digit}
 use Rattle.xa_value.specs.Lexical.{number}

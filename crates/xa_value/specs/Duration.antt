@@ -1,5 +1,6 @@
 -- Durations and their text (XML Schema, part 2, section 3.2.6; XQuery and XPath data model, section 3.3.2).
-use Rattle.std.specs.Prelude.{ℕ, ◌/◌, ◌%◌, ◌==◌, if◌then◌else◌, List, [], ◌∷◌, ◌++◌, codes, decimal, ℤ, pos, neg_ℤ, unsigned_abs, int_lt, ◌≤ℤ◌}
+use Rattle.std.specs.Prelude.{ℕ, ◌/◌, ◌%◌, ◌==◌, if◌then◌else◌, List, [], ◌∷◌, ◌++◌}
+use Rattle.std.specs.Prelude.{codes, decimal, ℤ, pos, neg_ℤ, unsigned_abs, int_lt, ◌≤ℤ◌}
 use Rattle.xa_value.specs.Time.{fraction_text}
 
 -- 10,000 years, in months
@@ -48,4 +49,5 @@ unfoldable pub day_time_text : ℤ → List ℕ
 day_time_text z =
     let nanos = unsigned_abs z in
     if nanos == 0 then codes "PT0S"
-    else sign_text z ++ codes "P" ++ part_text (nanos / 86_400_000_000_000) 68 ++ clock_part_text (nanos % 86_400_000_000_000)
+    else sign_text z ++ codes "P" ++ part_text (nanos / 86_400_000_000_000) 68
+    ++ clock_part_text (nanos % 86_400_000_000_000)

@@ -1,9 +1,11 @@
--- The shapes of durations (XML Schema, part 2, section 3.2.6; XQuery and XPath data model, section 3.3.2). Each is a tree, the text
--- that it prints as, a fact that says which trees are valid, its value, and whether that is in range.
-use Rattle.std.specs.Prelude.{ℕ, ◌+◌, ◌*◌, Bool, true, ◌&&◌, ◌||◌, List, [], ◌++◌, codes, nat_le, is_some, IsTrue, ⊤, ℤ, Option, Some, None}
+-- The shapes of durations (XML Schema, part 2, section 3.2.6; XQuery and XPath data model, section 3.3.2). Each is a
+-- tree, the text that it prints as, a fact that says which trees are valid, its value, and whether that is in range.
+use Rattle.std.specs.Prelude.{ℕ, ◌+◌, ◌*◌, Bool, true, ◌&&◌, ◌||◌, List, [], ◌++◌}
+use Rattle.std.specs.Prelude.{codes, nat_le, is_some, IsTrue, ⊤, ℤ, Option, Some, None}
 use Rattle.xa_value.specs.Duration.{most_months, most_nanos}
 use Rattle.xa_value.specs.Lexical.{number, with_sign}
-use Rattle.xa_value.specs.DigitGrammar.{IsNumeral, IsOptionalNumeral, count, print_minus, print_fraction, fraction_nanos, is_short}
+use Rattle.xa_value.specs.DigitGrammar.{IsNumeral, IsOptionalNumeral, count, print_minus}
+use Rattle.xa_value.specs.DigitGrammar.{print_fraction, fraction_nanos, is_short}
 
 -- a numeral and its unit, or nothing
 abbrev pub print_part : List ℕ → Option (List ℕ) → List ℕ
@@ -17,7 +19,8 @@ pub record YearMonth : Type 0 where
   pub months : Option (List ℕ)
 
 abbrev pub print_year_month : YearMonth → List ℕ
-print_year_month d = print_minus d.negative ++ codes "P" ++ print_part (codes "Y") d.years ++ print_part (codes "M") d.months
+print_year_month d =
+    print_minus d.negative ++ codes "P" ++ print_part (codes "Y") d.years ++ print_part (codes "M") d.months
 
 -- each part is a numeral or absent, and at least one is there
 pub record IsYearMonth (d : YearMonth) : Type 0 where
@@ -59,7 +62,8 @@ print_seconds (Some s) = s.whole ++ print_fraction s.fraction ++ codes "S"
 
 abbrev pub print_clock_part : Option ClockPart → List ℕ
 print_clock_part None = []
-print_clock_part (Some c) = codes "T" ++ print_part (codes "H") c.hours ++ print_part (codes "M") c.minutes ++ print_seconds c.seconds
+print_clock_part (Some c) =
+    codes "T" ++ print_part (codes "H") c.hours ++ print_part (codes "M") c.minutes ++ print_seconds c.seconds
 
 abbrev pub print_day_time : DayTime → List ℕ
 print_day_time d = print_minus d.negative ++ codes "P" ++ print_part (codes "D") d.days ++ print_clock_part d.clock

@@ -1,4 +1,5 @@
--- What a call that may grow something answers, beside the answer that its definition gives. No definition knows want of memory.
+-- What a call that may grow something answers, beside the answer that its definition gives. No definition knows want
+-- of memory.
 use Rattle.std.specs.Prelude.{◌≡◌, Result, Ok, Err}
 use Rattle.xa_value.specs.declared.or_memory.OrMemory.{OrMemory}
 use Rattle.xa_value.specs.declared.or_memory.OrMemory.TheVariants.{Memory, Error}

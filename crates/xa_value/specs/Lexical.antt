@@ -1,5 +1,6 @@
 -- White space, and the numbers that digits write (XML Schema, part 2, sections 2.3 and 4.3.6).
-use Rattle.std.specs.Prelude.{ℕ, zero, suc, ◌+◌, ◌-◌, ◌*◌, ◌/◌, ◌%◌, Bool, ◌||◌, ◌==◌, if◌then◌else◌, List, [], ◌∷◌, ◌++◌, reverse, ℤ, pos, neg_ℤ}
+use Rattle.std.specs.Prelude.{ℕ, zero, suc, ◌+◌, ◌-◌, ◌*◌, ◌/◌, ◌%◌, Bool, ◌||◌, ◌==◌}
+use Rattle.std.specs.Prelude.{if◌then◌else◌, List, [], ◌∷◌, ◌++◌, reverse, ℤ, pos, neg_ℤ}
 
 -- space, tab, carriage return and line feed
 abbrev pub is_blank : ℕ → Bool

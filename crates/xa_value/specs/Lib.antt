@@ -21,6 +21,7 @@ pub mod Plain
 pub mod Printing
 pub mod Reading
 pub mod RoundTrip
+pub mod Text
 pub mod Time
 pub mod TimeGrammar
 pub mod Types

@@ -1,5 +1,6 @@
 -- Equality and order of values (XACML 3.0, core, appendix A.3; XML Schema, part 2, section 3.2.7.4).
-use Rattle.std.specs.Prelude.{◌≡◌, option_map, ℕ, Bool, true, false, ◌&&◌, if◌then◌else◌, List, [], bytes_eq, ℤ, pos, Option, Some, None}
+use Rattle.std.specs.Prelude.{◌≡◌, option_map, ℕ, Bool, true, false, ◌&&◌, if◌then◌else◌}
+use Rattle.std.specs.Prelude.{List, [], bytes_eq, ℤ, pos, Option, Some, None}
 use Rattle.std.specs.Ordering.{int_eq, int_cmp, nat_cmp, on, then_cmp, ordering_reverse, is_eq}
 use Rattle.std.specs.Cmp.Lexicographic.{slice_cmp}
 use Rattle.std.specs.declared.cmp.Ordering.{Ordering}
@@ -79,7 +80,8 @@ same a b = (same_type (type_of a) (type_of b)) && equal_keys (key_of a) (key_of 
 -- the order of two values of one type that has an order
 unfoldable pub order : Value → Value → Option Ordering
 order a b =
-    if (same_type (type_of a) (type_of b)) && is_ordered (type_of a) then Some (compare_keys (key_of a) (key_of b)) else None
+    if (same_type (type_of a) (type_of b)) && is_ordered (type_of a)
+    then Some (compare_keys (key_of a) (key_of b)) else None
 
 -- `order` orders the values that it compares, and agrees with `same`
 pub record IsOrder : Type 0 where

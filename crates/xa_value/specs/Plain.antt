@@ -1,6 +1,7 @@
--- Values as plain members: the texts, booleans and whole numbers of a notation that knows no other types (the JSON profile of
--- XACML 3.0, on the values of attributes).
-use Rattle.std.specs.Prelude.{◌≡◌, ℕ, Bool, true, false, ◌&&◌, if◌then◌else◌, List, ℤ, pos, neg_ℤ, int_le, Result, Ok, Err}
+-- Values as plain members: the texts, booleans and whole numbers of a notation that knows no other types (the JSON
+-- profile of XACML 3.0, on the values of attributes).
+use Rattle.std.specs.Prelude.{◌≡◌, ℕ, Bool, true, false, ◌&&◌, if◌then◌else◌}
+use Rattle.std.specs.Prelude.{List, ℤ, pos, neg_ℤ, int_le, Result, Ok, Err}
 use Rattle.xa_value.specs.declared.data_type.DataType.{DataType}
 use Rattle.xa_value.specs.declared.data_type.DataType.TheVariants as type
 use Rattle.xa_value.specs.declared.plain.Plain.{Plain}

@@ -1,5 +1,6 @@
 -- Times of day and their text (XML Schema, part 2, section 3.2.8).
-use Rattle.std.specs.Prelude.{ℕ, zero, suc, ◌-◌, ◌*◌, ◌/◌, ◌%◌, ◌^◌, ◌==◌, if◌then◌else◌, List, [], ◌++◌, codes, length, ℤ, Option}
+use Rattle.std.specs.Prelude.{ℕ, zero, suc, ◌-◌, ◌*◌, ◌/◌, ◌%◌, ◌^◌, ◌==◌}
+use Rattle.std.specs.Prelude.{if◌then◌else◌, List, [], ◌++◌, codes, length, ℤ, Option}
 use Rattle.xa_value.specs.Lexical.{number, last_digits}
 use Rattle.xa_value.specs.Zone.{zone_text}
 
@@ -27,7 +28,8 @@ fraction_text n = if n == 0 then [] else codes "." ++ significant_digits 9 n
 
 -- hours, minutes, seconds and the fraction
 unfoldable pub clock_text : ℕ → List ℕ
-clock_text nanos = last_digits 2 (nanos / 3_600_000_000_000) ++ codes ":" ++ last_digits 2 (nanos / 60_000_000_000 % 60) ++ codes ":"
+clock_text nanos =
+    last_digits 2 (nanos / 3_600_000_000_000) ++ codes ":" ++ last_digits 2 (nanos / 60_000_000_000 % 60) ++ codes ":"
     ++ last_digits 2 (nanos / 1_000_000_000 % 60) ++ fraction_text (nanos % 1_000_000_000)
 
 abbrev pub time_text : ClockTime → List ℕ

@@ -1,6 +1,7 @@
--- The shapes of zones, times, dates, and dates with times (XML Schema, part 2). Each is a tree, the text that it prints as, a fact
--- that says which trees are valid, its value, and whether that is in range.
-use Rattle.std.specs.Prelude.{ℕ, ◌+◌, ◌*◌, Bool, true, ◌&&◌, List, [], ◌++◌, codes, nat_le, if◌then◌else◌, ⊤, ℤ, pos, Option, Some, None}
+-- The shapes of zones, times, dates, and dates with times (XML Schema, part 2). Each is a tree, the text that it
+-- prints as, a fact that says which trees are valid, its value, and whether that is in range.
+use Rattle.std.specs.Prelude.{ℕ, ◌+◌, ◌*◌, Bool, true, ◌&&◌, List, [], ◌++◌, codes}
+use Rattle.std.specs.Prelude.{nat_le, if◌then◌else◌, ⊤, ℤ, pos, Option, Some, None}
 use Rattle.xa_value.specs.Lexical.{number, with_sign}
 use Rattle.xa_value.specs.Time.{ClockTime}
 use Rattle.xa_value.specs.Calendar.{CivilDate, CivilDateTime, is_day}
@@ -14,7 +15,8 @@ pub data Zone : Type 0 where
 abbrev pub print_zone : Zone → List ℕ
 print_zone absent = []
 print_zone utc = codes "Z"
-print_zone (offset negative hours minutes) = (if negative then codes "-" else codes "+") ++ hours ++ codes ":" ++ minutes
+print_zone (offset negative hours minutes) =
+    (if negative then codes "-" else codes "+") ++ hours ++ codes ":" ++ minutes
 
 abbrev pub IsZone : Zone → Type 0
 IsZone absent = ⊤
@@ -31,7 +33,8 @@ zone_value (offset negative hours minutes) = Some (with_sign negative (number ho
 abbrev pub is_zone_in_range : Zone → Bool
 is_zone_in_range absent = true
 is_zone_in_range utc = true
-is_zone_in_range (offset negative hours minutes) = nat_le (number minutes) 59 && nat_le (number hours * 60 + number minutes) 840
+is_zone_in_range (offset negative hours minutes) =
+    nat_le (number minutes) 59 && nat_le (number hours * 60 + number minutes) 840
 
 -- `hh:mm:ss(\.f)?`
 pub record Clock : Type 0 where
@@ -51,11 +54,13 @@ pub record IsClock (c : Clock) : Type 0 where
 
 -- its nanoseconds since midnight
 abbrev pub clock_nanos : Clock → ℕ
-clock_nanos c = ((number c.hours * 60 + number c.minutes) * 60 + number c.seconds) * 1_000_000_000 + fraction_nanos c.fraction
+clock_nanos c =
+    ((number c.hours * 60 + number c.minutes) * 60 + number c.seconds) * 1_000_000_000 + fraction_nanos c.fraction
 
 -- hours to 23, minutes and seconds to 59, and at most nine digits of a fraction
 abbrev pub is_clock_in_range : Clock → Bool
-is_clock_in_range c = nat_le (number c.hours) 23 && nat_le (number c.minutes) 59 && nat_le (number c.seconds) 59 && is_short c.fraction
+is_clock_in_range c =
+    nat_le (number c.hours) 23 && nat_le (number c.minutes) 59 && nat_le (number c.seconds) 59 && is_short c.fraction
 
 -- a time: a clock and a zone (section 3.2.8)
 pub record Time : Type 0 where
@@ -104,7 +109,8 @@ abbrev pub IsDate : Date → Type 0
 IsDate d = IsDay d.day × IsZone d.zone
 
 abbrev pub date_value : Date → CivilDate
-date_value d = record { year = number d.day.year; month = number d.day.month; day = number d.day.day; zone = zone_value d.zone }
+date_value d =
+    record { year = number d.day.year; month = number d.day.month; day = number d.day.day; zone = zone_value d.zone }
 
 abbrev pub is_date_in_range : Date → Bool
 is_date_in_range d = is_day_in_range d.day && is_zone_in_range d.zone

@@ -1,7 +1,9 @@
 -- The data types of XACML 3.0 and their names (core, appendix A.2, B.3).
 use Rattle.std.specs.Prelude.{ℕ, Bool, ◌||◌, ◌==◌, List, [], ◌∷◌, ◌++◌, codes, bytes_eq, find, Option}
 use Rattle.xa_value.specs.declared.data_type.DataType.{DataType}
-use Rattle.xa_value.specs.declared.data_type.DataType.TheVariants.{String, Boolean, Integer, Date, Time, DateTime, DayTimeDuration, YearMonthDuration, AnyUri, HexBinary, Base64Binary}
+use Rattle.xa_value.specs.declared.data_type.DataType.TheVariants.{String, Boolean, Integer, Date, Time}
+use Rattle.xa_value.specs.declared.data_type.DataType.TheVariants.{DateTime, DayTimeDuration, YearMonthDuration}
+use Rattle.xa_value.specs.declared.data_type.DataType.TheVariants.{AnyUri, HexBinary, Base64Binary}
 
 -- what stands before a type's name in its URI
 abbrev pub namespace : List ℕ
@@ -27,7 +29,9 @@ uri_of type = namespace ++ name_of type
 
 -- all types
 abbrev pub all_types : List DataType
-all_types = String ∷ Boolean ∷ Integer ∷ Date ∷ Time ∷ DateTime ∷ DayTimeDuration ∷ YearMonthDuration ∷ AnyUri ∷ HexBinary ∷ Base64Binary ∷ []
+all_types =
+    String ∷ Boolean ∷ Integer ∷ Date ∷ Time ∷ DateTime ∷ DayTimeDuration ∷ YearMonthDuration ∷ AnyUri
+    ∷ HexBinary ∷ Base64Binary ∷ []
 
 -- a type's place in the list of types
 abbrev pub place_of : DataType → ℕ

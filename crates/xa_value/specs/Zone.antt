@@ -1,5 +1,6 @@
 -- Zones: absent, `Z`, or an offset from UTC in hours and minutes (XML Schema, part 2, section 3.2.7.3).
-use Rattle.std.specs.Prelude.{ℕ, ◌/◌, ◌%◌, ◌==◌, if◌then◌else◌, List, [], ◌++◌, codes, ℤ, pos, neg_ℤ, negsuc, ◌≤ℤ◌, Option, Some, None, suc}
+use Rattle.std.specs.Prelude.{ℕ, ◌/◌, ◌%◌, ◌==◌, if◌then◌else◌, List, [], ◌++◌, codes}
+use Rattle.std.specs.Prelude.{ℤ, pos, neg_ℤ, negsuc, ◌≤ℤ◌, Option, Some, None, suc}
 use Rattle.xa_value.specs.Lexical.{last_digits}
 
 -- offsets reach 14 hours to either side

@@ -1,5 +1,6 @@
 //! Dates, with and without a time, read and printed.
-ghost use Rattle.std.specs.Prelude.{◌≡◌, ◌≤◌, ◌<◌, ◌≤ℤ◌, unsigned_abs, ◌++◌, OnOk, IsTrue, SomeIff, string_bytes, length, drop, pos, true};
+ghost use Rattle.std.specs.Prelude.{◌≡◌, ◌≤◌, ◌<◌, ◌≤ℤ◌, unsigned_abs, ◌++◌, OnOk, IsTrue};
+ghost use Rattle.std.specs.Prelude.{SomeIff, string_bytes, length, drop, pos, true};
 ghost use Rattle.jiff_core.specs.Date.{IsYmd, epoch_day};
 ghost use Rattle.xa_value.specs.Calendar.{is_day, day_text, date_text, date_time_text, day_number};
 ghost use Rattle.xa_value.specs.parsing.Calendar.{date_of, date_time_of, year_of, read_date, read_date_time};
@@ -40,7 +41,8 @@ impl Date {
     /// The day in its zone, where its year is 1 or later.
     #[tactic(auto, using(crate::proofs::CalendarLemmas::civil_is_day))]
     pub fn new(day: civil::Date, zone: Option<Offset>) -> Option<Date>
-        ensures { SomeIff result (pos 1 ≤ℤ day.year) record { year = unsigned_abs day.year; month = day.month; day = day.day; zone = zone } }
+        ensures { SomeIff result (pos 1 ≤ℤ day.year)
+            record { year = unsigned_abs day.year; month = day.month; day = day.day; zone = zone } }
     {
         if day.year < 1 {
             return None;
@@ -92,18 +94,22 @@ impl Model for DateTime {
 
     ghost Value = { CivilDateTime };
 
-    ghost view = { λ d. record { year = d.year; month = d.month; day = d.day; nanos = d.nanos; zone = d.zone } };
+    ghost view = { λ d.
+        record { year = d.year; month = d.month; day = d.day; nanos = d.nanos; zone = d.zone } };
 
     ghost invariant = { λ d. IsTrue (is_day d.year d.month d.day) × (d.nanos < day_nanos) };
 
-    ghost inverse = { λ d. record { year = d.year; month = d.month; day = d.day; nanos = d.nanos; zone = d.zone } };
+    ghost inverse = { λ d.
+        record { year = d.year; month = d.month; day = d.day; nanos = d.nanos; zone = d.zone } };
 }
 
 impl DateTime {
-    /// The day and the nanoseconds since its midnight, where its year is 1 or later and they are less than a day.
+    /// The day and the nanoseconds since its midnight, where its year is 1 or later and they are
+    /// less than a day.
     #[tactic(auto, using(crate::proofs::CalendarLemmas::civil_is_day))]
     pub fn new(day: civil::Date, nanos: u64, zone: Option<Offset>) -> Option<DateTime>
-        ensures { SomeIff result ((pos 1 ≤ℤ day.year) × (nanos < day_nanos)) record { year = unsigned_abs day.year; month = day.month; day = day.day; nanos = nanos; zone = zone } }
+        ensures { SomeIff result ((pos 1 ≤ℤ day.year) × (nanos < day_nanos)) record
+            { year = unsigned_abs day.year; month = day.month; day = day.day; nanos = nanos; zone = zone } }
     {
         if day.year < 1 || nanos >= DAY {
             return None;

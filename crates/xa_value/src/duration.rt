@@ -1,9 +1,15 @@
 //! Durations, read and printed.
-ghost use Rattle.std.specs.Prelude.{◌≡◌, [], codes, ◌+◌, ◌-◌, ◌*◌, ◌^◌, ◌≤◌, ◌<◌, ◌++◌, min, if◌then◌else◌, pos, neg_ℤ, drop, OnOk, SomeIff, string_bytes, length, true};
+ghost use Rattle.std.specs.Prelude.{◌≡◌, [], codes, ◌+◌, ◌-◌, ◌*◌, ◌^◌, ◌≤◌, ◌<◌, ◌++◌, min, if◌then◌else◌};
+ghost use Rattle.std.specs.Prelude.{pos, neg_ℤ, drop, OnOk, SomeIff, string_bytes, length, true};
 ghost use Rattle.xa_value.specs.Time.{nanoseconds};
 ghost use Rattle.xa_value.specs.parsing.Time.{fraction_length, fraction_digits};
-ghost use Rattle.xa_value.specs.Duration.{most_months, most_nanos, IsMonths, IsNanos, part_text, sign_text, year_month_text, seconds_text, clock_part_text, day_time_text};
-ghost use Rattle.xa_value.specs.parsing.Duration.{part_length, part, after, after_part, seconds_length, seconds_part, seconds_fraction, without_minus, within, is_years_and_months, months_of, read_year_month, is_clock_part, is_days_and_clock, seconds_of, total_nanos, nanos_of, has_short_fraction, read_day_time};
+ghost use Rattle.xa_value.specs.Duration.{most_months, most_nanos, IsMonths, IsNanos, part_text, sign_text};
+ghost use Rattle.xa_value.specs.Duration.{year_month_text, seconds_text, clock_part_text, day_time_text};
+ghost use Rattle.xa_value.specs.parsing.Duration.{part_length, part, after, after_part, seconds_length};
+ghost use Rattle.xa_value.specs.parsing.Duration.{seconds_part, seconds_fraction, without_minus, within};
+ghost use Rattle.xa_value.specs.parsing.Duration.{is_years_and_months, months_of, read_year_month};
+ghost use Rattle.xa_value.specs.parsing.Duration.{is_clock_part, is_days_and_clock, seconds_of};
+ghost use Rattle.xa_value.specs.parsing.Duration.{total_nanos, nanos_of, has_short_fraction, read_day_time};
 
 use crate::lexical::{begins_with, digit_count, number};
 use crate::read_error::ReadError;
@@ -14,7 +20,8 @@ use std::marker::Model;
 /// 10,000 years, in months: more than lie between any two dates, of the years 1 to 9999.
 const MOST_MONTHS: u128 = 120_000;
 
-/// 10,000 years of 365.25 days, in nanoseconds: more than lie between any two moments, of the years 1 to 9999.
+/// 10,000 years of 365.25 days, in nanoseconds: more than lie between any two moments, of the years
+/// 1 to 9999.
 const MOST_NANOS: u128 = 315_576_000_000_000_000_000;
 
 /// A duration in years and months, as months: at most 120,000 to either side.
@@ -57,7 +64,8 @@ impl YearMonthDuration {
     }
 }
 
-/// A duration in days, hours, minutes and seconds, as nanoseconds: at most 315,576,000,000 seconds to either side.
+/// A duration in days, hours, minutes and seconds, as nanoseconds: at most 315,576,000,000 seconds
+/// to either side.
 #[derive(Clone, Copy, Debug, PartialEq, Eq)]
 pub struct DayTimeDuration {
     nanos: i128,
@@ -319,7 +327,8 @@ pub(crate) fn read_day_time(text: &[u8]) -> Result<DayTimeDuration, ReadError>
 
 /// Writes a minus for what is below zero.
 fn push_sign(text: &mut String, negative: bool) -> Result<(), AllocError>
-    ensures { OnOk result (string_bytes text.new ≡ string_bytes text.old ++ (if negative then codes "-" else [])) }
+    ensures { OnOk result
+        (string_bytes text.new ≡ string_bytes text.old ++ (if negative then codes "-" else [])) }
 {
     if negative { text.push('-') } else { Ok(()) }
 }

@@ -1,5 +1,6 @@
 //! White space, digits and shapes of a text.
-ghost use Rattle.std.specs.Prelude.{◌≡◌, ◌+◌, ◌-◌, ◌<◌, ◌≤◌, ◌^◌, [], ◌∷◌, length, min, OnOk, ◌++◌, IsTrue, string_bytes};
+ghost use Rattle.std.specs.Prelude.{◌≡◌, ◌+◌, ◌-◌, ◌<◌, ◌≤◌, ◌^◌, [], ◌∷◌};
+ghost use Rattle.std.specs.Prelude.{length, min, OnOk, ◌++◌, IsTrue, string_bytes};
 ghost use Rattle.std.specs.List.{prefix_len};
 ghost use Rattle.xa_value.specs.Lexical.{is_blank, trimmed_start, trimmed_end, trimmed, number, last_digits};
 ghost use Rattle.xa_value.specs.parsing.Lexical.{begins_with, fits_place, has_shape, two_digits, digit_count};

@@ -78,14 +78,16 @@ impl Moment {
     /// The moment's date with its time, by UTC.
     pub fn date_time(self) -> DateTime
         ensures value { result ≡ date_time_of self }
-        ensures instant { instant (day_number result.year result.month result.day) result.nanos result.zone ≡ self *ℤ pos 1_000_000_000 }
+        ensures instant { instant (day_number result.year result.month result.day) result.nanos result.zone
+            ≡ self *ℤ pos 1_000_000_000 }
     {
         DateTime::new(self.day(), self.nanos(), Offset::new(0)).unwrap()
     }
 
     /// The moment's day, by UTC.
     fn day(self) -> civil::Date
-        ensures value { day_of_number (day_number_of self) ≡ record { year = unsigned_abs result.year; month = result.month; day = result.day } }
+        ensures value { day_of_number (day_number_of self)
+            ≡ record { year = unsigned_abs result.year; month = result.month; day = result.day } }
         ensures number { epoch_day result ≡ day_number_of self }
         ensures late { pos 1 ≤ℤ result.year }
     {

@@ -1,4 +1,5 @@
-//! One road for want of memory: a call that may grow something answers as its definition does, or that there was no memory.
+//! One road for want of memory: a call that may grow something answers as its definition does, or
+//! that there was no memory.
 ghost use Rattle.std.specs.Prelude.{◌≡◌};
 ghost use Rattle.xa_value.specs.declared.or_memory.OrMemory.TheVariants.{Memory};
 
@@ -6,12 +7,14 @@ use std::alloc::{AllocError, AllocFailed};
 use std::fmt::Display;
 use thiserror::Error;
 
-/// Why a call that may grow something gave nothing: the error `E` that its definition gives, or there was no memory. A call whose work is counted
-/// says the same where what it may ask for is spent. Definitions speak of `E` alone.
+/// Why a call that may grow something gave nothing: the error `E` that its definition gives, or
+/// there was no memory. A call whose work is counted says the same where what it may ask for is
+/// spent. Definitions speak of `E` alone.
 #[derive(Debug, Drop, PartialEq, Eq, Error)]
 #[error_bound(E: Display)]
 pub enum OrMemory<E> {
-    /// There was no memory, or the work that the message may ask for is spent. Nothing has changed that a contract speaks of.
+    /// There was no memory, or the work that the message may ask for is spent. Nothing has changed
+    /// that a contract speaks of.
     #[error("out of memory")]
     Memory,
     /// The error that the definition gives.

@@ -1,7 +1,8 @@
 //! Equality and order of values.
 ghost use Rattle.std.specs.Prelude.{◌≡◌};
 ghost use Rattle.std.specs.Cmp.{IsEquivalence};
-ghost use Rattle.xa_value.specs.Order.{type_of, number_of, bytes_of, key_of, compare_keys, same, is_ordered, order, IsOrder, KeysTellApart};
+ghost use Rattle.xa_value.specs.Order.{type_of, number_of, bytes_of, key_of, compare_keys};
+ghost use Rattle.xa_value.specs.Order.{same, is_ordered, order, IsOrder, KeysTellApart};
 
 use crate::data_type::DataType;
 use crate::instant::instant;
@@ -61,8 +62,8 @@ impl Value {
         SortKey::new(self.number(), self.bytes())
     }
 
-    /// Whether the values are equal: of one type, and of the same instant, number or bytes (XACML 3.0, core, appendix A.3.1; XML Schema, part 2,
-    /// section 3.2.7.4).
+    /// Whether the values are equal: of one type, and of the same instant, number or bytes (XACML
+    /// 3.0, core, appendix A.3.1; XML Schema, part 2, section 3.2.7.4).
     #[tactic(auto, unfolding(crate::specs::Order::same))]
     pub fn same(&self, other: &Value) -> bool
         ensures value { result ≡ same self.now other.now }
@@ -73,8 +74,9 @@ impl Value {
             && self.bytes() == other.bytes()
     }
 
-    /// The order of two values of one type, where it is integer, string, time, date or dateTime (XACML 3.0, core, appendix A.3.6 and A.3.8; XML
-    /// Schema, part 2, section 3.2.7.4); none of any others.
+    /// The order of two values of one type, where it is integer, string, time, date or dateTime
+    /// (XACML 3.0, core, appendix A.3.6 and A.3.8; XML Schema, part 2, section 3.2.7.4); none of
+    /// any others.
     #[tactic(auto, unfolding(crate::specs::Order::order))]
     pub fn order(&self, other: &Value) -> Option<Ordering>
         ensures value { result ≡ order self.now other.now }

@@ -2,7 +2,8 @@
 ghost use Rattle.std.specs.Prelude.{◌≡◌, false, IfOk, Ok};
 ghost use Rattle.xa_value.specs.Gives.{Gives, answered};
 ghost use Rattle.xa_value.specs.Order.{type_of};
-ghost use Rattle.xa_value.specs.Plain.{type_of_plain, from_boolean, from_integer, from_plain, plain_grows, to_plain, is_text, PlainBack};
+ghost use Rattle.xa_value.specs.Plain.{type_of_plain, from_boolean, from_integer};
+ghost use Rattle.xa_value.specs.Plain.{from_plain, plain_grows, to_plain, is_text, PlainBack};
 
 use crate::data_type::DataType;
 use crate::or_memory::OrMemory;
@@ -36,15 +37,18 @@ impl<T> Plain<T> {
 }
 
 impl Value {
-    /// The value of the member under the type: a text is read by the type, a boolean fits boolean alone, and a whole number integer. NotThisType of
-    /// one that doesn't fit. OutOfRange of a whole number that needs more than 64 bits, and of a text of which the reading under the type says so.
+    /// The value of the member under the type: a text is read by the type, a boolean fits boolean
+    /// alone, and a whole number integer. NotThisType of one that doesn't fit. OutOfRange of a
+    /// whole number that needs more than 64 bits, and of a text of which the reading under the type
+    /// says so.
     pub fn from_plain(
         alloc: Global,
         data_type: DataType,
         plain: &Plain<TextRef<'_>>,
     ) -> Result<Value, OrMemory<ReadError>>
         ensures value { Gives result (from_plain data_type plain.now) }
-        ensures exact { plain_grows data_type plain.now ≡ false → result ≡ answered (from_plain data_type plain.now) }
+        ensures exact { plain_grows data_type plain.now ≡ false
+            → result ≡ answered (from_plain data_type plain.now) }
     {
         match plain {
             Plain::Text(text) => Value::read(alloc, data_type, text.as_str()),

@@ -18,9 +18,10 @@ use crate::value::Value;
 use std::alloc::Global;
 
 impl Value {
-    /// The value that the text stands for under the type. White space around it does not count, except in a string; in base64 no white
-    /// space counts. NotThisType of a text that hasn't the shape of the type, and OutOfRange of one that has, with a part outside its range
-    /// (XACML 3.0, core, appendix A.2; XML Schema, part 2).
+    /// The value that the text stands for under the type. White space around it does not count,
+    /// except in a string; in base64 no white space counts. NotThisType of a text that hasn't the
+    /// shape of the type, and OutOfRange of one that has, with a part outside its range (XACML 3.0,
+    /// core, appendix A.2; XML Schema, part 2).
     pub fn read(
         alloc: Global,
         data_type: DataType,

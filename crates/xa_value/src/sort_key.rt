@@ -8,7 +8,8 @@ ghost use Rattle.std.proofs.Common.{rules};
 use std::cmp::Ordering;
 use std::marker::Model;
 
-/// What the values of one type are ordered by, and equal by: a number, and then bytes (XACML 3.0, core, appendix A.3).
+/// What the values of one type are ordered by, and equal by: a number, and then bytes (XACML 3.0,
+/// core, appendix A.3).
 #[derive(Debug, Drop)]
 pub struct SortKey<'a> {
     number: i128,
@@ -72,7 +73,8 @@ impl<'a> PartialOrd for SortKey<'a> {
 
     ghost partial_cmp = { as_partial_cmp compare_keys };
 
-    ghost laws = { partial_order_from_own_ties (Prim.search (comparing, rules)) (Prim.search (comparing, rules)) };
+    ghost laws = { partial_order_from_own_ties
+        (Prim.search (comparing, rules)) (Prim.search (comparing, rules)) };
 
     fn partial_cmp(&self, other: &SortKey<'a>) -> Option<Ordering> {
         Some(self.cmp(other))

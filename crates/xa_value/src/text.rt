@@ -1,20 +1,24 @@
 //! Text that contracts see as its UTF-8 bytes.
 ghost use Rattle.std.specs.Prelude.{◌≡◌, nat_eq, string_bytes, IfOk};
 ghost use Rattle.std.specs.Cmp.{partial_equiv_from_equiv};
-ghost use Rattle.std.specs.Cmp.Lexicographic.{pointwise, slice_cmp, nat_list_eq_equiv, nat_list_cmp_total, texts_ties, texts_po};
+ghost use Rattle.std.specs.Cmp.Lexicographic.{pointwise, slice_cmp, nat_list_eq_equiv};
+ghost use Rattle.std.specs.Cmp.Lexicographic.{nat_list_cmp_total, texts_ties, texts_po};
 ghost use Rattle.std.specs.Cmp.Rules.{comparing, hashing};
 ghost use Rattle.std.specs.Hash as fed;
 ghost use Rattle.std.specs.Ordering.{as_partial_cmp, nat_cmp};
 ghost use Rattle.std.proofs.Common.{rules};
 ghost use Rattle.xa_value.specs.Lexical.{trimmed};
+ghost use Rattle.xa_value.specs.Text.{text_if};
 
+use crate::items::Items;
 use crate::lexical::trimmed_text;
 use std::alloc::{AllocError, Global};
 use std::cmp::Ordering;
 use std::hash::{Hash, Hasher};
 use std::marker::Model;
 
-/// A text that contracts see as the list of its UTF-8 bytes: two texts of the same bytes are equal, wherever they lie.
+/// A text that contracts see as the list of its UTF-8 bytes: two texts of the same bytes are equal,
+/// wherever they lie.
 #[derive(Debug, Drop)]
 pub struct Text {
     string: String,
@@ -45,6 +49,17 @@ impl Text {
         Text { string }
     }
 
+    /// The text that the bytes are, with no copy; nothing where they aren't UTF-8 (RFC 3629).
+    #[tactic(auto, using(crate::proofs::TextLemmas::is_no_text))]
+    pub fn from_utf8(bytes: Items<u8>) -> Option<Text>
+        ensures { result ≡ text_if bytes }
+    {
+        let Ok(string) = String::from_utf8(bytes.into_vec()) else {
+            return None;
+        };
+        Some(Text::from_string(string))
+    }
+
     /// The text as a `&str`.
     pub fn as_str(&self) -> &str
         ensures { result.now ≡ self.now }
@@ -59,8 +74,8 @@ impl Text {
         self.string.as_bytes()
     }
 
-    /// A copy without the white space at the text's ends: space, tab, carriage return and line feed (XML Schema, part 2,
-    /// section 4.3.6).
+    /// A copy without the white space at the text's ends: space, tab, carriage return and line feed
+    /// (XML Schema, part 2, section 4.3.6).
     pub fn trimmed(&self, alloc: Global) -> Result<Text, AllocError>
         ensures { IfOk result (λ t. t ≡ trimmed self.now) }
     {

@@ -1,8 +1,11 @@
 //! Times of day, read and printed.
-ghost use Rattle.std.specs.Prelude.{◌≡◌, ◌+◌, ◌≤◌, ◌<◌, ◌%◌, ◌++◌, true, OnOk, string_bytes, length, drop, SomeIff};
+ghost use Rattle.std.specs.Prelude.{◌≡◌, ◌+◌, ◌≤◌, ◌<◌, ◌%◌, ◌++◌, true};
+ghost use Rattle.std.specs.Prelude.{OnOk, string_bytes, length, drop, SomeIff};
 ghost use Rattle.xa_value.specs.parsing.Lexical.{digit_count};
-ghost use Rattle.xa_value.specs.Time.{day_nanos, nanoseconds, significant_digits, fraction_text, clock_text, time_text};
-ghost use Rattle.xa_value.specs.parsing.Time.{fraction_length, fraction_digits, is_clock, clock_nanos, time_of, read_clock};
+ghost use Rattle.xa_value.specs.Time.{day_nanos, nanoseconds, significant_digits};
+ghost use Rattle.xa_value.specs.Time.{fraction_text, clock_text, time_text};
+ghost use Rattle.xa_value.specs.parsing.Time.{fraction_length, fraction_digits};
+ghost use Rattle.xa_value.specs.parsing.Time.{is_clock, clock_nanos, time_of, read_clock};
 
 use crate::lexical::{digit_count, has_shape, number, push_padded, two_digits};
 use crate::read_error::ReadError;

@@ -18,7 +18,8 @@ field_at bytes header = record { name = span_bytes bytes header.name; value = sp
 -- the message is a head alone, that of the first len bytes of the window
 abbrev pub IsHeadOf : List ℕ → Message → ℕ → Type 0
 IsHeadOf bytes message len =
-    (h : RequestHead) × ReadsRequest bytes h (drop len bytes) × (len ≡ length (print_request h)) × (message ≡ message_of h [])
+    (h : RequestHead) × ReadsRequest bytes h (drop len bytes) × (len ≡ length (print_request h))
+    × (message ≡ message_of h [])
 
 -- the bytes held begin with that head, and the body that it announces is taken
 unfoldable pub HasHead : List ℕ → Head → Type 0

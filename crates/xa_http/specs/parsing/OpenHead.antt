@@ -1,6 +1,7 @@
 -- Where in a head its bytes end, while more may follow.
 use Rattle.std.specs.Prelude.{◌≡◌, ℕ, ◌≤◌, List, [], ◌∷◌, ◌++◌, length, drop, take}
-use Rattle.httparse.specs.Grammar.{LineEnd, Field, is_uri_byte, is_value_byte, IsToken, AllPass, print_blank, print_version, print_end}
+use Rattle.httparse.specs.Grammar.{LineEnd, Field, is_uri_byte, is_value_byte, IsToken}
+use Rattle.httparse.specs.Grammar.{AllPass, print_blank, print_version, print_end}
 use Rattle.httparse.specs.Pieces.{RequestStart, FieldLines}
 use Rattle.xa_http.specs.declared.open_head.HeadPart.{HeadPart}
 use Rattle.xa_http.specs.declared.open_head.HeadPart.TheVariants as part
@@ -29,7 +30,8 @@ IsOpenValue last line =
 unfoldable pub EndsIn : HeadPart → List ℕ → Type 0
 EndsIn part.Blank bytes = (ends : List LineEnd) × (bytes ≡ print_blank ends)
 EndsIn part.BlankReturn bytes = (ends : List LineEnd) × (bytes ≡ print_blank ends ++ 13 ∷ [])
-EndsIn part.Method bytes = (ends : List LineEnd) × (method : List ℕ) × IsToken method × (bytes ≡ print_blank ends ++ method)
+EndsIn part.Method bytes =
+    (ends : List LineEnd) × (method : List ℕ) × IsToken method × (bytes ≡ print_blank ends ++ method)
 EndsIn (part.Target start) bytes =
     (ends : List LineEnd) × (method : List ℕ) × (target : List ℕ) × IsToken method × AllPass is_uri_byte target
     × (bytes ≡ print_blank ends ++ (method ++ 32 ∷ target)) × (start ≤ length bytes) × (target ≡ drop start bytes)

@@ -18,7 +18,8 @@ date_of year month day zone =
 -- the date with a time, where the calendar has it
 unfoldable pub date_time_of : ℕ → ℕ → ℕ → ClockTime → Result CivilDateTime ReadError
 date_time_of year month day clock =
-    if is_day year month day then Ok (record { year = year; month = month; day = day; nanos = clock.nanos; zone = clock.zone })
+    if is_day year month day
+    then Ok (record { year = year; month = month; day = day; nanos = clock.nanos; zone = clock.zone })
     else Err OutOfRange
 
 -- the year of four digits that a text begins with
@@ -35,6 +36,6 @@ read_date text =
 -- a date without a zone, `T`, and a time
 unfoldable pub read_date_time : List ℕ → Result CivilDateTime ReadError
 read_date_time text =
-    if has_shape (codes "9999-99-99T") text
-    then (read_clock (drop 11 text) >>= λ clock. date_time_of (year_of text) (two_digits text 5) (two_digits text 8) clock)
+    if has_shape (codes "9999-99-99T") text then (read_clock (drop 11 text)
+    >>= λ clock. date_time_of (year_of text) (two_digits text 5) (two_digits text 8) clock)
     else Err NotThisType

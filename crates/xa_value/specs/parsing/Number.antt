@@ -1,5 +1,6 @@
 -- How booleans and integers are read.
-use Rattle.std.specs.Prelude.{ℕ, Bool, true, false, ◌||◌, nat_le, if◌then◌else◌, List, codes, drop, bytes_eq, ℤ, pos, neg_ℤ, Result, Ok, Err}
+use Rattle.std.specs.Prelude.{ℕ, Bool, true, false, ◌||◌, nat_le, if◌then◌else◌, List}
+use Rattle.std.specs.Prelude.{codes, drop, bytes_eq, ℤ, pos, neg_ℤ, Result, Ok, Err}
 use Rattle.xa_value.specs.declared.read_error.ReadError.{ReadError}
 use Rattle.xa_value.specs.declared.read_error.ReadError.TheVariants.{NotThisType, OutOfRange}
 use Rattle.xa_value.specs.Digits.{is_number}

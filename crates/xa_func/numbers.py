@@ -1,10 +1,10 @@
 #!/usr/bin/env python3
 """Writes the numbers of the functions' names, by which proofs/TableLemmas.antt tells that names are distinct, and its lines on single functions.
 
-usage: crates/xa_func/numbers             writes the file, where more than its line breaks would be other ones
-       crates/xa_func/numbers --check     says whether it would
+usage: crates/xa_func/numbers.py             writes the file, where more than its line breaks would be other ones
+       crates/xa_func/numbers.py --check     says whether it would
 
-The names are those of agreement/model/names.py. A function that is new there comes behind those of its family; what is no longer there goes. Where two
+The names are those of tests/model/names.py. A function that is new there comes behind those of its family; what is no longer there goes. Where two
 names have one number, the next modulus is taken by which all differ. The lines of `nowhere` follow the order of `SINGLE` in src/names.rt.
 """
 import pathlib
@@ -12,7 +12,7 @@ import re
 import sys
 
 HERE = pathlib.Path(__file__).resolve().parent
-sys.path.insert(0, str(HERE.parent.parent / "agreement" / "model"))
+sys.path.insert(0, str(HERE.parent.parent / "tests" / "model"))
 sys.dont_write_bytecode = True
 
 from names import NAMES  # noqa: E402
