@@ -1,5 +1,5 @@
--- The bodies of the messages that administer a domain: its tokens and its root. They are checked as documents are: JSON, then the members of an
--- object, then their values in table order.
+-- The bodies of the messages that administer a domain: its tokens and its root. They are checked as documents are:
+-- JSON, then the members of an object, then their values in table order.
 use Rattle.std.specs.Prelude.{ℕ, ◌==◌, if◌then◌else◌, List, bytes_eq, codes, Option, Some, None, Result, Ok, Err}
 use Rattle.serde_json.specs.Data.{Data}
 use Rattle.xa_value.specs.Gives.{◌>>=◌}
@@ -22,7 +22,8 @@ use Rattle.xa_notation.specs.Tokens.{is_token}
 
 -- the role of a name
 unfoldable pub role_named : List ℕ → Result Role NotationError
-role_named t = if bytes_eq t (codes "ask") then Ok Ask else if bytes_eq t (codes "admin") then Ok Admin else Err BadValue
+role_named t =
+    if bytes_eq t (codes "ask") then Ok Ask else if bytes_eq t (codes "admin") then Ok Admin else Err BadValue
 
 abbrev pub role : Data → Result Role NotationError
 role d = text d >>= role_named

@@ -18,7 +18,8 @@ or_ill_typed (Err e) = Err (IllTyped e)
 -- the typed document
 abbrev pub typed_document : WrittenDocument → Result Parsed NotationError
 typed_document w =
-    or_ill_typed (typed_tree w.tree) >>= (λ document. Ok (record { kind = w.key.kind; id = w.key.id; version = w.key.version; document = document }))
+    or_ill_typed (typed_tree w.tree)
+    >>= (λ document. Ok (record { kind = w.key.kind; id = w.key.id; version = w.key.version; document = document }))
 
 -- the document as a text writes it: its JSON, and then its shape
 abbrev pub document_as_written : List ℕ → Result WrittenDocument NotationError

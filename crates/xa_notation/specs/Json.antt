@@ -1,5 +1,6 @@
 -- How objects, their members and plain values are read from JSON. Of several members of one name the last one counts.
-use Rattle.std.specs.Prelude.{ℕ, zero, suc, ◌+◌, Bool, true, ◌&&◌, bytes_eq, find, List, [], ◌∷◌, Option, Some, None, is_some, Result, Ok, Err, if◌then◌else◌}
+use Rattle.std.specs.Prelude.{ℕ, zero, suc, ◌+◌, Bool, true, ◌&&◌, bytes_eq, find, List, []}
+use Rattle.std.specs.Prelude.{◌∷◌, Option, Some, None, is_some, Result, Ok, Err, if◌then◌else◌}
 use Rattle.std.specs.List.{list_any}
 use Rattle.std.specs.Option.{ok_or}
 use Rattle.std.specs.Str.{is_utf8}
@@ -9,7 +10,8 @@ use Rattle.serde_json.specs.Find.{get, as_str, as_bool, as_array, as_object}
 use Rattle.xa_value.specs.Gives.{◌>>=◌}
 use Rattle.xa_notation.specs.declared.member.Member.{Member}
 use Rattle.xa_notation.specs.declared.notation_error.NotationError.{NotationError}
-use Rattle.xa_notation.specs.declared.notation_error.NotationError.TheVariants.{NotJson, MissingMember, UnknownMember, BadValue}
+use Rattle.xa_notation.specs.declared.notation_error.NotationError.TheVariants.{NotJson, MissingMember}
+use Rattle.xa_notation.specs.declared.notation_error.NotationError.TheVariants.{UnknownMember, BadValue}
 use Rattle.xa_notation.specs.declared.tables.Choice.{Choice}
 use Rattle.xa_notation.specs.declared.tables.Entry.{Entry}
 use Rattle.xa_notation.specs.declared.tables.Entry.TheVariants.{Required, Optional}
@@ -77,7 +79,8 @@ sole_member first (suc (suc n)) found = Err UnknownMember
 
 -- the one of the alternatives that is there
 unfoldable pub chosen_member : Choice → Data → Result Member NotationError
-chosen_member choice d = size_of d >>= (λ size. sole_member (first_of choice) size (present_member (alternatives_of choice) d))
+chosen_member choice d =
+    size_of d >>= (λ size. sole_member (first_of choice) size (present_member (alternatives_of choice) d))
 
 -- a text
 abbrev pub text : Data → Result (List ℕ) NotationError

@@ -1,6 +1,7 @@
--- The shape of a document, object by object from the top (XACML 3.0, core, section 5): first the members of an object, and then their values
--- in table order, each with all that is inside it before the next.
-use Rattle.std.specs.Prelude.{ℕ, zero, suc, Bool, ◌&&◌, nat_le, bytes_eq, codes, if◌then◌else◌, List, [], ◌∷◌, ◌++◌, length, Option, Some, None, is_some, option_and_then, Result, Ok, Err}
+-- The shape of a document, object by object from the top (XACML 3.0, core, section 5): first the members of an
+-- object, and then their values in table order, each with all that is inside it before the next.
+use Rattle.std.specs.Prelude.{ℕ, zero, suc, Bool, ◌&&◌, nat_le, bytes_eq, codes, if◌then◌else◌, List, [], ◌∷◌}
+use Rattle.std.specs.Prelude.{◌++◌, length, Option, Some, None, is_some, option_and_then, Result, Ok, Err}
 use Rattle.std.specs.List.{list_any}
 use Rattle.std.specs.Option.{ok_or}
 use Rattle.serde_json.specs.Data.{Data, null, boolean, number, string, array, object, Items, no_items, item}
@@ -31,7 +32,8 @@ use Rattle.xa_policy.specs.Version.{read_version}
 use Rattle.xa_notation.specs.declared.member.Member.{Member}
 use Rattle.xa_notation.specs.declared.member.Member.TheVariants as member
 use Rattle.xa_notation.specs.declared.notation_error.NotationError.{NotationError}
-use Rattle.xa_notation.specs.declared.notation_error.NotationError.TheVariants.{NotJson, UnknownMember, BadValue, UnknownAlgorithm, TooLarge}
+use Rattle.xa_notation.specs.declared.notation_error.NotationError.TheVariants.{NotJson, UnknownMember, BadValue}
+use Rattle.xa_notation.specs.declared.notation_error.NotationError.TheVariants.{UnknownAlgorithm, TooLarge}
 use Rattle.xa_notation.specs.declared.tables.Choice.TheVariants as choice
 use Rattle.xa_notation.specs.declared.tables.Object.{Object}
 use Rattle.xa_notation.specs.declared.tables.Object.TheVariants as table
@@ -47,7 +49,8 @@ use Rattle.xa_notation.specs.declared.written.WrittenTree.{WrittenTree}
 use Rattle.xa_notation.specs.declared.written.WrittenTree.TheVariants as tree
 use Rattle.xa_notation.specs.declared.written.WrittenVariable.{WrittenVariable}
 use Rattle.xa_notation.specs.Algorithms.{rule_algorithm_named, policy_algorithm_named}
-use Rattle.xa_notation.specs.Json.{at, chosen_member, each, fits, flag, items, items_if_any, needed_member, not_empty, optional, text}
+use Rattle.xa_notation.specs.Json.{at, chosen_member, each, fits, flag, items}
+use Rattle.xa_notation.specs.Json.{items_if_any, needed_member, not_empty, optional, text}
 
 -- ---- plain values
 
@@ -72,7 +75,8 @@ pattern d = text d >>= (λ t. or_bad (read_pattern t))
 
 -- an effect (5.22)
 unfoldable pub effect_named : List ℕ → Result Effect NotationError
-effect_named t = if bytes_eq t (codes "Permit") then Ok Permit else if bytes_eq t (codes "Deny") then Ok Deny else Err BadValue
+effect_named t =
+    if bytes_eq t (codes "Permit") then Ok Permit else if bytes_eq t (codes "Deny") then Ok Deny else Err BadValue
 
 abbrev pub effect : Data → Result Effect NotationError
 effect d = text d >>= effect_named
@@ -128,7 +132,13 @@ designator d = do
   type ← needed_member member.DataType d >>= data_type
   must_be_present ← needed_member member.MustBePresent d >>= flag
   issuer ← optional text (at member.Issuer d)
-  Ok (record { category = category; attribute_id = attribute_id; data_type = type; must_be_present = must_be_present; issuer = issuer })
+  Ok (record {
+    category = category;
+    attribute_id = attribute_id;
+    data_type = type;
+    must_be_present = must_be_present;
+    issuer = issuer;
+  })
 
 -- ---- expressions
 
@@ -306,7 +316,14 @@ written_policy d = do
   variables ← items_if_any (at member.VariableDefinition d) >>= written_variables []
   rules ← items_if_any (at member.Rule d) >>= each written_rule
   duties ← written_duties d
-  Ok (record { key = record { kind = kind.Policy; id = id; version = version }; algorithm = algorithm; target = target; variables = variables; rules = rules; duties = duties })
+  Ok (record {
+    key = record { kind = kind.Policy; id = id; version = version };
+    algorithm = algorithm;
+    target = target;
+    variables = variables;
+    rules = rules;
+    duties = duties;
+  })
 
 -- a reference (5.10, 5.11)
 unfoldable pub reference : DocumentKind → Data → Result Reference NotationError
@@ -319,7 +336,8 @@ reference kind d = do
   Ok (record { kind = kind; id = id; version = pattern; earliest = earliest; latest = latest })
 
 -- a policy set (5.1), by its children
-unfoldable pub written_set_of : (Data → Result WrittenTree NotationError) → Data → Result WrittenSetWithChildren NotationError
+unfoldable pub written_set_of : (Data → Result WrittenTree NotationError) → Data
+    → Result WrittenSetWithChildren NotationError
 written_set_of child d = do
   _ ← fits table.PolicySet d
   id ← needed_member member.PolicySetId d >>= id
@@ -329,14 +347,23 @@ written_set_of child d = do
   target ← written_target (at member.Target d)
   children ← items_if_any (at member.Children d) >>= each child
   duties ← written_duties d
-  Ok (record { set = record { key = record { kind = kind.PolicySet; id = id; version = version }; algorithm = algorithm; target = target; duties = duties }; children = children })
+  Ok (record {
+    set = record {
+      key = record { kind = kind.PolicySet; id = id; version = version };
+      algorithm = algorithm;
+      target = target;
+      duties = duties;
+    };
+    children = children;
+  })
 
 -- a policy set as a part of a document
 abbrev pub tree_of_set : WrittenSetWithChildren → WrittenTree
 tree_of_set s = tree.PolicySet s.set s.children
 
 -- the child of a policy set that stands under the member's name
-abbrev pub child_named : (Data → Result WrittenSetWithChildren NotationError) → Member → Data → Result WrittenTree NotationError
+abbrev pub child_named : (Data → Result WrittenSetWithChildren NotationError) → Member → Data
+    → Result WrittenTree NotationError
 child_named set member.Policy d = written_policy d >>= (λ p. Ok (tree.Policy p))
 child_named set member.PolicySet d = set d >>= (λ s. Ok (tree_of_set s))
 child_named set member.PolicyIdReference d = reference kind.Policy d >>= (λ r. Ok (tree.Reference r))
@@ -344,7 +371,8 @@ child_named set member.PolicySetIdReference d = reference kind.PolicySet d >>= (
 child_named set _ d = Err UnknownMember
 
 -- a child of a policy set
-unfoldable pub written_child : (Data → Result WrittenSetWithChildren NotationError) → Data → Result WrittenTree NotationError
+unfoldable pub written_child : (Data → Result WrittenSetWithChildren NotationError) → Data
+    → Result WrittenTree NotationError
 written_child set d = do
   name ← chosen_member choice.Child d
   inner ← needed_member name d

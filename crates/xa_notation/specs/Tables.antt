@@ -1,6 +1,7 @@
--- The notation's tables: the names of members, and which of them each object has. Members of documents are named as in the XML schema of
--- XACML 3.0 (core, section 5); `Children` is this project's name for the ordered content of a policy set. So are the names of the members of
--- the bodies that administer a domain, where that schema has none: `Role`, `Token`, `Row` and `Entity`.
+-- The notation's tables: the names of members, and which of them each object has. Members of documents are named as
+-- in the XML schema of XACML 3.0 (core, section 5); `Children` is this project's name for the ordered content of a
+-- policy set. So are the names of the members of the bodies that administer a domain, where that schema has none:
+-- `Role`, `Token`, `Row` and `Entity`.
 use Rattle.std.specs.Prelude.{ℕ, List, [], ◌∷◌, codes}
 use Rattle.xa_notation.specs.declared.member.Member.{Member}
 use Rattle.xa_notation.specs.declared.member.Member.TheVariants as member
@@ -70,33 +71,52 @@ member_of (Optional m) = m
 
 -- the members of each object, in table order
 unfoldable pub members_of : Object → List Entry
-members_of object.Policy = Required member.PolicyId ∷ Required member.Version ∷ Required member.RuleCombiningAlgId ∷ Optional member.Description ∷ Optional member.Target ∷ Optional member.VariableDefinition ∷ Optional member.Rule ∷ Optional member.ObligationExpressions ∷ Optional member.AdviceExpressions ∷ []
-members_of object.PolicySet = Required member.PolicySetId ∷ Required member.Version ∷ Required member.PolicyCombiningAlgId ∷ Optional member.Description ∷ Optional member.Target ∷ Optional member.Children ∷ Optional member.ObligationExpressions ∷ Optional member.AdviceExpressions ∷ []
-members_of object.Reference = Required member.Id ∷ Optional member.Version ∷ Optional member.EarliestVersion ∷ Optional member.LatestVersion ∷ []
-members_of object.Rule = Required member.RuleId ∷ Required member.Effect ∷ Optional member.Description ∷ Optional member.Target ∷ Optional member.Condition ∷ Optional member.ObligationExpressions ∷ Optional member.AdviceExpressions ∷ []
+members_of object.Policy =
+    Required member.PolicyId ∷ Required member.Version ∷ Required member.RuleCombiningAlgId
+    ∷ Optional member.Description ∷ Optional member.Target ∷ Optional member.VariableDefinition ∷ Optional member.Rule
+    ∷ Optional member.ObligationExpressions ∷ Optional member.AdviceExpressions ∷ []
+members_of object.PolicySet =
+    Required member.PolicySetId ∷ Required member.Version ∷ Required member.PolicyCombiningAlgId
+    ∷ Optional member.Description ∷ Optional member.Target ∷ Optional member.Children
+    ∷ Optional member.ObligationExpressions ∷ Optional member.AdviceExpressions ∷ []
+members_of object.Reference =
+    Required member.Id ∷ Optional member.Version ∷ Optional member.EarliestVersion ∷ Optional member.LatestVersion ∷ []
+members_of object.Rule =
+    Required member.RuleId ∷ Required member.Effect ∷ Optional member.Description ∷ Optional member.Target
+    ∷ Optional member.Condition ∷ Optional member.ObligationExpressions ∷ Optional member.AdviceExpressions ∷ []
 members_of object.Target = Optional member.AnyOf ∷ []
 members_of object.AnyOf = Required member.AllOf ∷ []
 members_of object.AllOf = Required member.Match ∷ []
-members_of object.Match = Required member.MatchId ∷ Required member.AttributeValue ∷ Required member.AttributeDesignator ∷ []
+members_of object.Match =
+    Required member.MatchId ∷ Required member.AttributeValue ∷ Required member.AttributeDesignator ∷ []
 members_of object.VariableDefinition = Required member.VariableId ∷ Required member.Expression ∷ []
 members_of object.AttributeValue = Required member.DataType ∷ Required member.Value ∷ []
-members_of object.AttributeDesignator = Required member.Category ∷ Required member.AttributeId ∷ Required member.DataType ∷ Required member.MustBePresent ∷ Optional member.Issuer ∷ []
+members_of object.AttributeDesignator =
+    Required member.Category ∷ Required member.AttributeId ∷ Required member.DataType ∷ Required member.MustBePresent
+    ∷ Optional member.Issuer ∷ []
 members_of object.Apply = Required member.FunctionId ∷ Optional member.Description ∷ Optional member.Expression ∷ []
 members_of object.Function = Required member.FunctionId ∷ []
 members_of object.VariableReference = Required member.VariableId ∷ []
-members_of object.ObligationExpression = Required member.ObligationId ∷ Required member.FulfillOn ∷ Optional member.AttributeAssignmentExpression ∷ []
-members_of object.AdviceExpression = Required member.AdviceId ∷ Required member.AppliesTo ∷ Optional member.AttributeAssignmentExpression ∷ []
-members_of object.AttributeAssignmentExpression = Required member.AttributeId ∷ Optional member.Category ∷ Optional member.Issuer ∷ Required member.Expression ∷ []
+members_of object.ObligationExpression =
+    Required member.ObligationId ∷ Required member.FulfillOn ∷ Optional member.AttributeAssignmentExpression ∷ []
+members_of object.AdviceExpression =
+    Required member.AdviceId ∷ Required member.AppliesTo ∷ Optional member.AttributeAssignmentExpression ∷ []
+members_of object.AttributeAssignmentExpression =
+    Required member.AttributeId ∷ Optional member.Category ∷ Optional member.Issuer ∷ Required member.Expression ∷ []
 members_of object.NewToken = Required member.Role ∷ Required member.Token ∷ []
 members_of object.OldToken = Required member.Token ∷ []
 members_of object.Source = Required member.Row ∷ []
-members_of object.SourceRow = Required member.Category ∷ Required member.Entity ∷ Required member.AttributeId ∷ Required member.DataType ∷ Required member.Value ∷ Optional member.Issuer ∷ []
+members_of object.SourceRow =
+    Required member.Category ∷ Required member.Entity ∷ Required member.AttributeId ∷ Required member.DataType
+    ∷ Required member.Value ∷ Optional member.Issuer ∷ []
 
 -- the alternatives of which an object has exactly one
 unfoldable pub alternatives_of : Choice → List Member
 alternatives_of choice.Document = member.Policy ∷ member.PolicySet ∷ []
-alternatives_of choice.Child = member.Policy ∷ member.PolicySet ∷ member.PolicyIdReference ∷ member.PolicySetIdReference ∷ []
-alternatives_of choice.Expression = member.AttributeValue ∷ member.AttributeDesignator ∷ member.Apply ∷ member.Function ∷ member.VariableReference ∷ []
+alternatives_of choice.Child =
+    member.Policy ∷ member.PolicySet ∷ member.PolicyIdReference ∷ member.PolicySetIdReference ∷ []
+alternatives_of choice.Expression =
+    member.AttributeValue ∷ member.AttributeDesignator ∷ member.Apply ∷ member.Function ∷ member.VariableReference ∷ []
 alternatives_of choice.Root = member.PolicyIdReference ∷ member.PolicySetIdReference ∷ []
 
 -- the first of them

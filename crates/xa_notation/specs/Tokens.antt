@@ -1,4 +1,5 @@
--- The shape of a token, which is this project's own. As a bearer token (RFC 6750, section 2.1) it stands in a header field as it is.
+-- The shape of a token, which is this project's own. As a bearer token (RFC 6750, section 2.1) it stands in a header
+-- field as it is.
 use Rattle.std.specs.Prelude.{ℕ, Bool, ◌&&◌, List, length, nat_le}
 use Rattle.std.specs.List.{list_all}
 

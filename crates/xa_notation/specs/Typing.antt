@@ -1,5 +1,6 @@
--- The typing of a document, in table order (XACML 3.0, core, section 5): a match's function takes the literal and a value of the designator's
--- type and gives a boolean, a condition is a boolean, and a variable is defined before it is used.
+-- The typing of a document, in table order (XACML 3.0, core, section 5): a match's function takes the literal and a
+-- value of the designator's type and gives a boolean, a condition is a boolean, and a variable is defined before it
+-- is used.
 use Rattle.std.specs.Prelude.{if◌then◌else◌, List, [], ◌∷◌, ◌++◌, map, Result, Ok}
 use Rattle.xa_value.specs.Gives.{◌>>=◌}
 use Rattle.xa_bag.specs.HigherOrder.{collected}
@@ -43,12 +44,13 @@ typed_any_of a = collected (map typed_all_of a.all_of) >>= (λ all_of. Ok (recor
 abbrev pub typed_target : WrittenTarget → Result Target CheckError
 typed_target t = collected (map typed_any_of t.any_of) >>= (λ any_of. Ok (record { any_of = any_of }))
 
--- variables (5.23), behind those before them: an expression may name what is before it. Of two of one name the first stands.
+-- variables (5.23), behind those before them: an expression may name what is before it. Of two of one name the first
+-- stands.
 abbrev pub typed_variables : List Definition → List WrittenVariable → Result (List Definition) CheckError
 typed_variables before [] = Ok before
 typed_variables before (v ∷ vs) =
-    if is_defined before v.name then typed_variables before vs
-    else checked before v.expression >>= (λ expression. typed_variables (before ++ record { name = v.name; expression = expression } ∷ []) vs)
+    if is_defined before v.name then typed_variables before vs else checked before v.expression
+    >>= (λ expression. typed_variables (before ++ record { name = v.name; expression = expression } ∷ []) vs)
 
 -- a rule (5.21) under the policy's variables: its target, its condition, its obligations and its advice
 abbrev pub typed_rule : List Definition → WrittenRule → Result (Rule Typed) CheckError
@@ -63,7 +65,14 @@ typed_policy p = do
   variables ← typed_variables [] p.variables
   rules ← collected (map (typed_rule variables) p.rules)
   duties ← checked_duties variables p.duties
-  Ok (record { key = p.key; algorithm = p.algorithm; target = target; variables = variables; rules = rules; duties = duties })
+  Ok (record {
+    key = p.key;
+    algorithm = p.algorithm;
+    target = target;
+    variables = variables;
+    rules = rules;
+    duties = duties;
+  })
 
 -- a policy set (5.1), by what its children come to: its target, its children, its obligations and its advice
 unfoldable pub typed_set : WrittenSet → List (Result Document CheckError) → Result Document CheckError

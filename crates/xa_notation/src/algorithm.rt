@@ -1,6 +1,7 @@
 //! The names of the combining algorithms.
 ghost use Rattle.std.specs.Prelude.{◌≡◌, bytes_eq, find, option_map};
-ghost use Rattle.xa_notation.specs.Algorithms.{is_name, policy_algorithm_named, policy_uri_of, rule_algorithm_named, rule_uri_of};
+ghost use Rattle.xa_notation.specs.Algorithms.{is_name, policy_algorithm_named, policy_uri_of};
+ghost use Rattle.xa_notation.specs.Algorithms.{rule_algorithm_named, rule_uri_of};
 
 use xa_policy::Alg;
 

@@ -74,7 +74,8 @@ impl Parsed {
 
     /// Its key.
     pub fn key(&self) -> Result<DocumentKey, AllocError>
-        ensures { IfOk result (λ key. key ≡ record { kind = self.now.kind; id = self.now.id; version = self.now.version }) }
+        ensures { IfOk result (λ key.
+            key ≡ record { kind = self.now.kind; id = self.now.id; version = self.now.version }) }
     {
         Ok(DocumentKey {
             kind: self.kind,

@@ -2,7 +2,8 @@
 ghost use Rattle.std.specs.Prelude.{◌≡◌};
 ghost use Rattle.serde_json.specs.View.{view};
 ghost use Rattle.xa_value.specs.Gives.{Gives};
-ghost use Rattle.xa_notation.specs.Shape.{written_assignment, written_assignments, written_duties, written_duty};
+ghost use Rattle.xa_notation.specs.Shape.{written_assignment, written_assignments};
+ghost use Rattle.xa_notation.specs.Shape.{written_duties, written_duty};
 
 use crate::expression::expression;
 use crate::json::{

@@ -3,7 +3,8 @@ ghost use Rattle.std.specs.Prelude.{◌≡◌, option_map};
 ghost use Rattle.serde_json.specs.View.{items_view, view};
 ghost use Rattle.xa_value.specs.Gives.{Gives};
 ghost use Rattle.xa_notation.specs.Json.{each, optional};
-ghost use Rattle.xa_notation.specs.Shape.{apply, expression, expression_named, expression_of, expression_within, function, variable_reference};
+ghost use Rattle.xa_notation.specs.Shape.{apply, expression, expression_named, expression_of};
+ghost use Rattle.xa_notation.specs.Shape.{expression_within, function, variable_reference};
 
 use crate::attribute::{attribute_value, designator};
 use crate::json::{

@@ -7,7 +7,10 @@ ghost use Rattle.serde_json.specs.Find.{as_object};
 ghost use Rattle.serde_json.specs.View.{view, items_view, members_view};
 ghost use Rattle.xa_value.specs.Gives.{Gives};
 ghost use Rattle.xa_notation.specs.declared.notation_error.NotationError.{NotationError as ReadFault};
-ghost use Rattle.xa_notation.specs.Json.{json, at, needed_member, is_named, has_only, knows, has_entry, has_needed, fits, size_of, present_member, sole_member, chosen_member, text, flag, items, items_if_any, not_empty, optional, each};
+ghost use Rattle.xa_notation.specs.Json.{json, at, needed_member, is_named, has_only};
+ghost use Rattle.xa_notation.specs.Json.{knows, has_entry, has_needed, fits, size_of};
+ghost use Rattle.xa_notation.specs.Json.{present_member, sole_member, chosen_member, text};
+ghost use Rattle.xa_notation.specs.Json.{flag, items, items_if_any, not_empty, optional, each};
 ghost use Rattle.xa_notation.specs.parsing.Json.{behind};
 
 use crate::member::Member;
@@ -49,7 +52,8 @@ pub fn needed_member(value: &Json, name: Member) -> Result<&Json, NotationError>
 
 /// The members of an object.
 fn members(value: &Json) -> Result<&Map<String, Json>, NotationError>
-    ensures { result_map_both (λ m. members_view m.now.entries) (λ e. e) result ≡ ok_or (as_object (view value.now)) NotationError.BadValue }
+    ensures { result_map_both (λ m. members_view m.now.entries) (λ e. e) result
+        ≡ ok_or (as_object (view value.now)) NotationError.BadValue }
 {
     match value.as_object() {
         Some(members) => Ok(members),
@@ -217,7 +221,8 @@ pub fn items(value: &Json) -> Result<&[Json], NotationError>
 
 /// The items of an array that may be left out.
 pub(crate) fn items_if_any<'a>(value: Option<&'a Json>) -> Result<&'a [Json], NotationError>
-    ensures { result_map_both (λ vs. items_view vs.now) (λ e. e) result ≡ items_if_any (option_map (λ v. view v.now) value.entry) }
+    ensures { result_map_both (λ vs. items_view vs.now) (λ e. e) result
+        ≡ items_if_any (option_map (λ v. view v.now) value.entry) }
 {
     match value {
         Some(value) => items(value),

@@ -3,7 +3,8 @@ ghost use Rattle.std.specs.Prelude.{◌≡◌, option_map};
 ghost use Rattle.serde_json.specs.View.{view};
 ghost use Rattle.xa_value.specs.Gives.{Gives};
 ghost use Rattle.xa_notation.specs.Json.{optional};
-ghost use Rattle.xa_notation.specs.Shape.{category, data_type, description, effect, effect_named, id, pattern, policy_algorithm, rule_algorithm, version};
+ghost use Rattle.xa_notation.specs.Shape.{category, data_type, description, effect, effect_named};
+ghost use Rattle.xa_notation.specs.Shape.{id, pattern, policy_algorithm, rule_algorithm, version};
 
 use crate::algorithm::{policy_algorithm_named, rule_algorithm_named};
 use crate::json::text;

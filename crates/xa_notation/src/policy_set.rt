@@ -3,7 +3,8 @@ ghost use Rattle.std.specs.Prelude.{◌≡◌};
 ghost use Rattle.serde_json.specs.View.{items_view, view};
 ghost use Rattle.xa_value.specs.Gives.{Gives};
 ghost use Rattle.xa_notation.specs.Json.{each};
-ghost use Rattle.xa_notation.specs.Shape.{child_named, document_named, reference, too_deep, written_child, written_document, written_set_of, written_set_within};
+ghost use Rattle.xa_notation.specs.Shape.{child_named, document_named, reference, too_deep, written_child};
+ghost use Rattle.xa_notation.specs.Shape.{written_document, written_set_of, written_set_within};
 
 use crate::duties::written_duties;
 use crate::json::{

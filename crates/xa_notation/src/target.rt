@@ -4,7 +4,8 @@ ghost use Rattle.serde_json.specs.View.{items_view, view};
 ghost use Rattle.std.specs.Result.{result_map_both};
 ghost use Rattle.xa_value.specs.Gives.{Gives};
 ghost use Rattle.xa_notation.specs.Json.{not_empty};
-ghost use Rattle.xa_notation.specs.Shape.{written_all_of, written_any_of, written_match, written_target, written_target_of};
+ghost use Rattle.xa_notation.specs.Shape.{written_all_of, written_any_of, written_match};
+ghost use Rattle.xa_notation.specs.Shape.{written_target, written_target_of};
 
 use crate::attribute::{attribute_value, designator};
 use crate::json::{

@@ -2,7 +2,8 @@
 ghost use Rattle.std.specs.Prelude.{◌≡◌};
 ghost use Rattle.serde_json.specs.View.{view};
 ghost use Rattle.xa_value.specs.Gives.{Gives};
-ghost use Rattle.xa_notation.specs.Bodies.{new_token, new_token_of, old_token, old_token_of, role, role_named, token};
+ghost use Rattle.xa_notation.specs.Bodies.{new_token, new_token_of, old_token};
+ghost use Rattle.xa_notation.specs.Bodies.{old_token_of, role, role_named, token};
 
 use crate::json::{check_members, json, needed_member, text};
 use crate::member::Member;

@@ -3,7 +3,8 @@ ghost use Rattle.std.specs.Prelude.{◌≡◌, [], map};
 ghost use Rattle.std.specs.Result.{result_map_both};
 ghost use Rattle.xa_value.specs.Gives.{Gives};
 ghost use Rattle.xa_bag.specs.HigherOrder.{collected};
-ghost use Rattle.xa_notation.specs.Typing.{typed_all_of, typed_any_of, typed_match, typed_policy, typed_set, typed_target, typed_tree, typed_variables};
+ghost use Rattle.xa_notation.specs.Typing.{typed_all_of, typed_any_of, typed_match, typed_policy};
+ghost use Rattle.xa_notation.specs.Typing.{typed_set, typed_target, typed_tree, typed_variables};
 ghost use Rattle.xa_notation.specs.parsing.Adding.{with_typed_rule, with_typed_rules};
 
 use crate::document::Document;

@@ -40,7 +40,8 @@ impl Model for Definitions {
 
     ghost view = { λ d. d.variables.items };
 
-    ghost invariant = { λ d. (name : List ℕ) → contains (slice_cmp nat_cmp) d.names name ≡ is_taken d.variables.items name };
+    ghost invariant = { λ d.
+        (name : List ℕ) → contains (slice_cmp nat_cmp) d.names name ≡ is_taken d.variables.items name };
 }
 
 impl Definitions {
@@ -92,7 +93,8 @@ impl Definitions {
     /// Reads a definition and puts it at the end (XACML 3.0, core, section 5.23).
     #[tactic(auto, unfolding(crate::specs::Shape::behind_one))]
     fn read(&mut self, alloc: Global, value: &Json) -> Result<(), OrMemory<NotationError>>
-        ensures { Gives (result_map_both (λ _. self.new) (λ e. e) result) (behind_one self.old (view value.now)) }
+        ensures { Gives (result_map_both (λ _. self.new) (λ e. e) result)
+            (behind_one self.old (view value.now)) }
     {
         check_members(value, Object::VariableDefinition)?;
         let name = self.free_name(alloc, text(needed_member(value, Member::VariableId)?)?)?;

@@ -1,4 +1,5 @@
--- How a policy and a policy set are built, step by step: rules one behind the other, and obligations and advice in place of none.
+-- How a policy and a policy set are built, step by step: rules one behind the other, and obligations and advice in
+-- place of none.
 use Rattle.std.specs.Prelude.{List, [], ◌∷◌, ◌++◌, Result, Ok}
 use Rattle.xa_value.specs.Gives.{◌>>=◌}
 use Rattle.xa_expr.specs.declared.check_error.CheckError.{CheckError}
@@ -15,7 +16,15 @@ no_expressions = record { obligations = []; advice = [] }
 
 -- the policy with these rules behind those that it has
 abbrev pub with_rules : PolicyParts → List (Rule Typed) → PolicyParts
-with_rules p rules = record { key = p.key; algorithm = p.algorithm; target = p.target; variables = p.variables; rules = p.rules ++ rules; duties = p.duties }
+with_rules p rules =
+    record {
+      key = p.key;
+      algorithm = p.algorithm;
+      target = p.target;
+      variables = p.variables;
+      rules = p.rules ++ rules;
+      duties = p.duties;
+    }
 
 -- the policy with a rule behind those that it has, where the rule passes
 abbrev pub rule_added : PolicyParts → Rule Expr → Result PolicyParts CheckError
@@ -23,7 +32,15 @@ rule_added p rule = checked_rule p.variables rule >>= (λ r. Ok (with_rules p (r
 
 -- the policy with these obligations and this advice in place of its own, where they pass
 abbrev pub with_duties : PolicyParts → DutyExpressions Typed → PolicyParts
-with_duties p duties = record { key = p.key; algorithm = p.algorithm; target = p.target; variables = p.variables; rules = p.rules; duties = duties }
+with_duties p duties =
+    record {
+      key = p.key;
+      algorithm = p.algorithm;
+      target = p.target;
+      variables = p.variables;
+      rules = p.rules;
+      duties = duties;
+    }
 
 abbrev pub duties_set : PolicyParts → DutyExpressions Expr → Result PolicyParts CheckError
 duties_set p duties = checked_duties p.variables duties >>= (λ ds. Ok (with_duties p ds))

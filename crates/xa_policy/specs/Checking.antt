@@ -1,5 +1,5 @@
--- The type check of rules, obligations and advice (XACML 3.0, core, sections 5.21, 5.26 and 5.39 to 5.41): a condition is a boolean, and an
--- assignment a value or a bag of any type.
+-- The type check of rules, obligations and advice (XACML 3.0, core, sections 5.21, 5.26 and 5.39 to 5.41): a
+-- condition is a boolean, and an assignment a value or a bag of any type.
 use Rattle.std.specs.Prelude.{if◌then◌else◌, List, map, Option, Some, None, Result, Ok, Err}
 use Rattle.xa_value.specs.declared.data_type.DataType.TheVariants as type
 use Rattle.xa_value.specs.Gives.{◌>>=◌}
@@ -26,7 +26,8 @@ checked_condition variables None = Ok None
 checked_condition variables (Some e) = checked variables e >>= boolean_alone >>= (λ t. Ok (Some t))
 
 -- an assignment
-abbrev pub checked_assignment : List Definition → AttributeAssignmentExpression Expr → Result (AttributeAssignmentExpression Typed) CheckError
+abbrev pub checked_assignment : List Definition → AttributeAssignmentExpression Expr
+    → Result (AttributeAssignmentExpression Typed) CheckError
 checked_assignment variables a =
     checked variables a.expression >>= (λ t.
     Ok (record { attribute_id = a.attribute_id; category = a.category; issuer = a.issuer; expression = t }))

@@ -1,13 +1,17 @@
 -- Combining algorithms (XACML 3.0, core, appendix C), each over all children.
-use Rattle.std.specs.Prelude.{Bool, true, false, not, ◌&&◌, ◌||◌, if◌then◌else◌, List, [], ◌∷◌, map, filter, find, unwrap_or}
+use Rattle.std.specs.Prelude.{Bool, true, false, not, ◌&&◌, ◌||◌, if◌then◌else◌}
+use Rattle.std.specs.Prelude.{List, [], ◌∷◌, map, filter, find, unwrap_or}
 use Rattle.std.specs.List.{list_any}
 use Rattle.xa_expr.specs.Target.{is_match}
 use Rattle.xa_expr.specs.Target as target
 use Rattle.xa_policy.specs.declared.combining.Alg.{Alg}
-use Rattle.xa_policy.specs.declared.combining.Alg.TheVariants.{DenyOverrides, PermitOverrides, OrderedDenyOverrides, OrderedPermitOverrides, DenyUnlessPermit, PermitUnlessDeny, FirstApplicable, OnlyOneApplicable}
+use Rattle.xa_policy.specs.declared.combining.Alg.TheVariants.{DenyOverrides, PermitOverrides, OrderedDenyOverrides}
+use Rattle.xa_policy.specs.declared.combining.Alg.TheVariants.{OrderedPermitOverrides, DenyUnlessPermit}
+use Rattle.xa_policy.specs.declared.combining.Alg.TheVariants.{PermitUnlessDeny, FirstApplicable, OnlyOneApplicable}
 use Rattle.xa_policy.specs.declared.combining.Child.{Child}
 use Rattle.xa_policy.specs.declared.decision.Decision.{Decision}
-use Rattle.xa_policy.specs.declared.decision.Decision.TheVariants.{Permit, Deny, NotApplicable, IndeterminatePermit, IndeterminateDeny, IndeterminateDenyPermit}
+use Rattle.xa_policy.specs.declared.decision.Decision.TheVariants.{Permit, Deny, NotApplicable, IndeterminatePermit}
+use Rattle.xa_policy.specs.declared.decision.Decision.TheVariants.{IndeterminateDeny, IndeterminateDenyPermit}
 
 -- whether two decisions are the same
 abbrev pub is : Decision → Decision → Bool
@@ -66,7 +70,8 @@ deny_unless_permit decisions = if list_any (is Permit) decisions then Permit els
 unfoldable pub permit_unless_deny : List Decision → Decision
 permit_unless_deny decisions = if list_any (is Deny) decisions then Deny else Permit
 
--- first-applicable (C.8): the first decision but NotApplicable. It doesn't track extended Indeterminates, so its own is {DP} (C.1).
+-- first-applicable (C.8): the first decision but NotApplicable. It doesn't track extended Indeterminates, so its own
+-- is {DP} (C.1).
 unfoldable pub first_applicable : List Decision → Decision
 first_applicable decisions =
     let first = unwrap_or (find (λ d. not (is NotApplicable d)) decisions) NotApplicable in
@@ -79,14 +84,15 @@ applies child = is_match child.target
 abbrev pub may_apply : Child → Bool
 may_apply child = target.is_indeterminate child.target
 
--- of the decisions of the applicable children: the only one (C.9), and {DP} where there are more (C.1). That the only one stays {P} or {D}
--- where it is that, which C.1 by itself would make {DP}, is this project's choice.
+-- of the decisions of the applicable children: the only one (C.9), and {DP} where there are more (C.1). That the only
+-- one stays {P} or {D} where it is that, which C.1 by itself would make {DP}, is this project's choice.
 abbrev pub the_only_one : List Decision → Decision
 the_only_one [] = NotApplicable
 the_only_one (decision ∷ []) = decision
 the_only_one _ = IndeterminateDenyPermit
 
--- only-one-applicable (C.9), by the targets. It doesn't track extended Indeterminates, so an Indeterminate target gives {DP} (C.1).
+-- only-one-applicable (C.9), by the targets. It doesn't track extended Indeterminates, so an Indeterminate target
+-- gives {DP} (C.1).
 unfoldable pub only_one_applicable : List Child → Decision
 only_one_applicable children =
     if list_any may_apply children then IndeterminateDenyPermit

@@ -1,5 +1,5 @@
--- The designators that stand in a tree of policies and policy sets: nothing else is asked of the context (XACML 3.0, core, sections 5.29
--- and 7.3).
+-- The designators that stand in a tree of policies and policy sets: nothing else is asked of the context (XACML 3.0,
+-- core, sections 5.29 and 7.3).
 use Rattle.std.specs.Prelude.{◌≡◌, List, [], ◌++◌, Option, Some, None}
 use Rattle.std.specs.List.{flat_map}
 use Rattle.xa_expr.specs.declared.designator.Designator.{Designator}
@@ -34,13 +34,14 @@ designators_of_condition (Some e) = designators e
 
 -- those of a rule
 abbrev pub designators_of_rule : Rule Typed → List Designator
-designators_of_rule rule = designators_of_target rule.target ++ (designators_of_condition rule.condition ++ designators_of_duties rule.duties)
+designators_of_rule rule =
+    designators_of_target rule.target ++ (designators_of_condition rule.condition ++ designators_of_duties rule.duties)
 
 -- those of a policy
 abbrev pub designators_of_policy : PolicyParts → List Designator
 designators_of_policy policy =
-    designators_of_target policy.target
-    ++ (designators_of_definitions policy.variables ++ (flat_map designators_of_rule policy.rules ++ designators_of_duties policy.duties))
+    designators_of_target policy.target ++ (designators_of_definitions policy.variables
+    ++ (flat_map designators_of_rule policy.rules ++ designators_of_duties policy.duties))
 
 -- those of a policy set, without its children's
 abbrev pub designators_of_set : SetParts → List Designator
@@ -57,7 +58,8 @@ designators_of_linked = fold-Linked (List Designator) designators_step
 
 -- law: what a tree decides rests on the designators that stand in it alone
 abbrev pub DecisionsRestOnDesignators : Type 0
-DecisionsRestOnDesignators = (tree : Linked) → RestsOn (designators_of_linked tree) (λ values_of. evaluation values_of tree)
+DecisionsRestOnDesignators =
+    (tree : Linked) → RestsOn (designators_of_linked tree) (λ values_of. evaluation values_of tree)
 
 -- the tree decides the same of any two sources that differ in the clock's attributes alone, and so at every two moments
 abbrev pub IsSteady : Linked → Type 0

@@ -28,7 +28,8 @@ no_duties = record { obligations = []; advice = [] }
 
 -- those of one, and then those of another
 abbrev pub and_then : Found → Found → Found
-and_then first second = record { obligations = first.obligations ++ second.obligations; advice = first.advice ++ second.advice }
+and_then first second =
+    record { obligations = first.obligations ++ second.obligations; advice = first.advice ++ second.advice }
 
 -- the effect of a decision, where it is a Permit or a Deny
 abbrev pub effect_of : Decision → Option Effect
@@ -51,8 +52,10 @@ abbrev pub assigned : (Typed → Outcome) → AttributeAssignmentExpression Type
 assigned value_of a = value_of a.expression >>= (λ given. Ok (map (with_value a) (values_of given)))
 
 -- all of them, or the first fault
-abbrev pub all_assigned : (Typed → Outcome) → List (AttributeAssignmentExpression Typed) → Result (List AttributeAssignment) Fault
-all_assigned value_of expressions = collected (map (assigned value_of) expressions) >>= (λ found. Ok (flat_map (λ each. each) found))
+abbrev pub all_assigned : (Typed → Outcome) → List (AttributeAssignmentExpression Typed)
+    → Result (List AttributeAssignment) Fault
+all_assigned value_of expressions =
+    collected (map (assigned value_of) expressions) >>= (λ found. Ok (flat_map (λ each. each) found))
 
 -- an obligation, or a piece of advice, with its assignments
 abbrev pub duty : (Typed → Outcome) → DutyExpression Typed → Result Duty Fault

@@ -11,10 +11,13 @@ use Rattle.xa_expr.specs.Evaluation.{Attributes, value_of}
 use Rattle.xa_expr.specs.Fault as expr
 use Rattle.xa_expr.specs.Target.{is_indeterminate, is_match, target_value}
 use Rattle.xa_policy.specs.declared.combining.Alg.{Alg}
-use Rattle.xa_policy.specs.declared.combining.Alg.TheVariants.{DenyOverrides, PermitOverrides, OrderedDenyOverrides, OrderedPermitOverrides, DenyUnlessPermit, PermitUnlessDeny, FirstApplicable, OnlyOneApplicable}
+use Rattle.xa_policy.specs.declared.combining.Alg.TheVariants.{DenyOverrides, PermitOverrides, OrderedDenyOverrides}
+use Rattle.xa_policy.specs.declared.combining.Alg.TheVariants.{OrderedPermitOverrides, DenyUnlessPermit}
+use Rattle.xa_policy.specs.declared.combining.Alg.TheVariants.{PermitUnlessDeny, FirstApplicable, OnlyOneApplicable}
 use Rattle.xa_policy.specs.declared.combining.Child.{Child}
 use Rattle.xa_policy.specs.declared.decision.Decision.{Decision}
-use Rattle.xa_policy.specs.declared.decision.Decision.TheVariants.{Permit, Deny, NotApplicable, IndeterminatePermit, IndeterminateDeny}
+use Rattle.xa_policy.specs.declared.decision.Decision.TheVariants.{Permit, Deny, NotApplicable}
+use Rattle.xa_policy.specs.declared.decision.Decision.TheVariants.{IndeterminatePermit, IndeterminateDeny}
 use Rattle.xa_policy.specs.declared.document_key.DocumentKey.{DocumentKey}
 use Rattle.xa_policy.specs.declared.evaluated.Evaluated.{Evaluated}
 use Rattle.xa_policy.specs.declared.linked.Linked.{Linked, fold-Linked}
@@ -36,8 +39,8 @@ abbrev pub up_to : {X : Type 0} → (X → Bool) → List X → List X
 up_to is_so [] = []
 up_to is_so (x ∷ xs) = x ∷ (if is_so x then [] else up_to is_so xs)
 
--- under an algorithm that goes by decisions: no child after one that decides this is evaluated. Which children count as evaluated is this
--- project's choice, for the unordered forms too
+-- under an algorithm that goes by decisions: no child after one that decides this is evaluated. Which children count
+-- as evaluated is this project's choice, for the unordered forms too
 abbrev pub ends : Alg → Decision → Bool
 ends DenyOverrides d = is Deny d
 ends OrderedDenyOverrides d = is Deny d
@@ -53,10 +56,12 @@ abbrev pub only : {X : Type 0} → List X → List X
 only (x ∷ []) = x ∷ []
 only _ = []
 
--- those that are evaluated, each seen as a child: under only-one-applicable the chosen one alone, and else all up to the one that ends it
+-- those that are evaluated, each seen as a child: under only-one-applicable the chosen one alone, and else all up to
+-- the one that ends it
 abbrev pub evaluated_among : {X : Type 0} → (X → EvaluatedChild) → Alg → List X → List X
 evaluated_among child OnlyOneApplicable xs =
-    if list_any (λ x. is_indeterminate (child x).target) xs then [] else only (filter (λ x. is_match (child x).target) xs)
+    if list_any (λ x. is_indeterminate (child x).target) xs then []
+    else only (filter (λ x. is_match (child x).target) xs)
 evaluated_among child algorithm xs = up_to (λ x. ends algorithm (child x).value.decision) xs
 
 -- the obligations and the advice of all of them, in their order
@@ -67,7 +72,9 @@ duties_of_all (child ∷ children) = and_then child.value.duties (duties_of_all 
 -- those that come with a decision: of a Permit or a Deny those of the evaluated children that decide the same
 abbrev pub children_duties : Alg → Decision → List EvaluatedChild → Found
 children_duties algorithm d children =
-    if is_some (effect_of d) then duties_of_all (filter (λ c. is d c.value.decision) (evaluated_among (λ c. c) algorithm children)) else no_duties
+    if is_some (effect_of d)
+    then duties_of_all (filter (λ c. is d c.value.decision) (evaluated_among (λ c. c) algorithm children))
+    else no_duties
 
 -- the status of a decision under an algorithm
 abbrev pub combined_status : Alg → Decision → List EvaluatedChild → Status
@@ -76,7 +83,12 @@ combined_status algorithm d children = status_of d (map fault_of children)
 
 -- the decision that the algorithm makes of the children's, with its status, and their obligations and advice
 abbrev pub with_decision : Alg → List EvaluatedChild → Decision → Verdict
-with_decision algorithm children d = record { decision = d; status = combined_status algorithm d children; duties = children_duties algorithm d children }
+with_decision algorithm children d =
+    record {
+      decision = d;
+      status = combined_status algorithm d children;
+      duties = children_duties algorithm d children;
+    }
 
 unfoldable pub combination : Alg → List EvaluatedChild → Verdict
 combination algorithm children = with_decision algorithm children (combined_decision algorithm (map child_of children))
@@ -96,24 +108,30 @@ by_target (Indeterminate fault) e = under_indeterminate (expr.status_of fault) e
 
 -- a rule as a child
 abbrev pub rule_child : Attributes → List Definition → Rule Typed → EvaluatedChild
-rule_child values_of variables rule = record { value = rule_value values_of variables rule; target = target_value values_of rule.target }
+rule_child values_of variables rule =
+    record { value = rule_value values_of variables rule; target = target_value values_of rule.target }
 
 -- what a policy decides (7.12)
 abbrev pub policy_value : Attributes → PolicyParts → Verdict
 policy_value values_of policy =
     with_own (value_of values_of policy.variables) policy.duties
-    (by_target (target_value values_of policy.target) (combination policy.algorithm (map (rule_child values_of policy.variables) policy.rules)))
+    (by_target (target_value values_of policy.target)
+    (combination policy.algorithm (map (rule_child values_of policy.variables) policy.rules)))
 
 -- what a policy set decides (7.13); it has no variables
 abbrev pub set_value : Attributes → SetParts → List EvaluatedChild → Verdict
 set_value values_of set children =
-    with_own (value_of values_of []) set.duties (by_target (target_value values_of set.target) (combination set.algorithm children))
+    with_own (value_of values_of []) set.duties
+    (by_target (target_value values_of set.target) (combination set.algorithm children))
 
 -- each element of a tree, by its children; a reference that leads to nothing, or back, is this project's {DP} (7.15)
 abbrev pub linked_step : Attributes → Linked-F EvaluatedChild → EvaluatedChild
-linked_step values_of Linked-F.Unresolved = record { value = undecided ProcessingError; target = Indeterminate ProcessingError }
-linked_step values_of (Linked-F.Policy policy) = record { value = policy_value values_of policy; target = target_value values_of policy.target }
-linked_step values_of (Linked-F.PolicySet set children) = record { value = set_value values_of set children; target = target_value values_of set.target }
+linked_step values_of Linked-F.Unresolved =
+    record { value = undecided ProcessingError; target = Indeterminate ProcessingError }
+linked_step values_of (Linked-F.Policy policy) =
+    record { value = policy_value values_of policy; target = target_value values_of policy.target }
+linked_step values_of (Linked-F.PolicySet set children) =
+    record { value = set_value values_of set children; target = target_value values_of set.target }
 
 abbrev pub evaluated : Attributes → Linked → EvaluatedChild
 evaluated values_of = fold-Linked EvaluatedChild (linked_step values_of)
@@ -143,9 +161,11 @@ element_of child key inside = record { child = child; ids = named_by child.value
 -- each element of a tree, by those in it; a reference that leads to nothing, or back, names none
 abbrev pub element_step : Attributes → Linked-F Element → Element
 element_step values_of Linked-F.Unresolved = record { child = linked_step values_of Linked-F.Unresolved; ids = [] }
-element_step values_of (Linked-F.Policy policy) = element_of (linked_step values_of (Linked-F.Policy policy)) policy.key []
+element_step values_of (Linked-F.Policy policy) =
+    element_of (linked_step values_of (Linked-F.Policy policy)) policy.key []
 element_step values_of (Linked-F.PolicySet set elements) =
-    element_of (linked_step values_of (Linked-F.PolicySet set (map (λ e. e.child) elements))) set.key (named_by_elements set.algorithm elements)
+    element_of (linked_step values_of (Linked-F.PolicySet set (map (λ e. e.child) elements))) set.key
+    (named_by_elements set.algorithm elements)
 
 abbrev pub element : Attributes → Linked → Element
 element values_of = fold-Linked Element (element_step values_of)

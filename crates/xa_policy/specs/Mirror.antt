@@ -3,7 +3,8 @@ use Rattle.std.specs.Prelude.{◌≡◌, List, map}
 use Rattle.xa_policy.specs.declared.combining.Alg.{Alg}
 use Rattle.xa_policy.specs.declared.combining.Child.{Child}
 use Rattle.xa_policy.specs.declared.decision.Decision.{Decision}
-use Rattle.xa_policy.specs.declared.decision.Decision.TheVariants.{Permit, Deny, NotApplicable, IndeterminatePermit, IndeterminateDeny, IndeterminateDenyPermit}
+use Rattle.xa_policy.specs.declared.decision.Decision.TheVariants.{Permit, Deny, NotApplicable, IndeterminatePermit}
+use Rattle.xa_policy.specs.declared.decision.Decision.TheVariants.{IndeterminateDeny, IndeterminateDenyPermit}
 use Rattle.xa_policy.specs.Combining.{combined_decision}
 
 -- the decision with Permit and Deny exchanged
@@ -21,4 +22,5 @@ mirrored_child child = record { decision = mirrored child.decision; target = chi
 
 -- an algorithm is another with Permit and Deny exchanged, in the children and in what it makes of them
 abbrev pub Mirrors : Alg → Alg → List Child → Type 0
-Mirrors algorithm other children = combined_decision algorithm children ≡ mirrored (combined_decision other (map mirrored_child children))
+Mirrors algorithm other children =
+    combined_decision algorithm children ≡ mirrored (combined_decision other (map mirrored_child children))

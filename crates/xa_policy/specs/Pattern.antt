@@ -1,5 +1,6 @@
 -- Patterns of versions (XACML 3.0, core, section 5.13).
-use Rattle.std.specs.Prelude.{ℕ, ◌≤◌, Bool, true, false, not, ◌&&◌, ◌||◌, if◌then◌else◌, List, [], ◌∷◌, codes, bytes_eq, nat_lt, IsTrue, length, map, decimal, Result, Ok, Err}
+use Rattle.std.specs.Prelude.{ℕ, ◌≤◌, Bool, true, false, not, ◌&&◌, ◌||◌, if◌then◌else◌, List, [], ◌∷◌}
+use Rattle.std.specs.Prelude.{codes, bytes_eq, nat_lt, IsTrue, length, map, decimal, Result, Ok, Err}
 use Rattle.std.specs.List.{join_with_byte}
 use Rattle.std.specs.Str.Parse.{digits_value}
 use Rattle.xa_value.specs.Digits.{is_number}

@@ -52,8 +52,8 @@ outcome effect Match condition = by_condition effect condition
 outcome effect NoMatch condition = not_applicable
 outcome effect (Indeterminate fault) condition = left_open effect fault
 
--- a Permit or a Deny with duties behind those that it has, or left open by the first fault in them (7.18; the fault's part is this
--- project's choice)
+-- a Permit or a Deny with duties behind those that it has, or left open by the first fault in them (7.18; the fault's
+-- part is this project's choice)
 abbrev pub with_found : Effect → Verdict → Result Found Fault → Verdict
 with_found effect e (Ok found) = record { decision = e.decision; status = e.status; duties = and_then e.duties found }
 with_found effect e (Err fault) = left_open effect fault
@@ -70,4 +70,5 @@ with_own value_of own e = with_own_of value_of own e (effect_of e.decision)
 abbrev pub rule_value : Attributes → List Definition → Rule Typed → Verdict
 rule_value values_of variables rule =
     let value = value_of values_of variables in
-    with_own value rule.duties (outcome rule.effect (target_value values_of rule.target) (condition_value value rule.condition))
+    with_own value rule.duties
+    (outcome rule.effect (target_value values_of rule.target) (condition_value value rule.condition))

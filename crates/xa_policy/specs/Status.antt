@@ -1,4 +1,5 @@
--- The status of a decision (XACML 3.0, core, sections 5.54 and 5.55). Which of several faults is shown is this project's choice: the first.
+-- The status of a decision (XACML 3.0, core, sections 5.54 and 5.55). Which of several faults is shown is this
+-- project's choice: the first.
 use Rattle.std.specs.Prelude.{if◌then◌else◌, not, List, [], ◌∷◌, map, filter, Option, Some, None, unwrap_or}
 use Rattle.xa_expr.specs.declared.matching.Matching.{Matching}
 use Rattle.xa_expr.specs.declared.matching.Matching.TheVariants.{Match, Indeterminate}

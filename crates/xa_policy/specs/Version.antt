@@ -1,5 +1,6 @@
 -- Versions of policies and policy sets (XACML 3.0, core, section 5.12).
-use Rattle.std.specs.Prelude.{ℕ, ◌<◌, ◌≤◌, Bool, not, ◌&&◌, ◌==◌, nat_le, nat_lt, IsTrue, if◌then◌else◌, List, length, map, decimal, Result, Ok, Err}
+use Rattle.std.specs.Prelude.{ℕ, ◌<◌, ◌≤◌, Bool, not, ◌&&◌, ◌==◌, nat_le, nat_lt, IsTrue}
+use Rattle.std.specs.Prelude.{if◌then◌else◌, List, length, map, decimal, Result, Ok, Err}
 use Rattle.std.specs.Cmp.Lexicographic.{slice_cmp}
 use Rattle.std.specs.List.{list_all, slice_split, join_with_byte}
 use Rattle.std.specs.Ordering.{nat_cmp, is_lt}
@@ -34,8 +35,8 @@ pub record IsVersion (numbers : List ℕ) : Type 0 where
   pub few : length numbers ≤ 8
   pub small : IsTrue (list_all (λ n. nat_lt n 1_000_000_000) numbers)
 
--- versions compare as lists of numbers, a proper prefix being less: a version is a sequence of numbers (5.12), and of those that a
--- reference matches (5.13) the most recent is meant (5.10 and 5.11)
+-- versions compare as lists of numbers, a proper prefix being less: a version is a sequence of numbers (5.12), and of
+-- those that a reference matches (5.13) the most recent is meant (5.10 and 5.11)
 abbrev pub compare_versions : List ℕ → List ℕ → Ordering
 compare_versions = slice_cmp nat_cmp
 

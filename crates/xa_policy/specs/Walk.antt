@@ -1,4 +1,5 @@
--- What the children so far come to, as they are evaluated one after another (cited by contracts of private functions alone).
+-- What the children so far come to, as they are evaluated one after another (cited by contracts of private functions
+-- alone).
 use Rattle.std.specs.Prelude.{ℕ, Bool, if◌then◌else◌, List, [], ◌∷◌, ◌++◌, take, Option, Some, None, is_some, unwrap_or}
 use Rattle.std.specs.List.{flat_map}
 use Rattle.std.specs.Option.{option_or}
@@ -6,7 +7,9 @@ use Rattle.xa_func.specs.declared.status.Status.{Status}
 use Rattle.xa_func.specs.declared.status.Status.TheVariants as status
 use Rattle.xa_policy.specs.declared.combination.Combination.{Combination}
 use Rattle.xa_policy.specs.declared.combining.Alg.{Alg}
-use Rattle.xa_policy.specs.declared.combining.Alg.TheVariants.{DenyOverrides, PermitOverrides, OrderedDenyOverrides, OrderedPermitOverrides, DenyUnlessPermit, PermitUnlessDeny, FirstApplicable, OnlyOneApplicable}
+use Rattle.xa_policy.specs.declared.combining.Alg.TheVariants.{DenyOverrides, PermitOverrides, OrderedDenyOverrides}
+use Rattle.xa_policy.specs.declared.combining.Alg.TheVariants.{OrderedPermitOverrides, DenyUnlessPermit}
+use Rattle.xa_policy.specs.declared.combining.Alg.TheVariants.{PermitUnlessDeny, FirstApplicable, OnlyOneApplicable}
 use Rattle.xa_policy.specs.declared.decision.Decision.{Decision}
 use Rattle.xa_policy.specs.declared.decision.Decision.TheVariants.{Permit, Deny, NotApplicable}
 use Rattle.xa_policy.specs.declared.document_key.DocumentKey.{DocumentKey}
@@ -28,7 +31,8 @@ decision_of_none PermitUnlessDeny = Permit
 decision_of_none _ = NotApplicable
 
 abbrev pub of_none : Alg → Combination
-of_none algorithm = record { algorithm = algorithm; decision = decision_of_none algorithm; fault = None; duties = no_duties }
+of_none algorithm =
+    record { algorithm = algorithm; decision = decision_of_none algorithm; fault = None; duties = no_duties }
 
 -- the status of what was decided, where it is Indeterminate
 abbrev pub fault_in : Verdict → Option Status
@@ -60,7 +64,8 @@ ending_decision _ d = d
 abbrev pub walked_decision : Alg → Decision → List Decision → Decision
 walked_decision algorithm so_far [] = so_far
 walked_decision algorithm so_far (d ∷ ds) =
-    if ends algorithm d then ending_decision algorithm d else walked_decision algorithm (joined_decision algorithm so_far d) ds
+    if ends algorithm d then ending_decision algorithm d
+    else walked_decision algorithm (joined_decision algorithm so_far d) ds
 
 -- the children with the one that ends it
 abbrev pub ended : Combination → Verdict → Combination

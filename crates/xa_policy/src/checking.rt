@@ -5,7 +5,8 @@ ghost use Rattle.xa_value.specs.Gives.{Gives};
 ghost use Rattle.xa_bag.specs.HigherOrder.{collected};
 ghost use Rattle.xa_expr.specs.Typed.{IsTyped};
 ghost use Rattle.xa_expr.specs.Variables.{kinds};
-ghost use Rattle.xa_policy.specs.Checking.{checked_assignment, checked_condition, checked_duties, checked_duty, checked_rule};
+ghost use Rattle.xa_policy.specs.Checking.{checked_assignment, checked_condition};
+ghost use Rattle.xa_policy.specs.Checking.{checked_duties, checked_duty, checked_rule};
 ghost use Rattle.xa_policy.specs.Policy.{AreAssignments, AreDuties, AreTypedDuties, IsCondition, IsTypedRule};
 
 use crate::duty::{AttributeAssignmentExpression, DutyExpression, DutyExpressions};

@@ -2,7 +2,8 @@
 ghost use Rattle.std.specs.Prelude.{◌≡◌, is_some, IfOk, OnOk, OnErr};
 ghost use Rattle.xa_policy.specs.Duties.{and_then, effect_of, no_duties};
 ghost use Rattle.xa_policy.specs.Evaluation.{ends};
-ghost use Rattle.xa_policy.specs.Walk.{of_none, decision_of_none, joined_decision, ending_decision, fault_in, with_next, decided};
+ghost use Rattle.xa_policy.specs.Walk.{of_none, decision_of_none, joined_decision};
+ghost use Rattle.xa_policy.specs.Walk.{ending_decision, fault_in, with_next, decided};
 
 use crate::combining::{Alg, first_applicable_of_one, overrides_of_two};
 use crate::decision::{Decision, Effect};

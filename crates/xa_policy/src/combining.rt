@@ -1,7 +1,9 @@
 //! Combining algorithms.
 ghost use Rattle.std.specs.Prelude.{◌≡◌, [], ◌∷◌, map};
 ghost use Rattle.xa_expr.specs.declared.matching.Matching.TheVariants as target;
-ghost use Rattle.xa_policy.specs.Combining.{applies, combined_decision, decision_of, deny_overrides, first_applicable, may_apply, only_one_applicable, permit_overrides};
+ghost use Rattle.xa_policy.specs.Combining.{applies, combined_decision, decision_of};
+ghost use Rattle.xa_policy.specs.Combining.{deny_overrides, first_applicable, may_apply};
+ghost use Rattle.xa_policy.specs.Combining.{only_one_applicable, permit_overrides};
 ghost use Rattle.xa_policy.specs.Overriding.{overrides};
 ghost use Rattle.xa_policy.specs.Walk.{decision_of_none, walked_decision};
 
@@ -162,7 +164,8 @@ fn only_one_applicable(children: &[Child]) -> Decision
 /// match settles it.
 #[tactic(auto, using(crate::proofs::OnlyOneLemmas::only_one_steps))]
 fn unless_another_applies(decision: Decision, others: &[Child]) -> Decision
-    ensures { result ≡ only_one_applicable (record { decision = decision; target = target.Match } ∷ others.now) }
+    ensures { result
+        ≡ only_one_applicable (record { decision = decision; target = target.Match } ∷ others.now) }
 {
     for other in others {
         if other.applies() || other.may_apply() {

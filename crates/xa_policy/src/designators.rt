@@ -1,7 +1,11 @@
 //! The designators that stand in a tree: no others are asked for, and whether one of them names the clock.
 ghost use Rattle.std.specs.Prelude.{◌≡◌, IsTrue, map, flat_map};
 ghost use Rattle.xa_expr.specs.Timeless.{is_timeless};
-ghost use Rattle.xa_policy.specs.Designators.{DecisionsRestOnDesignators, IsSteady, designators_of_assignment, designators_of_condition, designators_of_duties, designators_of_duty, designators_of_linked, designators_of_policy, designators_of_rule, designators_of_set};
+ghost use Rattle.xa_policy.specs.Designators.{DecisionsRestOnDesignators, IsSteady};
+ghost use Rattle.xa_policy.specs.Designators.{designators_of_assignment, designators_of_condition};
+ghost use Rattle.xa_policy.specs.Designators.{designators_of_duties, designators_of_duty};
+ghost use Rattle.xa_policy.specs.Designators.{designators_of_linked, designators_of_policy};
+ghost use Rattle.xa_policy.specs.Designators.{designators_of_rule, designators_of_set};
 
 use crate::duty::{AttributeAssignmentExpression, DutyExpression, DutyExpressions};
 use crate::linked::Linked;

@@ -47,7 +47,8 @@ impl PartialOrd for DocumentKey {
 
     ghost partial_cmp = { as_partial_cmp compare_keys };
 
-    ghost laws = { partial_order_from_own_ties (Prim.search (comparing, rules) depth 9) (Prim.search (comparing, rules) depth 9) };
+    ghost laws = { partial_order_from_own_ties
+        (Prim.search (comparing, rules) depth 9) (Prim.search (comparing, rules) depth 9) };
 
     fn partial_cmp(&self, other: &DocumentKey) -> Option<Ordering> {
         Some(self.cmp(other))

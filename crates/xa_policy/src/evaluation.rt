@@ -5,7 +5,8 @@ ghost use Rattle.xa_expr.specs.Evaluation.{value_of};
 ghost use Rattle.xa_expr.specs.Target.{target_value};
 ghost use Rattle.xa_expr.specs.Variables.{kinds};
 ghost use Rattle.xa_policy.specs.declared.combining.Alg.TheVariants.{OnlyOneApplicable};
-ghost use Rattle.xa_policy.specs.Evaluation.{as_asked, combination, element, evaluated, evaluation, named_by, named_by_elements, policy_value, rule_child, set_value, verdict};
+ghost use Rattle.xa_policy.specs.Evaluation.{as_asked, combination, element, evaluated, evaluation, named_by};
+ghost use Rattle.xa_policy.specs.Evaluation.{named_by_elements, policy_value, rule_child, set_value, verdict};
 ghost use Rattle.xa_policy.specs.Policy.{AreTypedRules, IsTypedRule};
 ghost use Rattle.xa_policy.specs.Walk.{named_up_to, of_none, walked, with_named};
 
@@ -74,7 +75,8 @@ fn evaluate_linked<C: Context>(
 ) -> Result<Verdict, AllocError>
     requires { target ≡ (evaluated (C.values_of context.now) linked.now).target }
     ensures value { IfOk result (λ e. e ≡ verdict (C.values_of context.now) linked.now) }
-    ensures named { OnOk result (ids.new ≡ with_named ids.old (element (C.values_of context.now) linked.now).ids) }
+    ensures named { OnOk result
+        (ids.new ≡ with_named ids.old (element (C.values_of context.now) linked.now).ids) }
 {
     match linked {
         Linked::Unresolved => Ok(Verdict::undecided(alloc, Fault::ProcessingError)),
@@ -102,7 +104,8 @@ fn evaluate_policy<C: Context>(
 ) -> Result<Verdict, AllocError>
     requires { target ≡ target_value (C.values_of context.now) policy.now.target }
     ensures value { IfOk result (λ e. e ≡ policy_value (C.values_of context.now) policy.now) }
-    ensures named { OnOk result (ids.new ≡ with_named ids.old (named_by (policy_value (C.values_of context.now) policy.now).decision policy.now.key [])) }
+    ensures named { OnOk result (ids.new ≡ with_named ids.old
+        (named_by (policy_value (C.values_of context.now) policy.now).decision policy.now.key [])) }
 {
     if target == Matching::NoMatch {
         return Ok(Verdict::not_applicable(alloc));
@@ -139,7 +142,8 @@ fn combine_rules<'a, C: Context>(
 ) -> Result<Verdict, AllocError>
     requires same { evaluator.old.0 ≡ context.now }
     requires typed { AreTypedRules (kinds evaluator.old.1) rules.now }
-    ensures value { IfOk result (λ e. e ≡ combination algorithm (map (rule_child (C.values_of context.now) evaluator.old.1) rules.now)) }
+    ensures value { IfOk result (λ e.
+        e ≡ combination algorithm (map (rule_child (C.values_of context.now) evaluator.old.1) rules.now)) }
     ensures kept { evaluator.new ≡ evaluator.old }
 {
     match algorithm {
@@ -158,7 +162,8 @@ fn walk_rules<'a, C: Context>(
 ) -> Result<Verdict, AllocError>
     requires same { evaluator.old.0 ≡ context.now }
     requires typed { AreTypedRules (kinds evaluator.old.1) rules.now }
-    ensures value { IfOk result (λ e. e ≡ walked (of_none algorithm) (map (rule_child (C.values_of context.now) evaluator.old.1) rules.now)) }
+    ensures value { IfOk result (λ e. e
+        ≡ walked (of_none algorithm) (map (rule_child (C.values_of context.now) evaluator.old.1) rules.now)) }
     ensures kept { evaluator.new ≡ evaluator.old }
 {
     let mut so_far = Combination::new(alloc, algorithm);
@@ -187,7 +192,8 @@ fn only_applicable_rule<'a, C: Context>(
 ) -> Result<Verdict, AllocError>
     requires same { evaluator.old.0 ≡ context.now }
     requires typed { AreTypedRules (kinds evaluator.old.1) rules.now }
-    ensures value { IfOk result (λ e. e ≡ combination OnlyOneApplicable (map (rule_child (C.values_of context.now) evaluator.old.1) rules.now)) }
+    ensures value { IfOk result (λ e. e ≡ combination OnlyOneApplicable
+        (map (rule_child (C.values_of context.now) evaluator.old.1) rules.now)) }
     ensures kept { evaluator.new ≡ evaluator.old }
 {
     for (place, rule) in rules.iter().enumerate() {
@@ -216,7 +222,8 @@ fn rule_unless_another<'a, C: Context>(
     requires same { evaluator.old.0 ≡ context.now }
     requires typed { IsTypedRule (kinds evaluator.old.1) rule.now }
     requires applies { target_value (C.values_of context.now) rule.now.target ≡ matching.Match }
-    ensures value { IfOk result (λ e. e ≡ combination OnlyOneApplicable (map (rule_child (C.values_of context.now) evaluator.old.1) (rule.now ∷ others.now))) }
+    ensures value { IfOk result (λ e. e ≡ combination OnlyOneApplicable
+        (map (rule_child (C.values_of context.now) evaluator.old.1) (rule.now ∷ others.now))) }
     ensures kept { evaluator.new ≡ evaluator.old }
 {
     for other in others {
@@ -244,8 +251,12 @@ fn evaluate_set<C: Context>(
     ids: &mut Identifiers,
 ) -> Result<Verdict, AllocError>
     requires { target ≡ target_value (C.values_of context.now) set.now.target }
-    ensures value { IfOk result (λ e. e ≡ set_value (C.values_of context.now) set.now (map (evaluated (C.values_of context.now)) children.now)) }
-    ensures named { OnOk result (ids.new ≡ with_named ids.old (named_by (set_value (C.values_of context.now) set.now (map (evaluated (C.values_of context.now)) children.now)).decision set.now.key (named_by_elements set.now.algorithm (map (element (C.values_of context.now)) children.now)))) }
+    ensures value { IfOk result (λ e. e ≡ set_value (C.values_of context.now) set.now
+        (map (evaluated (C.values_of context.now)) children.now)) }
+    ensures named { OnOk result (ids.new ≡ with_named ids.old
+        (named_by (set_value (C.values_of context.now) set.now
+        (map (evaluated (C.values_of context.now)) children.now)).decision set.now.key
+        (named_by_elements set.now.algorithm (map (element (C.values_of context.now)) children.now)))) }
 {
     if target == Matching::NoMatch {
         return Ok(Verdict::not_applicable(alloc));
@@ -271,8 +282,10 @@ fn combine_children<C: Context>(
     children: &[Linked],
     ids: &mut Identifiers,
 ) -> Result<Verdict, AllocError>
-    ensures value { IfOk result (λ e. e ≡ combination algorithm (map (evaluated (C.values_of context.now)) children.now)) }
-    ensures named { OnOk result (ids.new ≡ with_named ids.old (named_by_elements algorithm (map (element (C.values_of context.now)) children.now))) }
+    ensures value { IfOk result (λ e.
+        e ≡ combination algorithm (map (evaluated (C.values_of context.now)) children.now)) }
+    ensures named { OnOk result (ids.new ≡ with_named ids.old
+        (named_by_elements algorithm (map (element (C.values_of context.now)) children.now))) }
 {
     match algorithm {
         Alg::OnlyOneApplicable => only_applicable_child(alloc, context, children, ids),
@@ -289,8 +302,10 @@ fn walk_children<C: Context>(
     children: &[Linked],
     ids: &mut Identifiers,
 ) -> Result<Verdict, AllocError>
-    ensures value { IfOk result (λ e. e ≡ walked (of_none algorithm) (map (evaluated (C.values_of context.now)) children.now)) }
-    ensures named { OnOk result (ids.new ≡ with_named ids.old (named_up_to algorithm (map (element (C.values_of context.now)) children.now))) }
+    ensures value { IfOk result (λ e.
+        e ≡ walked (of_none algorithm) (map (evaluated (C.values_of context.now)) children.now)) }
+    ensures named { OnOk result (ids.new
+        ≡ with_named ids.old (named_up_to algorithm (map (element (C.values_of context.now)) children.now))) }
 {
     let mut so_far = Combination::new(alloc, algorithm);
     for child in children {
@@ -317,8 +332,10 @@ fn only_applicable_child<C: Context>(
     children: &[Linked],
     ids: &mut Identifiers,
 ) -> Result<Verdict, AllocError>
-    ensures value { IfOk result (λ e. e ≡ combination OnlyOneApplicable (map (evaluated (C.values_of context.now)) children.now)) }
-    ensures named { OnOk result (ids.new ≡ with_named ids.old (named_by_elements OnlyOneApplicable (map (element (C.values_of context.now)) children.now))) }
+    ensures value { IfOk result (λ e.
+        e ≡ combination OnlyOneApplicable (map (evaluated (C.values_of context.now)) children.now)) }
+    ensures named { OnOk result (ids.new ≡ with_named ids.old
+        (named_by_elements OnlyOneApplicable (map (element (C.values_of context.now)) children.now))) }
 {
     for (place, child) in children.iter().enumerate() {
         match target_of(alloc, child, context)? {
@@ -345,8 +362,11 @@ fn child_unless_another<C: Context>(
     ids: &mut Identifiers,
 ) -> Result<Verdict, AllocError>
     requires { (evaluated (C.values_of context.now) child.now).target ≡ matching.Match }
-    ensures value { IfOk result (λ e. e ≡ combination OnlyOneApplicable (map (evaluated (C.values_of context.now)) (child.now ∷ others.now))) }
-    ensures named { OnOk result (ids.new ≡ with_named ids.old (named_by_elements OnlyOneApplicable (map (element (C.values_of context.now)) (child.now ∷ others.now)))) }
+    ensures value { IfOk result (λ e. e ≡ combination OnlyOneApplicable
+        (map (evaluated (C.values_of context.now)) (child.now ∷ others.now))) }
+    ensures named { OnOk result (ids.new ≡ with_named ids.old
+        (named_by_elements OnlyOneApplicable
+        (map (element (C.values_of context.now)) (child.now ∷ others.now)))) }
 {
     for other in others {
         match target_of(alloc, other, context)? {

@@ -82,7 +82,8 @@ fn put(
     given: ValueOrBag,
     assignments: &mut Items<AttributeAssignment>,
 ) -> Result<(), AllocError>
-    ensures { OnOk result (assignments.new ≡ assignments.old ++ map (with_value expression.now) (values_of given)) }
+    ensures { OnOk result
+        (assignments.new ≡ assignments.old ++ map (with_value expression.now) (values_of given)) }
 {
     match given {
         ValueOrBag::Value(value) => assignments.push(with_value(expression, value)?),
@@ -97,7 +98,8 @@ fn assignments<'a, C: Context>(
     expressions: &[AttributeAssignmentExpression<Typed>],
 ) -> Result<Items<AttributeAssignment>, OrMemory<Fault>>
     requires { AreAssignments (kinds evaluator.old.1) expressions.now }
-    ensures value { Gives result (all_assigned (value_of (C.values_of evaluator.old.0) evaluator.old.1) expressions.now) }
+    ensures value { Gives result
+        (all_assigned (value_of (C.values_of evaluator.old.0) evaluator.old.1) expressions.now) }
     ensures kept { evaluator.new ≡ evaluator.old }
 {
     let mut assignments = Items::new(alloc);
@@ -116,7 +118,8 @@ fn duty<'a, C: Context>(
     expression: &DutyExpression<Typed>,
 ) -> Result<Duty, OrMemory<Fault>>
     requires { AreAssignments (kinds evaluator.old.1) expression.now.assignments }
-    ensures value { Gives result (duty (value_of (C.values_of evaluator.old.0) evaluator.old.1) expression.now) }
+    ensures value { Gives result
+        (duty (value_of (C.values_of evaluator.old.0) evaluator.old.1) expression.now) }
     ensures kept { evaluator.new ≡ evaluator.old }
 {
     evaluator.spend(STEP.saturating_add(expression.id.as_bytes().len() as u64))?;
@@ -136,7 +139,8 @@ fn duties_with<'a, C: Context>(
     expressions: &[DutyExpression<Typed>],
 ) -> Result<Vec<Duty>, OrMemory<Fault>>
     requires { AreDuties (kinds evaluator.old.1) expressions.now }
-    ensures value { Gives (result_map_both (λ duties. duties.items) (λ e. e) result) (duties_with (value_of (C.values_of evaluator.old.0) evaluator.old.1) effect expressions.now) }
+    ensures value { Gives (result_map_both (λ duties. duties.items) (λ e. e) result)
+        (duties_with (value_of (C.values_of evaluator.old.0) evaluator.old.1) effect expressions.now) }
     ensures kept { evaluator.new ≡ evaluator.old }
 {
     evaluator.spend(LOOK.saturating_mul(expressions.len() as u64))?;
@@ -157,7 +161,8 @@ fn own_duties<'a, C: Context>(
     own: &DutyExpressions<Typed>,
 ) -> Result<Duties, OrMemory<Fault>>
     requires { AreTypedDuties (kinds evaluator.old.1) own.now }
-    ensures value { Gives result (own_duties (value_of (C.values_of evaluator.old.0) evaluator.old.1) effect own.now) }
+    ensures value { Gives result
+        (own_duties (value_of (C.values_of evaluator.old.0) evaluator.old.1) effect own.now) }
     ensures kept { evaluator.new ≡ evaluator.old }
 {
     let obligations = duties_with(alloc, evaluator, effect, own.obligations.as_slice())?;
@@ -175,7 +180,8 @@ fn with_own_of<'a, C: Context>(
     effect: Effect,
 ) -> Result<Verdict, AllocError>
     requires { AreTypedDuties (kinds evaluator.old.1) own.now }
-    ensures value { IfOk result (λ e. e ≡ with_found effect evaluated (own_duties (value_of (C.values_of evaluator.old.0) evaluator.old.1) effect own.now)) }
+    ensures value { IfOk result (λ e. e ≡ with_found effect evaluated
+        (own_duties (value_of (C.values_of evaluator.old.0) evaluator.old.1) effect own.now)) }
     ensures kept { evaluator.new ≡ evaluator.old }
 {
     evaluator.spend(evaluated.duties.units_of_moving())?;
@@ -197,7 +203,8 @@ pub(crate) fn with_own<'a, C: Context>(
     evaluated: Verdict,
 ) -> Result<Verdict, AllocError>
     requires { AreTypedDuties (kinds evaluator.old.1) own.now }
-    ensures value { IfOk result (λ e. e ≡ with_own (value_of (C.values_of evaluator.old.0) evaluator.old.1) own.now evaluated) }
+    ensures value { IfOk result (λ e.
+        e ≡ with_own (value_of (C.values_of evaluator.old.0) evaluator.old.1) own.now evaluated) }
     ensures kept { evaluator.new ≡ evaluator.old }
 {
     match evaluated.decision.effect() {

@@ -26,8 +26,10 @@ impl Alg {
 
     /// Law: the ordered forms are the unordered ones, since children are always taken in their order.
     pub fn ordered_forms_are_the_unordered(children: &[Child])
-        ensures deny { combined_decision Alg.OrderedDenyOverrides children.now ≡ combined_decision Alg.DenyOverrides children.now }
-        ensures permit { combined_decision Alg.OrderedPermitOverrides children.now ≡ combined_decision Alg.PermitOverrides children.now }
+        ensures deny { combined_decision Alg.OrderedDenyOverrides children.now
+            ≡ combined_decision Alg.DenyOverrides children.now }
+        ensures permit { combined_decision Alg.OrderedPermitOverrides children.now
+            ≡ combined_decision Alg.PermitOverrides children.now }
     {
         // Nothing is done: the clause is for the prover, and holds of any children.
         let _ = children.len();

@@ -2,7 +2,8 @@
 ghost use Rattle.std.specs.Prelude.{◌≡◌, ◌≤◌, ◌++◌, ◌||◌, map, length, IfOk, OnOk, Ok, IsTrue, string_bytes};
 ghost use Rattle.xa_value.specs.Digits.{is_number};
 ghost use Rattle.xa_policy.specs.Version.{parts, is_short};
-ghost use Rattle.xa_policy.specs.Pattern.{is_star, is_plus, is_pattern, part_of, read_pattern, part_text, pattern_text, IsPattern};
+ghost use Rattle.xa_policy.specs.Pattern.{is_star, is_plus, is_pattern, part_of};
+ghost use Rattle.xa_policy.specs.Pattern.{read_pattern, part_text, pattern_text, IsPattern};
 
 use crate::version::{MOST_NUMBERS, is_short, number_of, push_number};
 use crate::version_error::VersionError;
@@ -43,7 +44,8 @@ impl Model for Pattern {
 
     ghost inverse = { λ ps. record { parts = ps ++ replicate (8 - length ps) AnyNumber; count = length ps } };
 
-    ghost inverse_ok = { λ p h. let k = room_given_back AnyNumber p.parts p.count h.1 in Prim.rw (k.0, k.1) refl };
+    ghost inverse_ok = { λ p h.
+        let k = room_given_back AnyNumber p.parts p.count h.1 in Prim.rw (k.0, k.1) refl };
 }
 
 impl Pattern {

@@ -36,9 +36,24 @@ impl Model for Policy {
 
     ghost coded = { Prim.hlevel (codes, typed.the_row.coded) };
 
-    ghost view = { λ p. record { key = p.key; algorithm = p.algorithm; target = p.target; variables = p.variables; rules = p.rules; duties = p.duties } };
+    ghost view = { λ p. record {
+      key = p.key;
+      algorithm = p.algorithm;
+      target = p.target;
+      variables = p.variables;
+      rules = p.rules;
+      duties = p.duties;
+    } };
 
-    ghost invariant = { λ p. IsTypedPolicy (record { key = p.key; algorithm = p.algorithm; target = p.target; variables = p.variables; rules = p.rules; duties = p.duties }) };
+    ghost invariant = { λ p. IsTypedPolicy
+        (record {
+          key = p.key;
+          algorithm = p.algorithm;
+          target = p.target;
+          variables = p.variables;
+          rules = p.rules;
+          duties = p.duties;
+        }) };
 }
 
 impl Policy {
@@ -50,7 +65,14 @@ impl Policy {
         target: Target,
         variables: Variables,
     ) -> Policy
-        ensures { result ≡ record { key = key; algorithm = algorithm; target = target; variables = variables; rules = []; duties = no_expressions } }
+        ensures { result ≡ record {
+          key = key;
+          algorithm = algorithm;
+          target = target;
+          variables = variables;
+          rules = [];
+          duties = no_expressions;
+        } }
     {
         Policy {
             key,
@@ -81,7 +103,8 @@ impl Policy {
         alloc: Global,
         duties: &DutyExpressions<Expr>,
     ) -> Result<(), OrMemory<CheckError>>
-        ensures value { Gives (result_map_both (λ _. self.new) (λ e. e) result) (duties_set self.old duties.now) }
+        ensures value { Gives (result_map_both (λ _. self.new) (λ e. e) result)
+            (duties_set self.old duties.now) }
         ensures err { OnErr result (self.new ≡ self.old) }
     {
         self.duties = check_duties(alloc, duties, &self.variables)?;

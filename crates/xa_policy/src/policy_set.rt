@@ -32,15 +32,18 @@ impl Model for PolicySet {
 
     ghost coded = { Prim.hlevel (codes, typed.the_row.coded) };
 
-    ghost view = { λ s. record { key = s.key; algorithm = s.algorithm; target = s.target; duties = s.duties } };
+    ghost view = { λ s.
+        record { key = s.key; algorithm = s.algorithm; target = s.target; duties = s.duties } };
 
-    ghost invariant = { λ s. IsTypedSet (record { key = s.key; algorithm = s.algorithm; target = s.target; duties = s.duties }) };
+    ghost invariant = { λ s.
+        IsTypedSet (record { key = s.key; algorithm = s.algorithm; target = s.target; duties = s.duties }) };
 }
 
 impl PolicySet {
     /// A policy set without obligations and advice. Nothing is allocated.
     pub fn new(alloc: Global, key: Shared<DocumentKey>, algorithm: Alg, target: Target) -> PolicySet
-        ensures { result ≡ record { key = key; algorithm = algorithm; target = target; duties = no_expressions } }
+        ensures { result
+            ≡ record { key = key; algorithm = algorithm; target = target; duties = no_expressions } }
     {
         PolicySet {
             key,
@@ -57,7 +60,8 @@ impl PolicySet {
         alloc: Global,
         duties: &DutyExpressions<Expr>,
     ) -> Result<(), OrMemory<CheckError>>
-        ensures value { Gives (result_map_both (λ _. self.new) (λ e. e) result) (set_duties_set self.old duties.now) }
+        ensures value { Gives (result_map_both (λ _. self.new) (λ e. e) result)
+            (set_duties_set self.old duties.now) }
         ensures err { OnErr result (self.new ≡ self.old) }
     {
         let none = Variables::new(alloc);

@@ -1,6 +1,6 @@
 //! References to documents: policies and policy sets.
 ghost use Rattle.std.specs.Prelude.{◌≡◌};
-ghost use Rattle.xa_policy.specs.DocumentKey.{place_of_kind};
+ghost use Rattle.xa_policy.specs.DocumentKey.{kind_named, name_of_kind, place_of_kind};
 
 use crate::pattern::Pattern;
 use crate::version::Version;
@@ -23,6 +23,30 @@ impl DocumentKind {
         match self {
             DocumentKind::Policy => 0,
             DocumentKind::PolicySet => 1,
+        }
+    }
+
+    /// Its name, in listings and in paths: `policy` or `policyset`.
+    #[tactic(auto, unfolding(crate::specs::DocumentKey::name_of_kind))]
+    pub fn name(self) -> &'static str
+        ensures { result.now ≡ name_of_kind self }
+    {
+        match self {
+            DocumentKind::Policy => "policy",
+            DocumentKind::PolicySet => "policyset",
+        }
+    }
+
+    /// The kind of that name, if it is one's.
+    pub fn named(name: &[u8]) -> Option<DocumentKind>
+        ensures { result ≡ kind_named name.now }
+    {
+        if name == DocumentKind::Policy.name().as_bytes() {
+            Some(DocumentKind::Policy)
+        } else if name == DocumentKind::PolicySet.name().as_bytes() {
+            Some(DocumentKind::PolicySet)
+        } else {
+            None
         }
     }
 }

@@ -37,7 +37,8 @@ fn condition_value<'a, C: Context>(
     condition: &Option<Typed>,
 ) -> Result<bool, OrMemory<Fault>>
     requires { IsCondition (kinds evaluator.old.1) condition.now }
-    ensures value { Gives result (condition_value (value_of (C.values_of evaluator.old.0) evaluator.old.1) condition.now) }
+    ensures value { Gives result
+        (condition_value (value_of (C.values_of evaluator.old.0) evaluator.old.1) condition.now) }
     ensures kept { evaluator.new ≡ evaluator.old }
 {
     let Some(condition) = condition else {
@@ -57,7 +58,8 @@ fn by_condition<'a, C: Context>(
     condition: &Option<Typed>,
 ) -> Result<Verdict, AllocError>
     requires { IsCondition (kinds evaluator.old.1) condition.now }
-    ensures value { IfOk result (λ e. e ≡ by_condition effect (condition_value (value_of (C.values_of evaluator.old.0) evaluator.old.1) condition.now)) }
+    ensures value { IfOk result (λ e. e ≡ by_condition effect
+        (condition_value (value_of (C.values_of evaluator.old.0) evaluator.old.1) condition.now)) }
     ensures kept { evaluator.new ≡ evaluator.old }
 {
     match condition_value(alloc, evaluator, condition) {

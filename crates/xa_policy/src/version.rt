@@ -1,14 +1,17 @@
 //! Versions of policies and policy sets.
-ghost use Rattle.std.specs.Prelude.{◌≡◌, ◌<◌, ◌≤◌, ◌++◌, map, length, nat_eq, decimal, IfOk, OnOk, Ok, IsTrue, string_bytes};
+ghost use Rattle.std.specs.Prelude.{◌≡◌, ◌<◌, ◌≤◌, ◌++◌, map, length, nat_eq};
+ghost use Rattle.std.specs.Prelude.{decimal, IfOk, OnOk, Ok, IsTrue, string_bytes};
 ghost use Rattle.std.specs.Cmp.{partial_equiv_from_equiv};
-ghost use Rattle.std.specs.Cmp.Lexicographic.{pointwise, nat_list_eq_equiv, nat_list_cmp_total, texts_ties, texts_po};
+ghost use Rattle.std.specs.Cmp.Lexicographic.{pointwise, nat_list_eq_equiv};
+ghost use Rattle.std.specs.Cmp.Lexicographic.{nat_list_cmp_total, texts_ties, texts_po};
 ghost use Rattle.std.specs.Cmp.Rules.{comparing};
 ghost use Rattle.std.specs.List.{list_all};
 ghost use Rattle.std.specs.Ordering.{as_partial_cmp};
 ghost use Rattle.std.specs.Str.Parse.{digits_value};
 ghost use Rattle.std.proofs.Common.{rules};
 ghost use Rattle.xa_value.specs.Digits.{is_number};
-ghost use Rattle.xa_policy.specs.Version.{compare_versions, parts, is_short, read_version, version_text, IsVersion};
+ghost use Rattle.xa_policy.specs.Version.{compare_versions, parts, is_short};
+ghost use Rattle.xa_policy.specs.Version.{read_version, version_text, IsVersion};
 
 use crate::version_error::VersionError;
 use std::alloc::{AllocError, Global};

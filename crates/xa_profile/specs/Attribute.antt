@@ -1,5 +1,6 @@
 -- Attributes of a request and their values (JSON Profile of XACML 3.0, sections 3.3 and 4.2).
-use Rattle.std.specs.Prelude.{ℕ, Bool, true, List, [], ◌∷◌, Option, Some, None, option_and_then, option_map, Result, Ok, Err}
+use Rattle.std.specs.Prelude.{ℕ, Bool, true, List, [], ◌∷◌, Option, Some, None}
+use Rattle.std.specs.Prelude.{option_and_then, option_map, Result, Ok, Err}
 use Rattle.std.specs.List.{list_all}
 use Rattle.std.specs.Option.{ok_or}
 use Rattle.serde_json.specs.Data.{Data, null, boolean, number, string, array, object, Items}
@@ -38,7 +39,8 @@ abbrev pub is_one_kind : List DataType → Bool
 is_one_kind [] = true
 is_one_kind (first ∷ others) = list_all (λ other. same_type other first) others
 
--- the type of an attribute's values: the one that is named, else that of their JSON type, and string where there is no value either
+-- the type of an attribute's values: the one that is named, else that of their JSON type, and string where there is
+-- no value either
 abbrev pub type_of_values : Option DataType → List DataType → DataType
 type_of_values (Some named) kinds = named
 type_of_values None [] = type.String

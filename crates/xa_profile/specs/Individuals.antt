@@ -1,6 +1,7 @@
 -- The individual requests of a request (Multiple Decision Profile of XACML 3.0, section 2; JSON Profile, section 4.2):
 -- those that MultiRequests names, or one for each combination of one object a category.
-use Rattle.std.specs.Prelude.{ℕ, Bool, false, ◌==◌, nat_lt, List, [], ◌∷◌, ◌++◌, map, filter, length, Option, Some, None, is_none, option_map, bytes_eq, Result, Ok, Err, if◌then◌else◌}
+use Rattle.std.specs.Prelude.{ℕ, Bool, false, ◌==◌, nat_lt, List, [], ◌∷◌, ◌++◌, map, filter, length, Option}
+use Rattle.std.specs.Prelude.{Some, None, is_none, option_map, bytes_eq, Result, Ok, Err, if◌then◌else◌}
 use Rattle.std.specs.List.{list_any, position, filter_map, flat_map, fold, range_with_len, slice_get}
 use Rattle.xa_profile.specs.declared.category_object.CategoryObject.{CategoryObject}
 use Rattle.xa_profile.specs.declared.individuals.Individual.{Individual}
@@ -47,7 +48,8 @@ of_places objects places = if has_twice (categories_at objects places) then BadR
 -- the individual that a reference names by the ids of its objects
 unfoldable pub individual_named : List CategoryObject → List (List ℕ) → Individual
 individual_named objects ids =
-    if has_unknown objects ids then BadReference else of_places objects (in_request_order objects (places_named objects ids))
+    if has_unknown objects ids then BadReference
+    else of_places objects (in_request_order objects (places_named objects ids))
 
 -- texts, and one more behind them unless it is there
 abbrev pub with_new : List (List ℕ) → List ℕ → List (List ℕ)
@@ -64,7 +66,8 @@ is_of category (Some own) = bytes_eq category own
 
 -- the places of a category's objects
 abbrev pub places_of : List CategoryObject → List ℕ → List ℕ
-places_of objects category = filter (λ place. is_of category (category_at objects place)) (range_with_len 0 (length objects))
+places_of objects category =
+    filter (λ place. is_of category (category_at objects place)) (range_with_len 0 (length objects))
 
 -- each combination so far with each of the places behind it, the place changing fastest
 abbrev pub with_each : List (List ℕ) → List ℕ → List (List ℕ)
@@ -80,7 +83,8 @@ all_combinations objects = combinations (map (places_of objects) (categories obj
 
 -- all individuals: by references, or without any by combinations
 abbrev pub all_individuals : List CategoryObject → List (List (List ℕ)) → List Individual
-all_individuals objects [] = map (λ combination. Places (in_request_order objects combination)) (all_combinations objects)
+all_individuals objects [] =
+    map (λ combination. Places (in_request_order objects combination)) (all_combinations objects)
 all_individuals objects (first ∷ others) = map (individual_named objects) (first ∷ others)
 
 -- as many as a request may have

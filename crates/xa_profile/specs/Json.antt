@@ -1,6 +1,7 @@
--- How the members of a request are read from JSON (JSON Profile of XACML 3.0, section 3). A member that the profile doesn't know
--- is not looked at, and of several members of one name the last one counts.
-use Rattle.std.specs.Prelude.{ℕ, Bool, false, List, [], ◌∷◌, Option, Some, None, is_some, Result, Ok, Err, if◌then◌else◌}
+-- How the members of a request are read from JSON (JSON Profile of XACML 3.0, section 3). A member that the profile
+-- doesn't know is not looked at, and of several members of one name the last one counts.
+use Rattle.std.specs.Prelude.{ℕ, Bool, false, List, [], ◌∷◌, Option, Some}
+use Rattle.std.specs.Prelude.{None, is_some, Result, Ok, Err, if◌then◌else◌}
 use Rattle.std.specs.Option.{ok_or}
 use Rattle.std.specs.Str.{is_utf8}
 use Rattle.serde_json.specs.Data.{Data, null, boolean, number, string, array, object, Items, no_items, item}

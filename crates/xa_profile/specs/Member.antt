@@ -1,5 +1,5 @@
--- The names of the members of requests and responses (JSON Profile of XACML 3.0, sections 4 and 5), besides the shorthands of
--- categories.
+-- The names of the members of requests and responses (JSON Profile of XACML 3.0, sections 4 and 5), besides the
+-- shorthands of categories.
 use Rattle.std.specs.Prelude.{ℕ, List, codes}
 use Rattle.xa_profile.specs.declared.member.Member.{Member}
 use Rattle.xa_profile.specs.declared.member.Member.TheVariants as member

@@ -1,4 +1,5 @@
--- Requests (JSON Profile of XACML 3.0, section 4; Multiple Decision Profile of XACML 3.0, section 2), by cases on their JSON.
+-- Requests (JSON Profile of XACML 3.0, section 4; Multiple Decision Profile of XACML 3.0, section 2), by cases on
+-- their JSON.
 use Rattle.std.specs.Prelude.{ℕ, Bool, false, not, ◌||◌, List, [], ◌∷◌, ◌++◌, Option, Some, None, bytes_eq, Result, Ok}
 use Rattle.std.specs.List.{list_any, filter_map}
 use Rattle.std.specs.Option.{ok_or}
@@ -13,7 +14,8 @@ use Rattle.xa_profile.specs.declared.member.Member.TheVariants as member
 use Rattle.xa_profile.specs.declared.request.Request.{Request}
 use Rattle.xa_profile.specs.declared.request_error.RequestError.{RequestError}
 use Rattle.xa_profile.specs.declared.request_error.RequestError.TheVariants.{NotProfile}
-use Rattle.xa_profile.specs.Json.{json, at, holds_or_not_profile, check_object, text, needed_text, optional_text, flag, items_or_itself, items_if_any, each}
+use Rattle.xa_profile.specs.Json.{json, at, holds_or_not_profile, check_object, text, needed_text}
+use Rattle.xa_profile.specs.Json.{optional_text, flag, items_or_itself, items_if_any, each}
 
 -- the category that an object names
 abbrev pub named_category : Option Data → Result (List ℕ) RequestError
@@ -83,7 +85,12 @@ request d = do
   objects ← all_objects d
   _ ← holds_or_not_profile (not (has_twice (ids_of objects)))
   references ← all_references (at member.MultiRequests d)
-  Ok (record { return_policy_id_list = return_policy_id_list; combined_decision = combined_decision; objects = objects; references = references })
+  Ok (record {
+    return_policy_id_list = return_policy_id_list;
+    combined_decision = combined_decision;
+    objects = objects;
+    references = references;
+  })
 
 -- the request that a body is
 unfoldable pub request_of : List ℕ → Result Request RequestError

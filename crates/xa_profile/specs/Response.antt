@@ -1,5 +1,5 @@
--- The response to a request (JSON Profile of XACML 3.0, section 5; core, sections 5.32 to 5.36 and 5.47 to 5.55). The members of an
--- object stand in the order of their names' bytes.
+-- The response to a request (JSON Profile of XACML 3.0, section 5; core, sections 5.32 to 5.36 and 5.47 to 5.55). The
+-- members of an object stand in the order of their names' bytes.
 use Rattle.std.specs.Prelude.{ℕ, Bool, List, [], ◌∷◌, map, filter, codes, Option, Some, None, if◌then◌else◌}
 use Rattle.std.specs.List.{list_any, filter_map, slice_get}
 use Rattle.serde_json.specs.Data.{Data, boolean, number, string, array, object, Members, no_members, member}
@@ -16,7 +16,8 @@ use Rattle.xa_value.specs.Types.{uri_of}
 use Rattle.xa_func.specs.declared.status.Status.{Status}
 use Rattle.xa_func.specs.Status as status
 use Rattle.xa_policy.specs.declared.decision.Decision.{Decision}
-use Rattle.xa_policy.specs.declared.decision.Decision.TheVariants.{Permit, Deny, NotApplicable, IndeterminatePermit, IndeterminateDeny, IndeterminateDenyPermit}
+use Rattle.xa_policy.specs.declared.decision.Decision.TheVariants.{Permit, Deny, NotApplicable, IndeterminatePermit}
+use Rattle.xa_policy.specs.declared.decision.Decision.TheVariants.{IndeterminateDeny, IndeterminateDenyPermit}
 use Rattle.xa_policy.specs.declared.document_key.DocumentKey.{DocumentKey}
 use Rattle.xa_policy.specs.declared.duty.AttributeAssignment.{AttributeAssignment}
 use Rattle.xa_policy.specs.declared.duty.Duty.{Duty}
@@ -81,8 +82,10 @@ values_data (v ∷ w ∷ vs) = listing (map value_data (v ∷ w ∷ vs))
 -- an attribute
 unfoldable pub attribute_data : Attribute → Data
 attribute_data a =
-    object (with member.AttributeId (string a.id) (with member.DataType (type_data a.values.data_type) (with_text_if_any member.Issuer a.issuer
-    (with member.Value (values_data a.values.values) no_members))))
+    object
+    (with member.AttributeId (string a.id)
+    (with member.DataType (type_data a.values.data_type)
+    (with_text_if_any member.Issuer a.issuer (with member.Value (values_data a.values.values) no_members))))
 
 -- the attributes that are to stand in the result
 abbrev pub included_attributes : List Attribute → List Attribute
@@ -93,7 +96,10 @@ has_included o = list_any (λ a. a.include_in_result) o.attributes
 
 -- a Category object, with these attributes alone
 unfoldable pub category_data : CategoryObject → Data
-category_data o = object (with member.Attribute (listing (map attribute_data (included_attributes o.attributes))) (with member.CategoryId (string o.category) no_members))
+category_data o =
+    object
+    (with member.Attribute (listing (map attribute_data (included_attributes o.attributes)))
+    (with member.CategoryId (string o.category) no_members))
 
 -- the objects at places, those that have such an attribute
 abbrev pub if_included : Option CategoryObject → Option CategoryObject
@@ -108,18 +114,25 @@ included_objects objects places = filter_map (λ place. if_included (slice_get o
 -- an attribute that one carries
 unfoldable pub assignment_data : AttributeAssignment → Data
 assignment_data a =
-    object (with member.AttributeId (string a.attribute_id) (with_text_if_any member.Category a.category
-    (with member.DataType (type_data (type_of a.value)) (with_text_if_any member.Issuer a.issuer (with member.Value (value_data a.value) no_members)))))
+    object
+    (with member.AttributeId (string a.attribute_id)
+    (with_text_if_any member.Category a.category
+    (with member.DataType (type_data (type_of a.value))
+    (with_text_if_any member.Issuer a.issuer (with member.Value (value_data a.value) no_members)))))
 
 -- an obligation, or a piece of advice
 unfoldable pub duty_data : Duty → Data
-duty_data d = object (with_items_if_any member.AttributeAssignment (map assignment_data d.assignments) (with member.Id (string d.id) no_members))
+duty_data d =
+    object
+    (with_items_if_any member.AttributeAssignment (map assignment_data d.assignments)
+    (with member.Id (string d.id) no_members))
 
 -- ---- policies and policy sets that are named
 
 -- one of them, by its id and its version
 unfoldable pub identifier_data : DocumentKey → Data
-identifier_data k = object (with member.Id (string k.id) (with member.Version (string (version_text k.version)) no_members))
+identifier_data k =
+    object (with member.Id (string k.id) (with member.Version (string (version_text k.version)) no_members))
 
 -- those of a kind
 abbrev pub of_kind : DocumentKind → List DocumentKey → List Data
@@ -128,7 +141,9 @@ of_kind kind keys = map identifier_data (filter (λ k. same_kind kind k.kind) ke
 -- the policies and then the policy sets, each left out where there are none
 unfoldable pub identifiers_data : List DocumentKey → Data
 identifiers_data keys =
-    object (with_items_if_any member.PolicyIdReference (of_kind Policy keys) (with_items_if_any member.PolicySetIdReference (of_kind PolicySet keys) no_members))
+    object
+    (with_items_if_any member.PolicyIdReference (of_kind Policy keys)
+    (with_items_if_any member.PolicySetIdReference (of_kind PolicySet keys) no_members))
 
 -- both, left out where nothing is named
 abbrev pub with_identifiers_if_any : List DocumentKey → Members → Members

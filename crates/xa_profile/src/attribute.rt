@@ -6,7 +6,8 @@ ghost use Rattle.serde_json.specs.Find.{as_str};
 ghost use Rattle.xa_value.specs.Gives.{Gives};
 ghost use Rattle.xa_value.specs.Order.{type_of};
 ghost use Rattle.xa_value.specs.Types.{type_named, same_type};
-ghost use Rattle.xa_profile.specs.Attribute.{plain_of, kind, is_one_kind, type_of_values, named_type, bag, value, values, attribute};
+ghost use Rattle.xa_profile.specs.Attribute.{plain_of, kind, is_one_kind, type_of_values};
+ghost use Rattle.xa_profile.specs.Attribute.{named_type, bag, value, values, attribute};
 ghost use Rattle.xa_profile.specs.Json.{items_if_any, each};
 ghost use Rattle.xa_profile.specs.parsing.Tree.{view, items_view};
 

@@ -4,7 +4,8 @@ ghost use Rattle.xa_value.specs.Gives.{Gives};
 ghost use Rattle.xa_profile.specs.Json.{each, items_if_any};
 ghost use Rattle.xa_profile.specs.parsing.Json.{behind};
 ghost use Rattle.xa_profile.specs.parsing.Tree.{view};
-ghost use Rattle.xa_profile.specs.Request.{named_category, category_of, category_object, under_shorthands, all_objects};
+ghost use Rattle.xa_profile.specs.Request.{named_category, category_of, category_object};
+ghost use Rattle.xa_profile.specs.Request.{under_shorthands, all_objects};
 
 use crate::attribute::{Attribute, attributes_of};
 use crate::member::Member;
@@ -87,7 +88,8 @@ fn with_objects(
     shorthand: Option<Category>,
     value: Option<&Json<'_>>,
 ) -> Result<Items<CategoryObject>, OrMemory<RequestError>>
-    ensures { Gives result (behind objects (each (category_object shorthand) (items_if_any (option_map (λ v. view v.now) value.entry)))) }
+    ensures { Gives result (behind objects
+        (each (category_object shorthand) (items_if_any (option_map (λ v. view v.now) value.entry)))) }
 {
     let reader = ObjectReader { shorthand };
     each_behind(alloc, objects, &reader, items_if_any(value))

@@ -59,7 +59,8 @@ fn push_with_each(
     mut combination: Items<usize>,
     places: &[usize],
 ) -> Result<(), AllocError>
-    ensures { OnOk result (all.new.items ≡ all.old.items ++ map (λ place. combination ++ place ∷ []) places.now) }
+    ensures { OnOk result
+        (all.new.items ≡ all.old.items ++ map (λ place. combination ++ place ∷ []) places.now) }
 {
     let Some((last, others)) = places.split_last() else {
         return Ok(());
@@ -77,7 +78,8 @@ fn push_copies(
     combination: &[usize],
     places: &[usize],
 ) -> Result<(), AllocError>
-    ensures { OnOk result (all.new.items ≡ all.old.items ++ map (λ place. combination.now ++ place ∷ []) places.now) }
+    ensures { OnOk result
+        (all.new.items ≡ all.old.items ++ map (λ place. combination.now ++ place ∷ []) places.now) }
 {
     for place in places {
         all.push(copy_with(alloc, combination, *place)?)?;

@@ -36,7 +36,8 @@ fn has_category_twice(objects: &[CategoryObject]) -> bool
 
 /// Whether there are few objects, no two of which have the same category. Nothing is allocated.
 pub(crate) fn are_few_and_distinct(objects: &[CategoryObject]) -> bool
-    ensures { result ≡ (nat_lt (length objects.now) 9 && not (has_twice (map (λ object. object.category) objects.now))) }
+    ensures { result
+        ≡ (nat_lt (length objects.now) 9 && not (has_twice (map (λ object. object.category) objects.now))) }
 {
     objects.len() <= FEW && !has_category_twice(objects)
 }

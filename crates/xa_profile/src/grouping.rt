@@ -1,5 +1,6 @@
 //! The objects of each category.
-ghost use Rattle.std.specs.Prelude.{◌≡◌, ◌<◌, ℕ, List, nat_lt, true, [], ◌∷◌, ◌++◌, Some, bytes_eq, if◌then◌else◌, map, length, IfOk, OnOk, IfSome, IfNone};
+ghost use Rattle.std.specs.Prelude.{◌≡◌, ◌<◌, ℕ, List, nat_lt, true, [], ◌∷◌, ◌++◌, Some, bytes_eq};
+ghost use Rattle.std.specs.Prelude.{if◌then◌else◌, map, length, IfOk, OnOk, IfSome, IfNone};
 ghost use Rattle.std.specs.BTreeMap.{get_by};
 ghost use Rattle.std.specs.Cmp.Lexicographic.{slice_cmp};
 ghost use Rattle.std.specs.List.{list_all, slice_index_or, slice_set};
@@ -41,12 +42,19 @@ fn put<'a>(
     category: &'a str,
     place: usize,
 ) -> Result<(), AllocError>
-    requires { IfSome (get_by (λ k. slice_cmp nat_cmp category.now k.now) numbers.old) (λ n. n < length groups.old.items) }
-    ensures found { OnOk result (IfSome (get_by (λ k. slice_cmp nat_cmp category.now k.now) numbers.old)
-        (λ n. ((q : List ℕ) → get_by (λ k. slice_cmp nat_cmp q k.now) numbers.new ≡ get_by (λ k. slice_cmp nat_cmp q k.now) numbers.old) × (groups.new.items ≡ slice_set groups.old.items n (slice_index_or groups.old.items n [] ++ place ∷ [])))) }
-    ensures new { OnOk result (IfNone (get_by (λ k. slice_cmp nat_cmp category.now k.now) numbers.old)
+    requires { IfSome (get_by (λ k. slice_cmp nat_cmp category.now k.now) numbers.old)
+        (λ n. n < length groups.old.items) }
+    ensures found { OnOk result
+        (IfSome (get_by (λ k. slice_cmp nat_cmp category.now k.now) numbers.old)
+        (λ n. ((q : List ℕ) → get_by (λ k. slice_cmp nat_cmp q k.now) numbers.new
+        ≡ get_by (λ k. slice_cmp nat_cmp q k.now) numbers.old)
+        × (groups.new.items
+        ≡ slice_set groups.old.items n (slice_index_or groups.old.items n [] ++ place ∷ [])))) }
+    ensures new { OnOk result
+        (IfNone (get_by (λ k. slice_cmp nat_cmp category.now k.now) numbers.old)
         ((groups.new.items ≡ groups.old.items ++ (place ∷ []) ∷ [])
-        × ((q : List ℕ) → get_by (λ k. slice_cmp nat_cmp q k.now) numbers.new ≡ (if bytes_eq category.now q then Some (length groups.old.items) else get_by (λ k. slice_cmp nat_cmp q k.now) numbers.old)))) }
+        × ((q : List ℕ) → get_by (λ k. slice_cmp nat_cmp q k.now) numbers.new ≡ (if bytes_eq category.now q
+        then Some (length groups.old.items) else get_by (λ k. slice_cmp nat_cmp q k.now) numbers.old)))) }
 {
     match numbers.get(category).copied() {
         Some(number) => groups[number].push(place),
@@ -62,7 +70,9 @@ fn put_new<'a>(
     category: &'a str,
     place: usize,
 ) -> Result<(), AllocError>
-    ensures numbers { OnOk result ((q : List ℕ) → get_by (λ k. slice_cmp nat_cmp q k.now) numbers.new ≡ (if bytes_eq category.now q then Some (length groups.old.items) else get_by (λ k. slice_cmp nat_cmp q k.now) numbers.old)) }
+    ensures numbers { OnOk result
+        ((q : List ℕ) → get_by (λ k. slice_cmp nat_cmp q k.now) numbers.new ≡ (if bytes_eq category.now q
+        then Some (length groups.old.items) else get_by (λ k. slice_cmp nat_cmp q k.now) numbers.old)) }
     ensures groups { OnOk result (groups.new.items ≡ groups.old.items ++ (place ∷ []) ∷ []) }
 {
     numbers.insert(category, groups.len())?;

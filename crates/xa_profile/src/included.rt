@@ -1,7 +1,8 @@
 //! The attributes of a request that stand in a result.
 ghost use Rattle.std.specs.Prelude.{◌≡◌, map, option_map, IfOk};
 ghost use Rattle.std.specs.List.{slice_get};
-ghost use Rattle.xa_profile.specs.Response.{attribute_data, category_data, included_attributes, has_included, if_included, included_objects};
+ghost use Rattle.xa_profile.specs.Response.{attribute_data, category_data, included_attributes};
+ghost use Rattle.xa_profile.specs.Response.{has_included, if_included, included_objects};
 
 use crate::attribute::Attribute;
 use crate::category_object::CategoryObject;
@@ -42,7 +43,8 @@ pub(crate) fn included_objects<'a>(
     objects: &'a [CategoryObject],
     places: &[usize],
 ) -> Result<Vec<&'a CategoryObject>, AllocError>
-    ensures { IfOk result (λ found. map (λ o. category_data o.now) found.items ≡ map category_data (included_objects objects.now places.now)) }
+    ensures { IfOk result (λ found. map (λ o. category_data o.now) found.items
+        ≡ map category_data (included_objects objects.now places.now)) }
 {
     let mut found = Vec::new(alloc);
     for place in places {
@@ -58,7 +60,8 @@ fn included_attributes(
     alloc: Global,
     attributes: &[Attribute],
 ) -> Result<Vec<&Attribute>, AllocError>
-    ensures { IfOk result (λ found. map (λ a. attribute_data a.now) found.items ≡ map attribute_data (included_attributes attributes.now)) }
+    ensures { IfOk result (λ found. map (λ a. attribute_data a.now) found.items
+        ≡ map attribute_data (included_attributes attributes.now)) }
 {
     let mut found = Vec::new(alloc);
     for attribute in attributes {

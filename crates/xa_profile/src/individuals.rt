@@ -1,10 +1,13 @@
 //! The individual requests that a request stands for.
-ghost use Rattle.std.specs.Prelude.{◌≡◌, [], ◌∷◌, true, Some, None, map, length, nat_lt, option_map, if◌then◌else◌, IfOk, IsTrue};
+ghost use Rattle.std.specs.Prelude.{◌≡◌, [], ◌∷◌, true, Some, None, map, length};
+ghost use Rattle.std.specs.Prelude.{nat_lt, option_map, if◌then◌else◌, IfOk, IsTrue};
 ghost use Rattle.std.specs.List.{range_with_len, slice_set};
 ghost use Rattle.xa_value.specs.Gives.{Gives, answered};
 ghost use Rattle.xa_value.specs.declared.or_memory.OrMemory.TheVariants.{Error as AnError};
 ghost use Rattle.xa_profile.specs.declared.individuals.Individual.TheVariants.{Places};
-ghost use Rattle.xa_profile.specs.Individuals.{has_unknown, places_named, is_chosen, in_request_order, category_at, categories_at, of_places, individual_named, all_combinations, at_most_64, individuals};
+ghost use Rattle.xa_profile.specs.Individuals.{has_unknown, places_named, is_chosen, in_request_order};
+ghost use Rattle.xa_profile.specs.Individuals.{category_at, categories_at, of_places, individual_named};
+ghost use Rattle.xa_profile.specs.Individuals.{all_combinations, at_most_64, individuals};
 
 use crate::category_object::CategoryObject;
 use crate::combinations::combinations;
@@ -88,7 +91,8 @@ fn places_named(
     by_id: &ObjectsById<'_>,
     ids: &[Text],
 ) -> Result<Option<Vec<usize>>, AllocError>
-    ensures { IfOk result (λ places. option_map (λ p. p.items) places ≡ (if has_unknown by_id.now ids.now then None else Some (places_named by_id.now ids.now))) }
+    ensures { IfOk result (λ places. option_map (λ p. p.items) places
+        ≡ (if has_unknown by_id.now ids.now then None else Some (places_named by_id.now ids.now))) }
 {
     let mut places = Vec::new(alloc);
     for id in ids {
@@ -116,7 +120,8 @@ fn categories_at<'a>(
     objects: &'a [CategoryObject],
     places: &[usize],
 ) -> Result<Vec<&'a str>, AllocError>
-    ensures { IfOk result (λ categories. map (λ c. c.now) categories.items ≡ categories_at objects.now places.now) }
+    ensures { IfOk result (λ categories.
+        map (λ c. c.now) categories.items ≡ categories_at objects.now places.now) }
 {
     let mut categories = Vec::new(alloc);
     for place in places {
@@ -167,7 +172,8 @@ fn individuals_named(
     references: &[Items<Text>],
 ) -> Result<Items<Individual>, OrMemory<TooMany>>
     ensures value { Gives result (at_most_64 (map (individual_named objects.now) references.now)) }
-    ensures exact { IsTrue (nat_lt 64 (length references.now)) → result ≡ answered (at_most_64 (map (individual_named objects.now) references.now)) }
+    ensures exact { IsTrue (nat_lt 64 (length references.now))
+        → result ≡ answered (at_most_64 (map (individual_named objects.now) references.now)) }
 {
     if references.len() > MOST {
         return Err(OrMemory::Error(TooMany));
@@ -208,7 +214,9 @@ fn individuals_combined(
     alloc: Global,
     objects: &[CategoryObject],
 ) -> Result<Items<Individual>, OrMemory<TooMany>>
-    ensures { Gives result (at_most_64 (map (λ combination. Places (in_request_order objects.now combination)) (all_combinations objects.now))) }
+    ensures { Gives result
+        (at_most_64 (map (λ combination. Places (in_request_order objects.now combination))
+        (all_combinations objects.now))) }
 {
     if are_few_and_distinct(objects) {
         return Ok(individual_of_all(alloc, objects.len())?);
@@ -230,7 +238,8 @@ impl Request {
     #[tactic(auto, unfolding(crate::specs::Individuals::individuals))]
     pub fn individuals(&self, alloc: Global) -> Result<Items<Individual>, OrMemory<TooMany>>
         ensures value { Gives result (individuals self.now) }
-        ensures exact { IsTrue (nat_lt 64 (length self.now.references)) → result ≡ answered (individuals self.now) }
+        ensures exact { IsTrue (nat_lt 64 (length self.now.references))
+            → result ≡ answered (individuals self.now) }
     {
         let objects = self.objects.as_slice();
         if self.references.is_empty() {

@@ -34,7 +34,8 @@ impl<'a> Model for ObjectsById<'a> {
 
     ghost view = { λ by_id. by_id.objects.now };
 
-    ghost invariant = { λ by_id. (id : List ℕ) → get_by (λ k. slice_cmp nat_cmp id k.now) by_id.places ≡ place_named by_id.objects.now id };
+    ghost invariant = { λ by_id. (id : List ℕ)
+        → get_by (λ k. slice_cmp nat_cmp id k.now) by_id.places ≡ place_named by_id.objects.now id };
 }
 
 impl<'a> ObjectsById<'a> {
@@ -68,7 +69,8 @@ fn first_places<'a>(
     alloc: Global,
     objects: &'a [CategoryObject],
 ) -> Result<BTreeMap<&'a str, usize>, AllocError>
-    ensures { IfOk result (λ places. (id : List ℕ) → get_by (λ k. slice_cmp nat_cmp id k.now) places ≡ place_named objects.now id) }
+    ensures { IfOk result (λ places.
+        (id : List ℕ) → get_by (λ k. slice_cmp nat_cmp id k.now) places ≡ place_named objects.now id) }
 {
     let mut places = BTreeMap::new(alloc);
     for (place, object) in objects.iter().enumerate() {
@@ -83,7 +85,9 @@ fn put_object<'a>(
     object: &'a CategoryObject,
     place: usize,
 ) -> Result<(), AllocError>
-    ensures { OnOk result ((q : List ℕ) → get_by (λ k. slice_cmp nat_cmp q k.now) places.new ≡ option_or (get_by (λ k. slice_cmp nat_cmp q k.now) places.old) (if has_id q object.now.id then Some place else None)) }
+    ensures { OnOk result ((q : List ℕ) → get_by (λ k. slice_cmp nat_cmp q k.now) places.new
+        ≡ option_or (get_by (λ k. slice_cmp nat_cmp q k.now) places.old)
+        (if has_id q object.now.id then Some place else None)) }
 {
     match &object.id {
         Some(id) => put_first(places, id.as_str(), place),
@@ -97,7 +101,9 @@ fn put_first<'a>(
     text: &'a str,
     place: usize,
 ) -> Result<(), AllocError>
-    ensures { OnOk result ((q : List ℕ) → get_by (λ k. slice_cmp nat_cmp q k.now) places.new ≡ option_or (get_by (λ k. slice_cmp nat_cmp q k.now) places.old) (if bytes_eq text.now q then Some place else None)) }
+    ensures { OnOk result ((q : List ℕ) → get_by (λ k. slice_cmp nat_cmp q k.now) places.new
+        ≡ option_or (get_by (λ k. slice_cmp nat_cmp q k.now) places.old)
+        (if bytes_eq text.now q then Some place else None)) }
 {
     if !places.contains_key(text) {
         places.insert(text, place)?;

@@ -5,7 +5,8 @@ ghost use Rattle.serde_json.specs.Find.{get};
 ghost use Rattle.xa_value.specs.Category.{shorthand_of};
 ghost use Rattle.xa_value.specs.Gives.{Gives};
 ghost use Rattle.xa_profile.specs.declared.request_error.RequestError.{RequestError as ReadFault};
-ghost use Rattle.xa_profile.specs.Json.{at, text, check_object, holds_or_not_profile, needed_text, optional_text, flag, items_or_itself, items_if_any, each};
+ghost use Rattle.xa_profile.specs.Json.{at, text, check_object, holds_or_not_profile, needed_text};
+ghost use Rattle.xa_profile.specs.Json.{optional_text, flag, items_or_itself, items_if_any, each};
 ghost use Rattle.xa_profile.specs.parsing.Json.{behind};
 ghost use Rattle.xa_profile.specs.parsing.Tree.{view, items_view};
 

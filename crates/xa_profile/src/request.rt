@@ -2,7 +2,8 @@
 ghost use Rattle.std.specs.Prelude.{◌≡◌, map, option_map, IfOk};
 ghost use Rattle.xa_value.specs.Gives.{Gives};
 ghost use Rattle.xa_profile.specs.Json.{text};
-ghost use Rattle.xa_profile.specs.Request.{has_twice, ids_of, reference, references_in, all_references, request, request_of};
+ghost use Rattle.xa_profile.specs.Request.{has_twice, ids_of, reference, references_in};
+ghost use Rattle.xa_profile.specs.Request.{all_references, request, request_of};
 ghost use Rattle.xa_profile.specs.parsing.Tree.{view};
 
 use crate::category_object::{CategoryObject, all_objects};

@@ -1,6 +1,8 @@
 //! Responses, written as JSON.
 ghost use Rattle.std.specs.Prelude.{◌≡◌, IfOk, map};
-ghost use Rattle.xa_profile.specs.Response.{assignment_data, category_data, duty_data, decision_text, status_data, included_objects, result_data, response_data, listing, response_body};
+ghost use Rattle.xa_profile.specs.Response.{assignment_data, category_data, duty_data};
+ghost use Rattle.xa_profile.specs.Response.{decision_text, status_data, included_objects};
+ghost use Rattle.xa_profile.specs.Response.{result_data, response_data, listing, response_body};
 ghost use Rattle.xa_profile.specs.writing.Tokens.{Appends, tokens, items_if_any_tokens};
 
 use crate::category_object::CategoryObject;
@@ -98,7 +100,8 @@ fn write_included_objects(
     objects: &[CategoryObject],
     places: &[usize],
 ) -> Result<(), AllocError>
-    ensures { Appends result out.old out.new (items_if_any_tokens Member.Category (map category_data (included_objects objects.now places.now))) }
+    ensures { Appends result out.old out.new
+        (items_if_any_tokens Member.Category (map category_data (included_objects objects.now places.now))) }
 {
     let included = included_objects(alloc, objects, places)?;
     write_items_if_any(alloc, out, Member::Category, included.as_slice())
@@ -152,7 +155,8 @@ impl<'a> Response<'a> {
     /// Writes the response.
     #[tactic(auto, unfolding(crate::specs::Response::response_data))]
     fn write(&self, alloc: Global, out: &mut Writer) -> Result<(), AllocError>
-        ensures { Appends result out.old out.new (tokens (response_data self.now.objects.now self.now.results)) }
+        ensures { Appends result out.old out.new
+            (tokens (response_data self.now.objects.now self.now.results)) }
     {
         out.begin_object()?;
         out.key(Member::Response.name())?;

@@ -4,7 +4,8 @@ ghost use Rattle.json.specs.Token.{key, string};
 ghost use Rattle.serde_json.specs.Data.{Data};
 ghost use Rattle.xa_profile.specs.Member.{name_of};
 ghost use Rattle.xa_profile.specs.Response.{listing, type_data, value_data, values_data};
-ghost use Rattle.xa_profile.specs.writing.Tokens.{Appends, tokens, member_tokens, text_if_any_tokens, items_if_any_tokens};
+ghost use Rattle.xa_profile.specs.writing.Tokens.{Appends, tokens, member_tokens};
+ghost use Rattle.xa_profile.specs.writing.Tokens.{text_if_any_tokens, items_if_any_tokens};
 
 use crate::member::Member;
 use json::Writer;

@@ -9,4 +9,5 @@ pub record Allowance : Type 0 where
 -- once a text of so many bytes was asked for, whether it was held or is read anew
 abbrev pub asked : ℕ → Allowance → Allowance
 asked bytes old =
-    if nat_le bytes old.left then record { left = old.left - bytes; is_spent = old.is_spent } else record { left = 0; is_spent = true }
+    if nat_le bytes old.left then record { left = old.left - bytes; is_spent = old.is_spent }
+    else record { left = 0; is_spent = true }

@@ -1,10 +1,12 @@
 -- What a shelf holds: texts with their documents; which of them goes, and how the texts that are read are counted.
-use Rattle.std.specs.Prelude.{◌≡◌, ℕ, ◌+◌, ◌-◌, ◌^◌, ◌⊎◌, ◌∷◌, [], min, Bool, bytes_eq, if◌then◌else◌, List, map, take, Ok, IsOk, string_bytes, String}
+use Rattle.std.specs.Prelude.{◌≡◌, ℕ, ◌+◌, ◌-◌, ◌^◌, ◌⊎◌, ◌∷◌, [], min, Bool, bytes_eq}
+use Rattle.std.specs.Prelude.{if◌then◌else◌, List, map, take, Ok, IsOk, string_bytes, String}
 use Rattle.std.specs.List.{AllByRecursion, list_any}
 use Rattle.xa_notation.specs.declared.document.Parsed.{Parsed}
 use Rattle.xa_notation.specs.Document.{document_of}
 
--- what contracts see of a shelf: the texts whose documents it holds, the one that was asked for last first, and how many texts were read
+-- what contracts see of a shelf: the texts whose documents it holds, the one that was asked for last first, and how
+-- many texts were read
 pub record Shelved : Type 0 where
   pub texts : List (List ℕ)
   pub readings : ℕ

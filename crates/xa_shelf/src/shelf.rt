@@ -1,8 +1,10 @@
 //! The shelf: at most 128 documents, of which the one that was not asked for for the longest time goes.
-ghost use Rattle.std.specs.Prelude.{◌≡◌, ◌∷◌, [], true, false, take, is_some, Ok, IfOk, OnOk, OnErr, IfSome, IsOk, IsErr};
+ghost use Rattle.std.specs.Prelude.{◌≡◌, ◌∷◌, [], true, false, take, is_some};
+ghost use Rattle.std.specs.Prelude.{Ok, IfOk, OnOk, OnErr, IfSome, IsOk, IsErr};
 ghost use Rattle.xa_value.specs.Gives.{Gives};
 ghost use Rattle.xa_notation.specs.Document.{document_of};
-ghost use Rattle.xa_shelf.specs.Readings.{AreDocuments, IsRead, asked_for, found, is_among, one_more, texts_of};
+ghost use Rattle.xa_shelf.specs.Readings.{AreDocuments, IsRead, asked_for};
+ghost use Rattle.xa_shelf.specs.Readings.{found, is_among, one_more, texts_of};
 
 use lru::LruCache;
 use std::alloc::{AllocError, Global};
@@ -54,7 +56,8 @@ impl Shelf {
         ensures value { Gives result (document_of text.now) }
         ensures found { is_among text.now self.old.texts ≡ true → self.new ≡ found text.now self.old }
         ensures read { is_among text.now self.old.texts ≡ false → IsRead text.now self.old self.new }
-        ensures faulty { IsErr (document_of text.now) → self.new ≡ record { texts = self.old.texts; readings = one_more self.old.readings } }
+        ensures faulty { IsErr (document_of text.now)
+            → self.new ≡ record { texts = self.old.texts; readings = one_more self.old.readings } }
     {
         // Nothing is done with the documents: by their keys, which are `String`s, the prover knows that
         // each text that is held is UTF-8.
@@ -78,7 +81,8 @@ impl Shelf {
     /// Reads the text.
     fn read(&mut self, text: &[u8]) -> Result<Shared<Parsed>, OrMemory<NotationError>>
         ensures value { Gives result (document_of text.now) }
-        ensures counted { self.new ≡ record { texts = self.old.texts; readings = one_more self.old.readings } }
+        ensures counted { self.new
+            ≡ record { texts = self.old.texts; readings = one_more self.old.readings } }
     {
         self.readings = self.readings.saturating_add(1);
         let document = Parsed::read(self.alloc, text)?;
@@ -90,7 +94,8 @@ impl Shelf {
         requires { is_among text.now self.old.texts ≡ false }
         ensures value { Gives result (document_of text.now) }
         ensures read { IsRead text.now self.old self.new }
-        ensures faulty { IsErr (document_of text.now) → self.new ≡ record { texts = self.old.texts; readings = one_more self.old.readings } }
+        ensures faulty { IsErr (document_of text.now)
+            → self.new ≡ record { texts = self.old.texts; readings = one_more self.old.readings } }
     {
         let document = self.read(text.as_bytes())?;
         let _put = put_up(&mut self.documents, self.alloc, text, &document);
@@ -107,9 +112,11 @@ fn share_under(
     ensures documents { AreDocuments documents.new.entries }
     ensures cap { documents.new.cap ≡ documents.old.cap }
     ensures texts { texts_of documents.new.entries ≡ asked_for text.now (texts_of documents.old.entries) }
-    ensures among { IfOk result (λ there. is_some there ≡ is_among text.now (texts_of documents.old.entries)) }
+    ensures among { IfOk result (λ there.
+        is_some there ≡ is_among text.now (texts_of documents.old.entries)) }
     ensures found { IfOk result (λ there. IfSome there (λ document. document_of text.now ≡ Ok document)) }
-    ensures unshared { OnErr result (IsOk (document_of text.now) × (is_among text.now (texts_of documents.old.entries) ≡ true)) }
+    ensures unshared { OnErr result
+        (IsOk (document_of text.now) × (is_among text.now (texts_of documents.old.entries) ≡ true)) }
 {
     match documents.get(text) {
         Some(document) => Ok(Some(document.clone()?)),
@@ -129,7 +136,8 @@ fn put_up(
     requires new { is_among text.now (texts_of documents.old.entries) ≡ false }
     ensures documents { AreDocuments documents.new.entries }
     ensures cap { documents.new.cap ≡ 128 }
-    ensures kept { OnOk result (texts_of documents.new.entries ≡ take 128 (text.now ∷ texts_of documents.old.entries)) }
+    ensures kept { OnOk result
+        (texts_of documents.new.entries ≡ take 128 (text.now ∷ texts_of documents.old.entries)) }
     ensures left { OnErr result (documents.new ≡ documents.old) }
 {
     let text = String::from_str(alloc, text)?;

@@ -4,7 +4,8 @@ use Rattle.json.specs.Json as json
 use Rattle.json.specs.Value.{value_view}
 use Rattle.json.specs.Value as tree
 use Rattle.json.specs.declared.value.Value.{Value}
-use Rattle.serde_json.specs.Data.{Num, Data, null, boolean, number, string, array, object, Items, no_items, item, Members, no_members, put}
+use Rattle.serde_json.specs.Data.{Num, Data, null, boolean, number, string, array}
+use Rattle.serde_json.specs.Data.{object, Items, no_items, item, Members, no_members, put}
 use Rattle.serde_json.specs.Read.{number_of}
 
 -- none of the numbers is too large
