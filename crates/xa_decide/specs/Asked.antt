@@ -7,7 +7,8 @@ use Rattle.xa_profile.specs.Request.{request_of}
 use Rattle.xa_decide.specs.Decision.{Viewed, answer}
 use Rattle.xa_decide.specs.Timeless.{is_timeless_answer}
 
--- a request does, unless one decision for all individual requests is wanted (CombinedDecision), or there are too many of them
+-- a request does, unless one decision for all individual requests is wanted (CombinedDecision), or there are too many
+-- of them
 abbrev pub request_asks : Request → Bool
 request_asks request = if request.combined_decision then false else is_ok (individuals request)
 

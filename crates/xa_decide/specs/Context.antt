@@ -1,6 +1,8 @@
--- The values of an attribute in the context of a decision (XACML 3.0, core, section 7.3): those that the request has, else the one that the
--- clock gives (section 7.3.6), else those that the source of attributes has (section 7.3.5), else none.
-use Rattle.std.specs.Prelude.{ℕ, Bool, false, true, ◌&&◌, bytes_eq, codes, find, List, [], ◌∷◌, map, filter, Option, Some, None, is_none, ℤ, if◌then◌else◌}
+-- The values of an attribute in the context of a decision (XACML 3.0, core, section 7.3): those that the request has,
+-- else the one that the clock gives (section 7.3.6), else those that the source of attributes has (section 7.3.5),
+-- else none.
+use Rattle.std.specs.Prelude.{ℕ, Bool, false, true, ◌&&◌, bytes_eq, codes, find, List, []}
+use Rattle.std.specs.Prelude.{◌∷◌, map, filter, Option, Some, None, is_none, ℤ, if◌then◌else◌}
 use Rattle.std.specs.List.{flat_map}
 use Rattle.xa_value.specs.declared.category.Category.{Category}
 use Rattle.xa_value.specs.declared.category.Category.TheVariants.{Environment, Resource, Action}
@@ -71,7 +73,8 @@ category_of uri = find (λ category. bytes_eq uri (uri_of category)) all_categor
 abbrev pub naming_id : Category → Option (List ℕ)
 naming_id Resource = Some (codes "urn:oasis:names:tc:xacml:1.0:resource:resource-id")
 naming_id Action = Some (codes "urn:oasis:names:tc:xacml:1.0:action:action-id")
-naming_id category = if is_subject category then Some (codes "urn:oasis:names:tc:xacml:1.0:subject:subject-id") else None
+naming_id category =
+    if is_subject category then Some (codes "urn:oasis:names:tc:xacml:1.0:subject:subject-id") else None
 
 -- the text of a value, and the empty one of a value that is no text
 abbrev pub text_of : Value → List ℕ
@@ -86,9 +89,11 @@ only_text (v ∷ w ∷ vs) = []
 
 -- the strings of that category and id, of any issuer
 abbrev pub strings_of : List ℕ → List ℕ → Designator
-strings_of category id = record { category = category; attribute_id = id; data_type = type.String; must_be_present = false; issuer = None }
+strings_of category id =
+    record { category = category; attribute_id = id; data_type = type.String; must_be_present = false; issuer = None }
 
--- the entity of a category: the one string that the request has as the attribute that names it, and the empty text where it has none or several
+-- the entity of a category: the one string that the request has as the attribute that names it, and the empty text
+-- where it has none or several
 abbrev pub named_entity : List CategoryObject → List ℕ → Option (List ℕ) → List ℕ
 named_entity objects category None = []
 named_entity objects category (Some id) = only_text (request_values objects (strings_of category id))
@@ -103,7 +108,10 @@ entity objects category = named_entity objects category (naming_id_of (category_
 -- a row of the entity's attribute that the designator names, by an issuer that will do
 abbrev pub is_row : List ℕ → Designator → SourceRow → Bool
 is_row entity d row =
-    bytes_eq row.category d.category && (bytes_eq row.entity entity && (bytes_eq row.attribute_id d.attribute_id && (same_type (type_of row.value) d.data_type && is_issuer d.issuer row.issuer)))
+    bytes_eq row.category d.category
+    && (bytes_eq row.entity entity
+    && (bytes_eq row.attribute_id d.attribute_id
+    && (same_type (type_of row.value) d.data_type && is_issuer d.issuer row.issuer)))
 
 -- the values of those rows, in their order
 unfoldable pub source_values : List SourceRow → List ℕ → Designator → List Value
@@ -123,11 +131,14 @@ if_any (Some v) = v ∷ []
 
 -- the clock's attributes are the environment's, and nobody has issued them
 abbrev pub clock_value_in : ℤ → Designator → Option Value
-clock_value_in moment d = if is_none d.issuer && bytes_eq d.category (uri_of Environment) then clock_value moment d.attribute_id d.data_type else None
+clock_value_in moment d =
+    if is_none d.issuer && bytes_eq d.category (uri_of Environment) then clock_value moment d.attribute_id d.data_type
+    else None
 
 -- those that are not in the request: the one that the clock gives, else those that the source has
 unfoldable pub outside_values : AskContext → Designator → List Value
-outside_values c d = or_else (if_any (clock_value_in c.moment d)) (source_values c.source (entity c.objects d.category) d)
+outside_values c d =
+    or_else (if_any (clock_value_in c.moment d)) (source_values c.source (entity c.objects d.category) d)
 
 -- the values of a designator's bag: those that the request has, else the others
 unfoldable pub values_of : AskContext → Designator → List Value

@@ -26,7 +26,8 @@ use Rattle.xa_profile.specs.Response.{response_body}
 use Rattle.xa_decide.specs.declared.source_row.SourceRow.{SourceRow}
 use Rattle.xa_decide.specs.Context.{values_of}
 
--- what decides: the tree that the root stands for, if one is set, which may be too large, and the rows of the source of attributes
+-- what decides: the tree that the root stands for, if one is set, which may be too large, and the rows of the source
+-- of attributes
 pub record Viewed : Type 0 where
   pub tree : Option (Result Linked LinkError)
   pub source : List SourceRow
@@ -48,7 +49,8 @@ by_tree values_of None = without_ids not_applicable
 by_tree values_of (Some (Ok tree)) = evaluation values_of tree
 by_tree values_of (Some (Err e)) = without_ids (undecided ProcessingError)
 
--- what is decided of an individual request that has these Category objects, and the policies and policy sets that are named with it
+-- what is decided of an individual request that has these Category objects, and the policies and policy sets that are
+-- named with it
 unfoldable pub decision : Viewed → List CategoryObject → ℤ → Evaluated
 decision view objects moment =
     by_tree (values_of (record { objects = objects; source = view.source; moment = moment })) view.tree
@@ -74,7 +76,8 @@ abbrev pub results_of : Viewed → Bool → List CategoryObject → ℤ → Resu
 results_of view asked objects moment (Ok individuals) = map (result_of view asked objects moment) individuals
 results_of view asked objects moment (Err e) = result_without_objects ProcessingError ∷ []
 
--- the results of a request. One decision for all individual requests (CombinedDecision, core, section 5.42; Multiple Decision Profile) isn't given
+-- the results of a request. One decision for all individual requests (CombinedDecision, core, section 5.42; Multiple
+-- Decision Profile) isn't given
 unfoldable pub decided : Viewed → Request → ℤ → List ResultObject
 decided view request moment =
     if request.combined_decision then result_without_objects ProcessingError ∷ []
@@ -91,7 +94,8 @@ pub record Answered : Type 0 where
 abbrev pub answer_to : Viewed → ℤ → Result Request RequestError → Option Answered
 answer_to view moment (Ok request) = Some (record { objects = request.objects; results = decided view request moment })
 answer_to view moment (Err NotJson) = None
-answer_to view moment (Err NotProfile) = Some (record { objects = []; results = result_without_objects SyntaxError ∷ [] })
+answer_to view moment (Err NotProfile) =
+    Some (record { objects = []; results = result_without_objects SyntaxError ∷ [] })
 
 -- what is answered to a body
 unfoldable pub answer : Viewed → List ℕ → ℤ → Option Answered

@@ -3,6 +3,7 @@ pub mod Context
 pub mod Decision
 pub mod indexing
 pub mod Places
+pub mod Reading
 pub mod Rows
 pub mod Timeless
 pub mod writing

@@ -1,4 +1,5 @@
--- How many places a tree has: its policies and policy sets, and the references that lead nowhere. Nothing that is decided rests on it.
+-- How many places a tree has: its policies and policy sets, and the references that lead nowhere. Nothing that is
+-- decided rests on it.
 use Rattle.std.specs.Prelude.{ℕ, ◌+◌, ◌-◌, ◌^◌, min, List, map, sum, Option, Some, None, Result, Ok, Err}
 use Rattle.xa_policy.specs.declared.linked.Linked.{Linked, fold-Linked}
 use Rattle.xa_policy.specs.declared.linked.Linked.TheOpen.{Linked-F}

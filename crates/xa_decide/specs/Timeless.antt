@@ -1,5 +1,5 @@
--- Whether what is answered to a body is the same at every moment: no attribute that the clock gives is asked for (XACML 3.0, core, section
--- 7.3.6 and appendix B.7).
+-- Whether what is answered to a body is the same at every moment: no attribute that the clock gives is asked for
+-- (XACML 3.0, core, section 7.3.6 and appendix B.7).
 use Rattle.std.specs.Prelude.{◌≡◌, ℕ, Bool, true, List, Option, Some, None, Result, Ok, Err, ℤ, if◌then◌else◌}
 use Rattle.xa_expr.specs.Timeless.{SameButForTheClock, is_timeless}
 use Rattle.xa_policy.specs.declared.linked.Linked.{Linked}
@@ -16,7 +16,8 @@ use Rattle.xa_decide.specs.declared.source_row.SourceRow.{SourceRow}
 use Rattle.xa_decide.specs.Context.{values_of}
 use Rattle.xa_decide.specs.Decision.{Viewed, answer, decided}
 
--- no designator of the tree names the clock. Where there is no tree, and where it is too large, no attribute is asked for
+-- no designator of the tree names the clock. Where there is no tree, and where it is too large, no attribute is
+-- asked for
 abbrev pub is_timeless_tree : Option (Result Linked LinkError) → Bool
 is_timeless_tree None = true
 is_timeless_tree (Some (Err e)) = true
@@ -31,7 +32,8 @@ are_timeless view (Err e) = true
 unfoldable pub is_timeless_request : Viewed → Request → Bool
 is_timeless_request view request = if request.combined_decision then true else are_timeless view (individuals request)
 
--- what was read as a request. The one result of JSON that is no request is always the same, and so is it that no JSON has no answer
+-- what was read as a request. The one result of JSON that is no request is always the same, and so is it that no JSON
+-- has no answer
 abbrev pub is_timeless_read : Viewed → Result Request RequestError → Bool
 is_timeless_read view (Ok request) = is_timeless_request view request
 is_timeless_read view (Err e) = true
@@ -44,14 +46,17 @@ is_timeless_answer view body = is_timeless_read view (request_of body)
 abbrev pub ContextsDifferInTheClock : Type 0
 ContextsDifferInTheClock =
     (objects : List CategoryObject) (source : List SourceRow) (first second : ℤ)
-    → SameButForTheClock (values_of (record { objects = objects; source = source; moment = first })) (values_of (record { objects = objects; source = source; moment = second }))
+    → SameButForTheClock (values_of (record { objects = objects; source = source; moment = first }))
+    (values_of (record { objects = objects; source = source; moment = second }))
 
 -- law: what is decided of such a request is the same at every two moments
 abbrev pub TimelessRequestsStay : Type 0
 TimelessRequestsStay =
-    (view : Viewed) (request : Request) → is_timeless_request view request ≡ true → (first second : ℤ) → decided view request first ≡ decided view request second
+    (view : Viewed) (request : Request) → is_timeless_request view request ≡ true → (first second : ℤ)
+    → decided view request first ≡ decided view request second
 
 -- law: such an answer is the same at every two moments
 abbrev pub TimelessAnswersStay : Type 0
 TimelessAnswersStay =
-    (view : Viewed) (body : List ℕ) → is_timeless_answer view body ≡ true → (first second : ℤ) → answer view body first ≡ answer view body second
+    (view : Viewed) (body : List ℕ) → is_timeless_answer view body ≡ true → (first second : ℤ)
+    → answer view body first ≡ answer view body second

@@ -52,7 +52,8 @@ pub(crate) fn push_attribute(
     attribute: &Attribute,
 ) -> Result<(), AllocError>
     requires { bag.old.data_type ≡ designator.now.data_type }
-    ensures { IfOk result (λ _. bag.new ≡ bag_of designator.now.data_type (bag.old.values ++ (if is_named_by designator.now attribute.now then attribute.now.values.values else []))) }
+    ensures { IfOk result (λ _. bag.new ≡ bag_of designator.now.data_type (bag.old.values
+        ++ (if is_named_by designator.now attribute.now then attribute.now.values.values else []))) }
 {
     if is_named_by(designator, attribute) {
         budget.spend(units_of_bag(&attribute.values))?;

@@ -61,7 +61,8 @@ impl<'a> IndividualContext<'a> {
         moment: Moment,
         work: &'a Work,
     ) -> Result<IndividualContext<'a>, AllocError>
-        ensures { IfOk result (λ context. context ≡ record { objects = objects_at objects.now places.now; source = source.now; moment = moment }) }
+        ensures { IfOk result (λ context. context
+            ≡ record { objects = objects_at objects.now places.now; source = source.now; moment = moment }) }
     {
         let objects = IndividualObjects::new(alloc, objects, places)?;
         Ok(IndividualContext {
@@ -89,7 +90,9 @@ impl<'a> IndividualContext<'a> {
     /// The bag of the values that the source has.
     #[tactic(auto, unfolding(crate::specs::Context::source_values))]
     fn source_bag(&self, alloc: Global, designator: &Designator) -> Result<Bag, AllocError>
-        ensures { IfOk result (λ bag. bag ≡ bag_of designator.now.data_type (source_values self.now.source (entity self.now.objects designator.now.category) designator.now)) }
+        ensures { IfOk result (λ bag. bag ≡ bag_of designator.now.data_type
+            (source_values self.now.source
+            (entity self.now.objects designator.now.category) designator.now)) }
     {
         if self.source.is_empty() {
             return Ok(Bag::new(alloc, designator.data_type));
@@ -104,7 +107,8 @@ impl<'a> IndividualContext<'a> {
     /// The bag of the values that are not in the request.
     #[tactic(auto, unfolding(crate::specs::Context::outside_values))]
     fn outside_bag(&self, alloc: Global, designator: &Designator) -> Result<Bag, AllocError>
-        ensures { IfOk result (λ bag. bag ≡ bag_of designator.now.data_type (outside_values self.now designator.now)) }
+        ensures { IfOk result (λ bag.
+            bag ≡ bag_of designator.now.data_type (outside_values self.now designator.now)) }
     {
         match clock_value_in(self.moment, designator) {
             Some(value) => bag_of_one(alloc, designator.data_type, value),
@@ -115,7 +119,9 @@ impl<'a> IndividualContext<'a> {
     /// A look at the values that the source has.
     #[tactic(auto, unfolding(crate::specs::Context::source_values))]
     fn look_in_source(&self, look: &Look<'_>) -> Result<Looked, AllocError>
-        ensures { IfOk result (λ found. found ≡ looked look.now.sought.now (source_values self.now.source (entity self.now.objects look.now.designator.now.category) look.now.designator.now)) }
+        ensures { IfOk result (λ found. found ≡ looked look.now.sought.now
+            (source_values self.now.source
+            (entity self.now.objects look.now.designator.now.category) look.now.designator.now)) }
     {
         if self.source.is_empty() {
             return Ok(Looked::Nothing);
@@ -129,7 +135,8 @@ impl<'a> IndividualContext<'a> {
     /// A look at the values that are not in the request.
     #[tactic(auto, unfolding(crate::specs::Context::outside_values))]
     fn look_outside(&self, look: &Look<'_>) -> Result<Looked, AllocError>
-        ensures { IfOk result (λ found. found ≡ looked look.now.sought.now (outside_values self.now look.now.designator.now)) }
+        ensures { IfOk result (λ found.
+            found ≡ looked look.now.sought.now (outside_values self.now look.now.designator.now)) }
     {
         match clock_value_in(self.moment, look.designator) {
             Some(value) => look.at_clock(&value),

@@ -4,7 +4,8 @@ ghost use Rattle.xa_expr.specs.declared.fault.Fault.TheVariants.{SyntaxError};
 ghost use Rattle.xa_policy.specs.Evaluation.{as_asked};
 ghost use Rattle.xa_profile.specs.declared.individuals.Individual.TheVariants.{Places};
 ghost use Rattle.xa_profile.specs.Response.{response_body};
-ghost use Rattle.xa_decide.specs.Decision.{objects_at, by_tree, result_without_objects, result_of, decided, body_of, answer};
+ghost use Rattle.xa_decide.specs.Decision.{objects_at, by_tree, result_without_objects};
+ghost use Rattle.xa_decide.specs.Decision.{result_of, decided, body_of, answer};
 ghost use Rattle.xa_decide.specs.Timeless.{is_timeless_answer, is_timeless_request, is_timeless_tree};
 
 use crate::context::IndividualContext;
@@ -113,7 +114,11 @@ impl<'a> Deciding<'a> {
         alloc: Global,
         places: &[usize],
     ) -> Result<IndividualContext<'a>, AllocError>
-        ensures { IfOk result (λ context. context ≡ record { objects = objects_at self.now.objects.now places.now; source = self.now.view.now.source; moment = self.now.moment }) }
+        ensures { IfOk result (λ context. context ≡ record {
+          objects = objects_at self.now.objects.now places.now;
+          source = self.now.view.now.source;
+          moment = self.now.moment;
+        }) }
     {
         let count = places.len();
         self.work.spend(
@@ -128,7 +133,8 @@ impl<'a> Deciding<'a> {
     /// before it is written.
     #[tactic(auto, unfolding(crate::specs::Decision::decision))]
     fn result_at(&self, alloc: Global, places: Items<usize>) -> Result<ResultObject, AllocError>
-        ensures { IfOk result (λ r. r ≡ result_of self.now.view.now self.now.asks_for_policies self.now.objects.now self.now.moment (Places places)) }
+        ensures { IfOk result (λ r. r ≡ result_of self.now.view.now self.now.asks_for_policies
+            self.now.objects.now self.now.moment (Places places)) }
     {
         let chosen = places.as_slice();
         let context = self.context_at(alloc, chosen)?;
@@ -140,7 +146,8 @@ impl<'a> Deciding<'a> {
 
     /// The result of an individual request.
     fn result_of(&self, alloc: Global, individual: Individual) -> Result<ResultObject, AllocError>
-        ensures { IfOk result (λ r. r ≡ result_of self.now.view.now self.now.asks_for_policies self.now.objects.now self.now.moment individual) }
+        ensures { IfOk result (λ r. r ≡ result_of self.now.view.now self.now.asks_for_policies
+            self.now.objects.now self.now.moment individual) }
     {
         self.work.spend(STEP)?;
         match individual {
@@ -155,7 +162,8 @@ impl<'a> Deciding<'a> {
         alloc: Global,
         individuals: Items<Individual>,
     ) -> Result<Items<ResultObject>, AllocError>
-        ensures { IfOk result (λ results. results ≡ map (result_of self.now.view.now self.now.asks_for_policies self.now.objects.now self.now.moment) individuals) }
+        ensures { IfOk result (λ results. results ≡ map (result_of self.now.view.now
+            self.now.asks_for_policies self.now.objects.now self.now.moment) individuals) }
     {
         let mut results = Items::new(alloc);
         for individual in individuals.into_vec() {
@@ -189,7 +197,8 @@ fn outcome_of_individuals<'x>(
     work: &'x Work,
     individuals: Items<Individual>,
 ) -> Result<Outcome, AllocError>
-    ensures results { IfOk result (λ outcome. outcome.results ≡ map (result_of view.now request.now.return_policy_id_list request.now.objects moment) individuals) }
+    ensures results { IfOk result (λ outcome. outcome.results
+        ≡ map (result_of view.now request.now.return_policy_id_list request.now.objects moment) individuals) }
     ensures timeless { IfOk result (λ outcome. outcome.timeless ≡ is_timeless_tree view.now.tree) }
 {
     let indexed = indexed_objects(alloc, work, request.objects.as_slice())?;
@@ -275,7 +284,8 @@ pub fn decide<'a>(
 
 /// What is responded to a body that is no request.
 fn respond_to_no_request(alloc: Global, view: &View) -> Result<Responded, AllocError>
-    ensures body { IfOk result (λ responded. responded.body ≡ response_body [] (result_without_objects SyntaxError ∷ [])) }
+    ensures body { IfOk result (λ responded.
+        responded.body ≡ response_body [] (result_without_objects SyntaxError ∷ [])) }
     ensures timeless { IfOk result (λ responded. responded.timeless ≡ true) }
 {
     let response = Response {
@@ -296,8 +306,10 @@ fn respond_to_request(
     request: &Request,
     moment: Moment,
 ) -> Result<Responded, AllocError>
-    ensures body { IfOk result (λ responded. responded.body ≡ response_body request.now.objects (decided view.now request.now moment)) }
-    ensures timeless { IfOk result (λ responded. responded.timeless ≡ is_timeless_request view.now request.now) }
+    ensures body { IfOk result (λ responded.
+        responded.body ≡ response_body request.now.objects (decided view.now request.now moment)) }
+    ensures timeless { IfOk result (λ responded.
+        responded.timeless ≡ is_timeless_request view.now request.now) }
 {
     let decided = decide(alloc, view, request, moment)?;
     let body = view.within_reply_limit(decided.response.to_body(alloc)?)?;
@@ -317,8 +329,10 @@ pub fn respond(
     body: &RequestBody<'_>,
     moment: Moment,
 ) -> Result<Option<Responded>, AllocError>
-    ensures body { IfOk result (λ sent. option_map (λ r. r.body) sent ≡ option_map body_of (answer view.now body.now moment)) }
-    ensures timeless { IfOk result (λ sent. IfSome sent (λ r. r.timeless ≡ is_timeless_answer view.now body.now)) }
+    ensures body { IfOk result (λ sent.
+        option_map (λ r. r.body) sent ≡ option_map body_of (answer view.now body.now moment)) }
+    ensures timeless { IfOk result (λ sent.
+        IfSome sent (λ r. r.timeless ≡ is_timeless_answer view.now body.now)) }
 {
     match body.request() {
         Ok(request) => Ok(Some(respond_to_request(alloc, view, request, moment)?)),
@@ -334,7 +348,8 @@ pub fn answer(
     body: &[u8],
     moment: Moment,
 ) -> Result<Option<Vec<u8>>, AllocError>
-    ensures { IfOk result (λ sent. option_map (λ b. b.items) sent ≡ option_map body_of (answer view.now body.now moment)) }
+    ensures { IfOk result (λ sent.
+        option_map (λ b. b.items) sent ≡ option_map body_of (answer view.now body.now moment)) }
 {
     let body = RequestBody::read(alloc, body)?;
     match respond(alloc, view, &body, moment)? {

@@ -1,5 +1,6 @@
 //! Category objects, with their attributes to be found.
-ghost use Rattle.std.specs.Prelude.{◌≡◌, [], ◌++◌, bytes_eq, filter, slice_get, Some, IfOk, IfSome, if◌then◌else◌};
+ghost use Rattle.std.specs.Prelude.{◌≡◌, [], ◌++◌, bytes_eq, filter, slice_get};
+ghost use Rattle.std.specs.Prelude.{Some, IfOk, IfSome, if◌then◌else◌};
 ghost use Rattle.std.specs.List.{All, filter_map, flat_map};
 ghost use Rattle.xa_bag.specs.Bag.{bag_of};
 ghost use Rattle.xa_decide.specs.Context.{is_named_by, object_values};
@@ -45,7 +46,10 @@ impl<'a> Model for IndexedObject<'a> {
 
     ghost view = { λ o. o.object.now };
 
-    ghost invariant = { λ o. IsOrder name_key_of o.object.now.attributes o.by_name.items × IsOrder issuer_key_of o.object.now.attributes o.by_issuer.items × IfSome o.members (λ members. members.items ≡ map (λ a. a.values) o.object.now.attributes) × (said_by o.naming ≡ said (naming_values o.object.now)) × IsOfTypes o.object.now };
+    ghost invariant = { λ o. IsOrder name_key_of o.object.now.attributes o.by_name.items
+        × IsOrder issuer_key_of o.object.now.attributes o.by_issuer.items
+        × IfSome o.members (λ members. members.items ≡ map (λ a. a.values) o.object.now.attributes)
+        × (said_by o.naming ≡ said (naming_values o.object.now)) × IsOfTypes o.object.now };
 }
 
 /// The values of the attribute are of its type: a law.
@@ -133,7 +137,8 @@ impl<'a> IndexedObject<'a> {
 
     /// What names the object's entity, if the object is of the category.
     pub(crate) fn naming_in(&self, category: &str) -> Naming<'a>
-        ensures { said_by result ≡ said (if bytes_eq self.now.category category.now then naming_values self.now else []) }
+        ensures { said_by result
+            ≡ said (if bytes_eq self.now.category category.now then naming_values self.now else []) }
     {
         if self.category() == category {
             self.naming
@@ -145,7 +150,9 @@ impl<'a> IndexedObject<'a> {
     /// Places among which are those of all attributes that the designator names and that have values.
     #[tactic(auto, using(crate::proofs::KeyLemmas::named_found, crate::proofs::KeyLemmas::issued_found))]
     pub(crate) fn places(&self, designator: &Designator) -> &[usize]
-        ensures { flat_map (λ a. a.values.values) (filter (is_named_by designator.now) (filter_map (slice_get self.now.attributes) result.now)) ≡ object_values designator.now self.now }
+        ensures { flat_map (λ a. a.values.values)
+            (filter (is_named_by designator.now) (filter_map (slice_get self.now.attributes) result.now))
+            ≡ object_values designator.now self.now }
     {
         let attributes = self.object.attributes.as_slice();
         let id = designator.attribute_id.as_str();
@@ -165,7 +172,8 @@ pub(crate) fn push_object(
     object: &IndexedObject<'_>,
 ) -> Result<(), AllocError>
     requires { bag.old.data_type ≡ designator.now.data_type }
-    ensures { IfOk result (λ _. bag.new ≡ bag_of designator.now.data_type (bag.old.values ++ object_values designator.now object.now)) }
+    ensures { IfOk result (λ _. bag.new
+        ≡ bag_of designator.now.data_type (bag.old.values ++ object_values designator.now object.now)) }
 {
     let places = object.places(designator);
     let attributes = object.attributes();

@@ -1,5 +1,6 @@
 //! The Category objects of an individual request.
-ghost use Rattle.std.specs.Prelude.{◌≡◌, [], ◌++◌, map, filter, bytes_eq, option_map, slice_get, IfOk, if◌then◌else◌};
+ghost use Rattle.std.specs.Prelude.{◌≡◌, [], ◌++◌, map, filter, bytes_eq};
+ghost use Rattle.std.specs.Prelude.{option_map, slice_get, IfOk, if◌then◌else◌};
 ghost use Rattle.std.specs.List.{All, filter_map, flat_map};
 ghost use Rattle.xa_bag.specs.Bag.{bag_of};
 ghost use Rattle.xa_decide.specs.Context.{entity, object_values, request_values};
@@ -55,7 +56,8 @@ impl<'a> Model for IndividualObjects<'a> {
 
     ghost view = { λ o. map (λ x. x.now) o.objects.items };
 
-    ghost invariant = { λ o. IsOrder object_key_of o.objects.items o.order.items × All (λ x. IsOfTypes x.now) o.objects.items };
+    ghost invariant = { λ o.
+        IsOrder object_key_of o.objects.items o.order.items × All (λ x. IsOfTypes x.now) o.objects.items };
 }
 
 /// The objects that have these places.
@@ -128,7 +130,8 @@ impl<'a> IndividualObjects<'a> {
 
     /// Places among which are those of all objects of that category.
     pub(crate) fn places(&self, category: &str) -> &[usize]
-        ensures { filter (λ o. bytes_eq o.category category.now) (filter_map (slice_get self.now) result.now) ≡ filter (λ o. bytes_eq o.category category.now) self.now }
+        ensures { filter (λ o. bytes_eq o.category category.now) (filter_map (slice_get self.now) result.now)
+            ≡ filter (λ o. bytes_eq o.category category.now) self.now }
     {
         let key = category_key(category);
         places_among::<ByCategory<'a>>(self.objects.as_slice(), self.order.as_slice(), &key)
@@ -150,7 +153,8 @@ impl<'a> IndividualObjects<'a> {
         budget: &Budget,
         designator: &Designator,
     ) -> Result<Bag, AllocError>
-        ensures { IfOk result (λ bag. bag ≡ bag_of designator.now.data_type (request_values self.now designator.now)) }
+        ensures { IfOk result (λ bag.
+            bag ≡ bag_of designator.now.data_type (request_values self.now designator.now)) }
     {
         let mut bag = Bag::new(alloc, designator.data_type);
         let places = self.places(designator.category.as_str());
@@ -165,7 +169,8 @@ impl<'a> IndividualObjects<'a> {
     /// What names the entity of the category.
     #[tactic(auto, using(crate::proofs::NamingLemmas::both_behind, crate::proofs::NamingLemmas::both_none))]
     fn naming(&self, category: &str) -> Naming<'a>
-        ensures { said_by result ≡ said (flat_map naming_values (filter (λ o. bytes_eq o.category category.now) self.now)) }
+        ensures { said_by result
+            ≡ said (flat_map naming_values (filter (λ o. bytes_eq o.category category.now) self.now)) }
     {
         let mut naming = Naming::Nobody;
         let places = self.places(category);
@@ -194,7 +199,9 @@ fn push_of_category(
     object: &IndexedObject<'_>,
 ) -> Result<(), AllocError>
     requires { bag.old.data_type ≡ designator.now.data_type }
-    ensures { IfOk result (λ _. bag.new ≡ bag_of designator.now.data_type (bag.old.values ++ (if bytes_eq object.now.category designator.now.category then object_values designator.now object.now else []))) }
+    ensures { IfOk result (λ _. bag.new ≡ bag_of designator.now.data_type
+        (bag.old.values ++ (if bytes_eq object.now.category designator.now.category
+        then object_values designator.now object.now else []))) }
 {
     if object.category() == designator.category.as_str() {
         push_object(budget, bag, designator, object)?;

@@ -23,7 +23,13 @@ impl<'a> Model for Key<'a> {
 
     ghost Value = { Sought };
 
-    ghost view = { λ k. record { number = k.number; first = k.first.now; second = k.second.now; third = k.third.now; fourth = k.fourth.now } };
+    ghost view = { λ k. record {
+      number = k.number;
+      first = k.first.now;
+      second = k.second.now;
+      third = k.third.now;
+      fourth = k.fourth.now;
+    } };
 }
 
 impl<'a> Key<'a> {
@@ -95,7 +101,8 @@ impl<'a> PartialOrd for Key<'a> {
 
     ghost partial_cmp = { as_partial_cmp compare_keys };
 
-    ghost laws = { partial_order_from_own_ties (Prim.search (comparing, rules) depth 11) (Prim.search (comparing, rules) depth 11) };
+    ghost laws = { partial_order_from_own_ties
+        (Prim.search (comparing, rules) depth 11) (Prim.search (comparing, rules) depth 11) };
 
     fn partial_cmp(&self, other: &Key<'a>) -> Option<Ordering> {
         Some(self.cmp(other))

@@ -1,6 +1,8 @@
 //! The keys by which attributes, Category objects and rows of the source are found.
 ghost use Rattle.std.specs.Prelude.{◌≡◌};
-ghost use Rattle.xa_decide.specs.indexing.Keys.{unsought, name_key, issuer_key, name_key_of, issuer_key_of, category_key, row_key, issued_row_key, row_key_of, issued_row_key_of};
+ghost use Rattle.xa_decide.specs.indexing.Keys.{unsought, name_key, issuer_key, name_key_of};
+ghost use Rattle.xa_decide.specs.indexing.Keys.{issuer_key_of, category_key, row_key};
+ghost use Rattle.xa_decide.specs.indexing.Keys.{issued_row_key, row_key_of, issued_row_key_of};
 
 use crate::key::Key;
 use crate::order::Keying;

@@ -83,7 +83,8 @@ impl<'a> Look<'a> {
         members: Option<&Members<'_>>,
     ) -> Result<Looked, AllocError>
         requires { IfSome members (λ members. members.now ≡ attribute.now.values) }
-        ensures { IfOk result (λ found. found ≡ looked self.now.sought.now (if is_named_by self.now.designator.now attribute.now then attribute.now.values.values else [])) }
+        ensures { IfOk result (λ found. found ≡ looked self.now.sought.now
+            (if is_named_by self.now.designator.now attribute.now then attribute.now.values.values else [])) }
     {
         if is_named_by(self.designator, attribute) {
             self.at_values(attribute, members)
@@ -95,7 +96,8 @@ impl<'a> Look<'a> {
     /// A look at the values of the object's attributes.
     #[tactic(auto, using(xa_expr::proofs::LookedLemmas::joined_nothing))]
     fn at_object(&self, object: &IndexedObject<'_>) -> Result<Looked, AllocError>
-        ensures { IfOk result (λ found. found ≡ looked self.now.sought.now (object_values self.now.designator.now object.now)) }
+        ensures { IfOk result (λ found.
+            found ≡ looked self.now.sought.now (object_values self.now.designator.now object.now)) }
     {
         let places = object.places(self.designator);
         let attributes = object.attributes();
@@ -111,7 +113,9 @@ impl<'a> Look<'a> {
 
     /// A look at the values of the object's attributes, if it is of the designator's category.
     fn at_object_of_category(&self, object: &IndexedObject<'_>) -> Result<Looked, AllocError>
-        ensures { IfOk result (λ found. found ≡ looked self.now.sought.now (if bytes_eq object.now.category self.now.designator.now.category then object_values self.now.designator.now object.now else [])) }
+        ensures { IfOk result (λ found. found ≡ looked self.now.sought.now
+            (if bytes_eq object.now.category self.now.designator.now.category
+            then object_values self.now.designator.now object.now else [])) }
     {
         if object.category() == self.designator.category.as_str() {
             self.at_object(object)
@@ -123,7 +127,8 @@ impl<'a> Look<'a> {
     /// A look at the values that the request has.
     #[tactic(auto, unfolding(crate::specs::Context::request_values), using(xa_expr::proofs::LookedLemmas::joined_nothing))]
     pub(crate) fn at_objects(&self, objects: &IndividualObjects<'_>) -> Result<Looked, AllocError>
-        ensures { IfOk result (λ found. found ≡ looked self.now.sought.now (request_values objects.now self.now.designator.now)) }
+        ensures { IfOk result (λ found.
+            found ≡ looked self.now.sought.now (request_values objects.now self.now.designator.now)) }
     {
         let places = objects.places(self.designator.category.as_str());
         let mut so_far = Looked::Nothing;
@@ -137,7 +142,8 @@ impl<'a> Look<'a> {
 
     /// A look at the row's value, if it is a row of the entity's attribute that the designator names.
     fn at_row(&self, entity: &str, row: &SourceRow) -> Result<Looked, AllocError>
-        ensures { IfOk result (λ found. found ≡ looked self.now.sought.now (if is_row entity.now self.now.designator.now row.now then row.now.value ∷ [] else [])) }
+        ensures { IfOk result (λ found. found ≡ looked self.now.sought.now
+            (if is_row entity.now self.now.designator.now row.now then row.now.value ∷ [] else [])) }
     {
         if is_row(entity, self.designator, row) {
             self.work.spend(units_of_looks(units_of(&row.value), 1))?;
@@ -150,7 +156,8 @@ impl<'a> Look<'a> {
     /// A look at the values that the source has of the entity's attribute.
     #[tactic(auto, unfolding(crate::specs::Context::source_values), using(xa_expr::proofs::LookedLemmas::joined_nothing))]
     pub(crate) fn at_source(&self, source: &Source, entity: &str) -> Result<Looked, AllocError>
-        ensures { IfOk result (λ found. found ≡ looked self.now.sought.now (source_values source.now entity.now self.now.designator.now)) }
+        ensures { IfOk result (λ found. found
+            ≡ looked self.now.sought.now (source_values source.now entity.now self.now.designator.now)) }
     {
         let places = source.places(entity, self.designator);
         let rows = source.rows();

@@ -67,7 +67,8 @@ fn text_of(value: &Value) -> &str
 
 /// What the attribute says, if it has the id and its values are texts.
 fn naming_of_attribute<'a>(id: &str, attribute: &'a Attribute) -> Naming<'a>
-    ensures { said_by result ≡ said (if is_named id.now type.String None attribute.now then attribute.now.values.values else []) }
+    ensures { said_by result
+        ≡ said (if is_named id.now type.String None attribute.now then attribute.now.values.values else []) }
 {
     if is_named(id, DataType::String, &None, attribute) {
         Naming::of_values(attribute.values.values())
@@ -79,7 +80,8 @@ fn naming_of_attribute<'a>(id: &str, attribute: &'a Attribute) -> Naming<'a>
 /// What the attributes that have the id and whose values are texts say together.
 #[tactic(auto, using(crate::proofs::NamingLemmas::both_behind, crate::proofs::NamingLemmas::both_none))]
 fn naming_of_attributes<'a>(id: &str, attributes: &'a [Attribute]) -> Naming<'a>
-    ensures { said_by result ≡ said (flat_map (λ a. a.values.values) (filter (is_named id.now type.String None) attributes.now)) }
+    ensures { said_by result
+        ≡ said (flat_map (λ a. a.values.values) (filter (is_named id.now type.String None) attributes.now)) }
 {
     let mut naming = Naming::Nobody;
     for attribute in attributes {

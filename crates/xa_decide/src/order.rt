@@ -125,7 +125,8 @@ pub(crate) fn places_among<'o, K: Keying>(
     key: &Key<'_>,
 ) -> &'o [usize]
     requires { IsOrder K.key_of items.now order.now }
-    ensures { with_key K.key_of key.now (filter_map (slice_get items.now) result.now) ≡ with_key K.key_of key.now items.now }
+    ensures { with_key K.key_of key.now (filter_map (slice_get items.now) result.now)
+        ≡ with_key K.key_of key.now items.now }
 {
     if items.len() <= FEW {
         few_places(items.len())

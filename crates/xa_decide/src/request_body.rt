@@ -7,7 +7,8 @@ use std::marker::Model;
 use xa_profile::{Request, RequestError};
 use xa_value::OrMemory;
 
-/// The body of a request, with what was read of it, so that it is read once whatever is asked of it. Contracts see its bytes.
+/// The body of a request, with what was read of it, so that it is read once whatever is asked of
+/// it. Contracts see its bytes.
 #[derive(Debug, Drop)]
 pub struct RequestBody<'a> {
     bytes: &'a [u8],
@@ -26,7 +27,8 @@ impl<'a> Model for RequestBody<'a> {
 }
 
 impl<'a> RequestBody<'a> {
-    /// Reads the body. Want of memory is the only error: what is no request is kept as such. What this costs grows with the body.
+    /// Reads the body. Want of memory is the only error: what is no request is kept as such. What
+    /// this costs grows with the body.
     pub fn read(alloc: Global, bytes: &'a [u8]) -> Result<RequestBody<'a>, AllocError>
         ensures { IfOk result (λ body. body ≡ bytes.now) }
     {

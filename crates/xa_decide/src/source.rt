@@ -1,5 +1,6 @@
 //! The source of attributes.
-ghost use Rattle.std.specs.Prelude.{◌≡◌, ◌↔◌, true, [], ◌∷◌, ◌++◌, filter, slice_get, IfOk, IsTrue, if◌then◌else◌};
+ghost use Rattle.std.specs.Prelude.{◌≡◌, ◌↔◌, true, [], ◌∷◌, ◌++◌, filter};
+ghost use Rattle.std.specs.Prelude.{slice_get, IfOk, IsTrue, if◌then◌else◌};
 ghost use Rattle.std.specs.List.{filter_map};
 ghost use Rattle.xa_value.specs.Order.{type_of};
 ghost use Rattle.xa_bag.specs.Bag.{bag_of};
@@ -35,7 +36,8 @@ impl Model for Source {
 
     ghost view = { λ s. s.rows };
 
-    ghost invariant = { λ s. IsOrder row_key_of s.rows s.by_row.items × IsOrder issued_row_key_of s.rows s.by_issued_row.items };
+    ghost invariant = { λ s.
+        IsOrder row_key_of s.rows s.by_row.items × IsOrder issued_row_key_of s.rows s.by_issued_row.items };
 }
 
 impl Source {
@@ -74,7 +76,8 @@ impl Source {
     /// Places among which are those of all rows of the entity's attribute that the designator names.
     #[tactic(auto, using(crate::proofs::KeyLemmas::rows_found, crate::proofs::KeyLemmas::issued_rows_found))]
     pub(crate) fn places(&self, entity: &str, designator: &Designator) -> &[usize]
-        ensures { filter (is_row entity.now designator.now) (filter_map (slice_get self.now) result.now) ≡ filter (is_row entity.now designator.now) self.now }
+        ensures { filter (is_row entity.now designator.now) (filter_map (slice_get self.now) result.now)
+            ≡ filter (is_row entity.now designator.now) self.now }
     {
         let category = designator.category.as_str();
         let id = designator.attribute_id.as_str();
@@ -96,7 +99,8 @@ impl Source {
         entity: &str,
         designator: &Designator,
     ) -> Result<Bag, AllocError>
-        ensures { IfOk result (λ bag. bag ≡ bag_of designator.now.data_type (source_values self.now entity.now designator.now)) }
+        ensures { IfOk result (λ bag.
+            bag ≡ bag_of designator.now.data_type (source_values self.now entity.now designator.now)) }
     {
         let places = self.places(entity, designator);
         let rows = self.rows();
@@ -120,7 +124,8 @@ fn push_row(
     row: &SourceRow,
 ) -> Result<(), AllocError>
     requires { bag.old.data_type ≡ designator.now.data_type }
-    ensures { IfOk result (λ _. bag.new ≡ bag_of designator.now.data_type (bag.old.values ++ (if is_row entity.now designator.now row.now then row.now.value ∷ [] else []))) }
+    ensures { IfOk result (λ _. bag.new ≡ bag_of designator.now.data_type
+        (bag.old.values ++ (if is_row entity.now designator.now row.now then row.now.value ∷ [] else []))) }
 {
     if is_row(entity, designator, row) {
         budget.spend(units_of(&row.value))?;

@@ -1,6 +1,7 @@
 //! Whether what is answered is the same at every moment.
 ghost use Rattle.std.specs.Prelude.{◌≡◌};
-ghost use Rattle.xa_decide.specs.Timeless.{ContextsDifferInTheClock, TimelessAnswersStay, TimelessRequestsStay, is_timeless_tree};
+ghost use Rattle.xa_decide.specs.Timeless.{ContextsDifferInTheClock, TimelessAnswersStay};
+ghost use Rattle.xa_decide.specs.Timeless.{TimelessRequestsStay, is_timeless_tree};
 
 use xa_link::LinkError;
 use xa_policy::{Linked, timeless};

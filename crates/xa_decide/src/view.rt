@@ -1,8 +1,10 @@
 //! The view of a domain: what its decisions depend on.
-ghost use Rattle.std.specs.Prelude.{◌≡◌, [], IfOk, None};
+ghost use Rattle.std.specs.Prelude.{◌≡◌, ◌+◌, ◌<◌, [], false, true, IfOk, IsOk, None};
 ghost use Rattle.xa_link.specs.Linking.{link};
+ghost use Rattle.xa_link.specs.Reading.{reading};
 ghost use Rattle.xa_decide.specs.Decision.{tree_of, view_by};
 ghost use Rattle.xa_decide.specs.Places.{counted, places, places_of_all, places_of_tree};
+ghost use Rattle.xa_decide.specs.Reading.{IsNotTooLarge, reading_for};
 ghost use Rattle.xa_decide.specs.Timeless.{is_timeless_tree};
 
 use crate::source::Source;
@@ -54,7 +56,11 @@ fn linked_tree(
     active: &[Active],
     root: &Reference,
 ) -> Result<Result<Linked, LinkError>, AllocError>
-    ensures { IfOk result (λ tree. tree ≡ link active.now root.now) }
+    ensures value { IfOk result (λ tree. tree ≡ link active.now root.now) }
+    ensures read { IfOk result (λ tree.
+        IsOk tree → reader.old.left ≡ reader.new.left + reading active.now root.now) }
+    ensures refused { reader.old.is_spent ≡ false → reader.new.is_spent ≡ true
+        → reader.old.left < reading active.now root.now }
 {
     match link(alloc, reader, active, root) {
         Ok(linked) => Ok(Ok(linked)),
@@ -70,7 +76,11 @@ fn tree_of(
     active: &[Active],
     root: &Option<Reference>,
 ) -> Result<Option<Result<Linked, LinkError>>, AllocError>
-    ensures { IfOk result (λ tree. tree ≡ tree_of active.now root.now) }
+    ensures value { IfOk result (λ tree. tree ≡ tree_of active.now root.now) }
+    ensures read { IfOk result (λ tree.
+        IsNotTooLarge tree → reader.old.left ≡ reader.new.left + reading_for active.now root.now) }
+    ensures refused { reader.old.is_spent ≡ false → reader.new.is_spent ≡ true
+        → reader.old.left < reading_for active.now root.now }
 {
     match root {
         Some(root) => Ok(Some(linked_tree(alloc, reader, active, root)?)),
@@ -118,7 +128,11 @@ impl View {
         root: &Option<Reference>,
         source: Items<SourceRow>,
     ) -> Result<View, AllocError>
-        ensures { IfOk result (λ view. view ≡ view_by active.now root.now source) }
+        ensures value { IfOk result (λ view. view ≡ view_by active.now root.now source) }
+        ensures read { IfOk result (λ view.
+            IsNotTooLarge view.tree → reader.old.left ≡ reader.new.left + reading_for active.now root.now) }
+        ensures refused { reader.old.is_spent ≡ false → reader.new.is_spent ≡ true
+            → reader.old.left < reading_for active.now root.now }
     {
         let source = Source::new(alloc, source)?;
         let tree = tree_of(alloc, reader, active, root)?;

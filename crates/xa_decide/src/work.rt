@@ -135,7 +135,8 @@ impl Work {
         alloc: Global,
         attributes: &'a [Attribute],
     ) -> Result<Option<Vec<Members<'a>>>, AllocError>
-        ensures { IfOk result (λ made. IfSome made (λ members. members.items ≡ map (λ a. a.values) attributes.now)) }
+        ensures { IfOk result (λ made.
+            IfSome made (λ members. members.items ≡ map (λ a. a.values) attributes.now)) }
     {
         match &self.search {
             Search::Scanning(_) => Ok(None),

@@ -1,7 +1,9 @@
+pub mod LedLemmas
 pub mod LinkingLemmas
 pub mod OrderLemmas
 pub mod PlaceLemmas
 pub mod PlacedLemmas
+pub mod ReadingLemmas
 pub mod ResolutionLemmas
 pub mod RoomLemmas
 pub mod StandingLemmas

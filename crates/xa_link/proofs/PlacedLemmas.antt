@@ -1,6 +1,6 @@
 -- A tree by the places that references stand for is the tree by the references.
 use Rattle.std.proofs.Common.{◌≡◌, ℕ, zero, suc, ◌<◌, Bool, true, false, ◌==◌, List, [], ◌∷◌, map, length, get_or, refl, sym, ap, subst, ◌∙◌, arith, slice_get, slice_set, Option, Some, None}
-use Rattle.std.specs.Prelude.{if◌then◌else◌}
+use Rattle.std.specs.Prelude.{if◌then◌else◌, option_map}
 use Rattle.std.specs.Slice.{IsItemAt}
 use Rattle.std.proofs.lemmas.Option.{slice_get-get_or}
 use denote.Ref.{Bor}
@@ -14,12 +14,13 @@ use Rattle.xa_policy.specs.Policy.{PolicyParts, SetParts}
 use Rattle.xa_notation.specs.declared.document.Document.{Document}
 use Rattle.xa_notation.specs.declared.document.Document.TheFolds.{fold-roll-Document, map-Document, ind-Document}
 use Rattle.xa_notation.specs.declared.document.Document.TheOpen.{Document-F}
+use Rattle.xa_notation.specs.declared.document.Parsed.{Parsed}
 use Rattle.xa_link.specs.declared.active.Active.{Active}
 use Rattle.xa_link.specs.declared.placed.Placed.{Placed}
 use Rattle.xa_link.specs.declared.placed.Placed.TheFolds.{fold-roll-Placed}
 use Rattle.xa_link.specs.declared.placed.Placed.TheOpen.{Placed-F}
 use Rattle.xa_link.specs.declared.placed.Placed.TheVariants as part
-use Rattle.xa_link.specs.Linking.{replaced, replaced_step, tree_within}
+use Rattle.xa_link.specs.Linking.{document_at, replaced, replaced_step, tree_within}
 use Rattle.xa_link.specs.Placed.{AreRight, HasPlaced, SamePlaced, held, led_within, linked, linked_step, placed, placed_at, placed_step}
 use Rattle.xa_link.specs.Resolution.{resolve}
 
@@ -73,30 +74,30 @@ document_is more active path = linked_is (led_within more active path) (resolve 
 
 -- ---- what is held
 
-held_is : (documents : List (Option Placed)) (place : ℕ) → held documents place ≡ get_or documents place None
+held_is : (documents : List (Option (Option Placed))) (place : ℕ) → held documents place ≡ get_or documents place None
 held_is [] place = refl
 held_is (o ∷ os) zero = refl
 held_is (o ∷ os) (suc place) = held_is os place
 
-pub set_has : (documents : List (Option Placed)) (place : ℕ) (d : Placed) → place < length documents → HasPlaced documents place d (slice_set documents place (Some d))
+pub set_has : (documents : List (Option (Option Placed))) (place : ℕ) (d : Option Placed) → place < length documents → HasPlaced documents place d (slice_set documents place (Some d))
 set_has documents place d within other = held_is (slice_set documents place (Some d)) other ∙ by_case (other == place) refl where
   by_case : (b : Bool) → (other == place) ≡ b → get_or (slice_set documents place (Some d)) other None ≡ (if b then Some d else held documents other)
   by_case true same = ap (λ p. get_or (slice_set documents place (Some d)) p None) (eqb-true other place same) ∙ get_or-set_same documents place (Some d) None within
   by_case false differ = get_or-set_other documents place other (Some d) None (λ z. grind (arith, nat_tests, differ, z)) ∙ sym (held_is documents other)
 
-pub has_after : (a b c : List (Option Placed)) (place : ℕ) (d : Placed) → SamePlaced a b → HasPlaced b place d c → HasPlaced a place d c
+pub has_after : (a b c : List (Option (Option Placed))) (place : ℕ) (d : Option Placed) → SamePlaced a b → HasPlaced b place d c → HasPlaced a place d c
 has_after a b c place d same has other = has other ∙ ap (λ o. if other == place then Some d else o) (same other)
 
-pub right_same : (active : List Active) (a b : List (Option Placed)) → AreRight active a → SamePlaced a b → AreRight active b
+pub right_same : (active : List Active) (a b : List (Option (Option Placed))) → AreRight active a → SamePlaced a b → AreRight active b
 right_same active a b right same place d there = right place d (sym (same place) ∙ there)
 
-pub right_put : (active : List Active) (a b : List (Option Placed)) (place : ℕ) (d : Placed) → AreRight active a → placed_at active place ≡ Some d → HasPlaced a place d b → AreRight active b
+pub right_put : (active : List Active) (a b : List (Option (Option Placed))) (place : ℕ) (d : Option Placed) → AreRight active a → placed_at active place ≡ d → HasPlaced a place d b → AreRight active b
 right_put active a b place d right here has other e there = by_case (other == place) refl where
-  by_case : (c : Bool) → (other == place) ≡ c → placed_at active other ≡ Some e
+  by_case : (c : Bool) → (other == place) ≡ c → placed_at active other ≡ e
   by_case true same =
       let at : other ≡ place = eqb-true other place same in
-      let put : Some e ≡ Some d = sym there ∙ has other ∙ ap (λ c. if c then Some d else held a other) same in
-      ap (placed_at active) at ∙ here ∙ sym put
+      let same_found : e ≡ d = (let put : Some e ≡ Some d = sym there ∙ has other ∙ ap (λ c. if c then Some d else held a other) same in cc) in
+      ap (placed_at active) at ∙ here ∙ sym same_found
   by_case false differ = right other e (ap (λ c. if c then Some d else held a other) (sym differ) ∙ sym (has other) ∙ there)
 
 -- what is looked up stands at the place
@@ -105,3 +106,11 @@ found_at active place None found at is = absurd (let f : None ≡ Some found = i
 found_at active place (Some other) found at is =
     let same : other ≡ found = (let f : Some other ≡ Some found = is in cc) in
     slice_get-get_or active place other.now at.3.0 ∙ ap Some (sym at.1 ∙ ap (λ (b : Bor Active). b.now) same)
+
+-- what was read stands there
+pub placed_is : (active : List Active) (place : ℕ) (parsed : Parsed) (document : Placed) → document_at active place ≡ Some parsed
+    → document ≡ placed (resolve active) parsed.document → placed_at active place ≡ Some document
+placed_is active place parsed document at is = ap (λ o. option_map (λ (p : Parsed). placed (resolve active) p.document) o) at ∙ ap Some (sym is)
+
+pub none_is : (active : List Active) (place : ℕ) → document_at active place ≡ None → placed_at active place ≡ None
+none_is active place at = ap (λ o. option_map (λ (p : Parsed). placed (resolve active) p.document) o) at

@@ -1,6 +1,7 @@
--- The tree that a reference leads to (XACML 3.0, core, sections 5.10, 5.11 and 7.15): each reference in a document is replaced by the tree
--- of the document for which it stands.
-use Rattle.std.specs.Prelude.{ℕ, zero, suc, ◌+◌, ◌==◌, nat_lt, if◌then◌else◌, List, [], ◌∷◌, sum, Option, Some, None, option_and_then, slice_get, Result, Ok, Err}
+-- The tree that a reference leads to (XACML 3.0, core, sections 5.10, 5.11 and 7.15): each reference in a document is
+-- replaced by the tree of the document for which it stands.
+use Rattle.std.specs.Prelude.{ℕ, zero, suc, ◌+◌, ◌==◌, nat_lt, if◌then◌else◌, List, [], ◌∷◌, sum}
+use Rattle.std.specs.Prelude.{Option, Some, None, option_and_then, slice_get, Result, Ok, Err}
 use Rattle.std.specs.List.{list_any}
 use Rattle.xa_policy.specs.declared.linked.Linked.{Linked, fold-Linked}
 use Rattle.xa_policy.specs.declared.linked.Linked.TheOpen.{Linked-F}
@@ -32,16 +33,18 @@ if_read (Err _) = None
 
 -- the active document at a place, by its text
 abbrev pub document_at : List Active → ℕ → Option Parsed
-document_at active place = option_and_then (λ (document : Active). if_read (document_of document.text)) (slice_get active place)
+document_at active place =
+    option_and_then (λ (document : Active). if_read (document_of document.text)) (slice_get active place)
 
 -- a document in which each reference is replaced
 abbrev pub replaced_in : (Reference → Linked) → Option Parsed → Linked
 replaced_in replacement None = Unresolved
 replaced_in replacement (Some parsed) = replaced replacement parsed.document
 
--- a document to which a path leads back makes a circle. Documents are told apart by their places in the list. Such circles are those of the
--- definition by documents, which tells them apart by kind, id and version: two references that stand for documents of one kind, id and version stand
--- for the document at one place. That is the clause of `one_place_for_each_version` (`OnePlaceForEachVersion` of `specs/Resolution`)
+-- a document to which a path leads back makes a circle. Documents are told apart by their places in the list. Such
+-- circles are those of the definition by documents, which tells them apart by kind, id and version: two references
+-- that stand for documents of one kind, id and version stand for the document at one place. That is the clause of
+-- `one_place_for_each_version` (`OnePlaceForEachVersion` of `specs/Resolution`)
 abbrev pub unless_circular : List ℕ → Option ℕ → Option ℕ
 unless_circular path None = None
 unless_circular path (Some place) = if list_any (λ p. p == place) path then None else Some place

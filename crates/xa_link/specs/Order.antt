@@ -1,5 +1,6 @@
 -- The order in which documents are looked for (cited by contracts of private functions alone).
-use Rattle.std.specs.Prelude.{◌≡◌, ℕ, ◌<◌, Bool, true, false, not, ◌||◌, if◌then◌else◌, List, [], ◌∷◌, length, nat_eq, slice_get, Option, Some, None}
+use Rattle.std.specs.Prelude.{◌≡◌, ℕ, ◌<◌, Bool, true, false, not, ◌||◌, if◌then◌else◌}
+use Rattle.std.specs.Prelude.{List, [], ◌∷◌, length, nat_eq, slice_get, Option, Some, None}
 use Rattle.std.specs.Cmp.Lexicographic.{slice_cmp}
 use Rattle.std.specs.List.{list_any}
 use Rattle.std.specs.List.Sorted.{IsNonDecreasingBy, IsSorted}
@@ -79,7 +80,9 @@ by_version reference v = if is_too_late reference v then Less else if is_too_ear
 
 -- where a document stands to those that may fit
 abbrev pub standing_of : Reference → Active → Ordering
-standing_of reference document = ordering_then (compare_names (name reference.kind reference.id) (name_of document)) (by_version reference document.version)
+standing_of reference document =
+    ordering_then (compare_names (name reference.kind reference.id) (name_of document))
+    (by_version reference document.version)
 
 abbrev pub standing : Reference → Option Active → Ordering
 standing reference None = Greater
@@ -87,7 +90,8 @@ standing reference (Some document) = standing_of reference document
 
 -- the places go from those before what may fit to those behind it
 abbrev pub IsFalling : List Active → Reference → List ℕ → Type 0
-IsFalling active reference places = IsNonDecreasingBy (λ place. ordering_index (standing reference (slice_get active place))) places
+IsFalling active reference places =
+    IsNonDecreasingBy (λ place. ordering_index (standing reference (slice_get active place))) places
 
 -- the document at the place fits
 abbrev pub fits_found : Reference → Option Active → Bool

@@ -1,5 +1,7 @@
--- Documents whose references have given way to places, and the trees that they are linked to (cited by contracts of private functions alone).
-use Rattle.std.specs.Prelude.{◌≡◌, ℕ, zero, suc, ◌==◌, if◌then◌else◌, List, ◌∷◌, Option, Some, None, option_map, slice_get}
+-- Documents whose references have given way to places, and the trees that they are linked to (cited by contracts of
+-- private functions alone).
+use Rattle.std.specs.Prelude.{◌≡◌, ℕ, zero, suc, ◌==◌, if◌then◌else◌, List}
+use Rattle.std.specs.Prelude.{◌∷◌, Option, Some, None, option_map, slice_get}
 use Rattle.xa_policy.specs.declared.linked.Linked.{Linked}
 use Rattle.xa_policy.specs.declared.linked.Linked.TheVariants.{Unresolved, Policy, PolicySet}
 use Rattle.xa_policy.specs.declared.reference.Reference.{Reference}
@@ -24,7 +26,8 @@ placed place_of = fold-Document Placed (placed_step place_of)
 
 -- the active document at a place
 abbrev pub placed_at : List Active → ℕ → Option Placed
-placed_at active place = option_map (λ (parsed : Parsed). placed (resolve active) parsed.document) (document_at active place)
+placed_at active place =
+    option_map (λ (parsed : Parsed). placed (resolve active) parsed.document) (document_at active place)
 
 -- its tree, by what the places lead to
 abbrev pub linked_step : (Option ℕ → Linked) → Placed-F Linked → Linked
@@ -46,18 +49,20 @@ abbrev pub flattened : {X : Type 0} → Option (Option X) → Option X
 flattened (Some o) = o
 flattened None = None
 
--- what is held for a place
-abbrev pub held : List (Option Placed) → ℕ → Option Placed
+-- what was found at a place, where it was looked at: a document, or none
+abbrev pub held : List (Option (Option Placed)) → ℕ → Option (Option Placed)
 held documents place = flattened (slice_get documents place)
 
--- what is held is what stands there
-abbrev pub AreRight : List Active → List (Option Placed) → Type 0
-AreRight active documents = (place : ℕ) (document : Placed) → held documents place ≡ Some document → placed_at active place ≡ Some document
+-- what was found is what stands there
+abbrev pub AreRight : List Active → List (Option (Option Placed)) → Type 0
+AreRight active documents =
+    (place : ℕ) (found : Option Placed) → held documents place ≡ Some found → placed_at active place ≡ found
 
 -- the same is held
-abbrev pub SamePlaced : List (Option Placed) → List (Option Placed) → Type 0
+abbrev pub SamePlaced : List (Option (Option Placed)) → List (Option (Option Placed)) → Type 0
 SamePlaced documents after = (place : ℕ) → held after place ≡ held documents place
 
--- and this one beside
-abbrev pub HasPlaced : List (Option Placed) → ℕ → Placed → List (Option Placed) → Type 0
-HasPlaced documents place document after = (other : ℕ) → held after other ≡ (if other == place then Some document else held documents other)
+-- and this beside
+abbrev pub HasPlaced : List (Option (Option Placed)) → ℕ → Option Placed → List (Option (Option Placed)) → Type 0
+HasPlaced documents place found after =
+    (other : ℕ) → held after other ≡ (if other == place then Some found else held documents other)

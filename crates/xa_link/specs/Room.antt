@@ -11,13 +11,15 @@ use Rattle.xa_link.specs.Linking.{size}
 
 -- a tree, and the room that it leaves
 unfoldable pub fitted : ℕ → Linked → Result (Fitted Linked) LinkError
-fitted room linked = if nat_lt room (size linked) then Err TooLarge else Ok (record { part = linked; room = room - size linked })
+fitted room linked =
+    if nat_lt room (size linked) then Err TooLarge else Ok (record { part = linked; room = room - size linked })
 
 -- trees one after another, and the room that they leave
 abbrev pub all_fitted : ℕ → List Linked → Result (Fitted (List Linked)) LinkError
 all_fitted room [] = Ok (record { part = []; room = room })
 all_fitted room (first ∷ rest) =
-    fitted room first >>= (λ one. all_fitted one.room rest >>= (λ others. Ok (record { part = one.part ∷ others.part; room = others.room })))
+    fitted room first >>= (λ one.
+    all_fitted one.room rest >>= (λ others. Ok (record { part = one.part ∷ others.part; room = others.room })))
 
 -- the room that one policy, or one policy set without its children, leaves
 abbrev pub less_one : ℕ → Result ℕ LinkError
@@ -38,6 +40,7 @@ set_fitted room set children = do
   Ok (record { part = PolicySet set fitting.part; room = fitting.room })
 
 -- others behind those that are there
-abbrev pub fitted_behind : List Linked → Result (Fitted (List Linked)) LinkError → Result (Fitted (List Linked)) LinkError
+abbrev pub fitted_behind : List Linked → Result (Fitted (List Linked)) LinkError
+    → Result (Fitted (List Linked)) LinkError
 fitted_behind before (Ok others) = Ok (record { part = before ++ others.part; room = others.room })
 fitted_behind before (Err e) = Err e

@@ -1,10 +1,13 @@
 //! The tree that a reference leads to.
-ghost use Rattle.std.specs.Prelude.{◌≡◌, ◌≤◌, ◌-◌, ◌∷◌, List, map, None, IfOk, IsTrue};
+ghost use Rattle.std.specs.Prelude.{◌≡◌, ◌≤◌, ◌<◌, ◌+◌, ◌-◌, ◌∷◌, ℕ, false};
+ghost use Rattle.std.specs.Prelude.{true, List, map, None, IfOk, IsTrue};
 ghost use Rattle.xa_value.specs.Gives.{Gives, answered};
 ghost use Rattle.xa_policy.specs.declared.linked.Linked.TheVariants.{Unresolved};
 ghost use Rattle.xa_link.specs.declared.active.Active.{Active as Document};
 ghost use Rattle.xa_link.specs.Linking.{document_at, link, replaced_in, tree_within, unless_circular};
 ghost use Rattle.xa_link.specs.Placed.{led_within, linked};
+ghost use Rattle.xa_link.specs.Progress.{Counted, led_at, led_from, led_from_all, led_to_within};
+ghost use Rattle.xa_link.specs.Reading.{reading};
 ghost use Rattle.xa_link.specs.Resolution.{resolve};
 ghost use Rattle.xa_link.specs.Room.{all_fitted, fitted, policy_fitted, set_fitted};
 
@@ -42,14 +45,17 @@ pub fn link(
 ) -> Result<Linked, OrMemory<LinkError>>
     ensures value { Gives result (link active.now root.now) }
     ensures exact { resolve active.now root.now ≡ None → result ≡ answered (link active.now root.now) }
+    ensures read { IfOk result (λ _. reader.old.left ≡ reader.new.left + reading active.now root.now) }
+    ensures refused { reader.old.is_spent ≡ false → reader.new.is_spent ≡ true
+        → reader.old.left < reading active.now root.now }
 {
-    let mut resolved = Resolved::new(alloc, reader, active);
+    let mut resolved = Resolved::new(alloc, active);
     let place = resolve(active, root);
     let path = Path {
         places: &[],
         more: MAX_DOCUMENTS,
     };
-    let fitted = linked_reference(&mut resolved, &path, place, MAX_SIZE)?;
+    let fitted = linked_reference(&mut resolved, reader, &path, place, MAX_SIZE)?;
     Ok(fitted.part)
 }
 
@@ -76,9 +82,12 @@ fn unless_circular(path: &[usize], place: Option<usize>) -> Option<usize>
 /// Whether the part of a document is a reference that leads to nothing at the end of the path: to no
 /// document, back to one on the path, or one too far. That such a part is unresolved is all that is
 /// proved: where this says false, a part that leads to nothing is linked as any other, to the same leaf.
-#[tactic(auto, using(crate::proofs::LinkingLemmas::no_further, crate::proofs::LinkingLemmas::nowhere))]
+#[tactic(auto, using(crate::proofs::LinkingLemmas::no_further, crate::proofs::LinkingLemmas::nowhere, crate::proofs::LedLemmas::unread_no_further, crate::proofs::LedLemmas::unread_nowhere))]
 fn leads_nowhere(path: &Path<'_>, part: &Placed) -> bool
-    ensures { IsTrue result → (active : List Document) → linked (led_within path.now.more active path.now.places.now) part.now ≡ Unresolved }
+    ensures leaf { IsTrue result → (active : List Document)
+        → linked (led_within path.now.more active path.now.places.now) part.now ≡ Unresolved }
+    ensures unread { IsTrue result → (active : List Document) (place : ℕ)
+        → led_from path.now.more active path.now.places.now part.now place ≡ false }
 {
     match part {
         Placed::Reference(place) => {
@@ -129,20 +138,26 @@ fn linked_policy(
 #[cycle(linking)]
 #[tactic(auto, using(crate::proofs::RoomLemmas::unresolved_fits))]
 fn linked_reference(
-    resolved: &mut Resolved<'_, '_>,
+    resolved: &mut Resolved<'_>,
+    reader: &mut TextReader<'_>,
     path: &Path<'_>,
     place: Option<usize>,
     room: usize,
 ) -> Result<Fitted<Linked>, OrMemory<LinkError>>
-    ensures value { Gives result (fitted room (led_within path.now.more resolved.old path.now.places.now place)) }
-    ensures exact { unless_circular path.now.places.now place ≡ None → result ≡ answered (fitted room (led_within path.now.more resolved.old path.now.places.now place)) }
-    ensures kept { resolved.new ≡ resolved.old }
+    ensures value { Gives result
+        (fitted room (led_within path.now.more resolved.old.active path.now.places.now place)) }
+    ensures exact { unless_circular path.now.places.now place ≡ None
+        → result
+        ≡ answered (fitted room (led_within path.now.more resolved.old.active path.now.places.now place)) }
+    ensures kept { resolved.new.active ≡ resolved.old.active }
+    ensures read { Counted result (led_to_within path.now.more resolved.old.active path.now.places.now place)
+        resolved.old resolved.new reader.old reader.new }
 {
     if path.more == 0 {
         return Ok(leaf(room));
     }
     match unless_circular(path.places, place) {
-        Some(place) => linked_active(resolved, path, place, room),
+        Some(place) => linked_active(resolved, reader, path, place, room),
         None => Ok(leaf(room)),
     }
 }
@@ -150,16 +165,21 @@ fn linked_reference(
 /// The tree of the active document at the place, which is one more on the path.
 #[cycle(linking)]
 fn linked_active(
-    resolved: &mut Resolved<'_, '_>,
+    resolved: &mut Resolved<'_>,
+    reader: &mut TextReader<'_>,
     path: &Path<'_>,
     place: usize,
     room: usize,
 ) -> Result<Fitted<Linked>, OrMemory<LinkError>>
     requires { 1 ≤ path.now.more }
-    ensures value { Gives result (fitted room (replaced_in (tree_within (path.now.more - 1) resolved.old (place ∷ path.now.places.now)) (document_at resolved.old place))) }
-    ensures kept { resolved.new ≡ resolved.old }
+    ensures value { Gives result (fitted room
+        (replaced_in (tree_within (path.now.more - 1) resolved.old.active (place ∷ path.now.places.now))
+        (document_at resolved.old.active place))) }
+    ensures kept { resolved.new.active ≡ resolved.old.active }
+    ensures read { Counted result (led_at (path.now.more - 1) resolved.old.active path.now.places.now place)
+        resolved.old resolved.new reader.old reader.new }
 {
-    let Some(document) = resolved.document_at(place)? else {
+    let Some(document) = resolved.document_at(reader, place)? else {
         return Ok(leaf(room));
     };
     let places = longer_path(resolved.alloc(), place, path.places)?;
@@ -167,26 +187,31 @@ fn linked_active(
         places: places.as_slice(),
         more: path.more - 1,
     };
-    linked_document(resolved, &longer, document.get(), room)
+    linked_document(resolved, reader, &longer, document.get(), room)
 }
 
 /// The document, or a part of one, in which each reference is replaced.
 #[cycle(linking)]
 fn linked_document(
-    resolved: &mut Resolved<'_, '_>,
+    resolved: &mut Resolved<'_>,
+    reader: &mut TextReader<'_>,
     path: &Path<'_>,
     document: &Placed,
     room: usize,
 ) -> Result<Fitted<Linked>, OrMemory<LinkError>>
-    ensures value { Gives result (fitted room (linked (led_within path.now.more resolved.old path.now.places.now) document.now)) }
-    ensures kept { resolved.new ≡ resolved.old }
+    ensures value { Gives result (fitted room
+        (linked (led_within path.now.more resolved.old.active path.now.places.now) document.now)) }
+    ensures kept { resolved.new.active ≡ resolved.old.active }
+    ensures read { Counted result
+        (led_from path.now.more resolved.old.active path.now.places.now document.now)
+        resolved.old resolved.new reader.old reader.new }
 {
     match document {
         Placed::Policy(policy) => linked_policy(policy, room),
         Placed::PolicySet(set, children) => {
-            linked_set(resolved, path, set, children.as_slice(), room)
+            linked_set(resolved, reader, path, set, children.as_slice(), room)
         }
-        Placed::Reference(place) => linked_reference(resolved, path, *place, room),
+        Placed::Reference(place) => linked_reference(resolved, reader, path, *place, room),
     }
 }
 
@@ -194,17 +219,23 @@ fn linked_document(
 #[cycle(linking)]
 #[tactic(auto, unfolding(crate::specs::Room::set_fitted))]
 fn linked_set(
-    resolved: &mut Resolved<'_, '_>,
+    resolved: &mut Resolved<'_>,
+    reader: &mut TextReader<'_>,
     path: &Path<'_>,
     set: &Shared<PolicySet>,
     children: &[Placed],
     room: usize,
 ) -> Result<Fitted<Linked>, OrMemory<LinkError>>
-    ensures value { Gives result (set_fitted room set.now (map (linked (led_within path.now.more resolved.old path.now.places.now)) children.now)) }
-    ensures kept { resolved.new ≡ resolved.old }
+    ensures value { Gives result
+        (set_fitted room set.now
+        (map (linked (led_within path.now.more resolved.old.active path.now.places.now)) children.now)) }
+    ensures kept { resolved.new.active ≡ resolved.old.active }
+    ensures read { Counted result
+        (led_from_all path.now.more resolved.old.active path.now.places.now children.now)
+        resolved.old resolved.new reader.old reader.new }
 {
     let room = less_one(room)?;
-    let children = linked_children(resolved, path, children, room)?;
+    let children = linked_children(resolved, reader, path, children, room)?;
     Ok(Fitted {
         part: Linked::PolicySet(set.clone()?, Boxed::new(resolved.alloc(), children.part)?),
         room: children.room,
@@ -215,13 +246,18 @@ fn linked_set(
 #[cycle(linking)]
 #[tactic(auto, using(crate::proofs::RoomLemmas::part_behind))]
 fn linked_children(
-    resolved: &mut Resolved<'_, '_>,
+    resolved: &mut Resolved<'_>,
+    reader: &mut TextReader<'_>,
     path: &Path<'_>,
     children: &[Placed],
     room: usize,
 ) -> Result<Fitted<Items<Linked>>, OrMemory<LinkError>>
-    ensures value { Gives result (all_fitted room (map (linked (led_within path.now.more resolved.old path.now.places.now)) children.now)) }
-    ensures kept { resolved.new ≡ resolved.old }
+    ensures value { Gives result (all_fitted room
+        (map (linked (led_within path.now.more resolved.old.active path.now.places.now)) children.now)) }
+    ensures kept { resolved.new.active ≡ resolved.old.active }
+    ensures read { Counted result
+        (led_from_all path.now.more resolved.old.active path.now.places.now children.now)
+        resolved.old resolved.new reader.old reader.new }
 {
     let mut parts = Items::from_vec(Vec::with_capacity(resolved.alloc(), children.len())?);
     let mut room = room;
@@ -229,7 +265,7 @@ fn linked_children(
         if leads_nowhere(path, child) {
             parts.push(Linked::Unresolved)?;
         } else {
-            let fitted = linked_document(resolved, path, child, room)?;
+            let fitted = linked_document(resolved, reader, path, child, room)?;
             parts.push(fitted.part)?;
             room = fitted.room;
         }

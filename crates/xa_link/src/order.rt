@@ -1,7 +1,9 @@
 //! The order in which documents are looked for: those of one kind and id together, the newest of them first.
 ghost use Rattle.std.specs.Prelude.{◌≡◌, slice_get, IfOk};
 ghost use Rattle.std.specs.Option.{option_cmp};
-ghost use Rattle.xa_link.specs.Order.{IsOrder, by_pattern, by_version, compare_documents, compare_names, compare_places, is_after_pattern, is_before_pattern, is_too_early, is_too_late, name, name_of, standing, standing_of};
+ghost use Rattle.xa_link.specs.Order.{IsOrder, by_pattern, by_version, compare_documents, compare_names};
+ghost use Rattle.xa_link.specs.Order.{compare_places, is_after_pattern, is_before_pattern};
+ghost use Rattle.xa_link.specs.Order.{is_too_early, is_too_late, name, name_of, standing, standing_of};
 
 use crate::active::Active;
 use crate::resolution::{not_after, not_before};
@@ -35,7 +37,8 @@ fn compare_documents(first: &Active, second: &Active) -> Ordering
 
 /// How the documents at two places compare, where there are any.
 fn compare_found(active: &[Active], first: usize, second: usize) -> Ordering
-    ensures { result ≡ option_cmp compare_documents (slice_get active.now first) (slice_get active.now second) }
+    ensures { result
+        ≡ option_cmp compare_documents (slice_get active.now first) (slice_get active.now second) }
 {
     let Some(document) = active.get(first) else {
         return if second < active.len() {

@@ -1,7 +1,8 @@
 //! Which document a reference stands for.
 ghost use Rattle.std.specs.Prelude.{◌≡◌, ◌<◌, true, length, slice_index_or, IfSome, MatchOption};
 ghost use Rattle.xa_policy.specs.Version.{is_before};
-ghost use Rattle.xa_link.specs.Resolution.{OnePlaceForEachVersion, matches, fits_pattern, not_before, not_after, fits, resolve};
+ghost use Rattle.xa_link.specs.Resolution.{OnePlaceForEachVersion, matches, fits_pattern};
+ghost use Rattle.xa_link.specs.Resolution.{not_before, not_after, fits, resolve};
 
 use crate::active::Active;
 use xa_policy::{Pattern, PatternPart, Reference, Version};
@@ -70,7 +71,8 @@ pub(crate) fn fits(reference: &Reference, document: &Active) -> bool
 /// Whether the document is of a later version than the one at the place, if there is any.
 fn is_later(active: &[Active], document: &Active, found: Option<usize>) -> bool
     requires { IfSome found (λ place. place < length active.now) }
-    ensures { MatchOption found (result ≡ true) (λ place. result ≡ is_before (slice_index_or active.now place document.now).version document.now.version) }
+    ensures { MatchOption found (result ≡ true) (λ place.
+        result ≡ is_before (slice_index_or active.now place document.now).version document.now.version) }
 {
     match found {
         Some(place) => active[place].version < document.version,

@@ -1,9 +1,12 @@
 //! Active documents, each of which is read, and its references resolved, when it is first wanted, and
 //! once at most.
-ghost use Rattle.std.specs.Prelude.{◌≡◌, ◌<◌, length, slice_get, option_map, Some, None, IfOk, OnErr};
+ghost use Rattle.std.specs.Prelude.{◌≡◌, ◌≤◌, ◌<◌, ◌==◌, [], length, slice_get};
+ghost use Rattle.std.specs.Prelude.{option_map, Some, None, IfOk, OnErr};
 ghost use Rattle.xa_notation.specs.Document.{document_of};
+ghost use Rattle.xa_shelf.specs.Allowance.{asked};
 ghost use Rattle.xa_link.specs.Linking.{document_at, if_read};
 ghost use Rattle.xa_link.specs.Placed.{AreRight, HasPlaced, SamePlaced, held, placed_at};
+ghost use Rattle.xa_link.specs.Progress.{Counted, length_at};
 ghost use Rattle.xa_link.specs.Resolution.{resolve};
 
 use crate::active::Active;
@@ -15,30 +18,32 @@ use xa_notation::Parsed;
 use xa_shelf::TextReader;
 use xa_value::{OrMemory, Shared};
 
-/// Active documents with what reads them, and those of them that were read and whose references have
-/// been resolved, by their places. Clauses see the active documents.
+/// Active documents, and what was found at those of their places that were looked at: the document, its
+/// references resolved, or none where the text isn't one. Clauses see the active documents, and which of
+/// them were read.
 #[derive(Drop)]
-pub(crate) struct Resolved<'a, 't> {
+pub(crate) struct Resolved<'a> {
     alloc: Global,
-    reader: &'a mut TextReader<'t>,
     index: Index<'a>,
-    documents: Vec<Option<Shared<Placed>>>,
+    documents: Vec<Option<Option<Shared<Placed>>>>,
 }
 
-impl<'a, 't> Model for Resolved<'a, 't> {
-    ghost use Rattle.std.specs.Prelude.{List};
-    ghost use Rattle.xa_link.specs.declared.active.Active.{Active as Document};
+impl<'a> Model for Resolved<'a> {
     ghost use Rattle.xa_link.specs.Placed.{AreRight};
+    ghost use Rattle.xa_link.specs.Progress.{Progress, marks};
 
-    ghost Value = { List Document };
+    ghost Value = { Progress };
 
-    ghost view = { λ r. r.index };
+    ghost view = { λ r. record { active = r.index; read = marks r.documents.items } };
 
     ghost invariant = { λ r. AreRight r.index r.documents.items };
 }
 
 /// Makes the place one of those that documents may be at.
-fn make_room(documents: &mut Vec<Option<Shared<Placed>>>, place: usize) -> Result<(), AllocError>
+fn make_room(
+    documents: &mut Vec<Option<Option<Shared<Placed>>>>,
+    place: usize,
+) -> Result<(), AllocError>
     ensures same { SamePlaced documents.old.items documents.new.items }
     ensures room { IfOk result (λ _. place < length documents.new.items) }
 {
@@ -48,36 +53,48 @@ fn make_room(documents: &mut Vec<Option<Shared<Placed>>>, place: usize) -> Resul
     Ok(())
 }
 
-/// Keeps the document at the place.
+/// Keeps what was found at the place.
 fn keep(
-    documents: &mut Vec<Option<Shared<Placed>>>,
+    documents: &mut Vec<Option<Option<Shared<Placed>>>>,
     place: usize,
-    document: Shared<Placed>,
+    found: Option<Shared<Placed>>,
 ) -> Result<(), AllocError>
-    ensures ok { IfOk result (λ _. HasPlaced documents.old.items place document documents.new.items) }
+    ensures ok { IfOk result (λ _. HasPlaced documents.old.items place found documents.new.items) }
     ensures err { OnErr result (SamePlaced documents.old.items documents.new.items) }
 {
     make_room(documents, place)?;
-    documents[place] = Some(document);
+    documents[place] = Some(found);
     Ok(())
 }
 
-/// The document at the place, where its references have been resolved.
-fn resolved_at(
-    documents: &[Option<Shared<Placed>>],
+/// A share of the document, if there is one.
+fn share_of(found: &Option<Shared<Placed>>) -> Result<Option<Shared<Placed>>, AllocError>
+    ensures { IfOk result (λ share. share ≡ found.now) }
+{
+    match found {
+        Some(document) => Ok(Some(document.clone()?)),
+        None => Ok(None),
+    }
+}
+
+/// What was found at the place, where it was looked at.
+fn found_at(
+    documents: &[Option<Option<Shared<Placed>>>],
     place: usize,
-) -> Result<Option<Shared<Placed>>, AllocError>
-    ensures { IfOk result (λ document. document ≡ held documents.now place) }
+) -> Result<Option<Option<Shared<Placed>>>, AllocError>
+    ensures { IfOk result (λ found. found ≡ held documents.now place) }
 {
     match documents.get(place) {
-        Some(Some(document)) => Ok(Some(document.clone()?)),
+        Some(Some(found)) => Ok(Some(share_of(found)?)),
         _ => Ok(None),
     }
 }
 
 /// The document that the text is, if it is one.
 fn read_if(reader: &mut TextReader<'_>, text: &[u8]) -> Result<Option<Shared<Parsed>>, AllocError>
-    ensures { IfOk result (λ document. document ≡ if_read (document_of text.now)) }
+    ensures value { IfOk result (λ document. document ≡ if_read (document_of text.now)) }
+    ensures spends { reader.new ≡ asked (length text.now) reader.old }
+    ensures within { IfOk result (λ _. length text.now ≤ reader.old.left) }
 {
     match reader.read(text) {
         Ok(document) => Ok(Some(document)),
@@ -92,7 +109,9 @@ fn read_at(
     reader: &mut TextReader<'_>,
     place: usize,
 ) -> Result<Option<Shared<Parsed>>, AllocError>
-    ensures { IfOk result (λ document. document ≡ document_at active.now place) }
+    ensures value { IfOk result (λ document. document ≡ document_at active.now place) }
+    ensures spends { reader.new ≡ asked (length_at active.now place) reader.old }
+    ensures within { IfOk result (λ _. length_at active.now place ≤ reader.old.left) }
 {
     match active.get(place) {
         Some(found) => read_if(reader, found.text.as_slice()),
@@ -100,39 +119,55 @@ fn read_at(
     }
 }
 
-impl<'a, 't> Resolved<'a, 't> {
+/// The document at the place, which is read, with places for its references.
+#[tactic(auto, using(crate::proofs::PlacedLemmas::placed_is, crate::proofs::PlacedLemmas::none_is))]
+fn placed_at<'a>(
+    alloc: Global,
+    index: &mut Index<'a>,
+    reader: &mut TextReader<'_>,
+    place: usize,
+) -> Result<Option<Shared<Placed>>, AllocError>
+    ensures value { IfOk result (λ document. document ≡ placed_at index.old place) }
+    ensures kept { index.new ≡ index.old }
+    ensures spends { reader.new ≡ asked (length_at index.old place) reader.old }
+    ensures within { IfOk result (λ _. length_at index.old place ≤ reader.old.left) }
+{
+    let Some(parsed) = read_at(index.active(), reader, place)? else {
+        return Ok(None);
+    };
+    let document = with_places(alloc, index, parsed.get().document())?;
+    Ok(Some(Shared::new(alloc, document)?))
+}
+
+impl<'a> Resolved<'a> {
     /// No reference is resolved yet, and nothing allocated.
-    pub(crate) fn new(
-        alloc: Global,
-        reader: &'a mut TextReader<'t>,
-        active: &'a [Active],
-    ) -> Resolved<'a, 't>
-        ensures { result ≡ active.now }
+    pub(crate) fn new(alloc: Global, active: &'a [Active]) -> Resolved<'a>
+        ensures { result ≡ record { active = active.now; read = [] } }
     {
         Resolved {
             alloc,
-            reader,
             index: Index::new(alloc, active),
             documents: Vec::new(alloc),
         }
     }
 
     /// The document at the place, with places for its references. It is read when it is first wanted,
-    /// and once.
-    pub(crate) fn document_at(&mut self, place: usize) -> Result<Option<Shared<Placed>>, AllocError>
-        ensures value { IfOk result (λ document. document ≡ placed_at self.old place) }
-        ensures kept { self.new ≡ self.old }
+    /// and once, also where its text isn't a document.
+    pub(crate) fn document_at(
+        &mut self,
+        reader: &mut TextReader<'_>,
+        place: usize,
+    ) -> Result<Option<Shared<Placed>>, AllocError>
+        ensures value { IfOk result (λ document. document ≡ placed_at self.old.active place) }
+        ensures kept { self.new.active ≡ self.old.active }
+        ensures read { Counted result (λ other. other == place) self.old self.new reader.old reader.new }
     {
-        if let Some(document) = resolved_at(self.documents.as_slice(), place)? {
-            return Ok(Some(document));
+        if let Some(found) = found_at(self.documents.as_slice(), place)? {
+            return Ok(found);
         }
-        let Some(parsed) = read_at(self.index.active(), self.reader, place)? else {
-            return Ok(None);
-        };
-        let document = with_places(self.alloc, &mut self.index, parsed.get().document())?;
-        let document = Shared::new(self.alloc, document)?;
-        keep(&mut self.documents, place, document.clone()?)?;
-        Ok(Some(document))
+        let found = placed_at(self.alloc, &mut self.index, reader, place)?;
+        keep(&mut self.documents, place, share_of(&found)?)?;
+        Ok(found)
     }
 
     /// The allocator.

@@ -18,7 +18,8 @@ Changes old new (Ok x) name change = IsMade change name old new
 Changes old new (Err (Refused e)) name change = (change (state_of name old) ≡ Err e) × (new ≡ old)
 Changes old new (Err (Failed failure)) name change = new ≡ old
 
--- what a crash may leave after a call that was to make a change: what it might have left before, or all with that change made
+-- what a crash may leave after a call that was to make a change: what it might have left before, or all with that
+-- change made
 abbrev pub Leaves : (Kept → Type 0) → (Kept → Type 0) → Kept → List ℕ → Change → Type 0
 Leaves before after old name change = (left : Kept) → after left → before left ⊎ IsMade change name old left
 
@@ -75,7 +76,8 @@ pub record Reading {X : Type 0} (old new : Custody) (result : Result X Failure) 
   pub goes_on : new.clean → old.sound → IsErrOf result Store → IsTrue new.is_open → new.sound
 
 -- a call makes a change of the domain of that name
-pub record Changing {X : Type 0} (old new : Custody) (result : Result X ChangeError) (name : List ℕ) (change : Change) : Type 0 where
+pub record Changing {X : Type 0} (old new : Custody) (result : Result X ChangeError) (name : List ℕ) (change : Change)
+    : Type 0 where
   pub does : new.sound → Changes old.kept new.kept result name change
   pub sound : new.sound → old.sound
   pub clean : new.clean → old.clean
@@ -88,4 +90,5 @@ pub record Changing {X : Type 0} (old new : Custody) (result : Result X ChangeEr
 
 -- the keeper in memory: always sound and open, and a crash leaves nothing
 abbrev pub in_memory : Kept → ℕ → Custody
-in_memory kept faults = record { kept = kept; sound = Unit {0}; clean = Unit {0}; may_leave = λ _. ⊥; faults = faults; is_open = true }
+in_memory kept faults =
+    record { kept = kept; sound = Unit {0}; clean = Unit {0}; may_leave = λ _. ⊥; faults = faults; is_open = true }

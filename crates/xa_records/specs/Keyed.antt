@@ -20,5 +20,6 @@ key_in text = key_if (document_of text)
 -- each text is a document of the key under which it is kept
 abbrev pub KeepsDocuments : Kept → Type 0
 KeepsDocuments kept =
-    (name : List ℕ) (domain : Domain) → get kept.domains name ≡ Some domain → (key : DocumentKey) (document : StoredDocument) → get domain.state.documents key ≡ Some document
+    (name : List ℕ) (domain : Domain) → get kept.domains name ≡ Some domain
+    → (key : DocumentKey) (document : StoredDocument) → get domain.state.documents key ≡ Some document
     → key_in document.text ≡ Some key

@@ -1,5 +1,6 @@
 -- What the contracts of the keeper in memory cite beside the trait's.
-use Rattle.std.specs.Prelude.{◌≡◌, ℕ, Bool, List, bytes_eq, if◌then◌else◌, map, filter, Option, Some, None, Result, Ok, Err}
+use Rattle.std.specs.Prelude.{◌≡◌, ℕ, Bool, List, bytes_eq, if◌then◌else◌}
+use Rattle.std.specs.Prelude.{map, filter, Option, Some, None, Result, Ok, Err}
 use Rattle.std.specs.FinMap.{FinMap, get, insert}
 use Rattle.xa_policy.specs.declared.document_key.DocumentKey.{DocumentKey}
 use Rattle.xa_policy.specs.DocumentKey.{compare_keys}
@@ -25,7 +26,8 @@ RaisesTo number (Err Store) = IsGreatest number
 RaisesTo number (Err Memory) = ⊥
 
 -- the documents where that one is active or not
-abbrev pub active_at : DocumentKey → Bool → FinMap compare_keys StoredDocument → Option StoredDocument → FinMap compare_keys StoredDocument
+abbrev pub active_at : DocumentKey → Bool → FinMap compare_keys StoredDocument → Option StoredDocument
+    → FinMap compare_keys StoredDocument
 active_at key active documents None = documents
 active_at key active documents (Some document) = insert documents key (record { text = document.text; active = active })
 
@@ -46,14 +48,18 @@ active_among documents = map active_text (filter (λ entry. entry.1.active) docu
 
 -- the domain has gone over into that state
 abbrev pub GoesOver : Domain → Domain → DomainState → Type 0
-GoesOver old new state = (epoch : ℕ) × IsNextEpoch old.state state old.epoch epoch × (new ≡ record { number = old.number; epoch = epoch; state = state })
+GoesOver old new state =
+    (epoch : ℕ) × IsNextEpoch old.state state old.epoch epoch
+    × (new ≡ record { number = old.number; epoch = epoch; state = state })
 
 -- the change of one domain has been made, or is refused, or has failed; and then nothing has changed
-abbrev pub Alters : {X : Type 0} → (DomainState → Result DomainState Refusal) → Domain → Domain → Result X ChangeError → Type 0
+abbrev pub Alters : {X : Type 0} → (DomainState → Result DomainState Refusal) → Domain → Domain
+    → Result X ChangeError → Type 0
 Alters change old new (Ok x) = (state : DomainState) × (change old.state ≡ Ok state) × GoesOver old new state
 Alters change old new (Err (Refused e)) = (change old.state ≡ Err e) × (new ≡ old)
 Alters change old new (Err (Failed failure)) = new ≡ old
 
 -- the change of one domain is not refused, and would have to raise its epoch, which is the greatest
 abbrev pub CantRaiseEpoch : (DomainState → Result DomainState Refusal) → Domain → Type 0
-CantRaiseEpoch change old = (state : DomainState) × (change old.state ≡ Ok state) × (¬ DecidesAlike old.state state) × IsGreatest old.epoch
+CantRaiseEpoch change old =
+    (state : DomainState) × (change old.state ≡ Ok state) × (¬ DecidesAlike old.state state) × IsGreatest old.epoch

@@ -16,7 +16,8 @@ token_of entry = record { digest = entry.0; role = entry.1 }
 
 -- the number, the epoch and the tokens of a domain
 abbrev pub gate_of_domain : Domain → Gate
-gate_of_domain domain = record { number = domain.number; epoch = domain.epoch; tokens = map token_of (entries domain.state.tokens) }
+gate_of_domain domain =
+    record { number = domain.number; epoch = domain.epoch; tokens = map token_of (entries domain.state.tokens) }
 
 abbrev pub gate_of : List ℕ → Kept → Option Gate
 gate_of name kept = option_map gate_of_domain (get kept.domains name)

@@ -22,7 +22,7 @@ pub use gate::{Gate, Token};
 pub use kept_view::KeptView;
 pub use limits::{MAX_DOCUMENTS, MAX_SOURCE_ROWS, MAX_TOKENS, may_be_kept};
 pub use listed::Listed;
-pub use listing::{kind_name, write_listing, write_names};
+pub use listing::{write_listing, write_names};
 pub use plain::PlainRecords;
 pub use records::Records;
 pub use refusal::{ChangeError, Failure, Refusal, count_failure};

@@ -4,25 +4,13 @@ ghost use Rattle.json.specs.Token.{key, string};
 ghost use Rattle.serde_json.specs.Data.{string as string_data};
 ghost use Rattle.xa_profile.specs.Response.{listing};
 ghost use Rattle.xa_profile.specs.writing.Tokens.{Appends, tokens};
-ghost use Rattle.xa_records.specs.Listing.{listed_data, listing_body, name_of_kind, names_body};
+ghost use Rattle.xa_records.specs.Listing.{listed_data, listing_body, names_body};
 
 use crate::listed::Listed;
 use json::Writer;
 use std::alloc::{AllocError, Global};
-use xa_policy::DocumentKind;
 use xa_profile::{ToJson, write_items};
 use xa_value::Text;
-
-/// The name of a kind of document, in listings and in paths: `policy` or `policyset`.
-#[tactic(auto, unfolding(crate::specs::Listing::name_of_kind))]
-pub fn kind_name(kind: DocumentKind) -> &'static str
-    ensures { result.now ≡ name_of_kind kind }
-{
-    match kind {
-        DocumentKind::Policy => "policy",
-        DocumentKind::PolicySet => "policyset",
-    }
-}
 
 /// Writes a text as a member.
 fn write_text(out: &mut Writer, name: &str, text: &str) -> Result<(), AllocError>
@@ -41,7 +29,7 @@ impl ToJson for Listed {
         out.key("Active")?;
         out.boolean(self.active)?;
         write_text(out, "Id", self.key.id.as_str())?;
-        write_text(out, "Kind", kind_name(self.key.kind))?;
+        write_text(out, "Kind", self.key.kind.name())?;
         write_text(out, "Version", version.as_str())?;
         out.end_object()
     }

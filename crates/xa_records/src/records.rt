@@ -1,6 +1,7 @@
 //! The keeper of what is kept of all domains.
 ghost use Rattle.std.specs.Prelude.{◌≡◌, IsTrue, IfOk};
-ghost use Rattle.xa_records.specs.Changes.{activity_set, created, deleted, removed, root_set, source_set, token_dropped, token_put, upload_of, uploaded, within};
+ghost use Rattle.xa_records.specs.Changes.{activity_set, created, deleted, removed, root_set, source_set};
+ghost use Rattle.xa_records.specs.Changes.{token_dropped, token_put, upload_of, uploaded, within};
 ghost use Rattle.xa_records.specs.DomainName.{is_domain_name};
 ghost use Rattle.xa_records.specs.DomainState.{IsDocumentOf};
 ghost use Rattle.xa_records.specs.Keeper.{Changing, Custody, Reading};
@@ -44,11 +45,13 @@ pub trait Records {
 
     /// The domain's number, its epoch and its tokens; nothing, if there is no such domain.
     fn gate(&mut self, alloc: Global, name: &Text) -> Result<Option<Gate>, Failure>
-        ensures { Reading (custody self.old) (custody self.new) result (gate_of name.now (custody self.old).kept) };
+        ensures { Reading (custody self.old) (custody self.new) result
+            (gate_of name.now (custody self.old).kept) };
 
     /// What decides in the domain; nothing, if there is no such domain.
     fn view(&mut self, alloc: Global, name: &Text) -> Result<Option<KeptView>, Failure>
-        ensures { Reading (custody self.old) (custody self.new) result (view_of name.now (custody self.old).kept) };
+        ensures { Reading (custody self.old) (custody self.new) result
+            (view_of name.now (custody self.old).kept) };
 
     /// The text of the document as it was uploaded; nothing, if there is no such domain or document.
     fn document(
@@ -57,11 +60,13 @@ pub trait Records {
         name: &Text,
         key: &DocumentKey,
     ) -> Result<Option<Items<u8>>, Failure>
-        ensures { Reading (custody self.old) (custody self.new) result (text_of name.now key.now (custody self.old).kept) };
+        ensures { Reading (custody self.old) (custody self.new) result
+            (text_of name.now key.now (custody self.old).kept) };
 
     /// The domain's documents, in the order of their keys; nothing, if there is no such domain.
     fn list(&mut self, alloc: Global, name: &Text) -> Result<Option<Items<Listed>>, Failure>
-        ensures { Reading (custody self.old) (custody self.new) result (listing_of name.now (custody self.old).kept) };
+        ensures { Reading (custody self.old) (custody self.new) result
+            (listing_of name.now (custody self.old).kept) };
 
     /// The names of all domains, in the order of their bytes.
     fn domains(&mut self, alloc: Global) -> Result<Items<Text>, Failure>
@@ -86,11 +91,13 @@ pub trait Records {
         digest: Digest,
         role: Role,
     ) -> Result<(), ChangeError>
-        ensures { Changing (custody self.old) (custody self.new) result name.now (within (token_put digest role)) };
+        ensures { Changing (custody self.old) (custody self.new) result name.now
+            (within (token_put digest role)) };
 
     /// Takes a token away. Refused with `Absent`, also where the domain has no such token.
     fn drop_token(&mut self, alloc: Global, name: &Text, digest: Digest) -> Result<(), ChangeError>
-        ensures { Changing (custody self.old) (custody self.new) result name.now (within (token_dropped digest)) };
+        ensures { Changing (custody self.old) (custody self.new) result name.now
+            (within (token_dropped digest)) };
 
     /// Adds a document, which isn't active at first. The very text again changes nothing. Refused with
     /// `Absent`, with `SameVersionOtherText`, and with `Quota` where the domain has 1,024 others.
@@ -102,8 +109,10 @@ pub trait Records {
         text: &[u8],
     ) -> Result<Upload, ChangeError>
         requires { IsDocumentOf key text.now }
-        ensures does { Changing (custody self.old) (custody self.new) result name.now (within (uploaded key text.now)) }
-        ensures which { (custody self.new).sound → IfOk result (λ u. u ≡ upload_of key (state_of name.now ((custody self.old).kept))) };
+        ensures does { Changing (custody self.old) (custody self.new) result name.now
+            (within (uploaded key text.now)) }
+        ensures which { (custody self.new).sound
+            → IfOk result (λ u. u ≡ upload_of key (state_of name.now ((custody self.old).kept))) };
 
     /// Makes the document active, so that references may resolve to it, or inactive. Refused with
     /// `Absent`, also where there is no such document.
@@ -114,7 +123,8 @@ pub trait Records {
         key: &DocumentKey,
         active: bool,
     ) -> Result<(), ChangeError>
-        ensures { Changing (custody self.old) (custody self.new) result name.now (within (activity_set key.now active)) };
+        ensures { Changing (custody self.old) (custody self.new) result name.now
+            (within (activity_set key.now active)) };
 
     /// Deletes a document. Refused with `Absent`, also where there is no such document, and with
     /// `StillActive`.
@@ -149,5 +159,6 @@ pub trait Records {
     ghost numbered: { (s : Self) → (custody s).sound → IsNumbered (custody s).kept };
 
     /// Law: a crash leaves what is kept, and nothing else.
-    ghost settled: { (s : Self) → (custody s).sound → (left : Kept) → (custody s).may_leave left → left ≡ (custody s).kept };
+    ghost settled: { (s : Self) → (custody s).sound → (left : Kept) → (custody s).may_leave left
+        → left ≡ (custody s).kept };
 }

@@ -1,5 +1,6 @@
 -- Items by their keys.
-use Rattle.std.specs.Prelude.{◌≡◌, ℕ, Bool, false, ◌&&◌, ◌==◌, nat_le, List, filter, length, Option, Some, option_map, bytes_eq, slice_get}
+use Rattle.std.specs.Prelude.{◌≡◌, ℕ, Bool, false, ◌&&◌, ◌==◌, nat_le, List, filter}
+use Rattle.std.specs.Prelude.{length, Option, Some, option_map, bytes_eq, slice_get}
 use Rattle.std.specs.Cmp.Lexicographic.{slice_cmp}
 use Rattle.std.specs.List.{range_with_len}
 use Rattle.std.specs.List.Sorted.{IsSortedByKey, IsStableByKey}
@@ -16,17 +17,25 @@ pub record Sought : Type 0 where
   pub fourth : List ℕ
 
 abbrev pub sought : ℕ → List ℕ → List ℕ → List ℕ → List ℕ → Sought
-sought number first second third fourth = record { number = number; first = first; second = second; third = third; fourth = fourth }
+sought number first second third fourth =
+    record { number = number; first = first; second = second; third = third; fourth = fourth }
 
 abbrev pub compare_texts : List ℕ → List ℕ → Ordering
 compare_texts = slice_cmp nat_cmp
 
 -- by the number, and then by the texts
 abbrev pub compare_keys : Sought → Sought → Ordering
-compare_keys = then_cmp (then_cmp (then_cmp (then_cmp (on (λ k. k.number) nat_cmp) (on (λ k. k.first) compare_texts)) (on (λ k. k.second) compare_texts)) (on (λ k. k.third) compare_texts)) (on (λ k. k.fourth) compare_texts)
+compare_keys =
+    then_cmp
+    (then_cmp (then_cmp (then_cmp (on (λ k. k.number) nat_cmp) (on (λ k. k.first) compare_texts))
+    (on (λ k. k.second) compare_texts))
+    (on (λ k. k.third) compare_texts))
+    (on (λ k. k.fourth) compare_texts)
 
 abbrev pub equal_keys : Sought → Sought → Bool
-equal_keys j k = ((((j.number == k.number) && bytes_eq j.first k.first) && bytes_eq j.second k.second) && bytes_eq j.third k.third) && bytes_eq j.fourth k.fourth
+equal_keys j k =
+    ((((j.number == k.number) && bytes_eq j.first k.first) && bytes_eq j.second k.second) && bytes_eq j.third k.third)
+    && bytes_eq j.fourth k.fourth
 
 -- the key of the item at a place
 abbrev pub key_at : {X : Type 0} → (X → Sought) → List X → ℕ → Option Sought

@@ -1,5 +1,6 @@
 //! The documents of a domain, in memory.
-ghost use Rattle.std.specs.Prelude.{◌≡◌, ℕ, List, false, map, nat_lt, filter, IfOk, OnOk, OnErr, Some, None, option_map};
+ghost use Rattle.std.specs.Prelude.{◌≡◌, ℕ, List, false, map, nat_lt, filter};
+ghost use Rattle.std.specs.Prelude.{IfOk, OnOk, OnErr, Some, None, option_map};
 ghost use Rattle.std.specs.FinMap.{contains_key, empty, entries, get, insert, len, remove};
 ghost use Rattle.xa_records.specs.DomainState.{StoredDocument};
 ghost use Rattle.xa_records.specs.Plain.{active_among, with_activity};

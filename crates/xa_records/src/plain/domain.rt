@@ -2,7 +2,8 @@
 ghost use Rattle.std.specs.Prelude.{◌≡◌, IfOk, IsErrOf, Some};
 ghost use Rattle.xa_records.specs.declared.refusal.ChangeError.TheVariants.{Failed};
 ghost use Rattle.xa_records.specs.declared.refusal.Failure.TheVariants.{Store};
-ghost use Rattle.xa_records.specs.Changes.{activity_set, deleted, root_set, source_set, token_dropped, token_put, upload_of, uploaded};
+ghost use Rattle.xa_records.specs.Changes.{activity_set, deleted, root_set, source_set};
+ghost use Rattle.xa_records.specs.Changes.{token_dropped, token_put, upload_of, uploaded};
 ghost use Rattle.xa_records.specs.DomainState.{new_domain};
 ghost use Rattle.xa_records.specs.Plain.{activity_at, Alters, CantRaiseEpoch, upload_again};
 ghost use Rattle.xa_records.specs.Readings.{gate_of_domain, listing_of_state, text_in, view_of_state};
@@ -49,9 +50,14 @@ impl Model for PlainDomain {
 
     ghost Value = { Domain };
 
-    ghost coded = { Prim.hlevel (codes, held.the_row.coded, stored.the_row.coded, reference.the_row.coded, row.the_row.coded) };
+    ghost coded = { Prim.hlevel
+        (codes, held.the_row.coded, stored.the_row.coded, reference.the_row.coded, row.the_row.coded) };
 
-    ghost view = { λ d. record { number = d.number; epoch = d.epoch; state = record { tokens = d.tokens; documents = d.documents; root = d.root; source = d.source } } };
+    ghost view = { λ d. record {
+      number = d.number;
+      epoch = d.epoch;
+      state = record { tokens = d.tokens; documents = d.documents; root = d.root; source = d.source };
+    } };
 }
 
 impl PlainDomain {
@@ -192,7 +198,8 @@ impl PlainDomain {
     /// Says whether references may resolve to the document of that key.
     pub(crate) fn set_active(&mut self, key: &DocumentKey, active: bool) -> Result<(), ChangeError>
         ensures does { Alters (activity_set key.now active) self.old self.new result }
-        ensures store { IsErrOf result (Failed Store) → CantRaiseEpoch (activity_set key.now active) self.old }
+        ensures store { IsErrOf result (Failed Store)
+            → CantRaiseEpoch (activity_set key.now active) self.old }
     {
         let before = self.activity_of(key)?;
         if is_same_activity(before, active) {

@@ -2,7 +2,8 @@
 ghost use Rattle.std.specs.Prelude.{◌≡◌, ◌+◌, ◌<◌, ◌≤◌, ◌^◌, ◌⊎◌, IfOk, OnOk, IsErrOf};
 ghost use Rattle.xa_records.specs.declared.refusal.ChangeError.TheVariants.{Failed};
 ghost use Rattle.xa_records.specs.declared.refusal.Failure.TheVariants.{Store};
-ghost use Rattle.xa_records.specs.Changes.{activity_set, created, deleted, removed, root_set, source_set, token_dropped, token_put, upload_of, uploaded, within};
+ghost use Rattle.xa_records.specs.Changes.{activity_set, created, deleted, removed, root_set, source_set};
+ghost use Rattle.xa_records.specs.Changes.{token_dropped, token_put, upload_of, uploaded, within};
 ghost use Rattle.xa_records.specs.Keeper.{Changes};
 ghost use Rattle.xa_records.specs.Kept.{CantRaise, IsGreatest, names_of, nothing_kept, one_kept, state_of};
 ghost use Rattle.xa_records.specs.Readings.{gate_of, listing_of, text_of, view_of};
@@ -39,7 +40,8 @@ impl Model for Domains {
 
     ghost Value = { Kept };
 
-    ghost coded = { Prim.hlevel (codes, finite.code {R = compare_bytes} (coded_list coded_ℕ) domain.the_row.coded) };
+    ghost coded = { Prim.hlevel
+        (codes, finite.code {R = compare_bytes} (coded_list coded_ℕ) domain.the_row.coded) };
 
     ghost view = { λ d. record { domains = finite.from_entries d.by_name.entries; next = d.next } };
 }
@@ -198,7 +200,8 @@ impl Domains {
     ) -> Result<Upload, ChangeError>
         ensures does { Changes self.old self.new result name.now (within (uploaded key text.now)) }
         ensures which { IfOk result (λ u. u ≡ upload_of key (state_of name.now self.old)) }
-        ensures store { IsErrOf result (Failed Store) → CantRaise (within (uploaded key text.now)) name.now self.old }
+        ensures store { IsErrOf result (Failed Store)
+            → CantRaise (within (uploaded key text.now)) name.now self.old }
     {
         let Some(domain) = self.by_name.get_mut(name) else {
             return Err(ChangeError::Refused(Refusal::Absent));
@@ -214,7 +217,8 @@ impl Domains {
         active: bool,
     ) -> Result<(), ChangeError>
         ensures does { Changes self.old self.new result name.now (within (activity_set key.now active)) }
-        ensures store { IsErrOf result (Failed Store) → CantRaise (within (activity_set key.now active)) name.now self.old }
+        ensures store { IsErrOf result (Failed Store)
+            → CantRaise (within (activity_set key.now active)) name.now self.old }
     {
         let Some(domain) = self.by_name.get_mut(name) else {
             return Err(ChangeError::Refused(Refusal::Absent));
@@ -225,7 +229,8 @@ impl Domains {
     /// Deletes the document of that key, which must not be active.
     pub(crate) fn delete(&mut self, name: &Text, key: &DocumentKey) -> Result<(), ChangeError>
         ensures does { Changes self.old self.new result name.now (within (deleted key.now)) }
-        ensures store { IsErrOf result (Failed Store) → CantRaise (within (deleted key.now)) name.now self.old }
+        ensures store { IsErrOf result (Failed Store)
+            → CantRaise (within (deleted key.now)) name.now self.old }
     {
         let Some(domain) = self.by_name.get_mut(name) else {
             return Err(ChangeError::Refused(Refusal::Absent));
@@ -255,7 +260,8 @@ impl Domains {
         rows: Items<SourceRow>,
     ) -> Result<(), ChangeError>
         ensures does { Changes self.old self.new result name.now (within (source_set rows)) }
-        ensures store { IsErrOf result (Failed Store) → CantRaise (within (source_set rows)) name.now self.old }
+        ensures store { IsErrOf result (Failed Store)
+            → CantRaise (within (source_set rows)) name.now self.old }
     {
         let Some(domain) = self.by_name.get_mut(name) else {
             return Err(ChangeError::Refused(Refusal::Absent));

@@ -2,10 +2,12 @@
 ghost use Rattle.std.specs.Prelude.{◌≡◌, ◌≤◌, ◌^◌, ◌⊎◌, IfOk, IsErrOf};
 ghost use Rattle.xa_records.specs.declared.refusal.ChangeError.TheVariants.{Failed};
 ghost use Rattle.xa_records.specs.declared.refusal.Failure.TheVariants.{Store};
-ghost use Rattle.xa_records.specs.Changes.{activity_set, created, deleted, removed, root_set, source_set, token_dropped, token_put, upload_of, uploaded, within};
+ghost use Rattle.xa_records.specs.Changes.{activity_set, created, deleted, removed, root_set, source_set};
+ghost use Rattle.xa_records.specs.Changes.{token_dropped, token_put, upload_of, uploaded, within};
 ghost use Rattle.xa_records.specs.DomainState.{IsDocumentOf};
 ghost use Rattle.xa_records.specs.Keeper.{Changing, Reading, in_memory};
-ghost use Rattle.xa_records.specs.Kept.{CantRaise, IsGreatest, IsNumbered, names_of, nothing_kept, one_kept, state_of};
+ghost use Rattle.xa_records.specs.Kept.{CantRaise, IsGreatest, IsNumbered};
+ghost use Rattle.xa_records.specs.Kept.{names_of, nothing_kept, one_kept, state_of};
 ghost use Rattle.xa_records.specs.Keyed.{KeepsDocuments};
 ghost use Rattle.xa_records.specs.Readings.{gate_of, listing_of, text_of, view_of};
 ghost use Rattle.std.proofs.Props.{props};
@@ -57,7 +59,8 @@ impl PlainRecords {
         number: u64,
         epoch: u64,
     ) -> Result<PlainRecords, Failure>
-        ensures kept { IfOk result (λ r. (⟦<PlainRecords as Records>⟧.custody r).kept ≡ one_kept name number epoch) }
+        ensures kept { IfOk result (λ r.
+            (⟦<PlainRecords as Records>⟧.custody r).kept ≡ one_kept name number epoch) }
         ensures sound { IfOk result (λ r. (⟦<PlainRecords as Records>⟧.custody r).sound) }
         ensures faults { IfOk result (λ r. (⟦<PlainRecords as Records>⟧.custody r).faults ≡ 0) }
         ensures store { IsErrOf result Store → IsGreatest number ⊎ (2 ^ 63 ≤ epoch) }
@@ -79,16 +82,16 @@ impl Records for PlainRecords {
     }
 
     fn gate(&mut self, alloc: Global, name: &Text) -> Result<Option<Gate>, Failure>
-        ensures reads { Reading (in_memory self.old.domains self.old.faults) (in_memory self.new.domains self.new.faults)
-            result (gate_of name.now self.old.domains) }
+        ensures reads { Reading (in_memory self.old.domains self.old.faults)
+            (in_memory self.new.domains self.new.faults) result (gate_of name.now self.old.domains) }
         ensures store { ¬ IsErrOf result Store }
     {
         Ok(self.domains.gate(alloc, name)?)
     }
 
     fn view(&mut self, alloc: Global, name: &Text) -> Result<Option<KeptView>, Failure>
-        ensures reads { Reading (in_memory self.old.domains self.old.faults) (in_memory self.new.domains self.new.faults)
-            result (view_of name.now self.old.domains) }
+        ensures reads { Reading (in_memory self.old.domains self.old.faults)
+            (in_memory self.new.domains self.new.faults) result (view_of name.now self.old.domains) }
         ensures store { ¬ IsErrOf result Store }
     {
         Ok(self.domains.view(alloc, name)?)
@@ -100,32 +103,32 @@ impl Records for PlainRecords {
         name: &Text,
         key: &DocumentKey,
     ) -> Result<Option<Items<u8>>, Failure>
-        ensures reads { Reading (in_memory self.old.domains self.old.faults) (in_memory self.new.domains self.new.faults)
-            result (text_of name.now key.now self.old.domains) }
+        ensures reads { Reading (in_memory self.old.domains self.old.faults)
+            (in_memory self.new.domains self.new.faults) result (text_of name.now key.now self.old.domains) }
         ensures store { ¬ IsErrOf result Store }
     {
         Ok(self.domains.document(alloc, name, key)?)
     }
 
     fn list(&mut self, alloc: Global, name: &Text) -> Result<Option<Items<Listed>>, Failure>
-        ensures reads { Reading (in_memory self.old.domains self.old.faults) (in_memory self.new.domains self.new.faults)
-            result (listing_of name.now self.old.domains) }
+        ensures reads { Reading (in_memory self.old.domains self.old.faults)
+            (in_memory self.new.domains self.new.faults) result (listing_of name.now self.old.domains) }
         ensures store { ¬ IsErrOf result Store }
     {
         Ok(self.domains.list(alloc, name)?)
     }
 
     fn domains(&mut self, alloc: Global) -> Result<Items<Text>, Failure>
-        ensures reads { Reading (in_memory self.old.domains self.old.faults) (in_memory self.new.domains self.new.faults)
-            result (names_of self.old.domains) }
+        ensures reads { Reading (in_memory self.old.domains self.old.faults)
+            (in_memory self.new.domains self.new.faults) result (names_of self.old.domains) }
         ensures store { ¬ IsErrOf result Store }
     {
         Ok(self.domains.names(alloc)?)
     }
 
     fn create(&mut self, alloc: Global, name: &Text) -> Result<(), ChangeError>
-        ensures does { Changing (in_memory self.old.domains self.old.faults) (in_memory self.new.domains self.new.faults)
-            result name.now created }
+        ensures does { Changing (in_memory self.old.domains self.old.faults)
+            (in_memory self.new.domains self.new.faults) result name.now created }
         ensures store { IsErrOf result (Failed Store) → CantRaise created name.now self.old.domains }
     {
         let done = self.domains.create(alloc, name);
@@ -134,8 +137,8 @@ impl Records for PlainRecords {
     }
 
     fn remove(&mut self, _alloc: Global, name: &Text) -> Result<(), ChangeError>
-        ensures does { Changing (in_memory self.old.domains self.old.faults) (in_memory self.new.domains self.new.faults)
-            result name.now removed }
+        ensures does { Changing (in_memory self.old.domains self.old.faults)
+            (in_memory self.new.domains self.new.faults) result name.now removed }
         ensures store { ¬ IsErrOf result (Failed Store) }
     {
         let done = self.domains.remove(name);
@@ -150,8 +153,8 @@ impl Records for PlainRecords {
         digest: Digest,
         role: Role,
     ) -> Result<(), ChangeError>
-        ensures does { Changing (in_memory self.old.domains self.old.faults) (in_memory self.new.domains self.new.faults)
-            result name.now (within (token_put digest role)) }
+        ensures does { Changing (in_memory self.old.domains self.old.faults)
+            (in_memory self.new.domains self.new.faults) result name.now (within (token_put digest role)) }
         ensures store { ¬ IsErrOf result (Failed Store) }
     {
         let done = self.domains.put_token(name, digest, role);
@@ -160,8 +163,8 @@ impl Records for PlainRecords {
     }
 
     fn drop_token(&mut self, _alloc: Global, name: &Text, digest: Digest) -> Result<(), ChangeError>
-        ensures does { Changing (in_memory self.old.domains self.old.faults) (in_memory self.new.domains self.new.faults)
-            result name.now (within (token_dropped digest)) }
+        ensures does { Changing (in_memory self.old.domains self.old.faults)
+            (in_memory self.new.domains self.new.faults) result name.now (within (token_dropped digest)) }
         ensures store { ¬ IsErrOf result (Failed Store) }
     {
         let done = self.domains.drop_token(name, digest);
@@ -177,10 +180,11 @@ impl Records for PlainRecords {
         text: &[u8],
     ) -> Result<Upload, ChangeError>
         requires { IsDocumentOf key text.now }
-        ensures does { Changing (in_memory self.old.domains self.old.faults) (in_memory self.new.domains self.new.faults)
-            result name.now (within (uploaded key text.now)) }
+        ensures does { Changing (in_memory self.old.domains self.old.faults)
+            (in_memory self.new.domains self.new.faults) result name.now (within (uploaded key text.now)) }
         ensures which { IfOk result (λ u. u ≡ upload_of key (state_of name.now self.old.domains)) }
-        ensures store { IsErrOf result (Failed Store) → CantRaise (within (uploaded key text.now)) name.now self.old.domains }
+        ensures store { IsErrOf result (Failed Store)
+            → CantRaise (within (uploaded key text.now)) name.now self.old.domains }
     {
         let done = self.domains.upload(name, alloc, key, text);
         count_failure(&mut self.faults, &done);
@@ -194,9 +198,11 @@ impl Records for PlainRecords {
         key: &DocumentKey,
         active: bool,
     ) -> Result<(), ChangeError>
-        ensures does { Changing (in_memory self.old.domains self.old.faults) (in_memory self.new.domains self.new.faults)
-            result name.now (within (activity_set key.now active)) }
-        ensures store { IsErrOf result (Failed Store) → CantRaise (within (activity_set key.now active)) name.now self.old.domains }
+        ensures does { Changing
+            (in_memory self.old.domains self.old.faults) (in_memory self.new.domains self.new.faults) result
+            name.now (within (activity_set key.now active)) }
+        ensures store { IsErrOf result (Failed Store)
+            → CantRaise (within (activity_set key.now active)) name.now self.old.domains }
     {
         let done = self.domains.set_active(name, key, active);
         count_failure(&mut self.faults, &done);
@@ -204,9 +210,10 @@ impl Records for PlainRecords {
     }
 
     fn delete(&mut self, _alloc: Global, name: &Text, key: &DocumentKey) -> Result<(), ChangeError>
-        ensures does { Changing (in_memory self.old.domains self.old.faults) (in_memory self.new.domains self.new.faults)
-            result name.now (within (deleted key.now)) }
-        ensures store { IsErrOf result (Failed Store) → CantRaise (within (deleted key.now)) name.now self.old.domains }
+        ensures does { Changing (in_memory self.old.domains self.old.faults)
+            (in_memory self.new.domains self.new.faults) result name.now (within (deleted key.now)) }
+        ensures store { IsErrOf result (Failed Store)
+            → CantRaise (within (deleted key.now)) name.now self.old.domains }
     {
         let done = self.domains.delete(name, key);
         count_failure(&mut self.faults, &done);
@@ -219,9 +226,10 @@ impl Records for PlainRecords {
         name: &Text,
         root: Option<Reference>,
     ) -> Result<(), ChangeError>
-        ensures does { Changing (in_memory self.old.domains self.old.faults) (in_memory self.new.domains self.new.faults)
-            result name.now (within (root_set root)) }
-        ensures store { IsErrOf result (Failed Store) → CantRaise (within (root_set root)) name.now self.old.domains }
+        ensures does { Changing (in_memory self.old.domains self.old.faults)
+            (in_memory self.new.domains self.new.faults) result name.now (within (root_set root)) }
+        ensures store { IsErrOf result (Failed Store)
+            → CantRaise (within (root_set root)) name.now self.old.domains }
     {
         let done = self.domains.set_root(name, root);
         count_failure(&mut self.faults, &done);
@@ -234,9 +242,10 @@ impl Records for PlainRecords {
         name: &Text,
         rows: Items<SourceRow>,
     ) -> Result<(), ChangeError>
-        ensures does { Changing (in_memory self.old.domains self.old.faults) (in_memory self.new.domains self.new.faults)
-            result name.now (within (source_set rows)) }
-        ensures store { IsErrOf result (Failed Store) → CantRaise (within (source_set rows)) name.now self.old.domains }
+        ensures does { Changing (in_memory self.old.domains self.old.faults)
+            (in_memory self.new.domains self.new.faults) result name.now (within (source_set rows)) }
+        ensures store { IsErrOf result (Failed Store)
+            → CantRaise (within (source_set rows)) name.now self.old.domains }
     {
         let done = self.domains.set_source(name, rows);
         count_failure(&mut self.faults, &done);

@@ -1,38 +1,36 @@
-use Rattle.std.proofs.Common.{rules, ◌≡◌, Some, option_map, sym, ap, ◌∙◌}
-use Rattle.xa_notation.specs.declared.document.Parsed.{Parsed}
-use Rattle.xa_link.specs.Linking.{document_at}
-use Rattle.xa_link.specs.Placed.{placed, placed_at}
-use Rattle.xa_link.specs.Resolution.{resolve}
-use Rattle.xa_link.proofs.PlacedLemmas.{right_put, right_same}
+-- What was found before is neither read nor counted again.
+use Rattle.std.proofs.Common.{rules, ◌≡◌, ◌==◌, false, true, None, Some, Err, sym, ap, ◌∙◌}
+use Rattle.std.specs.Prelude.{is_some}
+use Rattle.xa_link.specs.Placed.{held, placed_at}
+use Rattle.xa_link.specs.Progress.{is_read, marks}
+use Rattle.xa_link.proofs.PlacedLemmas.{right_same}
+use Rattle.xa_link.proofs.ReadingLemmas.{counted_err, marks_is, marks_put, one_read, one_refused, read_before}
 use Rattle.xa_link.proofs.resolved.Resolved.document_at.Goals as goal
 
--- reading documents leaves the index and what was read before
-pub invariant_of-self-in_err-document-3 : goal.invariant_of-self-in_err-document-3
-invariant_of-self-in_err-document-3 c = rw c.in_ok-document-2.ensures.kept c.self.invariant
+pub returns-in-Some-clause-read : goal.returns-in-Some-clause-read
+returns-in-Some-clause-read c =
+    let at : held c.self.inside.documents.items c.args.place ≡ Some c.in-Some.found = search rules in
+    let is : is_read (marks c.self.inside.documents.items) c.args.place ≡ true = marks_is c.self.inside.documents.items c.args.place ∙ ap is_some at in
+    rw (← c.self.view_is) (read_before (record { active = c.self.inside.index; read = marks c.self.inside.documents.items }) c.args.reader.now c.args.place is)
 
-pub invariant_of-self-in_err-clone : goal.invariant_of-self-in_err-clone
-invariant_of-self-in_err-clone c = rw c.in_ok-document-2.ensures.kept c.self.invariant
+pub returns-in_err-found-2-clause-read : goal.returns-in_err-found-2-clause-read
+returns-in_err-found-2-clause-read c =
+    let at : held c.self.inside.documents.items c.args.place ≡ None = search rules in
+    let unread : is_read (marks c.self.inside.documents.items) c.args.place ≡ false = marks_is c.self.inside.documents.items c.args.place ∙ ap is_some at in
+    let fails : c.from_residual-in_err-found-2.result ≡ Err c.in_err-found-2.field-0.0 = search rules in
+    rw (← c.self.view_is) (
+    counted_err (λ other. other == c.args.place) (record { active = c.self.inside.index; read = marks c.self.inside.documents.items }) _ c.args.reader.now c.placed_at.new.reader
+    c.from_residual-in_err-found-2.result c.in_err-found-2.field-0.0 fails
+    (one_refused (record { active = c.self.inside.index; read = marks c.self.inside.documents.items }) c.args.reader.now c.placed_at.new.reader c.args.place unread c.in_err-found-2.ensures.spends))
 
 pub invariant_of-self-in_err-keep : goal.invariant_of-self-in_err-keep
-invariant_of-self-in_err-keep c =
-    rw c.in_ok-document-2.ensures.kept (right_same c.self.inside.index _ _ c.self.invariant c.in_err-keep.ensures.err)
+invariant_of-self-in_err-keep c = rw c.in_ok-found-2.ensures.kept (right_same c.self.inside.index _ _ c.self.invariant c.in_err-keep.ensures.err)
 
-pub invariant_of-self-2 : goal.invariant_of-self-2
-invariant_of-self-2 c =
-    let at : document_at c.self.inside.index c.args.place ≡ Some c.in-Some-2.parsed = search rules in
-    let document : c.in_ok-document-2.document ≡ placed (resolve c.self.inside.index) c.in-Some-2.parsed.document =
-    c.in_ok-document-2.ensures.value ∙ ap (placed (resolve c.self.inside.index)) (c.document.ensures ∙ ap (λ (p : Parsed). p.document) c.get.ensures) in
-    let copy : c.in_ok-clone.field-0 ≡ c.in_ok-document-2.document = search rules in
-    let there : placed_at c.self.inside.index c.args.place ≡ Some c.in_ok-clone.field-0 =
-    ap (λ o. option_map (λ (p : Parsed). placed (resolve c.self.inside.index) p.document) o) at ∙ ap Some (sym document ∙ sym copy) in
-    rw c.in_ok-document-2.ensures.kept (right_put c.self.inside.index _ _ c.args.place c.in_ok-clone.field-0 c.self.invariant there c.in_ok-keep.ensures.ok)
-
-pub returns-clause-value : goal.returns-clause-value
-returns-clause-value c =
-    let at : document_at c.self.inside.index c.args.place ≡ Some c.in-Some-2.parsed = search rules in
-    let document : c.in_ok-document-2.document ≡ placed (resolve c.self.inside.index) c.in-Some-2.parsed.document =
-    c.in_ok-document-2.ensures.value ∙ ap (placed (resolve c.self.inside.index)) (c.document.ensures ∙ ap (λ (p : Parsed). p.document) c.get.ensures) in
-    let same : c.in_ok-document-3.document ≡ c.in_ok-document-2.document = search rules in
-    let there : placed_at c.self.inside.index c.args.place ≡ Some c.in_ok-document-3.document =
-    ap (λ o. option_map (λ (p : Parsed). placed (resolve c.self.inside.index) p.document) o) at ∙ ap Some (sym document ∙ sym same) in
-    rw (← c.self.view_is) (sym there)
+pub returns-clause-read : goal.returns-clause-read
+returns-clause-read c =
+    let at : held c.self.inside.documents.items c.args.place ≡ None = search rules in
+    let unread : is_read (marks c.self.inside.documents.items) c.args.place ≡ false = marks_is c.self.inside.documents.items c.args.place ∙ ap is_some at in
+    rw (← c.self.view_is) (
+    one_read (record { active = c.self.inside.index; read = marks c.self.inside.documents.items }) c.args.reader.now c.placed_at.new.reader c.args.place unread c.in_ok-found-2.ensures.spends
+    (record { active = c.placed_at.new.index; read = marks c.keep.new.documents.items }) c.in_ok-found-2.ensures.kept
+    (marks_put c.self.inside.documents.items c.keep.new.documents.items c.args.place _ c.in_ok-keep.ensures.ok) c.in_ok-found-2.ensures.within)

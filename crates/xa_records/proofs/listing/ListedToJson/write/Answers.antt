@@ -9,7 +9,7 @@ pub returns : goal.returns
 unfolding listed_data
 returns c =
     let id = rw c.as_str.ensures at c.in_ok-write_text.ensures.1 in
-    let kind = rw c.kind_name.ensures at c.in_ok-write_text-2.ensures.1 in
+    let kind = rw c.name.ensures at c.in_ok-write_text-2.ensures.1 in
     let version = rw (c.as_str-2.ensures, c.in_ok-version.ensures) at c.in_ok-write_text-3.ensures.1 in
     on_ok_weaker c.end_object.result
     (λ (end : c.end_object.new.self.tokens ≡ c.write_text-3.new.out.tokens ++ end_object ∷ []). (
