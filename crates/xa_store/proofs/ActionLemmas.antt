@@ -1,17 +1,11 @@
 -- On which rows foreign keys act: on those of a domain that goes, and on no others.
 use Rattle.std.proofs.Common.{◌≡◌, ℕ, List, [], ◌∷◌, flat_map, filter_map, length, Bool, true, false, ◌&&◌, ◌==◌, cond, Some, None, refl, ap, ◌∙◌}
-use Rattle.std.specs.List.{list_any}
-use Rattle.sqlite.specs.Order.{Row}
-use Rattle.sqlite.specs.Table.{Table}
+use Rattle.xa_store.proofs.Common.{list_any, Row, Table, parent_key, Enforced, Work, deed_for, loses, pairs, work_by, works, our_schema}
 use Rattle.sqlite_schema.specs.Names.{same_name}
-use Rattle.sqlite_schema.specs.Rules.{parent_key}
-use Rattle.sqlite_schema.specs.declared.schema.Keys.TheVariants.{Enforced}
 use Rattle.sqlite_schema.specs.declared.schema.Reference.{Reference}
 use Rattle.sqlite_value.specs.Keys.{joined}
 use Rattle.sqlite_value.specs.declared.keys.Order.{Order}
-use Rattle.sqlite_rules.specs.Action.{Work, deed_for, loses, pairs, work_by, works}
 use Rattle.sqlite_rules.specs.declared.action.Deed.TheVariants.{Delete}
-use Rattle.xa_store.specs.Tables.{our_schema}
 
 abbrev pub rowids_order : Order
 rowids_order = record { digits = 0 }

@@ -1,23 +1,12 @@
 -- A transaction that is begun and undone, over tables of any schema, and what is judged in it.
 use Rattle.std.proofs.Common.{◌≡◌, ◌≢◌, ◌⊎◌, inl, inr, ℕ, List, [], codes, true, false, cond, None, Bool, Ok, Err, Result, IsTrue, IfErr, refl, sym, ap, subst, subst₂, ◌∙◌, true≢false, arith}
 use Rattle.sqlite.specs.Clock.{timed}
-use Rattle.sqlite.specs.Command.{Command}
-use Rattle.sqlite.specs.Command.TheVariants.{Begin, Rollback}
-use Rattle.sqlite.specs.Given.{IsPlain}
+use Rattle.xa_store.proofs.Common.{Command, Begin, Rollback, IsPlain, Row, Schema, State, HasCleanDisk, Executes, IsRolledBack, MayCommit, Survives, Trees, command_of, runs_as, survives_then, survives_weaker, OpenError, SchemaVersion, schema_of, RestsIn, SameNow}
 use Rattle.sqlite.specs.Listing.{understood}
-use Rattle.sqlite.specs.Order.{Row}
-use Rattle.sqlite.specs.Schema.{Schema}
-use Rattle.sqlite.specs.State.{State, HasCleanDisk, CommitsBy, Executes, IsRolledBack, MayCommit, Survives, text_of}
-use Rattle.sqlite.specs.Tree.{Trees}
-use Rattle.sqlite.proofs.Callers.{command_of, runs_as}
-use Rattle.sqlite.proofs.StateLemmas.{survives_then, survives_weaker}
+use Rattle.sqlite.specs.State.{CommitsBy, text_of}
 use Rattle.sqlite_tied.specs.Compute.{everything}
-use Rattle.xa_store.specs.declared.open_error.OpenError.{OpenError}
-use Rattle.xa_store.specs.declared.opening.schema_version.SchemaVersion.{SchemaVersion}
-use Rattle.xa_store.specs.Judging.{Begun, Checked, Ended, IsIdle, Tested, Undone}
+use Rattle.xa_store.specs.Check.{Begun, Checked, Ended, IsIdle, Tested, Undone}
 use Rattle.xa_store.specs.Opening.{IsFailure, IsRefusal}
-use Rattle.xa_store.specs.Opened.{schema_of}
-use Rattle.xa_store.specs.Sound.{RestsIn, SameNow}
 
 -- ---- the two statements
 
@@ -117,7 +106,7 @@ ended_before s idle = record {
 
 -- ---- what is judged in the transaction
 
-fails_no_refusal : (e : OpenError) → IsFailure e → ¬ IsRefusal e
+pub fails_no_refusal : (e : OpenError) → IsFailure e → ¬ IsRefusal e
 fails_no_refusal e (inl is) (inl other) = absurd cc
 fails_no_refusal e (inl is) (inr other) = absurd cc
 fails_no_refusal e (inr is) (inl other) = absurd cc
@@ -156,9 +145,6 @@ module _ (version : SchemaVersion) (a : State) (quiet : IsIdle a) (other : a.now
   module _ (b c d : State) (x : Unit {0}) (first : Begun a b (Ok x)) (r : Result (Unit {0}) OpenError) (check : Checked version b c r) where
     inside : HasCleanDisk b → IsTrue b.in_transaction
     inside clean = (first.begins clean).mode
-
-    survived_check : HasCleanDisk b → Survives b c (λ db. ⊥)
-    survived_check clean = survives_weaker b c _ _ (λ _ db h. true≢false (sym (inside clean) ∙ h.1)) check.asks.survives
 
     survived : (r2 : Result (Unit {0}) OpenError) → Ended c d r2 → Survives a d (λ _. ⊥)
     survived r2 last =

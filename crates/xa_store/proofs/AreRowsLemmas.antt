@@ -1,28 +1,8 @@
 -- The rows of a sound table are those that a keeper writes: for any table, and for domains, tokens and the rows of sources.
 use Rattle.std.proofs.Common.{◌≡◌, ℕ, ℤ, Bool, true, false, List, [], ◌∷◌, map, drop, refl, subst, ◌∙◌}
-use Rattle.std.specs.List.{AllByRecursion}
-use Rattle.sqlite.specs.Order.{Row, column}
-use Rattle.sqlite.specs.Schema.{Schema}
-use Rattle.sqlite.specs.Table.{Table}
-use Rattle.sqlite.specs.Tree.{Trees}
-use Rattle.sqlite.specs.declared.types.Value.TheVariants.{Int}
-use Rattle.sqlite_catalog.specs.Listing.{IsSound}
-use Rattle.sqlite_keyed.specs.Keyed.{IsKeyedBy}
-use Rattle.sqlite_keyed.specs.Rules.{AreApart}
-use Rattle.sqlite_keyed.proofs.ListLemmas.{all_both, all_from_test, all_of, all_unmap, all_weaker}
-use Rattle.sqlite_keyed.proofs.RuleLemmas.{first_of_both, second_of_both}
+use Rattle.xa_store.proofs.Common.{AllByRecursion, Row, column, Schema, Table, Trees, Int, IsSound, IsKeyedBy, AreApart, all_both, all_from_test, all_of, all_unmap, all_weaker, first_of_both, second_of_both, Datatype, NotNull, Unique, agree, are_present, are_typed, clashes, passes, Eq, at_ints, at_texts, at_blobs, then_term, last_term, Kind, Domains, Tokens, Attributes, Sources, as_read, is_sound_table, is_whole_row, row_number, tree_of, AttributeRow, DomainRow, TokenRow, attribute_in, attribute_row, domain_in, domain_row, token_in, token_row, AreRows, same_name, same_place, same_token, attributes, domains, first_schema, our_schema, rising, sources, tokens}
 use Rattle.sqlite_schema.specs.declared.schema.Constraint.{Constraint}
-use Rattle.sqlite_schema.specs.declared.schema.Constraint.TheVariants.{Datatype, NotNull, Unique}
-use Rattle.sqlite_schema.specs.Rules.{agree, are_present, are_typed, clashes, passes}
-use Rattle.sqlite_sql.specs.declared.ops.CompareOp.TheVariants.{Eq}
-use Rattle.sqlite_typed.proofs.TestLemmas.{at_ints, at_texts, at_blobs, then_term, last_term}
 use Rattle.sqlite_value.specs.Keys.{first_key}
-use Rattle.xa_store.specs.declared.opening.kind.Kind.{Kind}
-use Rattle.xa_store.specs.declared.opening.kind.Kind.TheVariants.{Domains, Tokens, Attributes, Sources}
-use Rattle.xa_store.specs.Opened.{as_read, is_sound_table, is_whole_row, row_number, tree_of}
-use Rattle.xa_store.specs.Rows.{AttributeRow, DomainRow, TokenRow, attribute_in, attribute_row, domain_in, domain_row, token_in, token_row}
-use Rattle.xa_store.specs.Sound.{AreRows, same_name, same_place, same_token}
-use Rattle.xa_store.specs.Tables.{attributes, domains, first_schema, our_schema, rising, sources, tokens}
 use Rattle.xa_store.proofs.ShapedLemmas.{apart_from, domain_back, first_source_back, free_of, keyed_from, places_agree, rows_ascend, source_back, token_back, written_from}
 
 -- ---- any table

@@ -1,17 +1,10 @@
 -- The texts of versions and of patterns are ASCII, and so UTF-8.
 use Rattle.std.proofs.Common.{◌≡◌, ◌<◌, ℕ, true, List, [], ◌∷◌, map, nat_lt, decimal, codes, is_ok, Ok, sym, ap, true≢false, arith}
-use Rattle.std.specs.List.{AllByRecursion, join_with_byte, list_all}
-use Rattle.std.specs.Str.{IsAscii, is_utf8}
-use Rattle.std.proofs.lemmas.Bool.Decides.{nat_tests}
+use Rattle.xa_store.proofs.Common.{AllByRecursion, join_with_byte, list_all, IsAscii, is_utf8, nat_tests, IsAscii-append, IsUtf8-from_ascii, is_utf8-from_IsUtf8, first_of_both, second_of_both, IsPattern, are_parts, part_text, pattern_text, read_pattern, IsVersion, read_version, version_text, is_pattern, is_version}
 use Rattle.std.proofs.lemmas.Fmt.{IsAscii-decimal}
-use Rattle.std.proofs.lemmas.Str.{IsAscii-append, IsUtf8-from_ascii, is_utf8-from_IsUtf8}
 use Rattle.std.proofs.lemmas.Str.Ascii.{IsAscii-nil, IsAscii-cons}
-use Rattle.sqlite_keyed.proofs.RuleLemmas.{first_of_both, second_of_both}
 use Rattle.xa_policy.specs.declared.pattern.PatternPart.{PatternPart}
 use Rattle.xa_policy.specs.declared.pattern.PatternPart.TheVariants.{Number, AnyNumber, AnyNumbers}
-use Rattle.xa_policy.specs.Pattern.{IsPattern, are_parts, is_single, part_text, pattern_text, read_pattern}
-use Rattle.xa_policy.specs.Version.{IsVersion, read_version, version_text}
-use Rattle.xa_store.specs.Opened.{is_pattern, is_version}
 use Rattle.xa_store.proofs.RiseLemmas.{both_true}
 
 joined : (parts : List (List ℕ)) → AllByRecursion IsAscii parts → IsAscii (join_with_byte 46 parts)
@@ -42,11 +35,6 @@ star = IsAscii-cons 42 [] (omega arith) IsAscii-nil
 
 plus : IsAscii (codes "+")
 plus = IsAscii-cons 43 [] (omega arith) IsAscii-nil
-
-part_ascii : (part : PatternPart) → is_single part ≡ true → IsAscii (part_text part)
-part_ascii (Number n) h = small n h
-part_ascii AnyNumber h = star
-part_ascii AnyNumbers h = absurd (true≢false (sym h))
 
 parts_ascii : (parts : List PatternPart) → are_parts parts ≡ true → AllByRecursion IsAscii (map part_text parts)
 parts_ascii [] h = tt

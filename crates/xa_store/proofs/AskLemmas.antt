@@ -1,19 +1,10 @@
 -- What any query leaves of a connection.
 use Rattle.std.proofs.Common.{◌≡◌, inl, inr, ℕ, false, List, None, Some, Option, Ok, Err, Result, IsTrue, OnOk, IfOk, IfErr, cond, sym, ap, subst, ◌∙◌, true≢false}
-use Rattle.sqlite.specs.Effect.{Database}
-use Rattle.sqlite.specs.Order.{Row}
-use Rattle.sqlite.specs.declared.error.Error.{Error}
-use Rattle.sqlite.specs.Given.{IsPlain}
-use Rattle.sqlite.specs.Listing.{understood}
-use Rattle.sqlite.specs.Schema.{Schema}
-use Rattle.sqlite.specs.State.{State, Shown, ShowsRows, FailsToQuery, FailsToShow, IsNotRun, IsUnchanged, IsRolledBack, CommitsShowing}
-use Rattle.sqlite.specs.Tree.{Trees}
+use Rattle.xa_store.proofs.Common.{Database, Row, Error, IsPlain, understood, Schema, State, ShowsRows, FailsToShow, IsUnchanged, IsRolledBack, Trees, SchemaVersion, schema_of, RestsIn, SameNow}
+use Rattle.sqlite.specs.State.{Shown, FailsToQuery, IsNotRun, CommitsShowing}
 use Rattle.sqlite_resolve.specs.declared.compiled.Compiled.{Compiled}
 use Rattle.sqlite_schema.specs.declared.command.Returning.{Returning}
-use Rattle.xa_store.specs.declared.opening.schema_version.SchemaVersion.{SchemaVersion}
-use Rattle.xa_store.specs.Judging.{GoesOn, HoldsBack}
-use Rattle.xa_store.specs.Opened.{schema_of}
-use Rattle.xa_store.specs.Sound.{RestsIn, SameNow}
+use Rattle.xa_store.specs.Check.{GoesOn, HoldsBack}
 
 shows_open : (old new : State) (sql : List ℕ) (c : Compiled) (params : Row) (rows : List Row) (o : Option Returning) → ShowsRows old new sql c params rows o → IsTrue old.is_open × IsTrue new.is_open
 shows_open old new sql c params rows None h = (h.3.0.was_open, h.3.0.is_open)

@@ -1,27 +1,14 @@
 -- What a query of the tables leaves where a store is opened, and which errors none has.
 use Rattle.std.proofs.Common.{◌≡◌, inl, inr, ℕ, List, Bool, true, false, Option, Ok, Err, Result, OnOk, refl, sym, ap, subst, ◌∙◌, true≢false, arith}
-use Rattle.sqlite.specs.Effect.{Database, RefusesToRead}
-use Rattle.sqlite.specs.Command.{Command}
-use Rattle.sqlite.specs.Command.TheVariants.{Select, Rows}
-use Rattle.sqlite.specs.Given.{IsPlain}
-use Rattle.sqlite.specs.Listing.{understood}
-use Rattle.sqlite.specs.Order.{Row}
-use Rattle.sqlite.specs.Schema.{Schema}
-use Rattle.sqlite.specs.State.{State, HasCleanDisk, Shown, FailsToQuery, FailsToShow, IsNotRun, Survives, CommitsShowing, store_error}
-use Rattle.sqlite.specs.declared.error.Error.{Error}
+use Rattle.xa_store.proofs.Common.{Database, RefusesToRead, Command, Select, IsPlain, understood, Row, Schema, State, HasCleanDisk, Shown, FailsToShow, Survives, CommitsShowing, store_error, Error, never_commits, survives_weaker, survives_then, OpenError, NotThisSchema, Damaged, SchemaVersion, schema_of, RestsIn, SameNow}
+use Rattle.sqlite.specs.Command.TheVariants.{Rows}
+use Rattle.sqlite.specs.State.{FailsToQuery, IsNotRun}
 use Rattle.sqlite.specs.declared.error.Error.TheVariants.{SqliteFailure, SqlInputError}
 use Rattle.sqlite.specs.declared.error.ErrorCode.TheVariants.{NameTaken, OutOfMemory as NoMemory}
-use Rattle.sqlite.proofs.Callers.{never_commits}
-use Rattle.sqlite.proofs.StateLemmas.{survives_weaker, survives_then}
 use Rattle.sqlite_trees.specs.declared.error.StoreError.{StoreError}
 use Rattle.sqlite_trees.specs.declared.error.StoreError.TheVariants.{OutOfMemory, Io, Corrupt, Full, Broken, Unstorable}
-use Rattle.xa_store.specs.declared.open_error.OpenError.{OpenError}
-use Rattle.xa_store.specs.declared.open_error.OpenError.TheVariants.{NotThisSchema, Damaged}
-use Rattle.xa_store.specs.declared.opening.schema_version.SchemaVersion.{SchemaVersion}
-use Rattle.xa_store.specs.Judging.{Asks, GoesOn, IsUnguarded, is_misfit, refused_as}
+use Rattle.xa_store.specs.Check.{Asks, GoesOn, IsUnguarded, is_misfit, refused_as}
 use Rattle.xa_store.specs.Opening.{IsFailure}
-use Rattle.xa_store.specs.Opened.{schema_of}
-use Rattle.xa_store.specs.Sound.{RestsIn, SameNow}
 use Rattle.xa_store.proofs.AskLemmas.{commits_idle, failed_held, failed_open, failed_same, goes_then, holds_then, plain_at, shown_goes, shown_held, shown_open, shown_same}
 use Rattle.xa_store.proofs.QuietLemmas.{rests_after}
 

@@ -1,49 +1,16 @@
 -- What the statements on the rows of sources make of the rows.
-use Rattle.std.proofs.Common.{◌≡◌, ℕ, ℤ, pos, List, [], ◌∷◌, ◌++◌, map, filter, Bool, true, false, refl, sym, ap, ◌∙◌, int_eq, to_z, of_z, w64, Ok}
-use Rattle.sqlite.specs.Rowids.TheVariants.{Chosen}
-use Rattle.sqlite.specs.State.{State, Executes}
-use Rattle.sqlite.specs.Term.{col}
-use Rattle.sqlite.specs.Tree.{Trees}
-use Rattle.sqlite.specs.declared.types.Value.TheVariants.{Null, Int, Text}
-use Rattle.sqlite_sql.specs.declared.ops.CompareOp.TheVariants.{Eq}
-use Rattle.sqlite_rules.specs.Cast.{cast_row}
-use Rattle.sqlite_rules.specs.Edit.{with_rowid, next_rowid}
-use Rattle.sqlite_keyed.specs.Keyed.{next_key}
-use Rattle.sqlite_keyed.specs.Lists.{delete_where}
-use Rattle.sqlite_keyed.proofs.ListLemmas.{all_of}
-use Rattle.sqlite_typed.specs.Columns.{or_null}
-use Rattle.sqlite_typed.proofs.TestLemmas.{at_ints, last_term}
-use Rattle.xa_value.specs.declared.data_type.DataType.{DataType}
-use Rattle.xa_value.specs.declared.data_type.DataType.TheVariants.{String, Boolean, Integer, Date, Time, DateTime, DayTimeDuration, YearMonthDuration, AnyUri, HexBinary, Base64Binary}
-use Rattle.xa_value.specs.Types.{place_of}
-use Rattle.xa_decide.specs.declared.source_row.SourceRow.{SourceRow}
+use Rattle.std.proofs.Common.{◌≡◌, ℕ, ℤ, List, [], ◌∷◌, ◌++◌, map, filter, Bool, true, false, refl, sym, ap, ◌∙◌, int_eq, Ok}
+use Rattle.xa_store.proofs.Common.{Chosen, State, Executes, col, Trees, Null, Int, Text, Eq, cast_row, with_rowid, next_rowid, next_key, delete_where, all_of, or_null, at_ints, last_term, SourceRow, AttributeRow, attribute_row, attribute_in, type_number, value_text, AreTables, our_schema, sources}
 use Rattle.xa_store.specs.declared.step.Step.TheVariants.{AddAttribute, DropSource}
-use Rattle.xa_store.specs.Rows.{AttributeRow, attribute_row, attribute_in, type_number, value_text}
-use Rattle.xa_store.specs.Sound.{AreTables}
 use Rattle.xa_store.specs.Steps.{ReadsBack, is_place}
-use Rattle.xa_store.specs.Tables.{our_schema, sources}
 use Rattle.xa_store.specs.Texts as text
 use Rattle.xa_store.proofs.ChangeLemmas.{none_pass}
 use Rattle.xa_store.proofs.HoldLemmas.{attributes_now, came_last, went_out}
 use Rattle.xa_store.proofs.SqlLemmas.{answered}
 use Rattle.xa_store.proofs.StepLemmas.{Stepped, cast_int, cast_null, cast_text, text_back}
 use Rattle.xa_store.proofs.TableLemmas.{deletes, inserts}
-use Rattle.xa_store.proofs.TextLemmas.{is, attribute_added_given, attribute_added_is, source_dropped_is, source_dropped_query}
+use Rattle.xa_store.proofs.TextLemmas.{is, attribute_added_is, source_dropped_is}
 use Rattle.xa_store.proofs.WriteLemmas.{next_rowid_is, row_added, rows_removed}
-
--- a data type's number fits a column
-pub type_held : (t : DataType) → to_z w64 (of_z w64 (pos (place_of t))) ≡ pos (place_of t)
-type_held String = refl
-type_held Boolean = refl
-type_held Integer = refl
-type_held Date = refl
-type_held Time = refl
-type_held DateTime = refl
-type_held DayTimeDuration = refl
-type_held YearMonthDuration = refl
-type_held AnyUri = refl
-type_held HexBinary = refl
-type_held Base64Binary = refl
 
 -- a row that the keeper writes has a column for its issuer
 attribute_back : (a : AttributeRow) → ReadsBack a.row.value → a.is_full ≡ true → attribute_in (attribute_row a) ≡ a
@@ -79,7 +46,7 @@ module _ (old new : State) (has : old.now.schema ≡ our_schema) (count : ℕ) (
       let given = Int n ∷ Int place ∷ Text source.category ∷ Text source.entity ∷ Text source.attribute_id ∷ Int (type_number source.value) ∷ Text (value_text source.value) ∷ or_null Text source.issuer ∷ [] in
       let added : AttributeRow = record { rowid = next_key rowid_of xs; number = n; place = place; row = source; is_full = true } in
       let row = Null ∷ given in
-      let adds = inserts text.attribute_added given old new has 6 sources refl count attribute_added_given 9 refl refl attribute_added_is h in
+      let adds = inserts text.attribute_added given old new has 6 sources refl count _ 9 refl refl attribute_added_is h in
       let bare : cast_row sources row ≡ row =
       λ i. cast_null i ∷ cast_int n i ∷ cast_int place i ∷ Text source.category ∷ Text source.entity ∷ Text source.attribute_id ∷ cast_int (type_number source.value) i ∷ Text (value_text source.value) ∷ cast_text source.issuer i ∷ [] in
       let id : next_rowid (db 10) ≡ next_key rowid_of xs = ap next_rowid was.attributes.written ∙ next_rowid_is attribute_row rowid_of (λ _. refl) xs in
@@ -96,7 +63,7 @@ module _ (old new : State) (has : old.now.schema ≡ our_schema) (count : ℕ) (
   source_dropped_stepped h =
       let p : AttributeRow → Bool = λ a. int_eq a.number n in
       let params = Int n ∷ [] in
-      let edits = deletes text.source_dropped params old new has 6 sources refl count source_dropped_query source_dropped_is h in
+      let edits = deletes text.source_dropped params old new has 6 sources refl count _ source_dropped_is h in
       let answer = answered 10 (is 1 0 ∷ []) (col 1 0 ∷ []) [] db refl params edits.rows edits.answer.answer in
       let hit = all_of _ (λ (a : AttributeRow). last_term (at_ints false Eq a.number n)) xs in
       let wrote = rows_removed attribute_row rowid_of (λ _. refl) sources db next xs was.attributes.written was.attributes.rise (is 1 0 ∷ []) (col 1 0 ∷ []) refl params p hit

@@ -1,31 +1,13 @@
 -- What the actions of foreign keys take out, where the row of a domain goes.
 use Rattle.std.proofs.Common.{◌≡◌, ◌≢◌, inl, inr, ℕ, zero, suc, ℤ, ◌<ℤ◌, List, [], ◌∷◌, ◌++◌, map, filter, fold, length, Bool, true, false, not, ◌&&◌, ◌||◌, ◌==◌, cond, Option, Some, None, Ok, refl, sym, ap, ap₂, subst, subst₂, ◌∙◌, arith, int_eq, append-nil, length-append}
-use Rattle.std.specs.List.{AllByRecursion, list_all, list_any, flat_map, filter_map}
-use Rattle.std.proofs.lemmas.Bool.{and_parts}
-use Rattle.std.proofs.lemmas.Int.{ints}
+use Rattle.xa_store.proofs.Common.{AllByRecursion, list_all, list_any, and_parts, ints, Row, Table, Trees, Value, Int, Enforced, Eq, rowid, Work, action_edit, works, loses, is_child_of, AreChildren, Acts, ActsOn, Leads, IsNoIndex, taken_by, without_all, IsKeyedBy, delete_where, without_key, all_of, filter_all, deletes-map, at_ints, DomainRow, domain_row, our_schema, of_domain, tokens, policies, roots, attributes, sources}
+use Rattle.std.specs.List.{flat_map, filter_map}
 use Rattle.sqlite.specs.Ops.{binary}
-use Rattle.sqlite.specs.Order.{Row}
-use Rattle.sqlite.specs.Table.{Table}
-use Rattle.sqlite.specs.Tree.{Trees}
-use Rattle.sqlite.specs.declared.types.Value.{Value}
-use Rattle.sqlite.specs.declared.types.Value.TheVariants.{Int}
 use Rattle.sqlite_schema.specs.Names.{same_name}
-use Rattle.sqlite_schema.specs.declared.schema.Keys.TheVariants.{Enforced}
 use Rattle.sqlite_schema.specs.declared.schema.Reference.{Reference}
-use Rattle.sqlite_sql.specs.declared.ops.CompareOp.TheVariants.{Eq}
-use Rattle.sqlite_trees.specs.Tree.{rowid}
 use Rattle.sqlite_value.specs.Keys.{joined, first_key}
-use Rattle.sqlite_rules.specs.Action.{Work, action_edit, works, loses, is_child_of, AreChildren, Acts, ActsOn, Leads}
-use Rattle.sqlite_rules.specs.Edit.{IsNoIndex, taken_by, without_all}
 use Rattle.sqlite_rules.specs.Lists.{Has}
 use Rattle.sqlite_rules.specs.declared.action.Deed.TheVariants.{Delete}
-use Rattle.sqlite_keyed.specs.Keyed.{IsKeyedBy}
-use Rattle.sqlite_keyed.specs.Lists.{delete_where, without_key}
-use Rattle.sqlite_keyed.proofs.ListLemmas.{all_of, filter_all}
-use Rattle.sqlite_typed.proofs.RowLemmas.{deletes-map}
-use Rattle.sqlite_typed.proofs.TestLemmas.{at_ints}
-use Rattle.xa_store.specs.Rows.{DomainRow, domain_row}
-use Rattle.xa_store.specs.Tables.{our_schema, of_domain, tokens, policies, roots, attributes, sources}
 use Rattle.xa_store.proofs.ActionLemmas.{rowids_order, works_of_going}
 use Rattle.xa_store.proofs.FilterLemmas.{filter_alike}
 use Rattle.xa_store.proofs.HoldLemmas.{is_other, of_other}

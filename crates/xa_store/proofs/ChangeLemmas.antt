@@ -1,19 +1,7 @@
 -- The rows of one domain are others, and those of no other domain.
 use Rattle.std.proofs.Common.{◌≡◌, ◌≢◌, inl, inr, ℕ, ℤ, ◌<ℤ◌, List, [], ◌∷◌, filter, find, Bool, true, false, cond, Option, Some, None, option_map, refl, sym, ap, subst, ◌∙◌, arith, int_eq}
-use Rattle.std.specs.List.{AllByRecursion}
-use Rattle.std.specs.Ordering.{eq_by_cmp}
-use Rattle.std.specs.FinMap.{get, nat_cmp-IsAntisymmetric, slice_cmp-IsAntisymmetric, IsAntisymmetric}
-use Rattle.std.proofs.lemmas.Cmp.{nat_list_cmp_total}
-use Rattle.std.proofs.lemmas.Int.{ints}
-use Rattle.std.proofs.lemmas.Bool.{cases_Bool, both_ways}
-use Rattle.sqlite_keyed.specs.Keyed.{IsKeyedBy}
-use Rattle.sqlite_keyed.proofs.ListLemmas.{all-filter, all_both}
-use Rattle.sqlite_typed.proofs.TestLemmas.{same_bytes}
-use Rattle.xa_records.specs.DomainState.{DomainState, compare_bytes}
-use Rattle.xa_records.specs.Kept.{Domain, Becomes, IsChanged, IsNextEpoch, IsNumbered}
-use Rattle.xa_store.specs.Rows.{DomainRow, nat_of}
+use Rattle.xa_store.proofs.Common.{AllByRecursion, eq_by_cmp, get, nat_cmp-IsAntisymmetric, slice_cmp-IsAntisymmetric, IsAntisymmetric, nat_list_cmp_total, ints, cases_Bool, both_ways, IsKeyedBy, all-filter, all_both, same_bytes, DomainState, compare_bytes, Domain, Becomes, IsChanged, IsNextEpoch, DomainRow, nat_of, Rows, state_at, domain_of, kept_of}
 use Rattle.xa_store.specs.Steps.{is_named, with_epoch}
-use Rattle.xa_store.specs.World.{Rows, state_at, domain_of, kept_of}
 use Rattle.xa_store.proofs.EntryLemmas.{got, found_passes}
 use Rattle.xa_store.proofs.FilterLemmas.{find_one}
 

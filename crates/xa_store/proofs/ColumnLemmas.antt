@@ -1,15 +1,6 @@
 -- The texts in the columns of roots and of rows of sources: of rows that opening finds sound, and in rows that the keeper writes.
 use Rattle.std.proofs.Common.{◌≡◌, ℕ, zero, suc, ℤ, Bool, true, List, [], ◌∷◌, map, drop, Option, Some, None, refl, sym, ap, ◌∙◌, true≢false}
-use Rattle.std.specs.Str.{is_utf8}
-use Rattle.sqlite.specs.Order.{Row, column}
-use Rattle.sqlite.specs.declared.types.Value.{Value}
-use Rattle.sqlite.specs.declared.types.Value.TheVariants.{Null, Int, Real, Text, Blob}
-use Rattle.sqlite_keyed.proofs.RuleLemmas.{first_of_both, second_of_both}
-use Rattle.sqlite_typed.specs.Columns.{int_of, bytes_of, or_null, unless_null}
-use Rattle.xa_store.specs.declared.opening.kind.Kind.TheVariants.{Roots, Sources}
-use Rattle.xa_store.specs.Opened.{as_read, holds_text, holds_text_if_any, holds_value, is_pattern, is_version, is_whole_row}
-use Rattle.xa_store.specs.Rows.{attribute_in, root_in, text_at}
-use Rattle.xa_store.specs.Sound.{AreRootTexts, AreSourceTexts, is_if_any}
+use Rattle.xa_store.proofs.Common.{is_utf8, Row, column, Value, Null, Int, Real, Text, Blob, first_of_both, second_of_both, int_of, bytes_of, or_null, unless_null, Roots, Sources, as_read, holds_text, holds_text_if_any, holds_value, is_pattern, is_version, is_whole_row, attribute_in, root_in, text_at, AreRootTexts, AreSourceTexts, is_if_any}
 use Rattle.xa_store.proofs.ShapeLemmas.{int_held, text_held}
 use Rattle.xa_store.proofs.ShapedLemmas.{value_back, whole_source}
 

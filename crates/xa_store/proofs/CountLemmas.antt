@@ -1,8 +1,7 @@
 -- One more row among those that show the places of the rows of sources.
 use Rattle.std.proofs.Common.{◌≡◌, ℕ, suc, ◌+◌, ◌<◌, Bool, true, false, ◌&&◌, List, ◌∷◌, length, get_or, drop, unwrap_or, Option, Some, sym, ap, ◌∙◌, add-one, drop-cons}
-use Rattle.sqlite.specs.Order.{Row}
-use Rattle.xa_store.specs.Judging.{counts, counts_on, is_next, place_told}
-use Rattle.xa_store.specs.Opened.{Place}
+use Rattle.xa_store.proofs.Common.{Row, Place}
+use Rattle.xa_store.specs.Check.{counts, counts_on, is_next, place_told}
 
 module _ (last : Place) (rows : List Row) (i : ℕ) (row : Row) (lt : i < length rows) (is : row ≡ get_or rows i row) where
   abbrev as_told : Option Place → Bool

@@ -1,19 +1,7 @@
 -- The places that the walk counts are those of each domain, from 0 on, each once.
 use Rattle.std.proofs.Common.{◌≡◌, ◌⊎◌, inl, inr, ◌+◌, ◌<◌, ◌≤◌, ℕ, zero, suc, ℤ, pos, negsuc, ◌+ℤ◌, Bool, true, false, cond, List, [], ◌∷◌, map, filter, length, get_or, int_eq, int_le, int_cmp, Ordering, Less, is_eq, is_lt, IsPermutation, IsSorted, refl, sym, ap, subst, ◌∙◌, arith, add-one}
-use Rattle.std.specs.Cmp.{IsTotalOrder}
-use Rattle.std.specs.List.{AllByRecursion}
-use Rattle.std.specs.Ordering.{ordering_reverse, ordering_then}
-use Rattle.std.proofs.lemmas.Cmp.{int_cmp_total, on_total, then_total, tied_itself}
-use Rattle.std.proofs.lemmas.Int.{ints}
-use Rattle.std.proofs.lemmas.List.Sorted.{IsPermutation-map, IsPermutation-sym, IsPermutation-trans}
-use Rattle.sqlite_keyed.specs.Lists.{sort_by}
-use Rattle.sqlite_keyed.proofs.KeyedLemmas.{same_int}
-use Rattle.sqlite_keyed.proofs.ListLemmas.{IsPermutation-filter, all_from_test, all_of, all_weaker, ascending-map, ascending_weaker, filter_none, test_from_all}
-use Rattle.sqlite_keyed.proofs.RuleLemmas.{first_of_both, second_of_both}
-use Rattle.sqlite_keyed.proofs.SortLemmas.{IsPermutation-sort_by, sorted_unique}
-use Rattle.sqlite_trees.specs.Tree.{IsAscending}
-use Rattle.xa_store.specs.Judging.{count_on, counts_on, no_place, place_cmp}
-use Rattle.xa_store.specs.Opened.{Place, are_counted, count_from, places_of}
+use Rattle.xa_store.proofs.Common.{IsTotalOrder, AllByRecursion, ordering_reverse, ordering_then, int_cmp_total, on_total, then_total, tied_itself, ints, IsPermutation-map, IsPermutation-sym, IsPermutation-trans, sort_by, same_int, IsPermutation-filter, all_from_test, all_of, all_weaker, ascending-map, ascending_weaker, filter_none, test_from_all, first_of_both, second_of_both, IsPermutation-sort_by, sorted_unique, IsAscending, Place, are_counted, count_from, places_of}
+use Rattle.xa_store.specs.Check.{count_on, counts_on, no_place, place_cmp}
 use Rattle.xa_store.proofs.KeyLemmas.{own_number}
 use Rattle.xa_store.proofs.OrderedLemmas.{apart_among, rises_sorted}
 use Rattle.xa_store.proofs.RiseLemmas.{both_true}

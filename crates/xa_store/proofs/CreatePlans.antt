@@ -1,29 +1,11 @@
 -- The plan of a domain that is made.
 use Rattle.std.proofs.Common.{◌≡◌, ◌≢◌, ℕ, ◌+◌, ◌<◌, ◌^◌, ℤ, pos, List, [], ◌∷◌, filter, find, Bool, true, false, cond, Option, Some, None, option_map, Ok, Err, Ordering, Less, Equal, Greater, is_eq, int_cmp, int_eq, int_lt, true≢false, refl, sym, ap, ap₂, subst, ◌∙◌, arith}
-use Rattle.std.specs.List.{AllByRecursion}
-use Rattle.std.specs.Ordering.{match_ordering}
-use Rattle.std.specs.FinMap.{get}
-use Rattle.std.specs.Cmp.{eq_by_cmp_equiv}
-use Rattle.std.proofs.lemmas.Cmp.{nat_list_cmp_total}
-use Rattle.sqlite_keyed.specs.Keyed.{insert_by}
-use Rattle.sqlite_keyed.specs.Rules.{AreApart}
-use Rattle.sqlite_keyed.proofs.KeyedLemmas.{int_eq_apart}
-use Rattle.sqlite_keyed.proofs.ListLemmas.{all_both, all_weaker}
-use Rattle.xa_records.specs.Changes.{created}
-use Rattle.xa_records.specs.DomainState.{DomainState, new_domain}
-use Rattle.xa_records.specs.Kept.{Domain, Becomes, IsChanged, IsNextNumber, IsRaised, state_of}
-use Rattle.xa_records.proofs.KeptLemmas.{numbered_changed}
-use Rattle.xa_records.specs.declared.refusal.Refusal.TheVariants.{Exists}
-use Rattle.xa_store.specs.declared.domain_found.DomainFound.{DomainFound}
-use Rattle.xa_store.specs.Found.{FindsDomain, IsNext}
-use Rattle.xa_store.specs.Planning.{RaisesTo, create_steps}
-use Rattle.xa_records.specs.DomainName.{is_domain_name}
-use Rattle.xa_store.specs.Opened.{is_count}
-use Rattle.xa_store.specs.Rows.{DomainRow, nat_of}
-use Rattle.xa_store.specs.Sound.{AreNumbered, same_name}
+use Rattle.xa_store.proofs.Common.{AllByRecursion, match_ordering, get, eq_by_cmp_equiv, nat_list_cmp_total, insert_by, AreApart, int_eq_apart, all_both, all_weaker, created, DomainState, new_domain, Domain, Becomes, IsChanged, IsNextNumber, IsRaised, state_of, numbered_changed, Exists, is_domain_name, is_count, DomainRow, nat_of, AreNumbered, same_name, Rows, state_at, domain_of, kept_of}
+use Rattle.xa_store.specs.declared.query.domain.DomainFound.{DomainFound}
+use Rattle.xa_store.specs.Lookup.{FindsDomain, IsNext}
+use Rattle.xa_store.specs.Plan.{RaisesTo, create_steps}
 use Rattle.xa_store.specs.Steps.{is_named}
 use Rattle.xa_store.specs.Turns.{Plans}
-use Rattle.xa_store.specs.World.{Rows, state_at, domain_of, kept_of}
 use Rattle.xa_store.proofs.ChangeLemmas.{kept_at, not_same, number_of}
 use Rattle.xa_store.proofs.FilterLemmas.{find_none}
 use Rattle.xa_store.proofs.HitLemmas.{turn_bytes}

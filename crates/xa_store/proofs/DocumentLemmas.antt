@@ -1,43 +1,14 @@
 -- What the queries on documents find.
 use Rattle.std.proofs.Common.{◌≡◌, ℕ, ℤ, pos, List, [], ◌∷◌, map, filter, length, Bool, true, false, ◌&&◌, Ordering, Less, is_eq, int_eq, Option, Some, None, option_map, unwrap_or, find, Ok, refl, sym, ap, subst, ◌∙◌, IsPermutation, IsSorted}
-use Rattle.std.specs.Cmp.{IsTotalOrder}
-use Rattle.std.specs.FinMap.{get, entries, len, len-entries}
-use Rattle.std.proofs.lemmas.List.{length-map}
-use Rattle.std.specs.List.{AllByRecursion}
-use Rattle.std.specs.Ordering.{on}
-use Rattle.std.proofs.lemmas.Cmp.{on_total}
-use Rattle.std.proofs.lemmas.List.Sorted.{IsPermutation-map, IsPermutation-trans, length_permutation}
-use Rattle.sqlite.specs.Order.{Row}
-use Rattle.sqlite.specs.State.{State, Shown}
-use Rattle.sqlite.specs.Tree.{Trees}
-use Rattle.sqlite.specs.declared.types.Value.TheVariants.{Int, Text, Blob}
-use Rattle.sqlite.specs.Given.{IsPlain}
-use Rattle.sqlite.specs.Listing.{understood}
-use Rattle.sqlite.specs.Term.{Term, col}
-use Rattle.sqlite.proofs.Callers.{reads_as}
-use Rattle.sqlite_keyed.specs.Lists.{sort_by}
-use Rattle.sqlite_keyed.proofs.ListLemmas.{all_of, all_weaker, map-map, filter-map, IsPermutation-filter, ascending-map, ascending-filter}
-use Rattle.sqlite_keyed.proofs.SortLemmas.{sorted_unique, IsPermutation-sort_by}
-use Rattle.sqlite_sql.specs.declared.ops.CompareOp.TheVariants.{Eq}
-use Rattle.sqlite_trees.specs.Tree.{IsAscending}
-use Rattle.sqlite_typed.proofs.TestLemmas.{at_ints, then_term, last_term}
-use Rattle.xa_policy.specs.declared.document_key.DocumentKey.{DocumentKey}
-use Rattle.xa_policy.specs.DocumentKey.{compare_keys}
-use Rattle.xa_policy.specs.Version.{read_version, version_text}
+use Rattle.xa_store.proofs.Common.{IsTotalOrder, get, entries, len, len-entries, length-map, AllByRecursion, on, on_total, IsPermutation-map, IsPermutation-trans, length_permutation, Row, State, Shown, Trees, Int, Text, Blob, IsPlain, understood, Term, col, reads_as, sort_by, all_of, all_weaker, map-map, filter-map, IsPermutation-filter, ascending-map, ascending-filter, sorted_unique, IsPermutation-sort_by, Eq, IsAscending, at_ints, then_term, last_term, DocumentKey, compare_keys, read_version, version_text, StoredDocument, active_text, active_texts, listed_of, listing_of_state, text_in, keys_total, keys_exact, DocumentRow, document_row, document_in, bit, kind_number, AreTables, Ours, same_document, our_schema, Rows, rows_of, state_at, documents_at, document_entry}
 use Rattle.xa_records.specs.declared.listed.Listed.{Listed}
-use Rattle.xa_records.specs.DomainState.{StoredDocument}
-use Rattle.xa_records.specs.Readings.{active_text, active_texts, listed_of, listing_of_state, text_in}
-use Rattle.xa_records.proofs.OrderLemmas.{keys_total, keys_exact}
 use Rattle.xa_records.specs.declared.active_text.ActiveText.{ActiveText}
-use Rattle.xa_store.specs.declared.document_found.DocumentFound.{DocumentFound}
-use Rattle.xa_store.specs.Found.{FindsDocument, found_of}
-use Rattle.xa_store.specs.Rows.{DocumentRow, document_row, document_in, bit, given as given_by, kind_number, version_in}
-use Rattle.xa_store.specs.Shown.{TellsOne, document_told, listed_told, text_told}
-use Rattle.xa_store.specs.Sound.{AreTables, Ours, same_document}
+use Rattle.xa_store.specs.declared.query.document_row.DocumentFound.{DocumentFound}
+use Rattle.xa_store.specs.Lookup.{FindsDocument, found_of}
+use Rattle.xa_store.specs.Rows.{given as given_by, version_in}
+use Rattle.xa_store.specs.Columns.{TellsOne, document_told, listed_told, text_told}
 use Rattle.xa_store.specs.Steps.{is_document}
-use Rattle.xa_store.specs.Tables.{our_schema}
 use Rattle.xa_store.specs.Texts.{document_shown, documents_shown, active_shown}
-use Rattle.xa_store.specs.World.{Rows, rows_of, state_at, documents_at, document_entry}
 use Rattle.xa_store.proofs.EntryLemmas.{got, has}
 use Rattle.xa_store.proofs.FilterLemmas.{filter_both}
 use Rattle.xa_store.proofs.FoundLemmas.{finds_one, found_is, found_all, find_both, map_alike, read_back}

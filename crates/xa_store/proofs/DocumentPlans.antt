@@ -1,38 +1,21 @@
 -- The plans of changes of documents.
-use Rattle.std.proofs.Common.{◌≡◌, ◌≢◌, inr, ℕ, ◌+◌, ◌<◌, ◌^◌, ℤ, List, [], ◌∷◌, ◌++◌, filter, find, Bool, true, false, not, cond, nat_lt, bytes_eq, Option, Some, None, option_map, is_some, Result, Ok, Err, refl, sym, ap, subst, ◌∙◌, int_eq}
-use Rattle.std.specs.Ordering.{eq_by_cmp}
-use Rattle.std.specs.FinMap.{FinMap, get, insert, remove, len}
-use Rattle.sqlite_keyed.specs.Keyed.{IsKeyedBy, next_key}
-use Rattle.sqlite_keyed.specs.Lists.{update_where, delete_where}
-use Rattle.sqlite_keyed.proofs.KeyedLemmas.{int_eq_apart, same_int}
-use Rattle.xa_value.specs.Gives.{◌>>=◌}
-use Rattle.xa_policy.specs.declared.document_key.DocumentKey.{DocumentKey}
-use Rattle.xa_policy.specs.DocumentKey.{compare_keys}
-use Rattle.xa_records.specs.declared.refusal.Refusal.{Refusal}
-use Rattle.xa_records.specs.declared.refusal.Refusal.TheVariants.{Absent, Quota, SameVersionOtherText, StillActive}
+use Rattle.std.proofs.Common.{◌≡◌, ◌≢◌, inr, ℕ, ◌+◌, ◌<◌, ◌^◌, ℤ, List, [], ◌∷◌, ◌++◌, filter, find, Bool, true, false, not, cond, nat_lt, bytes_eq, Option, Some, None, option_map, is_some, Ok, Err, refl, sym, ap, subst, ◌∙◌, int_eq}
+use Rattle.xa_store.proofs.Common.{AllByRecursion, eq_by_cmp, FinMap, get, insert, remove, len, IsKeyedBy, next_key, update_where, delete_where, int_eq_apart, same_int, ◌>>=◌, DocumentKey, compare_keys, Absent, Quota, SameVersionOtherText, StillActive, activity_set, deleted, or_absent, upload_of, uploaded, uploaded_over, with_document, with_documents, within, DomainState, IsDocumentOf, StoredDocument, IsNextEpoch, state_of, keys_exact, keys_total, DomainRow, DocumentRow, nat_of, AreNumbered, AreWhole, Rows, library_of, state_at, documents_at, kept_of}
 use Rattle.xa_records.specs.declared.upload.Upload.TheVariants.{New, Same}
-use Rattle.xa_records.specs.Changes.{activity_set, deleted, or_absent, upload_of, uploaded, uploaded_over, with_document, with_documents, within}
-use Rattle.xa_records.specs.DomainState.{DomainState, IsDocumentOf, StoredDocument}
-use Rattle.xa_records.specs.Kept.{DecidesAlike, IsNextEpoch, state_of}
 use Rattle.xa_records.proofs.FinMapLemmas.{get_put, get_taken, put_again}
-use Rattle.xa_records.proofs.OrderLemmas.{keys_exact, keys_total}
-use Rattle.xa_store.specs.declared.document_found.DocumentFound.{DocumentFound}
-use Rattle.xa_store.specs.declared.domain_found.DomainFound.{DomainFound}
-use Rattle.xa_store.specs.Found.{FindsDocument, IsDomain}
-use Rattle.xa_store.specs.Planning.{IsUploadPlanned, RaisesTo}
+use Rattle.xa_store.specs.declared.query.document_row.DocumentFound.{DocumentFound}
+use Rattle.xa_store.specs.declared.query.domain.DomainFound.{DomainFound}
+use Rattle.xa_store.specs.Lookup.{FindsDocument, IsDomain}
+use Rattle.xa_store.specs.Plan.{IsUploadPlanned, RaisesTo}
 use Rattle.xa_store.specs.declared.step.Step.TheVariants.{AddDocument, SetActive, DropDocument, SetEpoch}
-use Rattle.xa_store.specs.Rows.{DomainRow, DocumentRow, nat_of}
-use Rattle.xa_store.specs.Sound.{AreNumbered}
 use Rattle.xa_store.specs.Steps.{KeyReads, is_document, with_epoch}
 use Rattle.xa_store.specs.Turns.{Plans}
-use Rattle.xa_store.specs.World.{Rows, library_of, state_at, documents_at, domain_of, kept_of}
-use Rattle.xa_store.proofs.ChangeLemmas.{IsOnly, Rewrote, number_of, kept_one}
+use Rattle.xa_store.proofs.ChangeLemmas.{IsOnly, Rewrote, number_of}
 use Rattle.xa_store.proofs.EntryLemmas as entry
 use Rattle.xa_store.proofs.FilterLemmas.{filter_both, filter_delete, filter_delete_apart, filter_push, filter_push_apart, filter_update, filter_update_apart, find_none, find_one}
 use Rattle.xa_store.proofs.KeyLemmas.{own_number}
-use Rattle.xa_store.proofs.PlanLemmas.{changed, its_state, numbered_after}
+use Rattle.xa_store.proofs.PlanLemmas.{its_state, planned, refused, unchanged}
 use Rattle.xa_store.proofs.TextsKept.{all_filter, all_push, all_update, of_key}
-use Rattle.xa_store.proofs.TurnLemmas.{still}
 use Rattle.xa_store.proofs.WholeLemmas.{IsWholeDocument, count_after, documents_whole, epoch_whole, its_domain}
 
 abbrev key_of : DocumentRow → DocumentKey
@@ -66,19 +49,6 @@ module _ (rows : Rows) (name : List ℕ) (d : DomainRow) (one : IsOnly name d ro
   got : (o : Option DocumentRow) → find has_key xs ≡ o → get state.documents key ≡ option_map stored o
   got o is = entry.got keys_total keys_exact key_of stored key xs ∙ ap (option_map stored) is
 
-  -- nothing becomes of it
-  pub unchanged : (target : DomainState) → state ≡ target → (change : DomainState → Result DomainState Refusal) → change state ≡ Ok target → Plans [] (within change) name rows
-  unchanged target same change is = record {
-    allows = tt;
-    made = (
-      Some target,
-      ap (within change) (its_state rows name d one) ∙ ap (λ r. r >>= (λ next. Ok (Some next))) is,
-      subst (λ s. Rattle.xa_records.specs.Kept.IsChanged (kept_of rows) (kept_of rows) name (Some s)) same (still (kept_of rows) name (domain_of rows d) (kept_one rows name d one)),
-    );
-    numbered = are;
-    whole = λ whole. whole;
-  }
-
   module _ (epoch : ℤ) (rises : nat_of epoch ≡ nat_of d.epoch + 1) (fits : nat_of epoch < 2 ^ 63) where
     abbrev with_rows : List DocumentRow → Rows
     with_rows documents = record rows { documents = documents; domains = with_epoch n epoch rows.domains }
@@ -96,11 +66,8 @@ module _ (rows : Rows) (name : List ℕ) (d : DomainRow) (one : IsOnly name d ro
       next_epoch : IsNextEpoch state (with_documents target state) (nat_of d.epoch) (nat_of epoch)
       next_epoch = inr (λ alike. differs alike.documents, (rises, fits))
 
-      numbers : AreNumbered (with_rows documents)
-      numbers = numbered_after rows name d one (with_rows documents) epoch (with_documents target state) up rewrote next_epoch are
-
-      turned : Rattle.xa_records.specs.Kept.IsChanged (kept_of rows) (kept_of (with_rows documents)) name (Some (with_documents target state))
-      turned = changed rows name d one (with_rows documents) epoch (with_documents target state) up rewrote next_epoch
+    columns : (documents : List DocumentRow) → (AreWhole rows → AllByRecursion (IsWholeDocument rows.next) documents) → AreWhole rows → AreWhole (with_rows documents)
+    columns documents all whole = documents_whole rows whole documents (with_epoch n epoch rows.domains) (all whole) (epoch_whole rows whole n epoch (count_after epoch (nat_of d.epoch) rises fits))
 
     -- ---- a document that is there
 
@@ -121,18 +88,9 @@ module _ (rows : Rows) (name : List ℕ) (d : DomainRow) (one : IsOnly name d ro
           let others = λ (m : ℤ) (apart : m ≢ n). filter_update_apart ours has_key (λ x. int_eq x.number m) (apart_from m apart) f (λ x. refl) rows.documents in
           let differs : state.documents ≢ target = λ same. other (let both : ◌≡◌ {A = Option StoredDocument} (Some (stored x)) (Some put) = sym present ∙ ap (λ m. get m key) same ∙ get_put keys_total state.documents key put in
           let it : stored x ≡ put = cc in ap (λ (s : StoredDocument). s.active) it) in
-          record {
-            allows = (reads, (tt, tt));
-            made = (
-              Some (with_documents target state),
-              ap (within (activity_set key active)) (its_state rows name d one)
-                  ∙ ap (λ o. (or_absent o >>= (λ document. Ok (with_document key document.text active state))) >>= (λ next. Ok (Some next))) present,
-              turned documents target here others differs,
-            );
-            numbered = numbers documents target here others differs;
-            whole = λ whole. documents_whole rows whole documents (with_epoch n epoch rows.domains) (all_update (IsWholeDocument rows.next) (is_document n key) f (λ x h. h) rows.documents whole.documents)
-                (epoch_whole rows whole n epoch (count_after epoch (nat_of d.epoch) rises fits));
-          }
+          planned rows name d one (activity_set key active) are (with_documents target state) (ap (λ o. or_absent o >>= (λ document. Ok (with_document key document.text active state))) present)
+          (SetActive n key active ∷ SetEpoch n epoch ∷ []) epoch up (reads, (tt, tt)) (rewrote documents target here others differs) (next_epoch documents target here others differs)
+          (columns documents (λ whole. all_update (IsWholeDocument rows.next) (is_document n key) f (λ x h. h) rows.documents whole.documents))
 
       pub drop_planned : x.active ≡ false → Plans (DropDocument n key ∷ SetEpoch n epoch ∷ []) (within (deleted key)) name rows
       drop_planned idle =
@@ -141,19 +99,10 @@ module _ (rows : Rows) (name : List ℕ) (d : DomainRow) (one : IsOnly name d ro
           let here : library_of (documents_at documents n) ≡ target = ap library_of (filter_delete ours has_key rows.documents) ∙ entry.deleted keys_total keys_exact key_of stored key xs in
           let others = λ (m : ℤ) (apart : m ≢ n). filter_delete_apart ours has_key (λ x. int_eq x.number m) (apart_from m apart) rows.documents in
           let differs : state.documents ≢ target = λ same. let both : ◌≡◌ {A = Option StoredDocument} (Some (stored x)) None = sym present ∙ ap (λ m. get m key) same ∙ get_taken keys_total state.documents key in cc in
-          record {
-            allows = (reads, (tt, tt));
-            made = (
-              Some (with_documents target state),
-              ap (within (deleted key)) (its_state rows name d one)
-                  ∙ ap (λ o. (or_absent o >>= (λ document. cond document.active (Err StillActive) (Ok (with_documents target state)))) >>= (λ next. Ok (Some next))) present
-                  ∙ ap (λ b. cond b (Err StillActive) (Ok (with_documents target state)) >>= (λ next. Ok (Some next))) idle,
-              turned documents target here others differs,
-            );
-            numbered = numbers documents target here others differs;
-            whole = λ whole. documents_whole rows whole documents (with_epoch n epoch rows.domains) (all_filter (IsWholeDocument rows.next) (λ x. not (is_document n key x)) rows.documents whole.documents)
-                (epoch_whole rows whole n epoch (count_after epoch (nat_of d.epoch) rises fits));
-          }
+          planned rows name d one (deleted key) are (with_documents target state)
+          (ap (λ o. or_absent o >>= (λ document. cond document.active (Err StillActive) (Ok (with_documents target state)))) present ∙ ap (λ b. cond b (Err StillActive) (Ok (with_documents target state))) idle)
+          (DropDocument n key ∷ SetEpoch n epoch ∷ []) epoch up (reads, (tt, tt)) (rewrote documents target here others differs) (next_epoch documents target here others differs)
+          (columns documents (λ whole. all_filter (IsWholeDocument rows.next) (λ x. not (is_document n key x)) rows.documents whole.documents))
 
     -- ---- a document that isn't there
 
@@ -171,19 +120,9 @@ module _ (rows : Rows) (name : List ℕ) (d : DomainRow) (one : IsOnly name d ro
           ap library_of (filter_push ours rows.documents new (own_number n)) ∙ entry.pushed keys_total keys_exact key_of stored xs new (find_none has_key xs (sym among ∙ none)) in
           let others = λ (m : ℤ) (apart : m ≢ n). filter_push_apart (λ x. int_eq x.number m) rows.documents new (int_eq_apart n m (λ same. apart (sym same))) in
           let differs : state.documents ≢ target = λ same. let both : ◌≡◌ {A = Option StoredDocument} None (Some put) = sym missing ∙ ap (λ m. get m key) same ∙ get_put keys_total state.documents key put in cc in
-          record {
-            allows = ((none, reads, of_key key body document), (tt, tt));
-            made = (
-              Some (with_documents target state),
-              ap (within (uploaded key body)) (its_state rows name d one)
-                  ∙ ap (λ o. uploaded_over key body state o >>= (λ next. Ok (Some next))) missing
-                  ∙ ap (λ b. cond b (Ok (with_document key body false state)) (Err Quota) >>= (λ next. Ok (Some next))) room,
-              turned documents target here others differs,
-            );
-            numbered = numbers documents target here others differs;
-            whole = λ whole. documents_whole rows whole documents (with_epoch n epoch rows.domains) (all_push (IsWholeDocument rows.next) rows.documents new whole.documents (its_domain rows whole name d one).0)
-                (epoch_whole rows whole n epoch (count_after epoch (nat_of d.epoch) rises fits));
-          }
+          planned rows name d one (uploaded key body) are (with_documents target state) (ap (uploaded_over key body state) missing ∙ ap (λ b. cond b (Ok (with_document key body false state)) (Err Quota)) room)
+          (AddDocument n key body ∷ SetEpoch n epoch ∷ []) epoch up ((none, reads, of_key key body document), (tt, tt)) (rewrote documents target here others differs) (next_epoch documents target here others differs)
+          (columns documents (λ whole. all_push (IsWholeDocument rows.next) rows.documents new whole.documents (its_domain rows whole name d one).0))
 
   -- ---- where nothing is done
 
@@ -196,40 +135,31 @@ module _ (rows : Rows) (name : List ℕ) (d : DomainRow) (one : IsOnly name d ro
         let target = with_document key x.text active state in
         let put : insert state.documents key (record { text = x.text; active = active }) ≡ state.documents =
         put_again keys_total keys_exact state.documents key (record { text = x.text; active = active }) (in_place ∙ ap (λ b. let s : StoredDocument = record { text = x.text; active = b } in Some s) same) in
-        unchanged target (λ i. with_documents (sym put i) state) (activity_set key active) (ap (λ o. or_absent o >>= (λ document. Ok (with_document key document.text active state))) in_place)
+        unchanged rows name d one (activity_set key active) are target (ap (λ o. or_absent o >>= (λ document. Ok (with_document key document.text active state))) in_place) (λ i. with_documents (sym put i) state)
 
     pub upload_kept : (body : List ℕ) → bytes_eq x.text body ≡ true → Plans [] (within (uploaded key body)) name rows
-    upload_kept body same = unchanged state refl (uploaded key body) (ap (uploaded_over key body state) in_place ∙ ap (λ b. cond b (Ok state) (Err SameVersionOtherText)) same)
+    upload_kept body same = unchanged rows name d one (uploaded key body) are state (ap (uploaded_over key body state) in_place ∙ ap (λ b. cond b (Ok state) (Err SameVersionOtherText)) same) refl
 
     pub upload_other : (body : List ℕ) → bytes_eq x.text body ≡ false → within (uploaded key body) (state_of name (kept_of rows)) ≡ Err SameVersionOtherText
-    upload_other body other =
-        ap (within (uploaded key body)) (its_state rows name d one) ∙ ap (λ o. uploaded_over key body state o >>= (λ next. Ok (Some next))) in_place
-        ∙ ap (λ b. cond b (Ok state) (Err SameVersionOtherText) >>= (λ next. Ok (Some next))) other
+    upload_other body other = refused rows name d one (uploaded key body) SameVersionOtherText (ap (uploaded_over key body state) in_place ∙ ap (λ b. cond b (Ok state) (Err SameVersionOtherText)) other)
 
     pub drop_active : x.active ≡ true → within (deleted key) (state_of name (kept_of rows)) ≡ Err StillActive
     drop_active busy =
-        ap (within (deleted key)) (its_state rows name d one)
-        ∙ ap (λ o. (or_absent o >>= (λ document. cond document.active (Err StillActive) (Ok (with_documents (remove state.documents key) state)))) >>= (λ next. Ok (Some next))) in_place
-        ∙ ap (λ b. cond b (Err StillActive) (Ok (with_documents (remove state.documents key) state)) >>= (λ next. Ok (Some next))) busy
+        let left = with_documents (remove state.documents key) state in
+        refused rows name d one (deleted key) StillActive (ap (λ o. or_absent o >>= (λ document. cond document.active (Err StillActive) (Ok left))) in_place ∙ ap (λ b. cond b (Err StillActive) (Ok left)) busy)
 
   module _ (none : filter (is_document n key) rows.documents ≡ []) where
     nowhere : get state.documents key ≡ None
     nowhere = got None (find_none has_key xs (sym among ∙ none))
 
     pub activity_absent : (active : Bool) → within (activity_set key active) (state_of name (kept_of rows)) ≡ Err Absent
-    activity_absent active =
-        ap (within (activity_set key active)) (its_state rows name d one)
-        ∙ ap (λ o. (or_absent o >>= (λ document. Ok (with_document key document.text active state))) >>= (λ next. Ok (Some next))) nowhere
+    activity_absent active = refused rows name d one (activity_set key active) Absent (ap (λ o. or_absent o >>= (λ document. Ok (with_document key document.text active state))) nowhere)
 
     pub drop_absent : within (deleted key) (state_of name (kept_of rows)) ≡ Err Absent
-    drop_absent =
-        ap (within (deleted key)) (its_state rows name d one)
-        ∙ ap (λ o. (or_absent o >>= (λ document. cond document.active (Err StillActive) (Ok (with_documents (remove state.documents key) state)))) >>= (λ next. Ok (Some next))) nowhere
+    drop_absent = refused rows name d one (deleted key) Absent (ap (λ o. or_absent o >>= (λ document. cond document.active (Err StillActive) (Ok (with_documents (remove state.documents key) state)))) nowhere)
 
     pub upload_full : (body : List ℕ) → nat_lt (len state.documents) 1_024 ≡ false → within (uploaded key body) (state_of name (kept_of rows)) ≡ Err Quota
-    upload_full body full =
-        ap (within (uploaded key body)) (its_state rows name d one) ∙ ap (λ o. uploaded_over key body state o >>= (λ next. Ok (Some next))) nowhere
-        ∙ ap (λ b. cond b (Ok (with_document key body false state)) (Err Quota) >>= (λ next. Ok (Some next))) full
+    upload_full body full = refused rows name d one (uploaded key body) Quota (ap (uploaded_over key body state) nowhere ∙ ap (λ b. cond b (Ok (with_document key body false state)) (Err Quota)) full)
 
 -- ---- of a domain that was found
 

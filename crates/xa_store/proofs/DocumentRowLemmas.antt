@@ -1,47 +1,22 @@
 -- Sound rows of the table of documents are rows that the keeper writes.
 use Rattle.std.proofs.Common.{◌≡◌, ◌≤◌, ℕ, ℤ, true, false, List, [], ◌∷◌, length, drop, unwrap_or, int_eq, bytes_eq, None, Result, Ok, Err, refl, sym, ap, subst, ◌∙◌, true≢false, arith}
-use Rattle.sqlite.specs.Order.{Row, column}
-use Rattle.sqlite.specs.Tree.{Trees}
-use Rattle.sqlite.specs.declared.types.Value.{Value}
-use Rattle.sqlite.specs.declared.types.Value.TheVariants.{Int, Text}
-use Rattle.sqlite_catalog.specs.Listing.{IsSound}
-use Rattle.sqlite_keyed.proofs.KeyedLemmas.{same_int}
-use Rattle.sqlite_keyed.proofs.RuleLemmas.{first_of_both, second_of_both}
-use Rattle.sqlite_schema.specs.Rules.{agree, are_typed}
-use Rattle.sqlite_sql.specs.declared.ops.CompareOp.TheVariants.{Eq}
-use Rattle.sqlite_typed.specs.Columns.{int_of, bytes_of}
-use Rattle.sqlite_typed.proofs.TestLemmas.{at_ints, at_texts, then_term, last_term, bytes_eq_refl}
+use Rattle.xa_store.proofs.Common.{Row, column, Trees, Value, Int, Text, IsSound, same_int, first_of_both, second_of_both, agree, are_typed, Eq, int_of, bytes_of, at_ints, at_texts, then_term, last_term, bytes_eq_refl, DocumentKey, DocumentKind, read_version, version_text, Parsed, document_of, IsDocumentOf, Documents, as_read, holds_key, is_bit, is_given, is_sound_table, is_whole_row, DocumentRow, bit, is_set, document_in, document_row, given, kind_in, kind_number, AreRows, same_document, our_schema, policies, rising}
 use Rattle.sqlite_value.specs.Keys.{first_key}
-use Rattle.xa_policy.specs.declared.document_key.DocumentKey.{DocumentKey}
-use Rattle.xa_policy.specs.declared.reference.DocumentKind.{DocumentKind}
-use Rattle.xa_policy.specs.declared.reference.DocumentKind.TheVariants.{Policy, PolicySet}
-use Rattle.xa_policy.specs.Version.{read_version, version_text}
-use Rattle.xa_notation.specs.declared.document.Parsed.{Parsed}
 use Rattle.xa_notation.specs.declared.notation_error.NotationError.{NotationError}
-use Rattle.xa_notation.specs.Document.{document_of}
-use Rattle.xa_records.specs.DomainState.{IsDocumentOf}
-use Rattle.xa_store.specs.declared.opening.kind.Kind.TheVariants.{Documents}
-use Rattle.xa_store.specs.Opened.{as_read, holds_key, is_bit, is_given, is_sound_table, is_whole_row}
-use Rattle.xa_store.specs.Rows.{DocumentRow, document_in, document_row, given, kind_in, kind_number, version_in}
-use Rattle.xa_store.specs.Sound.{AreRows, same_document}
-use Rattle.xa_store.specs.Tables.{our_schema, policies, rising}
+use Rattle.xa_store.specs.Rows.{version_in}
 use Rattle.xa_store.proofs.AreRowsLemmas.{rows_apart}
+use Rattle.xa_store.proofs.ColumnNumbers.{from_bit, of_kind}
 use Rattle.xa_store.proofs.HitLemmas.{same_key}
 use Rattle.xa_store.proofs.KeyLemmas.{own_number}
 use Rattle.xa_store.proofs.ReadLemmas.{int_back}
-use Rattle.xa_store.proofs.RootRowLemmas.{truth_from_bit}
 use Rattle.xa_store.proofs.ShapeLemmas.{blob_held, by_columns, int_held, never_int, row_long, row_short, text_held}
 use Rattle.xa_store.proofs.ShapedLemmas.{free_of, same_text}
 use Rattle.xa_store.proofs.VersionLemmas.{document_version}
 
 -- ---- the key that columns hold
 
-kind_back : (kind : DocumentKind) → kind_number kind ≡ kind_number (kind_in (kind_number kind))
-kind_back Policy = refl
-kind_back PolicySet = refl
-
 kind_held : (kind : DocumentKind) (n : ℤ) → int_eq (kind_number kind) n ≡ true → n ≡ kind_number (kind_in n)
-kind_held kind n h = subst (λ m. m ≡ kind_number (kind_in m)) (same_int (kind_number kind) n h) (kind_back kind)
+kind_held kind n h = subst (λ m. m ≡ kind_number (kind_in m)) (same_int (kind_number kind) n h) (ap kind_number (sym (of_kind kind).back))
 
 version_held : (version text : List ℕ) → read_version (version_text version) ≡ Ok version → bytes_eq (version_text version) text ≡ true → text ≡ version_text (version_in text)
 unfolding version_in
@@ -61,10 +36,6 @@ key_held kind id version body (Err e) is h = absurd (true≢false (sym h))
 
 -- ---- the text is a document of the key
 
-kind_named : (kind : DocumentKind) → kind_in (kind_number kind) ≡ kind
-kind_named Policy = refl
-kind_named PolicySet = refl
-
 version_named : (version : List ℕ) → read_version (version_text version) ≡ Ok version → version_in (version_text version) ≡ version
 unfolding version_in
 version_named version reads = ap (λ r. unwrap_or (given r) []) reads
@@ -75,7 +46,7 @@ document_of_key kind id version body (Ok parsed) is h =
     let k = (int_held (int_eq (kind_number parsed.kind)) kind (first_of_both _ _ (first_of_both _ _ h))).1 in
     let i = (text_held (bytes_eq parsed.id) id (second_of_both _ _ (first_of_both _ _ h))).1 in
     let v = (text_held (bytes_eq (version_text parsed.version)) version (second_of_both _ _ h)).1 in
-    let kinds = sym (kind_named parsed.kind) ∙ ap kind_in (same_int (kind_number parsed.kind) (int_of kind) k) in
+    let kinds = sym (of_kind parsed.kind).back ∙ ap kind_in (same_int (kind_number parsed.kind) (int_of kind) k) in
     let ids = same_text parsed.id (bytes_of id) i in
     let versions = sym (version_named parsed.version (document_version body parsed is)) ∙ ap version_in (same_text (version_text parsed.version) (bytes_of version) v) in
     (parsed, is, λ j. record { kind = kinds j; id = ids j; version = versions j })
@@ -99,7 +70,7 @@ document_back next row typed whole =
     let less : length row ≤ 7 = row_short None policies.columns row typed in
     let more = row_long row 6 (never_int (column row 6) _ active.0) in
     by_columns 7 row (omega (arith, less, more))
-    ∙ (λ i. rowid i ∷ number.0 i ∷ key.0 i ∷ key.1 i ∷ key.2 i ∷ text.0 i ∷ (active.0 ∙ ap Int (truth_from_bit _ active.1)) i ∷ [])
+    ∙ (λ i. rowid i ∷ number.0 i ∷ key.0 i ∷ key.1 i ∷ key.2 i ∷ text.0 i ∷ (active.0 ∙ ap Int (from_bit bit is_set refl refl _ active.1)) i ∷ [])
 
 -- ---- no two rows have one key
 

@@ -1,30 +1,8 @@
 -- What the statements on documents make of the rows.
-use Rattle.std.proofs.Common.{◌≡◌, ℕ, ℤ, pos, List, [], ◌∷◌, ◌++◌, map, filter, Bool, true, false, ◌&&◌, refl, sym, ap, ◌∙◌, int_eq, to_z, of_z, w64, Ok}
-use Rattle.std.specs.List.{AllByRecursion}
-use Rattle.std.specs.Ordering.{eq_by_cmp}
-use Rattle.std.specs.Cmp.{eq_by_cmp_equiv}
-use Rattle.std.proofs.lemmas.Bool.{and_parts, and_from}
-use Rattle.sqlite.specs.Order.{Row}
-use Rattle.sqlite.specs.Rowids.TheVariants.{Chosen}
-use Rattle.sqlite.specs.State.{State, Executes}
-use Rattle.sqlite.specs.Term.{col}
-use Rattle.sqlite.specs.Tree.{Trees}
-use Rattle.sqlite.specs.declared.types.Value.TheVariants.{Null, Int, Text, Blob}
-use Rattle.sqlite_rules.specs.Cast.{cast_row}
-use Rattle.sqlite_rules.specs.Edit.{with_rowid, next_rowid}
-use Rattle.sqlite_keyed.specs.Keyed.{next_key}
-use Rattle.sqlite_keyed.specs.Lists.{update_where, delete_where}
-use Rattle.sqlite_keyed.proofs.ListLemmas.{all_weaker, all_map}
-use Rattle.sqlite_keyed.proofs.KeyedLemmas.{same_int}
-use Rattle.xa_policy.specs.declared.document_key.DocumentKey.{DocumentKey}
-use Rattle.xa_policy.specs.DocumentKey.{compare_keys}
-use Rattle.xa_policy.specs.Version.{version_text}
-use Rattle.xa_records.proofs.OrderLemmas.{keys_total}
+use Rattle.std.proofs.Common.{◌≡◌, ℕ, ℤ, pos, List, [], ◌∷◌, ◌++◌, map, filter, Bool, true, false, ◌&&◌, refl, sym, ap, ◌∙◌, int_eq, Ok}
+use Rattle.xa_store.proofs.Common.{AllByRecursion, eq_by_cmp, eq_by_cmp_equiv, and_parts, and_from, Row, Chosen, State, Executes, col, Trees, Null, Int, Text, Blob, cast_row, with_rowid, next_rowid, next_key, update_where, delete_where, all_weaker, all_map, same_int, DocumentKey, compare_keys, version_text, keys_total, DocumentRow, kind_number, bit, document_row, document_in, AreTables, same_document, our_schema, policies}
 use Rattle.xa_store.specs.declared.step.Step.TheVariants.{AddDocument, SetActive, DropDocument}
-use Rattle.xa_store.specs.Rows.{DocumentRow, kind_number, bit, is_set, document_row, document_in}
-use Rattle.xa_store.specs.Sound.{AreTables, same_document}
 use Rattle.xa_store.specs.Steps.{KeyReads, is_document}
-use Rattle.xa_store.specs.Tables.{our_schema, policies}
 use Rattle.xa_store.specs.Texts as text
 use Rattle.xa_store.proofs.ChangeLemmas.{none_pass}
 use Rattle.xa_store.proofs.HitLemmas.{document_hit, same_key}
@@ -32,21 +10,14 @@ use Rattle.xa_store.proofs.HoldLemmas.{Back, came_last, changed, documents_now, 
 use Rattle.xa_store.proofs.KeyLemmas.{own_number}
 use Rattle.xa_store.proofs.LastLemmas.{apart_few}
 use Rattle.xa_store.proofs.SqlLemmas.{answered, hits}
-use Rattle.xa_store.proofs.StepLemmas.{Stepped, cast_int, cast_null, kind_back}
+use Rattle.xa_store.proofs.ColumnNumbers.{of_activity, of_kind}
+use Rattle.xa_store.proofs.StepLemmas.{Stepped, cast_int, cast_null}
 use Rattle.xa_store.proofs.TableLemmas.{updates, deletes, inserts}
-use Rattle.xa_store.proofs.TextLemmas.{is, activity_set_is, activity_set_query, document_added_given, document_added_is, document_dropped_is, document_dropped_query}
+use Rattle.xa_store.proofs.TextLemmas.{is, activity_set_is, document_added_is, document_dropped_is}
 use Rattle.xa_store.proofs.WriteLemmas.{next_rowid_is, row_added, row_updated, rows_removed}
 
-bit_back : (b : Bool) → is_set (bit b) ≡ b
-bit_back true = refl
-bit_back false = refl
-
-pub bit_held : (b : Bool) → to_z w64 (of_z w64 (bit b)) ≡ bit b
-bit_held true = refl
-bit_held false = refl
-
 document_back : (d : DocumentRow) → KeyReads d.key → document_in (document_row d) ≡ d
-document_back d reads = λ i. record { rowid = d.rowid; number = d.number; key = record { kind = kind_back d.key.kind i; id = d.key.id; version = reads i }; text = d.text; active = bit_back d.active i }
+document_back d reads = λ i. record { rowid = d.rowid; number = d.number; key = record { kind = (of_kind d.key.kind).back i; id = d.key.id; version = reads i }; text = d.text; active = (of_activity d.active).back i }
 
 key_of_back : (d : DocumentRow) → document_in (document_row d) ≡ d → KeyReads d.key
 key_of_back d back = ap (λ (x : DocumentRow). x.key.version) back
@@ -92,7 +63,7 @@ module _ (old new : State) (has : old.now.schema ≡ our_schema) (count : ℕ) (
       let given = Int n ∷ Int (kind_number key.kind) ∷ Text key.id ∷ Text (version_text key.version) ∷ Blob body ∷ [] in
       let document : DocumentRow = record { rowid = next_key rowid_of ds; number = n; key = key; text = body; active = false } in
       let row = Null ∷ Int n ∷ Int (kind_number key.kind) ∷ Text key.id ∷ Text (version_text key.version) ∷ Blob body ∷ Int (pos 0) ∷ [] in
-      let adds = inserts text.document_added given old new has 3 policies refl count document_added_given 7 refl refl document_added_is h in
+      let adds = inserts text.document_added given old new has 3 policies refl count _ 7 refl refl document_added_is h in
       let bare : cast_row policies row ≡ row = λ i. cast_null i ∷ cast_int n i ∷ cast_int (kind_number key.kind) i ∷ Text key.id ∷ Text (version_text key.version) ∷ Blob body ∷ cast_int (pos 0) i ∷ [] in
       let id : next_rowid (db 5) ≡ next_key rowid_of ds = ap next_rowid was.documents.written ∙ next_rowid_is document_row rowid_of (λ _. refl) ds in
       let put : with_rowid Chosen (db 5) (cast_row policies row) ≡ document_row document =
@@ -115,7 +86,7 @@ module _ (old new : State) (has : old.now.schema ≡ our_schema) (count : ℕ) (
       let shown = col 1 0 ∷ col 1 0 ∷ col 1 1 ∷ col 1 2 ∷ col 1 3 ∷ col 1 4 ∷ col 1 5 ∷ col 0 4 ∷ [] in
       let p = is_document n key in
       let f : DocumentRow → DocumentRow = λ d. record d { active = active } in
-      let edits = updates text.activity_set given old new has 3 policies refl count activity_set_query activity_set_is h in
+      let edits = updates text.activity_set given old new has 3 policies refl count _ activity_set_is h in
       let answer = answered 5 tests shown [] db refl given edits.rows edits.answer.answer in
       let few = apart_few same_document p (documents_alike n key) ds was.documents.apart in
       let wrote = row_updated document_row rowid_of (λ _. refl) policies db next ds was.documents.written was.documents.rise tests shown refl given p all_hit
@@ -136,7 +107,7 @@ module _ (old new : State) (has : old.now.schema ≡ our_schema) (count : ℕ) (
   document_dropped_stepped h =
       let tests = is 1 0 ∷ is 2 1 ∷ is 3 2 ∷ is 4 3 ∷ [] in
       let p = is_document n key in
-      let edits = deletes text.document_dropped params old new has 3 policies refl count document_dropped_query document_dropped_is h in
+      let edits = deletes text.document_dropped params old new has 3 policies refl count _ document_dropped_is h in
       let answer = answered 5 tests (col 1 0 ∷ []) [] db refl params edits.rows edits.answer.answer in
       let wrote = rows_removed document_row rowid_of (λ _. refl) policies db next ds was.documents.written was.documents.rise tests (col 1 0 ∷ []) refl params p all_hit
       (λ _. refl) refl edits.rows answer edits.edited in

@@ -1,26 +1,10 @@
 -- What the look for a domain by its name finds.
 use Rattle.std.proofs.Common.{◌≡◌, ℕ, ℤ, pos, negsuc, ◌≤ℤ◌, List, [], ◌∷◌, map, filter, Option, Some, None, Result, Ok, Err, IfOk, refl, sym, ap, ◌∙◌, arith}
-use Rattle.std.specs.List.{AllByRecursion}
-use Rattle.std.proofs.lemmas.Int.{ints}
-use Rattle.sqlite.specs.Order.{Row, column}
-use Rattle.sqlite.specs.State.{State, Shown}
-use Rattle.sqlite.specs.Tree.{Trees}
-use Rattle.sqlite.specs.declared.types.Value.{Value}
-use Rattle.sqlite.specs.declared.types.Value.TheVariants.{Int, Text}
-use Rattle.sqlite.specs.Given.{IsPlain}
-use Rattle.sqlite.specs.Listing.{understood}
-use Rattle.sqlite.specs.Term.{col}
-use Rattle.sqlite.proofs.Callers.{reads_as}
-use Rattle.sqlite_keyed.proofs.ListLemmas.{all_of}
-use Rattle.xa_records.specs.declared.refusal.Failure.{Failure}
-use Rattle.xa_store.specs.declared.domain_found.DomainFound.{DomainFound}
-use Rattle.xa_store.specs.Found.{FindsDomain, TellDomain}
-use Rattle.xa_store.specs.Rows.{DomainRow, nat_of, domain_row, domain_in}
-use Rattle.xa_store.specs.Sound.{Ours}
+use Rattle.xa_store.proofs.Common.{AllByRecursion, ints, Row, column, State, Shown, Trees, Value, Int, Text, IsPlain, understood, col, reads_as, all_of, Failure, DomainRow, nat_of, domain_row, domain_in, Ours, our_schema, rows_of}
+use Rattle.xa_store.specs.declared.query.domain.DomainFound.{DomainFound}
+use Rattle.xa_store.specs.Lookup.{FindsDomain, TellDomain}
 use Rattle.xa_store.specs.Steps.{is_named}
-use Rattle.xa_store.specs.Tables.{our_schema}
 use Rattle.xa_store.specs.Texts.{domain_shown}
-use Rattle.xa_store.specs.World.{rows_of}
 use Rattle.xa_store.proofs.FoundLemmas.{found_one, found_none}
 use Rattle.xa_store.proofs.HitLemmas.{name_hit}
 use Rattle.xa_store.proofs.SqlLemmas.{Answered, answered, hits}

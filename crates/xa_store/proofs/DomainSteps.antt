@@ -1,28 +1,15 @@
 -- What the statement that adds a domain makes of the rows.
 use Rattle.std.proofs.Common.{◌≡◌, ℕ, ℤ, pos, List, [], ◌∷◌, map, filter, Bool, true, false, not, ◌&&◌, refl, ap, ◌∙◌, int_eq, Ok}
-use Rattle.sqlite.specs.Rowids.TheVariants.{Chosen}
-use Rattle.sqlite.specs.State.{State, Executes}
-use Rattle.sqlite.specs.Tree.{Trees}
-use Rattle.sqlite.specs.declared.types.Value.TheVariants.{Null, Int, Text}
-use Rattle.sqlite_rules.specs.Cast.{cast_row}
-use Rattle.sqlite_rules.specs.Edit.{with_rowid}
-use Rattle.sqlite_keyed.specs.Keyed.{insert_by}
-use Rattle.sqlite_keyed.specs.Rules.{is_apart}
-use Rattle.sqlite_keyed.proofs.ListLemmas.{all_of, all_weaker, any_from_none}
-use Rattle.sqlite_keyed.proofs.KeyedLemmas.{IsKeyedBy-insert_by}
-use Rattle.sqlite_keyed.proofs.RuleLemmas.{apart_insert}
+use Rattle.xa_store.proofs.Common.{Chosen, State, Executes, Trees, Null, Int, Text, cast_row, with_rowid, insert_by, is_apart, all_of, all_weaker, any_from_none, IsKeyedBy-insert_by, apart_insert, DomainRow, domain_row, domain_in, AreTables, same_name, our_schema, domains}
 use Rattle.xa_store.specs.declared.step.Step.TheVariants.{AddDomain}
-use Rattle.xa_store.specs.Rows.{DomainRow, domain_row, domain_in}
-use Rattle.xa_store.specs.Sound.{AreTables, same_name}
 use Rattle.xa_store.specs.Steps.{is_named}
-use Rattle.xa_store.specs.Tables.{our_schema, domains}
 use Rattle.xa_store.specs.Texts as text
 use Rattle.xa_store.proofs.ChangeLemmas.{none_pass}
 use Rattle.xa_store.proofs.HitLemmas.{turn_bytes}
 use Rattle.xa_store.proofs.HoldLemmas.{Back, came, domains_now}
 use Rattle.xa_store.proofs.StepLemmas.{Stepped, cast_int, cast_null}
 use Rattle.xa_store.proofs.TableLemmas.{inserts}
-use Rattle.xa_store.proofs.TextLemmas.{domain_added_given, domain_added_is}
+use Rattle.xa_store.proofs.TextLemmas.{domain_added_is}
 use Rattle.xa_store.proofs.WriteLemmas.{row_added}
 
 never_both : (b : Bool) → (b && false) ≡ false
@@ -44,7 +31,7 @@ module _ (old new : State) (has : old.now.schema ≡ our_schema) (count : ℕ) (
       let params = Int n ∷ Text name ∷ [] in
       let domain : DomainRow = record { number = n; name = name; epoch = pos 0 } in
       let row = Int n ∷ Null ∷ Text name ∷ Int (pos 0) ∷ [] in
-      let adds = inserts text.domain_added params old new has 1 domains refl count domain_added_given 4 refl refl domain_added_is h in
+      let adds = inserts text.domain_added params old new has 1 domains refl count _ 4 refl refl domain_added_is h in
       let bare : cast_row domains row ≡ row = λ i. cast_int n i ∷ cast_null i ∷ Text name ∷ cast_int (pos 0) i ∷ [] in
       let put : with_rowid Chosen (db 1) (cast_row domains row) ≡ domain_row domain = ap (with_rowid Chosen (db 1)) bare in
       let wrote = row_added domain_row number_of (λ _. refl) domains db new.now.trees ds was.domains.written was.domains.rise domain row put adds.edited in

@@ -1,32 +1,9 @@
 -- What the statement that takes a domain out makes of the rows: all that is in it goes too.
 use Rattle.std.proofs.Common.{◌≡◌, ◌≢◌, inl, inr, ℕ, ℤ, List, [], ◌∷◌, map, drop, filter, find, option_map, true, false, cond, Some, unwrap_or, Ok, refl, sym, ap, subst, ◌∙◌, int_eq}
-use Rattle.sqlite.specs.Edit.{edit_of}
-use Rattle.sqlite.specs.Order.{Row}
-use Rattle.sqlite.specs.Rowids.TheVariants.{Given}
-use Rattle.sqlite.specs.Rows.{Edited}
-use Rattle.sqlite.specs.State.{State, Executes}
-use Rattle.sqlite.specs.Term.{col}
-use Rattle.sqlite.specs.Tree.{Trees}
-use Rattle.sqlite.specs.declared.types.Value.TheVariants.{Int}
-use Rattle.sqlite_schema.specs.declared.schema.Keys.TheVariants.{Enforced}
-use Rattle.sqlite_sql.specs.declared.ops.CompareOp.TheVariants.{Eq}
-use Rattle.sqlite_trees.specs.Tree.{has_rowid}
-use Rattle.sqlite_value.proofs.OrderLemmas.{value_cmp-Int}
-use Rattle.sqlite_rules.specs.Action.{works, Leads}
-use Rattle.sqlite_rules.specs.Calls.{ids_of}
-use Rattle.sqlite_rules.specs.Edit.{IsNoIndex, without_all, row_at}
-use Rattle.sqlite_keyed.specs.Lists.{delete_where}
-use Rattle.sqlite_keyed.proofs.ListLemmas.{all_of}
-use Rattle.sqlite_keyed.proofs.KeyedLemmas.{same_int}
-use Rattle.sqlite_typed.proofs.RowLemmas.{deletes-map}
-use Rattle.sqlite_typed.proofs.TestLemmas.{at_ints, last_term}
+use Rattle.xa_store.proofs.Common.{edit_of, Row, Given, Edited, State, Executes, col, Trees, Int, Enforced, Eq, has_rowid, value_cmp-Int, works, Leads, ids_of, IsNoIndex, without_all, row_at, delete_where, all_of, same_int, deletes-map, at_ints, last_term, DomainRow, domain_row, domain_in, token_row, token_in, document_row, document_in, root_row, root_in, attribute_row, attribute_in, AreTables, our_schema, domains, tokens, policies, attributes, sources, rows_of}
 use Rattle.xa_store.specs.declared.step.Step.TheVariants.{DropDomain}
-use Rattle.xa_store.specs.Rows.{DomainRow, domain_row, domain_in, token_row, token_in, document_row, document_in, root_row, root_in, attribute_row, attribute_in}
-use Rattle.xa_store.specs.Sound.{AreTables}
 use Rattle.xa_store.specs.Steps.{without_domain}
-use Rattle.xa_store.specs.Tables.{our_schema, domains, tokens, policies, attributes, sources}
 use Rattle.xa_store.specs.Texts as text
-use Rattle.xa_store.specs.World.{rows_of}
 use Rattle.xa_store.proofs.CascadeLemmas.{ActedOnAll, all_acted, all_children, by_number, child_at, gone, its_root, root_child_at, untouched, works_of_drop}
 use Rattle.xa_store.proofs.EntryLemmas.{found_passes}
 use Rattle.xa_store.proofs.FilterLemmas.{find_one}
@@ -34,7 +11,7 @@ use Rattle.xa_store.proofs.HoldLemmas.{Hold, hold, is_other, of_other, went_out}
 use Rattle.xa_store.proofs.SqlLemmas.{answered, one_hit}
 use Rattle.xa_store.proofs.StepLemmas.{Stepped}
 use Rattle.xa_store.proofs.TableLemmas.{deletes}
-use Rattle.xa_store.proofs.TextLemmas.{is, domain_dropped_is, domain_dropped_query}
+use Rattle.xa_store.proofs.TextLemmas.{is, domain_dropped_is}
 use Rattle.xa_store.proofs.WriteLemmas.{passing_rows}
 
 -- ---- the rows that are left
@@ -120,7 +97,7 @@ module _ (old new : State) (has : old.now.schema ≡ our_schema) (count : ℕ) (
     pub domain_dropped_stepped : Executes text.domain_dropped (Int d.number ∷ []) old new (Ok count) → Stepped old new (DropDomain d.number)
     domain_dropped_stepped h =
         let params = Int d.number ∷ [] in
-        let edits = deletes text.domain_dropped params old new has 1 domains refl count domain_dropped_query domain_dropped_is h in
+        let edits = deletes text.domain_dropped params old new has 1 domains refl count _ domain_dropped_is h in
         let answer = answered 1 (is 0 0 ∷ []) (col 1 0 ∷ []) [] db refl params edits.rows edits.answer.answer in
         let hit = all_of _ (λ (x : DomainRow). last_term (at_ints false Eq x.number d.number)) ds in
         let passing = passing_rows domain_row number_of (λ _. refl) domains db new.now.trees ds was.domains.written was.domains.rise (is 0 0 ∷ []) (col 1 0 ∷ []) refl params (λ x. int_eq x.number d.number) hit in

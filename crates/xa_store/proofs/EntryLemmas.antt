@@ -1,11 +1,8 @@
 -- The finite map of rows, after the writes of the statements.
 use Rattle.std.proofs.Common.{◌≡◌, Bool, true, false, not, cond, List, [], ◌∷◌, ◌++◌, map, find, Option, Some, None, option_map, refl, sym, ap, ◌∙◌}
-use Rattle.std.specs.Cmp.{IsTotalOrder, eq_by_cmp_equiv}
-use Rattle.std.specs.FinMap.{FinMap, IsAntisymmetric, from_entries, get, insert, remove, get-from_entries, get-insert, get-remove, from_entries_push, same_map}
+use Rattle.xa_store.proofs.Common.{IsTotalOrder, eq_by_cmp_equiv, FinMap, IsAntisymmetric, from_entries, get, insert, remove, get-from_entries, get-insert, get-remove, from_entries_push, same_map, eq_by_cmp, update_where, delete_where}
 use Rattle.std.specs.FinMap as finite
-use Rattle.std.specs.Ordering.{eq_by_cmp}
 use Rattle.std.specs.declared.cmp.Ordering.{Ordering}
-use Rattle.sqlite_keyed.specs.Lists.{update_where, delete_where}
 
 pub found_passes : {X : Type 0} (p : X → Bool) (xs : List X) (x : X) → find p xs ≡ Some x → p x ≡ true
 found_passes p [] x is = cc

@@ -1,7 +1,6 @@
 -- The rows of one domain among those of all, after the writes of the statements.
 use Rattle.std.proofs.Common.{◌≡◌, Bool, true, false, not, cond, ◌&&◌, List, [], ◌∷◌, ◌++◌, filter, find, Some, None, refl, ap, ◌∙◌}
-use Rattle.std.specs.List.{AllByRecursion}
-use Rattle.sqlite_keyed.specs.Lists.{update_where, delete_where}
+use Rattle.xa_store.proofs.Common.{AllByRecursion, update_where, delete_where}
 
 -- two tests that agree on each element
 pub filter_alike : {X : Type 0} (p q : X → Bool) (xs : List X) → AllByRecursion (λ x. p x ≡ q x) xs → filter p xs ≡ filter q xs

@@ -1,19 +1,8 @@
 -- What a query of one table finds, as records of its rows.
 use Rattle.std.proofs.Common.{◌≡◌, ℕ, List, [], ◌∷◌, map, filter, Bool, false, Ordering, is_eq, Option, Some, None, option_map, find, slice_get, ◌&&◌, Result, Ok, Err, IfOk, refl, sym, ap, subst, ◌∙◌, IsPermutation}
-use Rattle.std.specs.List.{AllByRecursion}
-use Rattle.std.proofs.lemmas.List.Sorted.{IsPermutation-map}
-use Rattle.sqlite.specs.Order.{Row}
-use Rattle.sqlite.specs.Program.{overlay}
-use Rattle.sqlite.specs.Query.{Output, output_cmp}
-use Rattle.sqlite.specs.Term.{Term}
-use Rattle.sqlite.specs.Tree.{Trees}
-use Rattle.sqlite_keyed.specs.Lists.{sort_by}
-use Rattle.sqlite_keyed.proofs.ListLemmas.{slice_get-filter, map-map, filter-map, ascending-map, ascending_weaker}
-use Rattle.sqlite_keyed.proofs.SortLemmas.{sorted_is-sort_by, sort_by-map}
-use Rattle.sqlite_sql.proofs.QueryLemmas.{output_cmp_total}
-use Rattle.sqlite_trees.specs.Tree.{IsAscending}
-use Rattle.xa_store.specs.Found.{FindsOne}
-use Rattle.xa_store.specs.Shown.{TellsOne}
+use Rattle.xa_store.proofs.Common.{AllByRecursion, IsPermutation-map, Row, overlay, Output, output_cmp, Term, Trees, sort_by, slice_get-filter, map-map, filter-map, ascending-map, ascending_weaker, sorted_is-sort_by, sort_by-map, output_cmp_total, IsAscending}
+use Rattle.xa_store.specs.Lookup.{FindsOne}
+use Rattle.xa_store.specs.Columns.{TellsOne}
 use Rattle.xa_store.proofs.FilterLemmas.{filter_both, find_one, find_none, filter_alike}
 use Rattle.xa_store.proofs.SqlLemmas.{Answered, hits, show, out, hit_by, missed_by}
 use Rattle.xa_store.proofs.TextLemmas.{of_table}

@@ -1,24 +1,11 @@
 -- Which rows pass the tests of the statements.
 use Rattle.std.proofs.Common.{◌≡◌, ℕ, ℤ, Bool, true, false, ◌&&◌, List, [], ◌∷◌, Ordering, Less, Equal, Greater, is_eq, nat_cmp, int_eq, refl, sym, ap, ap₂, ◌∙◌, true≢false, inl, inr}
-use Rattle.std.specs.Ordering.{eq_by_cmp, ordering_then}
-use Rattle.std.proofs.lemmas.Cmp.{nat_list_cmp_total}
-use Rattle.sqlite.specs.Tree.{Trees}
-use Rattle.sqlite.specs.declared.types.Value.TheVariants.{Int, Text, Blob}
-use Rattle.sqlite_sql.specs.declared.ops.CompareOp.TheVariants.{Eq}
-use Rattle.sqlite_typed.proofs.TestLemmas.{at_ints, at_texts, at_blobs, then_term, last_term, turn_eq, same_bytes, bytes_eq_refl}
-use Rattle.xa_policy.specs.declared.document_key.DocumentKey.{DocumentKey}
-use Rattle.xa_policy.specs.declared.reference.DocumentKind.{DocumentKind}
+use Rattle.xa_store.proofs.Common.{eq_by_cmp, ordering_then, nat_list_cmp_total, Trees, Int, Text, Blob, Eq, at_ints, at_texts, at_blobs, then_term, last_term, turn_eq, same_bytes, bytes_eq_refl, DocumentKey, DocumentKind, compare_keys, place_of_kind, version_text, compare_bytes, keys_exact, DomainRow, TokenRow, DocumentRow, RootRow, AttributeRow, domain_row, token_row, document_row, root_row, attribute_row, kind_number, version_in, col}
 use Rattle.xa_policy.specs.declared.reference.DocumentKind.TheVariants.{Policy, PolicySet}
-use Rattle.xa_policy.specs.DocumentKey.{compare_keys, place_of_kind}
-use Rattle.xa_policy.specs.Version.{version_text}
-use Rattle.xa_records.specs.DomainState.{compare_bytes}
 use Rattle.xa_records.proofs.FinMapLemmas.{here_or_elsewhere}
-use Rattle.xa_records.proofs.OrderLemmas.{keys_exact}
-use Rattle.xa_store.specs.Rows.{DomainRow, TokenRow, DocumentRow, RootRow, AttributeRow, domain_row, token_row, document_row, root_row, attribute_row, kind_number, version_in}
 use Rattle.xa_store.specs.Steps.{is_named, is_token, is_document}
 use Rattle.xa_store.proofs.SqlLemmas.{hits}
 use Rattle.xa_store.proofs.TextLemmas.{is}
-use Rattle.sqlite.specs.Term.{col}
 
 -- two texts are compared either way round
 pub turn_bytes : (a b : List ℕ) → eq_by_cmp compare_bytes a b ≡ eq_by_cmp compare_bytes b a

@@ -1,21 +1,7 @@
 -- Tables of which one was written.
 use Rattle.std.proofs.Common.{◌≡◌, ◌≢◌, ℕ, ℤ, List, [], ◌∷◌, ◌++◌, map, Bool, false, true, not, ◌&&◌, ◌==◌, refl, sym, ap, subst, ◌∙◌, eq-eqb, true≢false}
-use Rattle.std.specs.List.{AllByRecursion, list_all}
-use Rattle.std.proofs.lemmas.Bool.{and_parts}
-use Rattle.sqlite.specs.Order.{Row}
-use Rattle.sqlite.specs.Tree.{Trees}
+use Rattle.xa_store.proofs.Common.{AllByRecursion, list_all, and_parts, Row, Trees, IsNoIndex, IsKeyedBy, insert_by, next_key, update_where, delete_where, AreApart, all-filter, IsKeyedBy-delete_where, IsKeyedBy-update_where, apart_delete, apart_update, DomainRow, TokenRow, DocumentRow, RootRow, AttributeRow, meta_row, next_in, domain_row, domain_in, token_row, token_in, document_row, document_in, root_row, root_in, attribute_row, attribute_in, AreRows, AreTables, same_name, same_token, same_document, same_place, our_schema, Rows, rows_of}
 use Rattle.sqlite_schema.specs.declared.schema.Index.{Index}
-use Rattle.sqlite_rules.specs.Edit.{IsNoIndex}
-use Rattle.sqlite_keyed.specs.Keyed.{IsKeyedBy, insert_by, next_key}
-use Rattle.sqlite_keyed.specs.Lists.{update_where, delete_where}
-use Rattle.sqlite_keyed.specs.Rules.{AreApart}
-use Rattle.sqlite_keyed.proofs.ListLemmas.{all-filter}
-use Rattle.sqlite_keyed.proofs.KeyedLemmas.{IsKeyedBy-delete_where, IsKeyedBy-update_where}
-use Rattle.sqlite_keyed.proofs.RuleLemmas.{apart_delete, apart_update}
-use Rattle.xa_store.specs.Rows.{DomainRow, TokenRow, DocumentRow, RootRow, AttributeRow, meta_row, next_in, domain_row, domain_in, token_row, token_in, document_row, document_in, root_row, root_in, attribute_row, attribute_in}
-use Rattle.xa_store.specs.Sound.{AreRows, AreTables, same_name, same_token, same_document, same_place}
-use Rattle.xa_store.specs.Tables.{our_schema}
-use Rattle.xa_store.specs.World.{Rows, rows_of}
 use Rattle.xa_store.proofs.LastLemmas.{stands_last, keyed_last, all_last, apart_last}
 use Rattle.xa_store.proofs.WriteLemmas.{Wrote}
 

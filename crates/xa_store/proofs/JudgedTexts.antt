@@ -1,15 +1,9 @@
 -- What the queries are by which the rows of the tables are judged.
 use Rattle.std.proofs.Common.{◌≡◌, ℕ, true, List, [], ◌∷◌, map, codes, refl, sym, true≢false}
 use Rattle.sqlite.specs.Listing.{understood}
-use Rattle.sqlite.specs.Query.{Query}
-use Rattle.sqlite.specs.Term.{col}
+use Rattle.xa_store.proofs.Common.{Query, col, Kind, Domains, Tokens, Documents, Roots, Attributes, Sources, SchemaVersion, Schema1, Schema2, read_columns, schema_of, sources_in, tree_of}
 use Rattle.sqlite_tied.specs.Compute.{everything}
-use Rattle.xa_store.specs.declared.opening.kind.Kind.{Kind}
-use Rattle.xa_store.specs.declared.opening.kind.Kind.TheVariants.{Domains, Tokens, Documents, Roots, Attributes, Sources}
-use Rattle.xa_store.specs.declared.opening.schema_version.SchemaVersion.{SchemaVersion}
-use Rattle.xa_store.specs.declared.opening.schema_version.SchemaVersion.TheVariants.{Schema1, Schema2}
-use Rattle.xa_store.specs.Judging.{has_kind, places_text_of, text_of}
-use Rattle.xa_store.specs.Opened.{read_columns, schema_of, sources_in, tree_of}
+use Rattle.xa_store.specs.Check.{has_kind, places_text_of, text_of}
 use Rattle.xa_store.specs.Texts.{meta_shown}
 use Rattle.xa_store.proofs.TextLemmas.{of_table, reading, IsQuery, IsQueryIn}
 

@@ -1,23 +1,12 @@
 -- From what a change does to a connection to what it does to the keeper.
-use Rattle.std.proofs.Common.{◌≡◌, inl, inr, ℕ, Bool, false, List, Result, Ok, Err, IfOk, IsTrue, sym, ap, subst, ◌∙◌}
-use Rattle.sqlite.specs.Effect.{Database}
-use Rattle.sqlite.specs.Held.{Held, state}
-use Rattle.sqlite.specs.State.{HasCleanDisk}
-use Rattle.sqlite.specs.Store.{Ghosts}
-use Rattle.sqlite.specs.Tree.{Trees}
-use Rattle.sqlite.proofs.StateLemmas.{clean_if_open}
-use Rattle.xa_records.specs.declared.refusal.ChangeError.{ChangeError}
+use Rattle.std.proofs.Common.{◌≡◌, inl, inr, ℕ, Bool, false, List, Result, Ok, Err, IfOk, IsTrue, sym, subst}
+use Rattle.xa_store.proofs.Common.{Database, Held, state, HasCleanDisk, Ghosts, Trees, clean_if_open, ChangeError, Change, Changes, IfAnswered, Leaves, Kept, IsMade, IsSoundStore, LeavesWorld, Ours, SameNow, world_of}
 use Rattle.xa_records.specs.declared.refusal.ChangeError.TheVariants.{Failed, Refused}
-use Rattle.xa_records.specs.Changes.{Change}
-use Rattle.xa_records.specs.Keeper.{Changes, IfAnswered, Leaves}
-use Rattle.xa_records.specs.Kept.{Kept, IsMade}
 use Rattle.xa_store.specs.Keeper.{Keeper, IsKeeper, IsSound}
 use Rattle.xa_store.specs.KeeperChange.{IsChanging}
 use Rattle.xa_store.specs.KeeperReading.{kept_by}
-use Rattle.xa_store.specs.Sound.{IsSoundStore, LeavesWorld, Ours, SameNow}
-use Rattle.xa_store.specs.Standing.{AnswersAs, TellsChange}
+use Rattle.xa_store.specs.Health.{AnswersAs, TellsChange}
 use Rattle.xa_store.specs.Turns.{Turns}
-use Rattle.xa_store.specs.World.{world_of}
 use Rattle.xa_store.proofs.KeeperReadingLemmas.{sound_store}
 use Rattle.xa_store.proofs.QuietLemmas.{ours_after}
 

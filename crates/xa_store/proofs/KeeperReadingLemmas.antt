@@ -1,20 +1,10 @@
 -- From what a query does to a connection to what a reading does to the keeper.
 use Rattle.std.proofs.Common.{◌≡◌, ℕ, Bool, false, Result, Ok, Err, IsTrue, IfOk, OnOk, sym, ap, subst, ◌∙◌}
-use Rattle.sqlite.specs.Effect.{Database}
-use Rattle.sqlite.specs.Held.{Held, state}
-use Rattle.sqlite.specs.State.{State, HasCleanDisk}
-use Rattle.sqlite.specs.Store.{Ghosts}
-use Rattle.sqlite.specs.Tree.{Trees}
-use Rattle.sqlite.proofs.StateLemmas.{clean_if_open}
-use Rattle.xa_records.specs.declared.refusal.Failure.{Failure}
-use Rattle.xa_records.specs.Keeper.{Reads}
-use Rattle.xa_records.specs.Kept.{Kept}
+use Rattle.xa_store.proofs.Common.{Database, Held, state, State, HasCleanDisk, Ghosts, Trees, clean_if_open, Failure, Reads, Kept, AreOurs, IsSoundStore, Ours, SameNow, world_of}
 use Rattle.xa_store.specs.Keeper.{Keeper, IsKeeper}
 use Rattle.xa_store.specs.KeeperReading.{IsReading}
 use Rattle.xa_store.specs.Quiet.{Quiet}
-use Rattle.xa_store.specs.Sound.{AreOurs, IsSoundStore, Ours, SameNow}
-use Rattle.xa_store.specs.Standing.{TellsReading}
-use Rattle.xa_store.specs.World.{world_of}
+use Rattle.xa_store.specs.Health.{TellsReading}
 use Rattle.xa_store.proofs.QuietLemmas.{ours_after}
 use Rattle.xa_store.proofs.ReopenLemmas.{are_ours}
 

@@ -1,18 +1,9 @@
 -- What is kept of all domains has documents of their keys alone.
 use Rattle.std.proofs.Common.{◌≡◌, Bool, List, find, int_eq, Option, Some, None, option_map, refl, sym, subst, subst₂, ◌∙◌}
-use Rattle.std.specs.FinMap.{get}
-use Rattle.std.specs.Ordering.{eq_by_cmp}
-use Rattle.xa_policy.specs.declared.document_key.DocumentKey.{DocumentKey}
-use Rattle.xa_policy.specs.DocumentKey.{compare_keys}
-use Rattle.xa_records.specs.DomainState.{IsDocumentOf, StoredDocument}
-use Rattle.xa_records.specs.Kept.{Domain}
+use Rattle.xa_store.proofs.Common.{get, eq_by_cmp, DocumentKey, compare_keys, IsDocumentOf, StoredDocument, Domain, keys_exact, keys_total, DomainRow, DocumentRow, AreDocuments, Rows, documents_at, domain_of, kept_of, state_at}
 use Rattle.xa_records.specs.Keyed.{KeepsDocuments}
 use Rattle.xa_records.proofs.KeyedLemmas.{key_is}
-use Rattle.xa_records.proofs.OrderLemmas.{keys_exact, keys_total}
-use Rattle.xa_store.specs.Rows.{DomainRow, DocumentRow}
-use Rattle.xa_store.specs.Sound.{AreDocuments}
 use Rattle.xa_store.specs.Steps.{is_named}
-use Rattle.xa_store.specs.World.{Rows, documents_at, domain_of, kept_of, state_at}
 use Rattle.xa_store.proofs.ChangeLemmas.{found_all, kept_at}
 use Rattle.xa_store.proofs.EntryLemmas as entry
 use Rattle.xa_store.proofs.EntryLemmas.{found_passes}

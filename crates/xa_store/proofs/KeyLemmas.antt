@@ -1,14 +1,7 @@
 -- Lists in the order of their rowids, after the writes of a statement.
 use Rattle.std.proofs.Common.{◌≡◌, ℤ, ◌<ℤ◌, Bool, true, false, not, cond, List, [], ◌∷◌, ◌++◌, map, filter, fold, Some, None, Option, refl, sym, ap, subst, ◌∙◌, arith, Ordering, Less, Equal, Greater, int_cmp, int_eq, is_eq, true≢false}
-use Rattle.std.specs.List.{AllByRecursion}
+use Rattle.xa_store.proofs.Common.{AllByRecursion, match_ordering, ints, int_ranked, IsKeyedBy, get_by, insert_by, next_key, update_where, delete_where, without_key, all_weaker, filter_all, along_permutation, Less-from_lt, above_all, same_int}
 use Rattle.std.specs.List.Sorted.{IsPermutation}
-use Rattle.std.specs.Ordering.{match_ordering}
-use Rattle.std.proofs.lemmas.Int.{ints}
-use Rattle.std.proofs.lemmas.Cmp.{int_ranked}
-use Rattle.sqlite_keyed.specs.Keyed.{IsKeyedBy, get_by, insert_by, next_key}
-use Rattle.sqlite_keyed.specs.Lists.{update_where, delete_where, without_key}
-use Rattle.sqlite_keyed.proofs.ListLemmas.{all_weaker, filter_all, along_permutation}
-use Rattle.sqlite_keyed.proofs.KeyedLemmas.{Less-from_lt, above_all, same_int}
 use Rattle.sqlite_keyed.proofs.WriteLemmas.{puts_update, removes_delete}
 
 -- a number is its own

@@ -1,11 +1,6 @@
 -- Rows of a table whose keys stand apart.
 use Rattle.std.proofs.Common.{◌≡◌, ◌≤◌, ℤ, List, [], ◌∷◌, ◌++◌, filter, length, Bool, true, false, refl, subst, arith}
-use Rattle.std.specs.List.{AllByRecursion}
-use Rattle.std.proofs.lemmas.Bool.{both_ways, cond_both}
-use Rattle.sqlite_keyed.specs.Keyed.{IsKeyedBy, insert_by, next_key}
-use Rattle.sqlite_keyed.specs.Rules.{AreApart}
-use Rattle.sqlite_keyed.proofs.ListLemmas.{all_weaker, all-append, ascending-append, filter_none}
-use Rattle.sqlite_keyed.proofs.KeyedLemmas.{IsKeyedBy-insert_by}
+use Rattle.xa_store.proofs.Common.{AllByRecursion, both_ways, cond_both, IsKeyedBy, insert_by, next_key, AreApart, all_weaker, all-append, ascending-append, filter_none, IsKeyedBy-insert_by}
 use Rattle.xa_store.proofs.KeyLemmas.{pushed_last}
 
 pub not_true : (b : Bool) → (b ≡ true → ⊥) → b ≡ false

@@ -1,3 +1,4 @@
+pub mod Common
 pub mod ApartLemmas
 pub mod AskLemmas
 pub mod ChangeLemmas
@@ -65,6 +66,7 @@ pub mod CountLemmas
 pub mod CountedLemmas
 pub mod AsciiLemmas
 pub mod ColumnLemmas
+pub mod ColumnNumbers
 pub mod WholeLemmas
 pub mod ReopenLemmas
 pub mod AreRowsLemmas

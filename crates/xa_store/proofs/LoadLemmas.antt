@@ -1,24 +1,12 @@
 -- The tables are judged one after another.
-use Rattle.std.proofs.Common.{◌≡◌, ℤ, Bool, true, false, ◌&&◌, cond, inl, inr, map, Option, Some, Result, Ok, Err, IsTrue, OnOk, refl, sym, ap, subst, ◌∙◌, arith}
-use Rattle.std.specs.List.{list_all}
-use Rattle.sqlite.specs.Effect.{Database, IsDatabase}
-use Rattle.sqlite.specs.State.{State, HasCleanDisk}
-use Rattle.sqlite.specs.Tree.{Trees}
-use Rattle.sqlite_catalog.specs.Listing.{IsSound}
-use Rattle.sqlite_keyed.proofs.ListLemmas.{all_from_test}
-use Rattle.xa_store.specs.declared.opening.kind.Kind.{Kind}
-use Rattle.xa_store.specs.declared.opening.kind.Kind.TheVariants.{Domains, Tokens, Documents, Roots}
-use Rattle.xa_store.specs.declared.opening.schema_version.SchemaVersion.{SchemaVersion}
-use Rattle.xa_store.specs.declared.opening.schema_version.SchemaVersion.TheVariants.{Schema1, Schema2}
-use Rattle.xa_store.specs.declared.open_error.OpenError.{OpenError}
-use Rattle.xa_store.specs.declared.open_error.OpenError.TheVariants.{NotThisSchema, Damaged, Store, Memory}
-use Rattle.xa_store.specs.Judging.{has_kind, AreSources, Asks, Checked, FindsRest, GivesAs, GivesNext, Judged, Judges, Orders, Walked, Walks}
+use Rattle.std.proofs.Common.{◌≡◌, ℤ, Bool, true, false, ◌&&◌, cond, inl, inr, map, Option, Some, Result, Ok, Err, IsTrue, refl, sym, ap, subst, ◌∙◌, arith}
+use Rattle.xa_store.proofs.Common.{list_all, Database, IsDatabase, State, HasCleanDisk, Trees, IsSound, all_from_test, Kind, Domains, Tokens, Documents, Roots, SchemaVersion, Schema1, Schema2, OpenError, NotThisSchema, Damaged, Store, Memory, are_counted, are_rising, as_read, is_count, is_left_empty, is_sound, is_sound_table, judged, kinds_in, known_next, opened, place_in, read_meta, row_number, schema_of, sources_in, tree_of, RestsIn}
+use Rattle.xa_store.specs.Check.{has_kind, AreSources, Asks, Checked, FindsRest, GivesAs, GivesNext, Judged, Judges, Orders, Walked, Walks}
 use Rattle.xa_store.specs.Opening.{IsFailure}
-use Rattle.xa_store.specs.Opened.{are_counted, are_rising, as_read, is_count, is_left_empty, is_sound, is_sound_table, judged, kinds_in, known_next, opened, place_in, read_meta, row_number, schema_of, sources_in, tree_of}
-use Rattle.xa_store.specs.Sound.{RestsIn}
 use Rattle.xa_store.proofs.AreRowsLemmas.{first_sources_are, sources_are}
 use Rattle.xa_store.proofs.AskedLemmas.{as_failed, asks_then, rests_before, same_before}
 use Rattle.xa_store.proofs.ReadLemmas.{stopped_judges, walked_judges}
+use Rattle.xa_store.proofs.StreamLemmas.{same_weaker}
 use Rattle.xa_store.proofs.RiseLemmas.{both_true}
 
 -- ---- one after another
@@ -156,10 +144,6 @@ module _ (version : SchemaVersion) (db : Trees) (next : ℤ) (known : known_next
   judged_gives (Err Store) h = tt
   judged_gives (Err Memory) h = tt
 
-if_ok : {X P : Type 0} (r : Result X OpenError) → P → OnOk r P
-if_ok (Ok x) p = p
-if_ok (Err e) p = tt
-
 -- ---- the number of the next domain was found, and then the tables were judged
 
 module _ {version : SchemaVersion} (a b c : State) (next : ℤ) (known : HasCleanDisk b → RestsIn (schema_of version) a → GivesNext (known_next version (map read_meta (a.now.trees 0))) (Ok next))
@@ -168,7 +152,7 @@ module _ {version : SchemaVersion} (a b c : State) (next : ℤ) (known : HasClea
   all_checked r second finds = record {
     asks = asks_then a b c next first r second;
     opened = λ clean rests. judged_gives version a.now.trees next (known (between clean) rests) r (sound_then clean rests);
-    live = λ clean. if_ok r (live_before (between clean));
+    live = λ clean. same_weaker r (live_before (between clean));
   }
     where
       between : HasCleanDisk c → HasCleanDisk b

@@ -1,24 +1,12 @@
 -- The tables are made, or brought into schema 2, in a transaction: from the statements to the commit.
 use Rattle.std.proofs.Common.{◌≡◌, inl, inr, [], true, false, Ok, Err, IsTrue, refl, sym, subst, ◌∙◌, arith}
-use Rattle.std.proofs.lemmas.Bool.{both_ways}
-use Rattle.sqlite.specs.Effect.{Database}
-use Rattle.sqlite.specs.Held.{Held, state}
-use Rattle.sqlite.specs.State.{State, HasCleanDisk, KeepsCommit, KeepsCounts, Shows, Survives}
+use Rattle.xa_store.proofs.Common.{both_ways, Database, Held, state, State, HasCleanDisk, KeepsCommit, KeepsCounts, Shows, Survives, Ghosts, Trees, Error, survives_begin, survives_then, IsSound, OpenError, Schema1, SameNow}
 use Rattle.sqlite.specs.Steps.{FailsToCommit}
-use Rattle.sqlite.specs.Store.{Ghosts}
-use Rattle.sqlite.specs.Tree.{Trees}
-use Rattle.sqlite.specs.declared.error.Error.{Error}
-use Rattle.sqlite.proofs.Callers.{survives_begin}
-use Rattle.sqlite.proofs.StateLemmas.{survives_then}
-use Rattle.sqlite_catalog.specs.Listing.{IsSound}
-use Rattle.xa_store.specs.declared.open_error.OpenError.{OpenError}
-use Rattle.xa_store.specs.declared.opening.making.Part.TheVariants as parts
-use Rattle.xa_store.specs.declared.opening.schema_version.SchemaVersion.TheVariants.{Schema1}
-use Rattle.xa_store.specs.Judging.{IsSoundIn, Made, Migrated}
-use Rattle.xa_store.specs.Making.{AreMade, IsBefore}
-use Rattle.xa_store.specs.Migrating.{IsDone, IsFirst, IsSoundFirst}
+use Rattle.xa_store.specs.declared.schema.creation.Part.TheVariants as parts
+use Rattle.xa_store.specs.Check.{IsSoundIn, Made, Migrated}
+use Rattle.xa_store.specs.Creation.{AreMade, IsBefore}
+use Rattle.xa_store.specs.Migration.{IsDone, IsFirst, IsSoundFirst}
 use Rattle.xa_store.specs.Opening.{IsBlank, IsFailure, IsMade, IsMigrated}
-use Rattle.xa_store.specs.Sound.{SameNow}
 use Rattle.xa_store.proofs.MigratedLemmas.{is_migrated}
 
 module _ {S : Type 0} (g : Ghosts S) (old mid last : Held S) where

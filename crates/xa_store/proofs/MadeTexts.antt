@@ -1,20 +1,14 @@
 -- The texts that make the tables.
 use Rattle.std.proofs.Common.{◌≡◌, ℕ, pos, List, [], ◌∷◌, Ok, refl}
 use Rattle.std.specs.Fmt.{digits}
-use Rattle.sqlite.specs.Schema.{Schema}
-use Rattle.sqlite.specs.Table.{Table}
+use Rattle.xa_store.proofs.Common.{Schema, Table, CreateTable, Insert, Values, Term, lit, Null, Int, command_of, statement_of, first_schema, our_schema, meta, domains, tokens, policies, roots, attributes, sources}
 use Rattle.sqlite.specs.Compile.{table_defined_by}
-use Rattle.sqlite.specs.Command.TheVariants.{CreateTable, Insert}
 use Rattle.sqlite.specs.Listing.{understood}
 use Rattle.sqlite.specs.Change.{created}
-use Rattle.sqlite.specs.Source.TheVariants.{Values}
-use Rattle.sqlite.specs.Term.{Term, lit}
-use Rattle.sqlite.specs.declared.types.Value.TheVariants.{Null, Int}
-use Rattle.sqlite.proofs.Callers.{IsPlain, command_of, statement_of}
+use Rattle.sqlite.proofs.Callers.{IsPlain}
 use Rattle.sqlite_tied.specs.Compute.{everything}
-use Rattle.xa_store.specs.Making.{first, second, third, fourth, fifth}
+use Rattle.xa_store.specs.Creation.{first, second, third, fourth, fifth}
 use Rattle.xa_store.specs.Opening.{no_tables}
-use Rattle.xa_store.specs.Tables.{first_schema, our_schema, meta, domains, tokens, policies, roots, attributes, sources}
 use Rattle.xa_store.specs.Texts.{meta_made, domains_made, tokens_made, policies_made, roots_made, attributes_made, sources_made, meta_begun}
 use Rattle.xa_store.proofs.TextLemmas.{IsChange}
 

@@ -1,32 +1,13 @@
 -- What the statements make by which the tables are made.
 use Rattle.std.proofs.Common.{◌≡◌, ℕ, pos, true, false, MatchBool, List, [], ◌∷◌, ◌++◌, map, Ok, Err, Result, OnOk, refl, sym, ap, subst, ◌∙◌}
-use Rattle.std.specs.List.{AllByRecursion}
+use Rattle.xa_store.proofs.Common.{AllByRecursion, Database, IsDatabase, understood, Gives, Chosen, Schema, State, Executes, mode_of, Table, Trees, CreateTable, Null, Int, statement_of, runs_as, cast_row, with_rowid, all-append, Kind, Domains, Tokens, Documents, Roots, Attributes, Sources, tree_of, meta_row, first_schema, our_schema, meta, domains, tokens, policies, roots, attributes, sources}
 use Rattle.sqlite.specs.Change.{created, next_tree}
 use Rattle.sqlite.specs.Does.{Tally, Does, MakesSequence, MakesTable, lacks_sequence, sequence_text}
-use Rattle.sqlite.specs.Effect.{Database, IsDatabase}
-use Rattle.sqlite.specs.Listing.{understood}
-use Rattle.sqlite.specs.Rows.{Gives}
-use Rattle.sqlite.specs.Rowids.TheVariants.{Chosen}
-use Rattle.sqlite.specs.Schema.{Schema}
-use Rattle.sqlite.specs.State.{State, Executes, mode_of}
-use Rattle.sqlite.specs.Table.{Table}
-use Rattle.sqlite.specs.Tree.{Trees}
-use Rattle.sqlite.specs.Command.TheVariants.{CreateTable}
-use Rattle.sqlite.specs.declared.types.Value.TheVariants.{Null, Int}
-use Rattle.sqlite.proofs.Callers.{statement_of, runs_as}
 use Rattle.sqlite_catalog.specs.Change.{KeepsRows}
-use Rattle.sqlite_rules.specs.Cast.{cast_row}
-use Rattle.sqlite_rules.specs.Edit.{with_rowid}
-use Rattle.sqlite_keyed.proofs.ListLemmas.{all-append}
-use Rattle.xa_store.specs.declared.opening.making.Part.{Part}
-use Rattle.xa_store.specs.declared.opening.making.Part.TheVariants as parts
-use Rattle.xa_store.specs.declared.opening.kind.Kind.{Kind}
-use Rattle.xa_store.specs.declared.opening.kind.Kind.TheVariants.{Domains, Tokens, Documents, Roots, Attributes, Sources}
-use Rattle.xa_store.specs.Making.{text_of, first, second, third, fourth, fifth, IsBefore, IsAfter}
-use Rattle.xa_store.specs.Opened.{tree_of}
+use Rattle.xa_store.specs.declared.schema.creation.Part.{Part}
+use Rattle.xa_store.specs.declared.schema.creation.Part.TheVariants as parts
+use Rattle.xa_store.specs.Creation.{AreEmpty, text_of, first, second, third, fourth, fifth, IsBefore, IsAfter}
 use Rattle.xa_store.specs.Opening.{no_tables}
-use Rattle.xa_store.specs.Rows.{meta_row}
-use Rattle.xa_store.specs.Tables.{first_schema, meta, domains, tokens, policies, roots, attributes, sources}
 use Rattle.xa_store.specs.Texts as texts
 use Rattle.xa_store.proofs.MadeTexts.{IsMaking, first_made, all_made, meta_is, domains_is, tokens_is, policies_is, roots_is, attributes_is, sources_is, first_row, first_row_is}
 use Rattle.xa_store.proofs.HoldLemmas.{is_other, kept}
@@ -75,10 +56,13 @@ module _ (schema : Schema) (sql : List ℕ) (table : Table) (is : IsMaking schem
         sound = w.sound;
       }
 
-  pub bare_after : Bare old.now.trees schema.tables → AllByRecursion (λ t. new.now.trees t ≡ []) (map (λ (t : Table). t.tree) schema.tables ++ next_tree schema ∷ [])
+  bare_after : Bare old.now.trees schema.tables → AllByRecursion (λ t. new.now.trees t ≡ []) (map (λ (t : Table). t.tree) schema.tables ++ next_tree schema ∷ [])
   bare_after bare =
-      let it = came in
-      all-append (λ t. new.now.trees t ≡ []) (map (λ (t : Table). t.tree) schema.tables) (next_tree schema ∷ []) (still_bare schema.tables old.now.trees new.now.trees it.others bare) (it.empty, tt)
+      all-append (λ t. new.now.trees t ≡ []) (map (λ (t : Table). t.tree) schema.tables) (next_tree schema ∷ []) (still_bare schema.tables old.now.trees new.now.trees came.others bare) (came.empty, tt)
+
+  -- the tables that were empty and this one, under the schema that this is now
+  pub grown : (later : Schema) → created schema table ≡ later → Bare old.now.trees schema.tables → AreEmpty later (map (λ (t : Table). t.tree) schema.tables ++ next_tree schema ∷ []) new.now
+  grown later is_later bare = record { schema = came.schema_is ∙ is_later; empty = bare_after bare }
 
 -- where the tree of meta was written, no other table has a row yet
 still : (old new : Trees) → ((t : ℕ) → is_other 0 t ≡ true → new t ≡ old t) → AllByRecursion (λ t. old t ≡ []) (0 ∷ 1 ∷ 3 ∷ 5 ∷ 7 ∷ 8 ∷ 10 ∷ []) → (kind : Kind) → new (tree_of kind) ≡ []
@@ -91,34 +75,13 @@ still old new stays empty Sources = stays 10 refl ∙ empty.1.1.1.1.1.1.0
 
 -- a part that was made is there, and those before it still are
 pub taken : (part : Part) (old new : State) (count : ℕ) → IsBefore part old.now → Executes (text_of part) [] old new (Ok count) → IsAfter part new.now
-taken parts.Meta old new count before h = record {
-  schema = (came no_tables texts.meta_made meta meta_is refl old new before.schema count h).schema_is;
-  empty = bare_after no_tables texts.meta_made meta meta_is refl old new before.schema count h before.empty;
-}
-taken parts.Domains old new count before h = record {
-  schema = (came first texts.domains_made domains domains_is refl old new before.schema count h).schema_is;
-  empty = bare_after first texts.domains_made domains domains_is refl old new before.schema count h before.empty;
-}
-taken parts.Tokens old new count before h = record {
-  schema = (came second texts.tokens_made tokens tokens_is refl old new before.schema count h).schema_is;
-  empty = bare_after second texts.tokens_made tokens tokens_is refl old new before.schema count h before.empty;
-}
-taken parts.Policies old new count before h = record {
-  schema = (came third texts.policies_made policies policies_is refl old new before.schema count h).schema_is;
-  empty = bare_after third texts.policies_made policies policies_is refl old new before.schema count h before.empty;
-}
-taken parts.Roots old new count before h = record {
-  schema = (came fourth texts.roots_made roots roots_is refl old new before.schema count h).schema_is;
-  empty = bare_after fourth texts.roots_made roots roots_is refl old new before.schema count h before.empty;
-}
-taken parts.Attributes old new count before h = record {
-  schema = (came fifth texts.attributes_made attributes attributes_is refl old new before.schema count h).schema_is ∙ first_made;
-  empty = bare_after fifth texts.attributes_made attributes attributes_is refl old new before.schema count h before.empty;
-}
-taken parts.Sources old new count before h = record {
-  schema = (came first_schema texts.sources_made sources sources_is refl old new before.schema count h).schema_is ∙ all_made;
-  empty = bare_after first_schema texts.sources_made sources sources_is refl old new before.schema count h before.empty;
-}
+taken parts.Meta old new count before h = grown no_tables texts.meta_made meta meta_is refl old new before.schema count h first refl before.empty
+taken parts.Domains old new count before h = grown first texts.domains_made domains domains_is refl old new before.schema count h second refl before.empty
+taken parts.Tokens old new count before h = grown second texts.tokens_made tokens tokens_is refl old new before.schema count h third refl before.empty
+taken parts.Policies old new count before h = grown third texts.policies_made policies policies_is refl old new before.schema count h fourth refl before.empty
+taken parts.Roots old new count before h = grown fourth texts.roots_made roots roots_is refl old new before.schema count h fifth refl before.empty
+taken parts.Attributes old new count before h = grown fifth texts.attributes_made attributes attributes_is refl old new before.schema count h first_schema first_made before.empty
+taken parts.Sources old new count before h = grown first_schema texts.sources_made sources sources_is refl old new before.schema count h our_schema all_made before.empty
 taken parts.FirstRow old new count before h =
     let adds = inserts texts.meta_begun [] old new before.schema 0 meta refl count first_row 4 refl refl first_row_is h in
     let row = Int (pos 1) ∷ Null ∷ Int (pos 2) ∷ Int (pos 1) ∷ [] in

@@ -1,27 +1,8 @@
 -- Tables that were brought into schema 2 are sound, and mean what those of schema 1 meant.
 use Rattle.std.proofs.Common.{◌≡◌, ℕ, ◌+◌, ◌<◌, ℤ, pos, true, ◌&&◌, cond, List, [], ◌∷◌, map, filter, int_cmp, int_eq, int_lt, Ok, Err, refl, sym, ap, subst, ◌∙◌, arith}
-use Rattle.std.specs.FinMap.{from_entries}
-use Rattle.std.specs.List.{list_all}
-use Rattle.std.specs.Ordering.{on}
-use Rattle.std.proofs.lemmas.Int.{ints}
-use Rattle.sqlite.specs.Effect.{Database}
-use Rattle.sqlite.specs.Order.{Row}
-use Rattle.sqlite.specs.Tree.{Trees}
-use Rattle.sqlite_catalog.specs.Listing.{IsSound}
-use Rattle.sqlite_keyed.specs.Lists.{sort_by}
-use Rattle.sqlite_keyed.proofs.ListLemmas.{filter-map, map-map, map_same}
-use Rattle.sqlite_keyed.proofs.RuleLemmas.{first_of_both, second_of_both}
-use Rattle.sqlite_keyed.proofs.SortLemmas.{sort_by-map}
-use Rattle.xa_decide.specs.declared.source_row.SourceRow.{SourceRow}
-use Rattle.xa_store.specs.declared.open_error.OpenError.TheVariants.{Damaged}
-use Rattle.xa_store.specs.declared.opening.kind.Kind.{Kind}
-use Rattle.xa_store.specs.declared.opening.kind.Kind.TheVariants.{Domains, Tokens, Documents, Roots, Attributes, Sources}
-use Rattle.xa_store.specs.declared.opening.schema_version.SchemaVersion.TheVariants.{Schema1, Schema2}
-use Rattle.xa_store.specs.Migrating.{IsDone, IsSoundFirst, moved_row, moved_rows}
-use Rattle.xa_store.specs.Opened.{are_counted, are_rising, are_sound_rows, as_read, is_count, is_empty, is_left_empty, is_sound, is_sound_row, is_sound_table, is_whole_row, judged, kinds_in, known_next, opened, place_in, read_meta, row_number}
+use Rattle.xa_store.proofs.Common.{from_entries, list_all, on, ints, Database, Row, Trees, IsSound, sort_by, filter-map, map-map, map_same, first_of_both, second_of_both, sort_by-map, SourceRow, Damaged, Kind, Domains, Tokens, Documents, Roots, Attributes, Sources, Schema1, Schema2, are_counted, are_rising, are_sound_rows, as_read, is_count, is_empty, is_left_empty, is_sound, is_sound_row, is_sound_table, is_whole_row, judged, kinds_in, known_next, opened, place_in, read_meta, row_number, AttributeRow, DomainRow, attribute_in, document_in, domain_in, meta_row, nat_of, next_in, root_in, token_in, unissued_in, attributes_at, documents_at, domain_entry, first_rows_of, first_world_of, library_of, roles_of, root_at, rows_of, source_of, state_at, tokens_at, world_of}
+use Rattle.xa_store.specs.Migration.{IsDone, IsSoundFirst, moved_row, moved_rows}
 use Rattle.xa_store.specs.Opening.{IsMigrated}
-use Rattle.xa_store.specs.Rows.{AttributeRow, DomainRow, attribute_in, document_in, domain_in, meta_row, nat_of, next_in, root_in, token_in, unissued_in}
-use Rattle.xa_store.specs.World.{attributes_at, documents_at, domain_entry, first_rows_of, first_world_of, library_of, roles_of, root_at, rows_of, source_of, state_at, tokens_at, world_of}
 use Rattle.xa_store.proofs.MigratingLemmas.{its_meta}
 use Rattle.xa_store.proofs.OursLemmas.{found, in_kind, next_counts, places_counted}
 use Rattle.xa_store.proofs.ReadLemmas.{numbers_read}

@@ -1,41 +1,12 @@
 -- What the statements make that bring schema 1 into schema 2.
 use Rattle.std.proofs.Common.{◌≡◌, ℕ, ◌+◌, ℤ, pos, ◌+ℤ◌, List, [], ◌∷◌, ◌++◌, map, true, false, Less, None, Ok, refl, sym, ap, subst, ◌∙◌, append-nil, append_assoc, arith, IsPermutation}
-use Rattle.std.specs.List.{AllByRecursion}
+use Rattle.xa_store.proofs.Common.{AllByRecursion, Row, column, overlay, Output, output_cmp, Chosen, State, Executes, col, Trees, Null, Int, Text, one_step, IsSound, Datatype, Enforced, IsSureAnswer, Eq, output_cmp_total, put_row, cast_row, numbered, put_all, with_rowid, IsKeyedBy, next_key, all_map, all_of, ascending-map, filter_none, map-map, second_of_both, sorted_unique, puts-map, at_ints, last_term, Attributes, Schema1, are_rising, is_number, row_number, AttributeRow, attribute_in, attribute_row, meta_row, meta_row_of, next_in, type_number, value_text, AreRows, same_place, attributes, first_schema, meta, our_schema, sources}
 use Rattle.std.proofs.lemmas.List.Sums.{fold-append}
-use Rattle.sqlite.specs.Order.{Row, column}
-use Rattle.sqlite.specs.Program.{overlay}
-use Rattle.sqlite.specs.Query.{Output, output_cmp}
-use Rattle.sqlite.specs.Rowids.TheVariants.{Chosen}
-use Rattle.sqlite.specs.State.{State, Executes}
-use Rattle.sqlite.specs.Term.{col}
-use Rattle.sqlite.specs.Tree.{Trees}
-use Rattle.sqlite.specs.declared.types.Value.TheVariants.{Null, Int, Text}
-use Rattle.sqlite.proofs.Callers.{one_step}
-use Rattle.sqlite_catalog.specs.Listing.{IsSound}
-use Rattle.sqlite_schema.specs.declared.schema.Constraint.TheVariants.{Datatype}
-use Rattle.sqlite_schema.specs.declared.schema.Keys.TheVariants.{Enforced}
-use Rattle.sqlite_sql.specs.Query.{IsSureAnswer}
-use Rattle.sqlite_sql.specs.declared.ops.CompareOp.TheVariants.{Eq}
-use Rattle.sqlite_sql.proofs.QueryLemmas.{output_cmp_total}
-use Rattle.sqlite_trees.specs.Tree.{put_row}
-use Rattle.sqlite_rules.specs.Cast.{cast_row}
-use Rattle.sqlite_rules.specs.Edit.{edit_of, numbered, put_all, with_rowid}
-use Rattle.sqlite_keyed.specs.Keyed.{IsKeyedBy, next_key}
-use Rattle.sqlite_keyed.proofs.ListLemmas.{all_map, all_of, ascending-map, filter_none, map-map}
-use Rattle.sqlite_keyed.proofs.RuleLemmas.{second_of_both}
-use Rattle.sqlite_keyed.proofs.SortLemmas.{sorted_unique}
-use Rattle.sqlite_typed.proofs.RowLemmas.{puts-map}
-use Rattle.sqlite_typed.proofs.TestLemmas.{at_ints, last_term}
-use Rattle.xa_store.specs.declared.opening.kind.Kind.TheVariants.{Attributes}
-use Rattle.xa_store.specs.declared.opening.migrating.Stage.{Stage}
-use Rattle.xa_store.specs.declared.opening.migrating.Stage.TheVariants as stages
-use Rattle.xa_store.specs.declared.opening.schema_version.SchemaVersion.TheVariants.{Schema1}
-use Rattle.xa_store.specs.Judging.{HasNumbers}
-use Rattle.xa_store.specs.Migrating.{IsAfter, IsBefore, IsSoundFirst, moved_rows, text_of}
-use Rattle.xa_store.specs.Opened.{are_rising, is_number, row_number}
-use Rattle.xa_store.specs.Rows.{AttributeRow, attribute_in, attribute_row, meta_row, meta_row_of, next_in, type_number, value_text}
-use Rattle.xa_store.specs.Sound.{AreRows, same_place}
-use Rattle.xa_store.specs.Tables.{attributes, first_schema, meta, our_schema, sources}
+use Rattle.sqlite_rules.specs.Edit.{edit_of}
+use Rattle.xa_store.specs.declared.schema.migration.Stage.{Stage}
+use Rattle.xa_store.specs.declared.schema.migration.Stage.TheVariants as stages
+use Rattle.xa_store.specs.Check.{HasNumbers}
+use Rattle.xa_store.specs.Migration.{IsAfter, IsBefore, IsSoundFirst, moved_rows, text_of}
 use Rattle.xa_store.specs.Texts as text
 use Rattle.xa_store.proofs.ActionLemmas.{works_of_coming}
 use Rattle.xa_store.proofs.AreRowsLemmas.{first_sources_are}

@@ -1,13 +1,8 @@
 -- What the statements are that bring schema 1 into schema 2.
 use Rattle.std.proofs.Common.{pos, List, [], ◌∷◌, map, refl}
-use Rattle.sqlite.specs.Collation.{Collation}
-use Rattle.sqlite.specs.Collation.TheVariants.{Binary}
-use Rattle.sqlite.specs.Command.TheVariants.{Insert}
+use Rattle.xa_store.proofs.Common.{Collation, Binary, Insert, Query, Term, lit, col, Null, Int}
 use Rattle.sqlite.specs.Listing.{understood}
-use Rattle.sqlite.specs.Query.{Query}
 use Rattle.sqlite.specs.Source.TheVariants.{Query as Queried}
-use Rattle.sqlite.specs.Term.{Term, lit, col}
-use Rattle.sqlite.specs.declared.types.Value.TheVariants.{Null, Int}
 use Rattle.sqlite_tied.specs.Compute.{everything}
 use Rattle.xa_store.specs.Texts as text
 use Rattle.xa_store.proofs.RisingTexts.{by_rowid}

@@ -1,27 +1,8 @@
 -- What the query for the names of domains finds.
 use Rattle.std.proofs.Common.{◌≡◌, ℕ, List, [], ◌∷◌, map, filter, Bool, true, false, Ordering, is_eq, refl, sym, ap, subst, ◌∙◌}
-use Rattle.sqlite.specs.Order.{Row}
-use Rattle.sqlite.specs.State.{State, Shown}
-use Rattle.sqlite.specs.Tree.{Trees}
-use Rattle.sqlite.specs.declared.types.Value.TheVariants.{Text}
-use Rattle.sqlite.specs.Given.{IsPlain}
-use Rattle.sqlite.specs.Listing.{understood}
-use Rattle.sqlite.specs.Term.{col}
-use Rattle.sqlite.proofs.Callers.{reads_as}
-use Rattle.sqlite_keyed.specs.Lists.{sort_by}
-use Rattle.sqlite_keyed.proofs.ListLemmas.{all_of, filter_all, map-map}
-use Rattle.sqlite_trees.specs.Tree.{IsAscending}
-use Rattle.sqlite_typed.proofs.TestLemmas.{last_key}
-use Rattle.sqlite_value.proofs.OrderLemmas.{value_cmp-Text}
-use Rattle.xa_records.specs.DomainState.{compare_bytes}
-use Rattle.xa_records.specs.Kept.{Domain, names_of}
-use Rattle.xa_records.proofs.OrderLemmas.{bytes_total}
-use Rattle.xa_store.specs.Rows.{DomainRow, domain_row, domain_in}
-use Rattle.xa_store.specs.Shown.{name_told}
-use Rattle.xa_store.specs.Sound.{Ours}
-use Rattle.xa_store.specs.Tables.{our_schema}
+use Rattle.xa_store.proofs.Common.{Row, State, Shown, Trees, Text, IsPlain, understood, col, reads_as, sort_by, all_of, filter_all, map-map, IsAscending, last_key, value_cmp-Text, compare_bytes, Domain, names_of, bytes_total, DomainRow, domain_row, domain_in, Ours, our_schema, rows_of, domain_of, domain_entry, world_of}
+use Rattle.xa_store.specs.Columns.{name_told}
 use Rattle.xa_store.specs.Texts.{names_shown}
-use Rattle.xa_store.specs.World.{rows_of, domain_of, domain_entry, world_of}
 use Rattle.xa_store.proofs.FoundLemmas.{found_sorted}
 use Rattle.xa_store.proofs.OrderedLemmas.{entries_sorted}
 use Rattle.xa_store.proofs.SqlLemmas.{Answered, answered}

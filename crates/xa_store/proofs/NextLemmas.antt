@@ -1,22 +1,8 @@
 -- What the look for the next number finds.
 use Rattle.std.proofs.Common.{◌≡◌, ℤ, pos, List, [], ◌∷◌, filter, false, true, cond, Result, Ok, Err, IfOk, refl, sym, ap, subst, ◌∙◌}
-use Rattle.sqlite.specs.Order.{Row}
-use Rattle.sqlite.specs.State.{State, Shown}
-use Rattle.sqlite.specs.Tree.{Trees}
-use Rattle.sqlite.specs.declared.types.Value.TheVariants.{Int}
-use Rattle.sqlite.specs.Given.{IsPlain}
-use Rattle.sqlite.specs.Listing.{understood}
-use Rattle.sqlite.specs.Term.{col}
-use Rattle.sqlite.proofs.Callers.{reads_as}
-use Rattle.sqlite_sql.specs.declared.ops.CompareOp.TheVariants.{Eq}
-use Rattle.sqlite_typed.proofs.TestLemmas.{at_ints, last_term}
-use Rattle.xa_records.specs.declared.refusal.Failure.{Failure}
-use Rattle.xa_store.specs.Found.{IsNext, TellNext}
-use Rattle.xa_store.specs.Rows.{meta_row, next_in}
-use Rattle.xa_store.specs.Sound.{Ours}
-use Rattle.xa_store.specs.Tables.{our_schema}
+use Rattle.xa_store.proofs.Common.{Row, State, Shown, Trees, Int, IsPlain, understood, col, reads_as, Eq, at_ints, last_term, Failure, meta_row, next_in, Ours, our_schema, rows_of}
+use Rattle.xa_store.specs.Lookup.{IsNext, TellNext}
 use Rattle.xa_store.specs.Texts.{next_shown}
-use Rattle.xa_store.specs.World.{rows_of}
 use Rattle.xa_store.proofs.DomainLemmas.{never_negative, same_int_value}
 use Rattle.xa_store.proofs.SqlLemmas.{Answered, answered, hits, one_hit}
 use Rattle.xa_store.proofs.TextLemmas.{is_one, next_shown_is}

@@ -1,6 +1,6 @@
 -- Two lists of numbers whose texts are the same, with a comma between one number and the next, are the same.
 use Rattle.std.proofs.Common.{◌≡◌, ℕ, suc, ℤ, pos, negsuc, List, [], ◌∷◌, ◌++◌, flat_map, refl, arith, SFits, w64}
-use Rattle.std.specs.List.{AllByRecursion}
+use Rattle.xa_store.proofs.Common.{AllByRecursion}
 use Rattle.std.specs.Fmt.{decimal, signed_decimal}
 use Rattle.std.specs.Str.Parse.{AllDigits}
 use Rattle.std.proofs.lemmas.Fmt.{decimal_is_IsNumeral, signed_decimal_injective}

@@ -1,26 +1,14 @@
 -- Rows whose numbers were given are those of domains that are apart, and none stands for a number that wasn't.
 use Rattle.std.proofs.Common.{◌≡◌, ◌<◌, ◌≤◌, ◌^◌, ℕ, ℤ, ◌<ℤ◌, pos, negsuc, true, false, cond, List, [], ◌∷◌, filter, find, int_eq, int_lt, Option, Some, None, option_map, refl, sym, ap, ap₂, subst, ◌∙◌, arith}
-use Rattle.std.specs.List.{AllByRecursion}
-use Rattle.std.specs.FinMap.{get}
-use Rattle.std.proofs.lemmas.Int.{ints}
+use Rattle.xa_store.proofs.Common.{AllByRecursion, get, ints, IsKeyedBy, get_by, int_eq_apart, all_both, all_weaker, filter_none, first_of_both, second_of_both, same_bytes, new_domain, Domain, IsNumbered, is_count, is_given, AttributeRow, DocumentRow, DomainRow, RootRow, TokenRow, nat_of, reference_of, AreNumbered, AreWhole, Rows, domain_of, kept_of, library_of, roles_of, source_of, state_at}
 use Rattle.sqlite.specs.Ops.{fits_i64}
-use Rattle.sqlite_keyed.specs.Keyed.{IsKeyedBy, get_by}
-use Rattle.sqlite_keyed.proofs.KeyedLemmas.{int_eq_apart}
-use Rattle.sqlite_keyed.proofs.ListLemmas.{all_both, all_weaker, filter_none}
-use Rattle.sqlite_keyed.proofs.RuleLemmas.{first_of_both, second_of_both}
-use Rattle.sqlite_typed.proofs.TestLemmas.{same_bytes}
-use Rattle.xa_records.specs.DomainState.{new_domain}
-use Rattle.xa_records.specs.Kept.{Domain, IsNumbered}
-use Rattle.xa_store.specs.Opened.{is_count, is_given}
-use Rattle.xa_store.specs.Rows.{AttributeRow, DocumentRow, DomainRow, RootRow, TokenRow, nat_of, reference_of}
-use Rattle.xa_store.specs.Sound.{AreNumbered}
 use Rattle.xa_store.specs.Steps.{is_named}
-use Rattle.xa_store.specs.World.{Rows, domain_of, kept_of, library_of, roles_of, source_of, state_at}
 use Rattle.xa_store.proofs.ChangeLemmas.{found_all, kept_at, number_of}
 use Rattle.xa_store.proofs.EntryLemmas.{found_passes}
 use Rattle.xa_store.proofs.FilterLemmas.{find_none}
 use Rattle.xa_store.proofs.KeyLemmas.{own_number}
 use Rattle.xa_store.proofs.ShapedLemmas.{count_back, no_count}
+use Rattle.xa_store.proofs.WholeLemmas.{IsWholeAttribute, IsWholeDocument, IsWholeDomain, IsWholeRoot, IsWholeToken}
 
 -- ---- numbers
 
@@ -62,19 +50,7 @@ get_own key (x ∷ xs) up = (
 
 -- ---- all rows
 
--- the numbers of all rows were given, and no epoch is beyond what a column holds
-pub record AreGiven (rows : Rows) : Type 0 where
-  pub next : is_count rows.next ≡ true
-  pub domains : AllByRecursion (λ d. (is_given rows.next d.number ≡ true) × (is_count d.epoch ≡ true)) rows.domains
-  pub tokens : AllByRecursion (λ t. is_given rows.next t.number ≡ true) rows.tokens
-  pub documents : AllByRecursion (λ d. is_given rows.next d.number ≡ true) rows.documents
-  pub roots : AllByRecursion (λ r. is_given rows.next r.number ≡ true) rows.roots
-  pub attributes : AllByRecursion (λ a. is_given rows.next a.number ≡ true) rows.attributes
-
-module _ (rows : Rows) (given : AreGiven rows) (up : IsKeyedBy number_of rows.domains) where
-  abbrev IsGiven : DomainRow → Type 0
-  IsGiven d = (is_given rows.next d.number ≡ true) × (is_count d.epoch ≡ true)
-
+module _ (rows : Rows) (whole : AreWhole rows) (up : IsKeyedBy number_of rows.domains) where
   abbrev IsAt : List ℕ → Domain → Type 0
   IsAt name domain = (d : DomainRow) × (find (is_named name) rows.domains ≡ Some d) × (domain_of rows d ≡ domain)
 
@@ -86,8 +62,8 @@ module _ (rows : Rows) (given : AreGiven rows) (up : IsKeyedBy number_of rows.do
       go (Some d) is h = (d, is, (let same : domain_of rows d ≡ domain = cc in same))
 
   module _ (name : List ℕ) (d : DomainRow) (is : find (is_named name) rows.domains ≡ Some d) where
-    its : IsGiven d
-    its = found_all IsGiven (is_named name) rows.domains d given.domains is
+    its : IsWholeDomain rows.next d
+    its = found_all (IsWholeDomain rows.next) (is_named name) rows.domains d whole.domains is
 
     its_name : name ≡ d.name
     its_name = same_bytes name d.name (found_passes (is_named name) rows.domains d is)
@@ -109,34 +85,32 @@ module _ (rows : Rows) (given : AreGiven rows) (up : IsKeyedBy number_of rows.do
       its_name one x at_x ∙ ap (λ (d : DomainRow). d.name) row ∙ sym (its_name other y at_y)
 
   below : (name : List ℕ) (domain : Domain) → IsAt name domain → domain.number < nat_of rows.next
-  below name domain (d, at_d, is_d) = subst (λ (x : Domain). x.number < nat_of rows.next) is_d (given_below rows.next d.number given.next (its name d at_d).0)
+  below name domain (d, at_d, is_d) = subst (λ (x : Domain). x.number < nat_of rows.next) is_d (given_below rows.next d.number whole.next (its name d at_d).0)
 
   low_epoch : (name : List ℕ) (domain : Domain) → IsAt name domain → domain.epoch < 2 ^ 63
-  low_epoch name domain (d, at_d, is_d) = subst (λ (x : Domain). x.epoch < 2 ^ 63) is_d (count_fits d.epoch (its name d at_d).1)
+  low_epoch name domain (d, at_d, is_d) = subst (λ (x : Domain). x.epoch < 2 ^ 63) is_d (count_fits d.epoch (its name d at_d).2)
 
   numbered : IsNumbered (kept_of rows)
   numbered = record {
     apart = λ one other a b here there same. one_name one other a b (at one a here) (at other b there) same;
     below = λ name domain there. below name domain (at name domain there);
-    next = count_fits rows.next given.next;
+    next = count_fits rows.next whole.next;
     epochs = λ name domain there. low_epoch name domain (at name domain there);
   }
 
   -- ---- no row stands for a number that wasn't given
 
   module _ (n : ℕ) (past : nat_of rows.next ≤ n) where
-    none_for : {X : Type 0} (key : X → ℤ) (xs : List X) → AllByRecursion (λ x. is_given rows.next (key x) ≡ true) xs → AllByRecursion (λ x. int_eq (key x) (pos n) ≡ false) xs
-    none_for key xs all = all_weaker (λ x. is_given rows.next (key x) ≡ true) (λ x. int_eq (key x) (pos n) ≡ false) (λ x h. not_given rows.next (key x) n given.next h past) xs all
-
-    none_left : {X : Type 0} (key : X → ℤ) (xs : List X) → AllByRecursion (λ x. is_given rows.next (key x) ≡ true) xs → filter (λ x. int_eq (key x) (pos n)) xs ≡ []
-    none_left key xs all = filter_none (λ x. int_eq (key x) (pos n)) xs (none_for key xs all)
+    none_left : {X : Type 0} (key : X → ℤ) (P : X → Type 0) → ((x : X) → P x → is_given rows.next (key x) ≡ true) → (xs : List X) → AllByRecursion P xs → filter (λ x. int_eq (key x) (pos n)) xs ≡ []
+    none_left key P given xs all =
+        filter_none (λ x. int_eq (key x) (pos n)) xs (all_weaker P (λ x. int_eq (key x) (pos n) ≡ false) (λ x h. not_given rows.next (key x) n whole.next (given x h) past) xs all)
 
     nothing : state_at rows (pos n) ≡ new_domain
     nothing = λ i. record {
-      tokens = roles_of (none_left (λ (t : TokenRow). t.number) rows.tokens given.tokens i);
-      documents = library_of (none_left (λ (d : DocumentRow). d.number) rows.documents given.documents i);
-      root = option_map reference_of (find_none (λ (r : RootRow). int_eq r.number (pos n)) rows.roots (none_left (λ (r : RootRow). r.number) rows.roots given.roots) i);
-      source = source_of (none_left (λ (a : AttributeRow). a.number) rows.attributes given.attributes i);
+      tokens = roles_of (none_left (λ (t : TokenRow). t.number) (IsWholeToken rows.next) (λ t h. h.0) rows.tokens whole.tokens i);
+      documents = library_of (none_left (λ (d : DocumentRow). d.number) (IsWholeDocument rows.next) (λ d h. h) rows.documents whole.documents i);
+      root = option_map reference_of (find_none (λ (r : RootRow). int_eq r.number (pos n)) rows.roots (none_left (λ (r : RootRow). r.number) (IsWholeRoot rows.next) (λ r h. h.0) rows.roots whole.roots) i);
+      source = source_of (none_left (λ (a : AttributeRow). a.number) (IsWholeAttribute rows.next) (λ a h. h.0) rows.attributes whole.attributes i);
     }
 
   pub numbers_are : AreNumbered rows

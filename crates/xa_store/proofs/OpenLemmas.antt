@@ -1,26 +1,12 @@
 -- From the parts of opening to what it answers.
 use Rattle.std.proofs.Common.{◌≡◌, ◌⊎◌, inl, inr, Bool, true, false, cond, codes, Result, Ok, Err, IsTrue, IfOk, IfErr, OnOk, refl, sym, ap, subst, ◌∙◌, true≢false, arith}
-use Rattle.sqlite.specs.Effect.{Database, IsDatabase}
-use Rattle.sqlite.specs.Held.{Held, state}
+use Rattle.xa_store.proofs.Common.{Database, IsDatabase, Held, state, State, HasCleanDisk, Survives, Ghosts, Trees, clean_if_open, survives_then, survives_weaker, second_of_both, OpenError, Store, SchemaVersion, Schema1, Schema2, opened, schema_of, Ours, Rests, RestsIn, SameNow, first_schema, world_of}
 use Rattle.sqlite_schema.specs.Names.{same_name}
-use Rattle.sqlite.specs.State.{State, HasCleanDisk, Survives}
-use Rattle.sqlite.specs.Store.{Ghosts}
-use Rattle.sqlite.specs.Tree.{Trees}
-use Rattle.sqlite.proofs.StateLemmas.{clean_if_open, survives_then, survives_weaker}
 use Rattle.sqlite_catalog.specs.Listing.{IsSound as IsSoundUnder}
-use Rattle.sqlite_keyed.proofs.RuleLemmas.{second_of_both}
-use Rattle.xa_store.specs.declared.open_error.OpenError.{OpenError}
-use Rattle.xa_store.specs.declared.open_error.OpenError.TheVariants.{Store}
-use Rattle.xa_store.specs.declared.opening.schema_version.SchemaVersion.{SchemaVersion}
-use Rattle.xa_store.specs.declared.opening.schema_version.SchemaVersion.TheVariants.{Schema1, Schema2}
-use Rattle.xa_store.specs.Judging.{Checked, IsIdle, IsSoundIn, Loads, Made, Migrated, Tested}
+use Rattle.xa_store.specs.Check.{Checked, IsIdle, IsSoundIn, Loads, Made, Migrated, Tested}
 use Rattle.xa_store.specs.Keeper.{Keeper, IsKeeper, IsSound}
-use Rattle.xa_store.specs.Opened.{opened, schema_of}
 use Rattle.xa_store.specs.Opening.{Gives, IsBlank, IsFailure, IsKnown, IsMade, IsMigrated, IsRefusal, Leaves, LeavesAlone, Makes, Migrates, Opens, Settles, has_room, is_free, no_tables, version_in}
-use Rattle.xa_store.specs.Sound.{Ours, Rests, RestsIn, SameNow}
-use Rattle.xa_store.specs.Tables.{first_schema}
-use Rattle.xa_store.specs.World.{world_of}
-use Rattle.xa_store.proofs.ApartLemmas.{survives_still}
+use Rattle.xa_store.proofs.ApartLemmas.{fails_no_refusal, survives_still}
 use Rattle.xa_store.proofs.AskedLemmas.{same_then}
 use Rattle.xa_store.proofs.KeeperReadingLemmas.{sound_store}
 use Rattle.xa_store.proofs.OursLemmas.{made_nothing, opened_ours}
@@ -108,14 +94,10 @@ module _ (version : SchemaVersion) (a c : State) (quiet : IsIdle a) (schema : a.
   }
 
 -- a transaction is under way, and nothing is asked
-fails_no_refusal : ¬ IsRefusal Store
-fails_no_refusal (inl is) = absurd cc
-fails_no_refusal (inr is) = absurd cc
-
 pub not_tested : (version : SchemaVersion) (a : State) → Tested version a a (Err Store)
 not_tested version a = record {
   survives = survives_still a;
-  refused = λ clean up refusal. absurd (fails_no_refusal refusal);
+  refused = λ clean up refusal. absurd (fails_no_refusal Store (inl refl) refusal);
   same = λ clean rests up. record { now = refl; committed = refl; idle = rests.idle };
   opened = λ clean rests. tt;
   known = λ rests. tt;
@@ -124,12 +106,6 @@ not_tested version a = record {
 }
 
 -- ---- the tables were made first, or there were some
-
-no_failure : (e : OpenError) → IsFailure e → ¬ IsRefusal e
-no_failure e (inl is) (inl other) = absurd cc
-no_failure e (inl is) (inr other) = absurd cc
-no_failure e (inr is) (inl other) = absurd cc
-no_failure e (inr is) (inr other) = absurd cc
 
 failure_given : (e : OpenError) (given : Result (Unit {0}) OpenError) → IsFailure e → Gives (Err e) given
 failure_given e given (inl is) = subst (λ o. Gives (Err o) given) (sym is) tt
@@ -143,8 +119,8 @@ module _ (a b : State) (room : IsTrue (has_room a.now.schema)) where
   failed_loads : (c : State) (e : OpenError) → IsFailure e → Survives a c (Leaves a) → (HasCleanDisk c → IsBlank a → IsTrue c.is_open → SameNow a c ⊎ IsMade c.now.trees) → Loads a c (Err e)
   failed_loads c e is survived there = record {
     survives = survived;
-    left = λ refusal. absurd (no_failure e is refusal);
-    refused = λ clean up refusal. absurd (no_failure e is refusal);
+    left = λ refusal. absurd (fails_no_refusal e is refusal);
+    refused = λ clean up refusal. absurd (fails_no_refusal e is refusal);
     opens = λ clean rests. absurd (no_rest a room Schema2 rests);
     migrates = λ clean rests. absurd (no_rest a room Schema1 rests);
     makes = there;
@@ -284,8 +260,8 @@ module _ (a b : State) (full : has_room a.now.schema ≡ false) (first : version
     pub unmigrated_loads : (e : OpenError) → Migrated {X = Unit {0}} b c (Err e) → Loads a c (Err e)
     unmigrated_loads e moved = record {
       survives = first_left_at_last (Err e) moved;
-      left = λ refusal. absurd (no_failure e moved.fails refusal);
-      refused = λ clean up refusal. absurd (no_failure e moved.fails refusal);
+      left = λ refusal. absurd (fails_no_refusal e moved.fails refusal);
+      refused = λ clean up refusal. absurd (fails_no_refusal e moved.fails refusal);
       opens = λ clean rests. absurd (not_second a first rests);
       migrates = λ clean rests.
           let before = first_same (first_between (Err e) moved clean) rests in
@@ -299,8 +275,8 @@ module _ (a b : State) (full : has_room a.now.schema ≡ false) (first : version
 pub busy_loads : (a : State) → Loads a a (Err Store)
 busy_loads a = record {
   survives = survives_weaker a a (λ _. ⊥) (Leaves a) (λ _ db h. absurd h) (survives_still a);
-  left = λ refusal. absurd (fails_no_refusal refusal);
-  refused = λ clean up refusal. absurd (fails_no_refusal refusal);
+  left = λ refusal. absurd (fails_no_refusal Store (inl refl) refusal);
+  refused = λ clean up refusal. absurd (fails_no_refusal Store (inl refl) refusal);
   opens = λ clean rests. (tt, tt, λ up. record { now = refl; committed = refl; idle = rests.idle });
   migrates = λ clean rests. (tt, λ up. record { now = refl; committed = refl; idle = rests.idle });
   makes = λ clean blank up. inl (record { now = refl; committed = refl; idle = blank.idle });

@@ -1,8 +1,6 @@
 -- What the tests of columns tell.
 use Rattle.std.proofs.Common.{◌≡◌, inl, inr, List, ℕ, true, false}
-use Rattle.std.specs.Str.{IsUtf8, is_utf8}
-use Rattle.std.proofs.lemmas.Bool.{cases_Bool}
-use Rattle.std.proofs.lemmas.Str.{IsUtf8-from_is_utf8, is_utf8-from_IsUtf8}
+use Rattle.xa_store.proofs.Common.{IsUtf8, is_utf8, cases_Bool, IsUtf8-from_is_utf8, is_utf8-from_IsUtf8}
 
 pub is_text : (bytes : List ℕ) → IsUtf8 bytes → is_utf8 bytes ≡ true
 is_text bytes text = is_utf8-from_IsUtf8 bytes text

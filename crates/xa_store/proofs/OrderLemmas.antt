@@ -1,48 +1,18 @@
 -- What the query tells that compares the rowids of a table with the same in their order.
 use Rattle.std.proofs.Common.{◌≡◌, inl, inr, ℕ, suc, ℤ, Bool, true, false, not, cond, ◌==◌, if◌then◌else◌, List, [], ◌∷◌, ◌++◌, map, fold, flat_map, length, is_eq, Some, None, unwrap_or, Ok, refl, sym, ap, ap₂, subst, ◌∙◌, append-nil, append_assoc, true≢false, arith, SFits, w64, IsPermutation, Ordering, Less, Equal, Greater}
-use Rattle.std.specs.FinMap.{nat_cmp-IsAntisymmetric, slice_cmp-IsAntisymmetric}
+use Rattle.xa_store.proofs.Common.{nat_cmp-IsAntisymmetric, slice_cmp-IsAntisymmetric, AllByRecursion, list_all, ordering_reverse, nat_tests, tied_itself, length-map, nil_from_length, All-permutation, IsPermutation-map, IsPermutation-sym, IsPermutation-trans, length_permutation, Collation, Binary, Row, column, overlay, Output, Query, output, output_cmp, State, Shown, Term, Env, lit, col, op1, op2, holds, eval, Trees, Value, Null, Int, Text, reads_as, all_map, all_weaker, ascending-map, map-map, map_same, first_of_both, sorted_unique, output_cmp_total, from_truth, not3, truth, IsSureAnswer, matches_as, Is, last_term, value_cmp-Text, value_cmp-Null, value_cmp_total, Kind, Domains, Tokens, Documents, Roots, Attributes, Sources, SchemaVersion, are_rising, as_read, is_number, is_whole_row, row_number, schema_of, tree_of, RestsIn}
 use Rattle.std.specs.Fmt.{signed_decimal}
-use Rattle.std.specs.List.{AllByRecursion, list_all}
 use Rattle.std.specs.List.Sorted.{IsSorted}
-use Rattle.std.specs.Ordering.{ordering_reverse}
-use Rattle.std.proofs.lemmas.Bool.Decides.{nat_tests}
-use Rattle.std.proofs.lemmas.Cmp.{tied_itself}
-use Rattle.std.proofs.lemmas.List.{length-map, nil_from_length}
 use Rattle.std.proofs.lemmas.List.Elements.{recursion_from_All, All-from_recursion}
-use Rattle.std.proofs.lemmas.List.Sorted.{All-permutation, IsPermutation-map, IsPermutation-sym, IsPermutation-trans, length_permutation}
-use Rattle.sqlite.specs.Collation.{Collation}
-use Rattle.sqlite.specs.Collation.TheVariants.{Binary}
 use Rattle.sqlite.specs.Ops.{unary, binary, is_true}
-use Rattle.sqlite.specs.Order.{Row, column}
-use Rattle.sqlite.specs.Program.{overlay}
-use Rattle.sqlite.specs.Query.{Output, Query, output, output_cmp}
-use Rattle.sqlite.specs.State.{State, Shown}
-use Rattle.sqlite.specs.Term.{Term, Env, lit, col, op1, op2, holds, eval}
-use Rattle.sqlite.specs.Tree.{Trees}
-use Rattle.sqlite.specs.declared.types.Value.{Value}
-use Rattle.sqlite.specs.declared.types.Value.TheVariants.{Null, Int, Text}
-use Rattle.sqlite.proofs.Callers.{reads_as}
-use Rattle.sqlite_keyed.proofs.ListLemmas.{all_map, all_weaker, ascending-map, map-map, map_same}
-use Rattle.sqlite_keyed.proofs.RuleLemmas.{first_of_both}
-use Rattle.sqlite_keyed.proofs.SortLemmas.{sorted_unique}
-use Rattle.sqlite_sql.proofs.QueryLemmas.{output_cmp_total}
 use Rattle.sqlite_sql.specs.Aggregate.{aggregate, skips}
 use Rattle.sqlite_sql.specs.Group.{value_over}
-use Rattle.sqlite_sql.specs.Ops.{from_truth, not3, truth}
-use Rattle.sqlite_sql.specs.Query.{IsSureAnswer, inner, end, matches_as}
+use Rattle.sqlite_sql.specs.Query.{inner, end}
 use Rattle.sqlite_sql.specs.Text.{joined, text_in}
 use Rattle.sqlite_sql.specs.declared.aggregate.AggregateOp.TheVariants.{Concat}
-use Rattle.sqlite_sql.specs.declared.ops.BinaryOp.TheVariants.{Is}
 use Rattle.sqlite_sql.specs.declared.ops.UnaryOp.TheVariants.{Not}
-use Rattle.sqlite_typed.proofs.TestLemmas.{last_term}
 use Rattle.sqlite_value.specs.Order.{value_cmp}
-use Rattle.sqlite_value.proofs.OrderLemmas.{value_cmp-Text, value_cmp-Null, value_cmp_total}
-use Rattle.xa_store.specs.declared.opening.kind.Kind.{Kind}
-use Rattle.xa_store.specs.declared.opening.kind.Kind.TheVariants.{Domains, Tokens, Documents, Roots, Attributes, Sources}
-use Rattle.xa_store.specs.declared.opening.schema_version.SchemaVersion.{SchemaVersion}
-use Rattle.xa_store.specs.Judging.{has_kind, order_text_of, HasNumbers, Walks}
-use Rattle.xa_store.specs.Opened.{are_rising, as_read, is_number, is_whole_row, row_number, schema_of, tree_of}
-use Rattle.xa_store.specs.Sound.{RestsIn}
+use Rattle.xa_store.specs.Check.{has_kind, order_text_of, HasNumbers, Walks}
 use Rattle.xa_store.proofs.NumberTexts.{AreShort, later_text, same_numbers}
 use Rattle.xa_store.proofs.ReadLemmas.{bare, checked_sound, checked_up, head_read, int_back, numbers_read, rising, walked_numbers}
 use Rattle.xa_store.proofs.RisingTexts.{by_rowid, order_is, rising_query, sorted_query, sorted_tree, text_over}

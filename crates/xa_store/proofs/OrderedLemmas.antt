@@ -1,14 +1,6 @@
 -- Lists of records whose keys are apart, in the order of the keys, and the finite maps of them.
 use Rattle.std.proofs.Common.{◌≡◌, ℤ, Bool, true, false, cond, ◌&&◌, List, [], ◌∷◌, map, filter, Ordering, Less, Equal, Greater, is_eq, is_gt, int_eq, refl, sym, ap, ◌∙◌, arith, true≢false}
-use Rattle.std.specs.Cmp.{IsTotalOrder}
-use Rattle.std.specs.List.{AllByRecursion}
-use Rattle.std.specs.Ordering.{ordering_reverse}
-use Rattle.std.specs.FinMap.{put, entries, from_entries, entries-insert, len-entries, len-empty, empty}
-use Rattle.std.proofs.lemmas.Int.{ints}
-use Rattle.std.proofs.lemmas.List.{nil_from_length}
-use Rattle.sqlite_keyed.specs.Lists.{insert_sorted, sort_by}
-use Rattle.sqlite_keyed.proofs.ListLemmas.{all_weaker}
-use Rattle.sqlite_trees.specs.Tree.{IsAscending}
+use Rattle.xa_store.proofs.Common.{IsTotalOrder, AllByRecursion, ordering_reverse, put, entries, from_entries, entries-insert, len-entries, len-empty, empty, ints, nil_from_length, insert_sorted, sort_by, all_weaker, IsAscending}
 
 module _ {X : Type 0} (P : X → Type 0) (cmp : X → X → Ordering) where
   all_inserted : (new : X) (xs : List X) → P new → AllByRecursion P xs → AllByRecursion P (insert_sorted cmp new xs)

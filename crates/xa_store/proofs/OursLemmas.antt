@@ -1,36 +1,12 @@
 -- Tables that opening finds sound are those of a keeper, and tables as they are made are sound.
 use Rattle.std.proofs.Common.{◌≡◌, ℕ, ℤ, pos, Bool, true, false, ◌&&◌, cond, List, [], ◌∷◌, map, Option, Some, None, Result, Ok, Err, refl, sym, ap, subst, ◌∙◌, true≢false}
-use Rattle.std.specs.FinMap.{from_entries}
-use Rattle.std.specs.List.{AllByRecursion, list_all}
-use Rattle.sqlite.specs.Effect.{IsDatabase}
-use Rattle.sqlite.specs.Order.{Row, column}
-use Rattle.sqlite.specs.State.{State}
-use Rattle.sqlite.specs.Tree.{Trees}
-use Rattle.sqlite_catalog.specs.Listing.{IsSound}
-use Rattle.sqlite_keyed.proofs.ListLemmas.{all_from_test, all_map, all_weaker, map-map}
-use Rattle.sqlite_keyed.proofs.RuleLemmas.{first_of_both, second_of_both}
-use Rattle.sqlite_schema.specs.declared.schema.Constraint.TheVariants.{Datatype}
-use Rattle.sqlite_typed.specs.Columns.{int_of}
-use Rattle.xa_records.specs.DomainName.{is_domain_name}
-use Rattle.xa_records.specs.DomainState.{IsDocumentOf}
-use Rattle.xa_records.specs.Kept.{nothing_kept}
-use Rattle.xa_store.specs.declared.open_error.OpenError.{OpenError}
-use Rattle.xa_store.specs.declared.open_error.OpenError.TheVariants.{Damaged}
-use Rattle.xa_store.specs.declared.opening.kind.Kind.{Kind}
-use Rattle.xa_store.specs.declared.opening.kind.Kind.TheVariants.{Domains, Tokens, Documents, Roots, Attributes, Sources}
-use Rattle.xa_store.specs.declared.opening.schema_version.SchemaVersion.{SchemaVersion}
-use Rattle.xa_store.specs.declared.opening.schema_version.SchemaVersion.TheVariants.{Schema2}
-use Rattle.xa_store.specs.Opened.{are_counted, are_sound_rows, as_read, count_from, holds_int, is_count, is_digest, is_empty, is_given, is_left_empty, is_sound, is_sound_table, is_whole_row, judged, kinds_in, known_next, opened, place_in, places_of, read_meta, sources_in, tree_of}
+use Rattle.xa_store.proofs.Common.{from_entries, AllByRecursion, list_all, IsDatabase, Row, column, State, Trees, IsSound, all_from_test, all_map, all_weaker, map-map, first_of_both, second_of_both, Datatype, int_of, is_domain_name, IsDocumentOf, nothing_kept, OpenError, Damaged, Kind, Domains, Tokens, Documents, Roots, Sources, SchemaVersion, Schema2, are_counted, as_read, count_from, holds_int, is_count, is_digest, is_empty, is_given, is_left_empty, is_sound, is_sound_table, is_whole_row, judged, kinds_in, known_next, opened, place_in, places_of, read_meta, sources_in, tree_of, attribute_in, document_in, domain_in, meta_row, nat_of, next_in, root_in, token_in, AreDocuments, AreNumbered, AreTables, AreWhole, Ours, Rests, place_of, our_schema, domain_entry, rows_of, world_of}
 use Rattle.xa_store.specs.Opening.{IsMade}
-use Rattle.xa_store.specs.Rows.{attribute_in, document_in, domain_in, meta_row, nat_of, next_in, root_in, token_in}
-use Rattle.xa_store.specs.Sound.{AreDocuments, AreNumbered, AreTables, AreWhole, Ours, Rests, place_of}
-use Rattle.xa_store.specs.Tables.{our_schema}
-use Rattle.xa_store.specs.World.{domain_entry, rows_of, world_of}
 use Rattle.xa_store.proofs.AreRowsLemmas.{domains_are, sources_are, tokens_are, whole}
 use Rattle.xa_store.proofs.ColumnLemmas.{root_texts, source_texts}
 use Rattle.xa_store.proofs.CountedLemmas.{counted_each}
 use Rattle.xa_store.proofs.DocumentRowLemmas.{document_held, documents_are}
-use Rattle.xa_store.proofs.NumberedLemmas.{AreGiven, numbers_are}
+use Rattle.xa_store.proofs.NumberedLemmas.{numbers_are}
 use Rattle.xa_store.proofs.RootRowLemmas.{meta_is, roots_are}
 use Rattle.xa_store.proofs.ShapeLemmas.{blob_held, int_held, text_held}
 use Rattle.xa_store.proofs.ShapedLemmas.{whole_source}
@@ -103,7 +79,7 @@ module _ (db : Trees) (next : ℤ) (live : IsSound our_schema db) (known : known
     attributes = sources_are db next live all.1.1.1.1.0;
   }
 
-  -- ---- numbers
+  -- ---- columns
 
   -- the number in a column was given
   number_given : (row : Row) (at : ℕ) → holds_int (is_given next) (column row at) ≡ true → is_given next (int_of (column row at)) ≡ true
@@ -112,58 +88,29 @@ module _ (db : Trees) (next : ℤ) (live : IsSound our_schema db) (known : known
   abbrev IsWhole : Kind → Row → Type 0
   IsWhole kind row = is_whole_row kind next (as_read kind row) ≡ true
 
-  abbrev IsOfDomain : Row → Type 0
-  IsOfDomain row = (is_given next (domain_in row).number ≡ true) × (is_count (domain_in row).epoch ≡ true)
-
-  domain_given : (row : Row) → IsWhole Domains row → IsOfDomain row
-  domain_given row h =
-      let rest = second_of_both _ _ h in
-      (number_given row 0 (first_of_both _ _ (first_of_both _ _ rest)), (int_held is_count (column row 3) (second_of_both _ _ rest)).1)
-
-  token_given : (row : Row) → IsWhole Tokens row → is_given next (token_in row).number ≡ true
-  token_given row h = number_given row 1 (first_of_both _ _ (first_of_both _ _ (second_of_both _ _ h)))
-
   document_given : (row : Row) → IsWhole Documents row → is_given next (document_in row).number ≡ true
   document_given row h = number_given row 1 (first_of_both _ _ (first_of_both _ _ (second_of_both _ _ h)))
-
-  root_given : (row : Row) → IsWhole Roots row → is_given next (root_in row).number ≡ true
-  root_given row h = number_given row 0 (first_of_both _ _ (first_of_both _ _ (first_of_both _ _ (first_of_both _ _ (first_of_both _ _ (second_of_both _ _ h))))))
-
-  attribute_given : (row : Row) → IsWhole Sources row → is_given next (attribute_in row).number ≡ true
-  attribute_given row h = number_given row 1 (first_of_both _ _ (first_of_both _ _ (first_of_both _ _ (first_of_both _ _ (second_of_both _ _ (whole_source next row h).0)))))
 
   module _ {X : Type 0} (kind : Kind) (here : test kind ≡ true) (reads : Row → X) (Is : X → Type 0) (of : (row : Row) → IsWhole kind row → Is (reads row)) where
     each : AllByRecursion Is (map reads (db (tree_of kind)))
     each = all_map Is reads (db (tree_of kind)) (all_weaker (IsWhole kind) (λ row. Is (reads row)) of (db (tree_of kind)) (whole kind next db here))
 
-  given : AreGiven (record (rows_of db) { next = next })
-  given = record {
-    next = next_counts Schema2 db next sound;
-    domains = each Domains all.0 domain_in (λ d. (is_given next d.number ≡ true) × (is_count d.epoch ≡ true)) domain_given;
-    tokens = each Tokens all.1.0 token_in (λ t. is_given next t.number ≡ true) token_given;
-    documents = each Documents all.1.1.0 document_in (λ d. is_given next d.number ≡ true) document_given;
-    roots = each Roots all.1.1.1.0 root_in (λ r. is_given next r.number ≡ true) root_given;
-    attributes = each Sources all.1.1.1.1.0 attribute_in (λ a. is_given next a.number ≡ true) attribute_given;
-  }
-
-  numbers : AreNumbered (rows_of db)
-  numbers = numbers_are (rows_of db) (subst (λ n. AreGiven (record (rows_of db) { next = n })) next_is given) tables.domains.rise
-
-  -- ---- columns
-
   domain_whole : (row : Row) → IsWhole Domains row → IsWholeDomain next (domain_in row)
   domain_whole row h =
-      let given = domain_given row h in
-      (given.0, (text_held is_domain_name (column row 2) (second_of_both _ _ (first_of_both _ _ (second_of_both _ _ h)))).1, given.1)
+      let rest = second_of_both _ _ h in
+      let first = first_of_both _ _ rest in
+      (number_given row 0 (first_of_both _ _ first), (text_held is_domain_name (column row 2) (second_of_both _ _ first)).1, (int_held is_count (column row 3) (second_of_both _ _ rest)).1)
 
   token_whole : (row : Row) → IsWhole Tokens row → IsWholeToken next (token_in row)
-  token_whole row h = (token_given row h, (blob_held is_digest (column row 2) (second_of_both _ _ (first_of_both _ _ (second_of_both _ _ h)))).1)
+  token_whole row h =
+      let first = first_of_both _ _ (second_of_both _ _ h) in
+      (number_given row 1 (first_of_both _ _ first), (blob_held is_digest (column row 2) (second_of_both _ _ first)).1)
 
   root_whole : (row : Row) → IsWhole Roots row → IsWholeRoot next (root_in row)
-  root_whole row h = (root_given row h, root_texts next row h)
+  root_whole row h = (number_given row 0 (first_of_both _ _ (first_of_both _ _ (first_of_both _ _ (first_of_both _ _ (first_of_both _ _ (second_of_both _ _ h)))))), root_texts next row h)
 
   attribute_whole : (row : Row) → IsWhole Sources row → IsWholeAttribute next (attribute_in row)
-  attribute_whole row h = (attribute_given row h, source_texts next row h)
+  attribute_whole row h = (number_given row 1 (first_of_both _ _ (first_of_both _ _ (first_of_both _ _ (first_of_both _ _ (second_of_both _ _ (whole_source next row h).0))))), source_texts next row h)
 
   places : (n : ℤ) → count_from (pos 0) (places_of (map place_of (map attribute_in (db 10))) n) ≡ true
   places n = ap (λ l. count_from (pos 0) (places_of l n)) (map-map place_of attribute_in (db 10)) ∙ counted_each (map place_in (db 10)) (places_counted Schema2 db next sound) n
@@ -179,6 +126,9 @@ module _ (db : Trees) (next : ℤ) (live : IsSound our_schema db) (known : known
     places = places;
   })
 
+  numbers : AreNumbered (rows_of db)
+  numbers = numbers_are (rows_of db) columns tables.domains.rise
+
   -- ---- documents
 
   documents : AreDocuments (rows_of db).documents
@@ -193,17 +143,6 @@ opened_ours s rests live h =
 -- ---- tables as they are made
 
 module _ (db : Trees) (made : IsMade db) where
-  empty_sound : (kind : Kind) → is_sound_table db (pos 1) kind ≡ true
-  empty_sound kind = ap (λ rows. are_sound_rows kind (pos 1) (map (as_read kind) rows)) (made.empty kind)
-
-  all_sound : is_sound Schema2 db (pos 1) ≡ true
-  all_sound = λ i.
-      is_count (pos 1) && (empty_sound Domains i && (empty_sound Tokens i && (empty_sound Documents i && (empty_sound Roots i && (empty_sound Sources i && true)))))
-      && (are_counted (map place_in (made.empty Sources i)) && is_empty (made.empty Attributes i))
-
-  pub made_opened : opened Schema2 db ≡ Ok tt
-  made_opened = ap (λ rows. judged Schema2 db (known_next Schema2 (map read_meta rows))) made.meta ∙ ap (λ b. cond b (Ok tt) (Err Damaged)) all_sound
-
   pub made_nothing : world_of db ≡ nothing_kept
   made_nothing = λ i. record {
     domains = from_entries (map (domain_entry (rows_of db)) (map domain_in (made.empty Domains i)));

@@ -1,11 +1,7 @@
 -- Calls that only read, one after another.
 use Rattle.std.proofs.Common.{◌≡◌, IsTrue, sym, ap, ◌∙◌, subst}
-use Rattle.sqlite.specs.Effect.{Database}
-use Rattle.sqlite.specs.Schema.{Schema}
-use Rattle.sqlite.specs.State.{State, HasCleanDisk}
+use Rattle.xa_store.proofs.Common.{Database, Schema, State, HasCleanDisk, AreDocuments, AreTables, AreNumbered, AreWhole, IsOurDatabase, Ours, Rests, RestsIn, SameNow, rows_of}
 use Rattle.xa_store.specs.Quiet.{Quiet}
-use Rattle.xa_store.specs.Sound.{AreDocuments, AreTables, AreNumbered, AreWhole, IsOurDatabase, Ours, Rests, RestsIn, SameNow}
-use Rattle.xa_store.specs.World.{rows_of}
 
 pub rests_after : {under : Schema} (old new : State) → RestsIn under old → SameNow old new → RestsIn under new
 rests_after old new rests same =

@@ -1,34 +1,8 @@
 -- The rows of a table in the order of their numbers.
 use Rattle.std.proofs.Common.{◌≡◌, ℤ, Bool, true, false, List, [], ◌∷◌, map, filter, int_lt, Less, Option, Some, None, Result, Ok, Err, refl, sym, ap, ap₂, subst, subst₂, ◌∙◌, true≢false, IsPermutation}
-use Rattle.std.specs.List.{AllByRecursion, list_all}
+use Rattle.xa_store.proofs.Common.{AllByRecursion, list_all, All-permutation, IsPermutation-map, IsPermutation-sym, Row, column, overlay, Output, Query, output_cmp, State, Shown, Term, col, eval, Trees, Value, Null, Int, Real, Text, Blob, reads_as, Less-from_lt, all_of, all_weaker, all_both, all_from_test, all_unmap, all_map, test_from_all, filter_all, map-map, map_same, ascending-map, first_of_both, second_of_both, sorted_unique, output_cmp_total, IsAscending, int_of, last_key, value_cmp-Int, Kind, Domains, Tokens, Documents, Roots, Attributes, Sources, SchemaVersion, OpenError, NotThisSchema, Damaged, Store, Memory, are_rising, as_read, is_number, is_sound_table, is_whole_row, read_columns, row_number, schema_of, tree_of, RestsIn}
 use Rattle.std.proofs.lemmas.List.Elements.{recursion_from_All, All-from_recursion}
-use Rattle.std.proofs.lemmas.List.Sorted.{All-permutation, IsPermutation-map, IsPermutation-sym}
-use Rattle.sqlite.specs.Order.{Row, column}
-use Rattle.sqlite.specs.Program.{overlay}
-use Rattle.sqlite.specs.Query.{Output, Query, output_cmp}
-use Rattle.sqlite.specs.State.{State, Shown}
-use Rattle.sqlite.specs.Term.{Term, col, eval}
-use Rattle.sqlite.specs.Tree.{Trees}
-use Rattle.sqlite.specs.declared.types.Value.{Value}
-use Rattle.sqlite.specs.declared.types.Value.TheVariants.{Null, Int, Real, Text, Blob}
-use Rattle.sqlite.proofs.Callers.{reads_as}
-use Rattle.sqlite_keyed.proofs.KeyedLemmas.{Less-from_lt}
-use Rattle.sqlite_keyed.proofs.ListLemmas.{all_of, all_weaker, all_both, all_from_test, all_unmap, all_map, test_from_all, filter_all, map-map, map_same, ascending-map}
-use Rattle.sqlite_keyed.proofs.RuleLemmas.{first_of_both, second_of_both}
-use Rattle.sqlite_keyed.proofs.SortLemmas.{sorted_unique}
-use Rattle.sqlite_sql.proofs.QueryLemmas.{output_cmp_total}
-use Rattle.sqlite_trees.specs.Tree.{IsAscending}
-use Rattle.sqlite_typed.specs.Columns.{int_of}
-use Rattle.sqlite_typed.proofs.TestLemmas.{last_key}
-use Rattle.sqlite_value.proofs.OrderLemmas.{value_cmp-Int}
-use Rattle.xa_store.specs.declared.opening.kind.Kind.{Kind}
-use Rattle.xa_store.specs.declared.opening.kind.Kind.TheVariants.{Domains, Tokens, Documents, Roots, Attributes, Sources}
-use Rattle.xa_store.specs.declared.opening.schema_version.SchemaVersion.{SchemaVersion}
-use Rattle.xa_store.specs.declared.open_error.OpenError.{OpenError}
-use Rattle.xa_store.specs.declared.open_error.OpenError.TheVariants.{NotThisSchema, Damaged, Store, Memory}
-use Rattle.xa_store.specs.Judging.{has_kind, text_of, HasNumbers, IsRead, Judges, Walks, checks, comes_after, fits}
-use Rattle.xa_store.specs.Opened.{are_rising, as_read, is_number, is_sound_table, is_whole_row, read_columns, row_number, schema_of, tree_of}
-use Rattle.xa_store.specs.Sound.{RestsIn}
+use Rattle.xa_store.specs.Check.{has_kind, text_of, HasNumbers, IsRead, Judges, Walks, checks, comes_after, fits}
 use Rattle.xa_store.proofs.JudgedTexts.{judged_is}
 use Rattle.xa_store.proofs.RiseLemmas.{lt_trans, lt_from, both_true, second_false}
 use Rattle.xa_store.proofs.SqlLemmas.{Answered, answered, show, out, hits}

@@ -1,21 +1,13 @@
 -- What is read of a domain, by its rows.
-use Rattle.std.proofs.Common.{◌≡◌, ℕ, ℤ, List, [], map, filter, Option, Some, None, option_map, option_and_then, sym, ap, ◌∙◌}
-use Rattle.std.specs.FinMap.{get, entries}
-use Rattle.xa_policy.specs.declared.document_key.DocumentKey.{DocumentKey}
-use Rattle.xa_policy.specs.declared.reference.Reference.{Reference}
-use Rattle.xa_decide.specs.declared.source_row.SourceRow.{SourceRow}
+use Rattle.std.proofs.Common.{◌≡◌, ℕ, List, [], map, filter, Option, Some, None, option_map, option_and_then, sym, ap, ◌∙◌}
+use Rattle.xa_store.proofs.Common.{get, entries, DocumentKey, Domain, state_of, gate_of, gate_of_domain, listing_of, listing_of_state, text_in, text_of, token_of, view_of, view_of_state, nat_of, Rows, domain_of, kept_of, state_at}
 use Rattle.xa_records.specs.declared.gate.Gate.{Gate}
 use Rattle.xa_records.specs.declared.gate.Token.{Token}
 use Rattle.xa_records.specs.declared.kept_view.KeptView.{KeptView}
 use Rattle.xa_records.specs.declared.listed.Listed.{Listed}
-use Rattle.xa_records.specs.Kept.{Domain, state_of}
-use Rattle.xa_records.specs.declared.active_text.ActiveText.{ActiveText}
-use Rattle.xa_records.specs.Readings.{active_texts, gate_of, gate_of_domain, listing_of, listing_of_state, text_in, text_of, token_of, view_of, view_of_state}
-use Rattle.xa_store.specs.declared.domain_found.DomainFound.{DomainFound}
-use Rattle.xa_store.specs.Found.{IsDomain, TellsGate}
-use Rattle.xa_store.specs.Rows.{nat_of}
+use Rattle.xa_store.specs.declared.query.domain.DomainFound.{DomainFound}
+use Rattle.xa_store.specs.Lookup.{IsDomain, TellsGate}
 use Rattle.xa_store.specs.Steps.{is_named}
-use Rattle.xa_store.specs.World.{Rows, domain_of, kept_of, state_at}
 use Rattle.xa_store.proofs.ChangeLemmas.{kept_at, kept_one}
 use Rattle.xa_store.proofs.FilterLemmas.{find_none}
 
@@ -58,9 +50,3 @@ module _ (rows : Rows) (name : List ℕ) where
 
     pub view_there : (view : KeptView) → view ≡ view_of_state (state_at rows found.number) → Some view ≡ view_of name (kept_of rows)
     view_there view told = ap Some told ∙ sym (ap (option_map view_of_state) state_is)
-
--- the parts of a view, each told of the same rows
-pub view_told : (a b c : Rows) (number : ℤ) → b ≡ a → c ≡ a → (texts : List ActiveText) (root : Option Reference) (source : List SourceRow) → texts ≡ active_texts (state_at a number) → root ≡ (state_at b number).root
-    → source ≡ (state_at c number).source → ◌≡◌ {A = KeptView} (record { texts = texts; root = root; source = source }) (view_of_state (state_at a number))
-view_told a b c number second third texts root source p q r =
-    λ i. record { texts = p i; root = (q ∙ ap (λ (w : Rows). (state_at w number).root) second) i; source = (r ∙ ap (λ (w : Rows). (state_at w number).source) third) i }

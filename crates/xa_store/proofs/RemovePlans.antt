@@ -1,28 +1,11 @@
 -- The plan of a domain that is removed.
 use Rattle.std.proofs.Common.{◌≡◌, ◌≢◌, ℕ, ◌<◌, ℤ, pos, List, [], ◌∷◌, map, filter, find, not, Bool, true, false, cond, Option, Some, None, option_map, int_cmp, int_eq, slice_get, refl, sym, ap, subst, ◌∙◌, arith}
-use Rattle.std.specs.List.{AllByRecursion}
-use Rattle.std.specs.Ordering.{eq_by_cmp}
-use Rattle.std.specs.FinMap.{get}
-use Rattle.std.proofs.lemmas.Int.{ints}
-use Rattle.std.proofs.lemmas.Bool.{both_ways}
-use Rattle.sqlite_keyed.specs.Keyed.{IsKeyedBy, get_by}
-use Rattle.sqlite_keyed.specs.Lists.{delete_where, sort_by}
-use Rattle.sqlite_keyed.proofs.KeyedLemmas.{int_eq_apart, same_int}
-use Rattle.sqlite_keyed.proofs.ListLemmas.{all_weaker, slice_get-filter}
-use Rattle.sqlite_typed.proofs.TestLemmas.{same_bytes}
-use Rattle.xa_records.specs.Changes.{removed}
-use Rattle.xa_records.specs.DomainState.{compare_bytes}
-use Rattle.xa_records.specs.Kept.{Domain, Becomes, IsChanged, IsNextNumber}
-use Rattle.xa_records.proofs.KeptLemmas.{numbered_changed}
-use Rattle.xa_store.specs.declared.domain_found.DomainFound.{DomainFound}
+use Rattle.xa_store.proofs.Common.{AllByRecursion, eq_by_cmp, get, ints, both_ways, IsKeyedBy, get_by, delete_where, sort_by, int_eq_apart, same_int, all_weaker, slice_get-filter, same_bytes, removed, compare_bytes, Domain, Becomes, IsChanged, IsNextNumber, numbered_changed, count_from, places_of, AttributeRow, DomainRow, RootRow, nat_of, reference_of, AreNumbered, AreWhole, place_of, Rows, attributes_at, roles_of, library_of, root_at, source_of, state_at, domain_of, kept_of}
+use Rattle.xa_store.specs.declared.query.domain.DomainFound.{DomainFound}
 use Rattle.xa_store.specs.declared.step.Step.TheVariants.{DropDomain}
-use Rattle.xa_store.specs.Found.{IsDomain}
-use Rattle.xa_store.specs.Opened.{count_from, places_of}
-use Rattle.xa_store.specs.Rows.{AttributeRow, DomainRow, RootRow, nat_of, reference_of}
-use Rattle.xa_store.specs.Sound.{AreNumbered, AreWhole, place_of}
+use Rattle.xa_store.specs.Lookup.{IsDomain}
 use Rattle.xa_store.specs.Steps.{is_named, without_domain}
 use Rattle.xa_store.specs.Turns.{Plans}
-use Rattle.xa_store.specs.World.{Rows, attributes_at, roles_of, library_of, root_at, source_of, state_at, domain_of, kept_of}
 use Rattle.xa_store.proofs.ChangeLemmas.{IsOnly, found_all, kept_at, kept_one, not_same, number_of, one_passes}
 use Rattle.xa_store.proofs.EntryLemmas.{found_passes}
 use Rattle.xa_store.proofs.FilterLemmas.{filter_delete_all, filter_delete_others, find_none, filter_alike}

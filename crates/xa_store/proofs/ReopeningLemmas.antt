@@ -1,20 +1,10 @@
 -- What a stop has left is our tables, if it doesn't leave just anything.
 use Rattle.std.proofs.Common.{◌≡◌, ◌↔◌, Bool, true, false, Result, Ok, Err, IsTrue, refl, sym, ap, ◌∙◌}
-use Rattle.sqlite.specs.Effect.{Database}
-use Rattle.sqlite.specs.Held.{state}
-use Rattle.sqlite.specs.State.{State, IsLive}
-use Rattle.sqlite.specs.Store.{Ghosts}
-use Rattle.sqlite.specs.Tree.{Trees}
+use Rattle.xa_store.proofs.Common.{Database, state, State, IsLive, Ghosts, Trees, OpenError, Schema2, opened, AreOurs, our_schema, world_of}
 use Rattle.sqlite_catalog.proofs.ReadLemmas.{lists_once}
 use Rattle.sqlite_trees.specs.Objects.{catalog_tree}
-use Rattle.xa_store.specs.declared.open_error.OpenError.{OpenError}
-use Rattle.xa_store.specs.declared.opening.schema_version.SchemaVersion.TheVariants.{Schema2}
 use Rattle.xa_store.specs.Keeper.{Keeper, IsKeeper, IsSound}
-use Rattle.xa_store.specs.Opened.{opened}
 use Rattle.xa_store.specs.Reopening.{IsOverRest, LeavesNotAll, Reopens}
-use Rattle.xa_store.specs.Sound.{AreOurs}
-use Rattle.xa_store.specs.Tables.{our_schema}
-use Rattle.xa_store.specs.World.{world_of}
 use Rattle.xa_store.proofs.KeeperReadingLemmas.{sound_store}
 
 module _ (stopped new : State) (live : IsLive new) (over : IsOverRest stopped new) (limited : LeavesNotAll stopped) where

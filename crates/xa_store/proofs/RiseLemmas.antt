@@ -1,6 +1,6 @@
 -- Numbers one above another.
 use Rattle.std.proofs.Common.{◌≡◌, ℤ, ◌<ℤ◌, Bool, true, false, ◌&&◌, int_lt, refl, ap₂, arith}
-use Rattle.std.proofs.lemmas.Int.{ints}
+use Rattle.xa_store.proofs.Common.{ints}
 
 pub lt_trans : (a b c : ℤ) → int_lt a b ≡ true → int_lt b c ≡ true → int_lt a c ≡ true
 lt_trans a b c p q = grind (arith, ints)

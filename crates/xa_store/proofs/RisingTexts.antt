@@ -1,27 +1,14 @@
 -- The queries that tell whether a table has its rowids in their order: one text of them as the table has them, one as they are sorted.
 use Rattle.std.proofs.Common.{◌≡◌, ℕ, pos, negsuc, List, [], ◌∷◌, codes, true, false, None, refl, sym, true≢false}
-use Rattle.sqlite.specs.Collation.{Collation}
-use Rattle.sqlite.specs.Collation.TheVariants.{Binary}
-use Rattle.sqlite.specs.Command.{Command}
-use Rattle.sqlite.specs.Command.TheVariants.{Select}
-use Rattle.sqlite.specs.Given.{IsPlain}
+use Rattle.xa_store.proofs.Common.{Collation, Binary, Command, Select, IsPlain, Query, inner, folded, end, Term, lit, col, op1, op2, Null, Int, Is, Kind, Domains, Tokens, Documents, Roots, Attributes, Sources, SchemaVersion, Schema1, Schema2, schema_of, tree_of}
 use Rattle.sqlite.specs.Listing.{understood}
-use Rattle.sqlite.specs.Query.{Query, inner, folded, end}
-use Rattle.sqlite.specs.Term.{Term, lit, col, op1, op2}
-use Rattle.sqlite.specs.declared.types.Value.TheVariants.{Null, Int}
 use Rattle.sqlite_schema.specs.declared.program.Table.TheVariants.{Selected}
 use Rattle.sqlite_sql.specs.declared.aggregate.AggregateOp.TheVariants.{Concat}
-use Rattle.sqlite_sql.specs.declared.ops.BinaryOp.TheVariants.{Is}
 use Rattle.sqlite_sql.specs.declared.ops.UnaryOp.TheVariants.{Not}
 use Rattle.sqlite_sql.specs.Group.{Aggregate}
 use Rattle.sqlite_tied.specs.Compute.{everything}
 use Rattle.sqlite_value.specs.Keys.{ascending}
-use Rattle.xa_store.specs.declared.opening.kind.Kind.{Kind}
-use Rattle.xa_store.specs.declared.opening.kind.Kind.TheVariants.{Domains, Tokens, Documents, Roots, Attributes, Sources}
-use Rattle.xa_store.specs.declared.opening.schema_version.SchemaVersion.{SchemaVersion}
-use Rattle.xa_store.specs.declared.opening.schema_version.SchemaVersion.TheVariants.{Schema1, Schema2}
-use Rattle.xa_store.specs.Judging.{has_kind, order_text_of}
-use Rattle.xa_store.specs.Opened.{schema_of, tree_of}
+use Rattle.xa_store.specs.Check.{has_kind, order_text_of}
 use Rattle.xa_store.proofs.TextLemmas.{IsQueryIn}
 
 -- the rows that the query makes of its own

@@ -1,31 +1,14 @@
 -- What the query for a root finds.
 use Rattle.std.proofs.Common.{◌≡◌, ℕ, zero, suc, ℤ, List, [], ◌∷◌, map, Bool, int_eq, Option, option_and_then, refl, sym}
-use Rattle.sqlite.specs.Order.{Row, column}
-use Rattle.sqlite.specs.State.{State, Shown}
-use Rattle.sqlite.specs.Tree.{Trees}
-use Rattle.sqlite.specs.declared.types.Value.TheVariants.{Int, Text}
-use Rattle.sqlite.specs.Given.{IsPlain}
-use Rattle.sqlite.specs.Listing.{understood}
-use Rattle.sqlite.specs.Term.{Term, col}
-use Rattle.sqlite.proofs.Callers.{reads_as}
-use Rattle.sqlite_keyed.proofs.ListLemmas.{all_of}
-use Rattle.sqlite_typed.specs.Columns.{bytes_of, or_null, unless_null}
-use Rattle.sqlite_typed.proofs.TestLemmas.{null_back}
-use Rattle.xa_policy.specs.declared.reference.DocumentKind.{DocumentKind}
-use Rattle.xa_policy.specs.declared.reference.Reference.{Reference}
-use Rattle.xa_policy.specs.Pattern.{read_pattern}
-use Rattle.xa_policy.specs.Version.{read_version}
-use Rattle.xa_store.specs.Found.{FindsOne}
-use Rattle.xa_store.specs.Rows.{RootRow, root_row, root_in, given, kind_number, reference_of, text_at}
-use Rattle.xa_store.specs.Shown.{TellsOne, root_told}
-use Rattle.xa_store.specs.Sound.{Ours}
-use Rattle.xa_store.specs.Tables.{our_schema}
+use Rattle.xa_store.proofs.Common.{Row, column, State, Shown, Trees, Int, Text, IsPlain, understood, Term, col, reads_as, all_of, bytes_of, or_null, unless_null, null_back, DocumentKind, Reference, read_pattern, read_version, RootRow, root_row, root_in, given, kind_number, text_at, Ours, our_schema, rows_of, state_at}
+use Rattle.xa_store.specs.Lookup.{FindsOne}
+use Rattle.xa_store.specs.Rows.{reference_of}
+use Rattle.xa_store.specs.Columns.{TellsOne, root_told}
 use Rattle.xa_store.specs.Texts.{root_shown}
-use Rattle.xa_store.specs.World.{rows_of, state_at}
 use Rattle.xa_store.proofs.FoundLemmas.{finds_one, found_is}
 use Rattle.xa_store.proofs.HitLemmas.{root_hit}
 use Rattle.xa_store.proofs.SqlLemmas.{Answered, answered}
-use Rattle.xa_store.proofs.StepLemmas.{kind_back}
+use Rattle.xa_store.proofs.ColumnNumbers.{of_kind}
 use Rattle.xa_store.proofs.TextLemmas.{is, root_shown_is}
 
 pub root_plain : IsPlain (understood our_schema root_shown)
@@ -55,7 +38,7 @@ made_of kind id pattern earliest latest = record {
 
 root_back : (r : RootRow) → root_told (show_root r) ≡ reference_of r
 unfolding reference_of
-root_back r = λ i. made_of (kind_back r.kind i) r.id (text_shown r.texts 0 i) (text_shown r.texts 1 i) (text_shown r.texts 2 i)
+root_back r = λ i. made_of ((of_kind r.kind).back i) r.id (text_shown r.texts 0 i) (text_shown r.texts 1 i) (text_shown r.texts 2 i)
 
 module _ (old new : State) (number : ℤ) (ours : Ours old) (rows : List Row) (shown : Shown root_shown (Int number ∷ []) old new rows) where
   abbrev db : Trees

@@ -1,29 +1,16 @@
 -- The plan of a root that is set.
 use Rattle.std.proofs.Common.{◌≡◌, ◌≢◌, inr, ◌+◌, ◌<◌, ◌^◌, ℕ, ℤ, List, [], Bool, true, false, not, cond, Option, Some, None, option_map, option_and_then, Ok, refl, sym, ap, subst, ◌∙◌, int_eq}
-use Rattle.std.specs.Str.{is_utf8}
-use Rattle.sqlite_keyed.specs.Keyed.{IsKeyedBy, get_by, insert_by}
-use Rattle.sqlite_keyed.specs.Lists.{without_key}
-use Rattle.sqlite_keyed.proofs.KeyedLemmas.{all-insert_by, int_eq_apart}
-use Rattle.xa_policy.specs.declared.reference.Reference.{Reference}
-use Rattle.xa_policy.specs.Pattern.{pattern_text, read_pattern}
-use Rattle.xa_policy.specs.Version.{read_version, version_text}
-use Rattle.xa_records.specs.Changes.{within, root_set}
-use Rattle.xa_records.specs.DomainState.{DomainState}
-use Rattle.xa_records.specs.Kept.{DecidesAlike, IsMade, IsNextEpoch, state_of}
-use Rattle.xa_store.specs.declared.domain_found.DomainFound.{DomainFound}
-use Rattle.xa_store.specs.Found.{IsDomain}
-use Rattle.xa_store.specs.Planning.{HasRootTexts, RaisesTo, RootReads, root_steps}
-use Rattle.xa_store.specs.Opened.{is_count, is_given, is_pattern, is_version}
-use Rattle.xa_store.specs.Rows.{DomainRow, RootRow, given, nat_of, root_of, reference_of}
-use Rattle.xa_store.specs.Sound.{AreNumbered, AreRootTexts, AreWhole, is_if_any}
+use Rattle.xa_store.proofs.Common.{is_utf8, IsKeyedBy, get_by, insert_by, without_key, all-insert_by, int_eq_apart, Reference, pattern_text, read_pattern, read_version, version_text, within, root_set, DomainState, is_count, is_given, is_pattern, is_version, DomainRow, RootRow, given, nat_of, AreNumbered, AreRootTexts, AreWhole, is_if_any, Rows, root_at, state_at}
+use Rattle.xa_store.specs.declared.query.domain.DomainFound.{DomainFound}
+use Rattle.xa_store.specs.Lookup.{IsDomain}
+use Rattle.xa_store.specs.Plan.{HasRootTexts, RaisesTo, RootReads, root_steps}
+use Rattle.xa_store.specs.Rows.{root_of, reference_of}
 use Rattle.xa_store.specs.Steps.{after_all, AllowsAll, with_epoch}
 use Rattle.xa_store.specs.Turns.{Plans}
-use Rattle.xa_store.specs.World.{Rows, root_at, state_at, domain_of, kept_of}
-use Rattle.xa_store.proofs.ChangeLemmas.{IsOnly, Rewrote, kept_one, number_of}
+use Rattle.xa_store.proofs.ChangeLemmas.{IsOnly, Rewrote, number_of}
 use Rattle.xa_store.proofs.KeyLemmas.{get_by-insert_by, get_by-without_key, own_number}
-use Rattle.xa_store.proofs.PlanLemmas.{changed, its_state, numbered_after}
+use Rattle.xa_store.proofs.PlanLemmas.{planned, unchanged}
 use Rattle.xa_store.proofs.TextsKept.{all_filter}
-use Rattle.xa_store.proofs.TurnLemmas.{still}
 use Rattle.xa_store.proofs.WholeLemmas.{IsWholeRoot, count_after, epoch_whole, its_domain, roots_whole}
 
 abbrev root_key : RootRow → ℤ
@@ -102,24 +89,12 @@ module _ (rows : Rows) (name : List ℕ) (d : DomainRow) (one : IsOnly name d ro
   -- another root: the steps set it and raise the epoch
   pub root_planned : RootReads d.number root → HasRootTexts d.number root → root_at rows.roots d.number ≢ root → nat_of epoch ≡ nat_of d.epoch + 1 → nat_of epoch < 2 ^ 63 → Plans (root_steps d.number epoch root) (within (root_set root)) name rows
   root_planned reads texts differs rises fits =
-      let next_epoch : IsNextEpoch (state_at rows d.number) target (nat_of d.epoch) (nat_of epoch) = inr (λ alike. differs alike.root, (rises, fits)) in
-      record {
-        allows = allowed rows d.number epoch root;
-        made = (Some target, ap (within (root_set root)) (its_state rows name d one), changed rows name d one (after_all (root_steps d.number epoch root) rows) epoch target up (rewrote reads) next_epoch);
-        numbered = numbered_after rows name d one (after_all (root_steps d.number epoch root) rows) epoch target up (rewrote reads) next_epoch are;
-        whole = λ whole. whole_after rows whole d.number epoch root (its_domain rows whole name d one).0 texts (count_after epoch (nat_of d.epoch) rises fits);
-      }
+      planned rows name d one (root_set root) are target refl (root_steps d.number epoch root) epoch up (allowed rows d.number epoch root) (rewrote reads) (inr (λ alike. differs alike.root, (rises, fits)))
+      (λ whole. whole_after rows whole d.number epoch root (its_domain rows whole name d one).0 texts (count_after epoch (nat_of d.epoch) rises fits))
 
   -- the root that is there: nothing is done
   pub root_kept : root_at rows.roots d.number ≡ root → Plans [] (within (root_set root)) name rows
-  root_kept same =
-      let state : state_at rows d.number ≡ target = λ i. with_root (same i) (state_at rows d.number) in
-      record {
-        allows = tt;
-        made = (Some target, ap (within (root_set root)) (its_state rows name d one), subst (λ s. Rattle.xa_records.specs.Kept.IsChanged (kept_of rows) (kept_of rows) name (Some s)) state (still (kept_of rows) name (domain_of rows d) (kept_one rows name d one)));
-        numbered = are;
-        whole = λ whole. whole;
-      }
+  root_kept same = unchanged rows name d one (root_set root) are target refl (λ i. with_root (same i) (state_at rows d.number))
 
 -- of a domain that was found
 module _ (rows : Rows) (name : List ℕ) (found : DomainFound) (there root : Option Reference) (are : AreNumbered rows) (up : IsKeyedBy number_of rows.domains) (is : IsDomain name rows found)

@@ -1,43 +1,10 @@
 -- Sound rows of the table of roots, and of the first table, are rows that the keeper writes.
-use Rattle.std.proofs.Common.{◌≡◌, ◌≤◌, zero, suc, ℤ, pos, negsuc, Bool, true, false, ◌&&◌, cond, codes, List, [], ◌∷◌, map, length, drop, int_eq, Some, None, refl, sym, ap, ◌∙◌, arith}
-use Rattle.std.specs.List.{AllByRecursion}
-use Rattle.std.specs.Str.{is_utf8}
+use Rattle.std.proofs.Common.{◌≡◌, ◌≤◌, ℤ, pos, Bool, true, false, ◌&&◌, cond, codes, List, [], ◌∷◌, map, length, drop, int_eq, Some, None, refl, sym, ap, ◌∙◌, arith}
+use Rattle.xa_store.proofs.Common.{AllByRecursion, is_utf8, Row, column, Schema, Trees, Value, Null, Int, Real, Text, Blob, IsSound, same_int, all_weaker, first_of_both, second_of_both, Datatype, are_typed, passes, int_of, bytes_of, or_null, unless_null, Roots, SchemaVersion, as_read, holds_int, int_in, is_bit, is_given, is_pattern, is_version, is_sound_table, is_whole_row, known_next, next_of, number_of, read_meta, RootRow, kind_in, kind_number, meta_row_of, root_in, root_row, AreRows, meta, needed, our_schema, own_key, roots, text_if_any}
 use Rattle.sqlite.specs.Kind.TheVariants as kinds
-use Rattle.sqlite.specs.Order.{Row, column}
-use Rattle.sqlite.specs.Schema.{Schema}
-use Rattle.sqlite.specs.Tree.{Trees}
-use Rattle.sqlite.specs.declared.types.Value.{Value}
-use Rattle.sqlite.specs.declared.types.Value.TheVariants.{Null, Int, Real, Text, Blob}
-use Rattle.sqlite_catalog.specs.Listing.{IsSound}
-use Rattle.sqlite_keyed.proofs.KeyedLemmas.{same_int}
-use Rattle.sqlite_keyed.proofs.ListLemmas.{all_weaker}
-use Rattle.sqlite_keyed.proofs.RuleLemmas.{first_of_both, second_of_both}
-use Rattle.sqlite_schema.specs.declared.schema.Constraint.TheVariants.{Datatype}
-use Rattle.sqlite_schema.specs.Rules.{are_typed, passes}
-use Rattle.sqlite_typed.specs.Columns.{int_of, bytes_of, or_null, unless_null}
-use Rattle.xa_store.specs.declared.opening.kind.Kind.TheVariants.{Roots}
-use Rattle.xa_store.specs.declared.opening.schema_version.SchemaVersion.{SchemaVersion}
-use Rattle.xa_store.specs.Opened.{as_read, holds_int, int_in, is_bit, is_given, is_pattern, is_version, is_sound_table, is_whole_row, known_next, next_of, number_of, read_meta}
-use Rattle.xa_store.specs.Rows.{RootRow, bit, is_set, kind_in, kind_number, meta_row_of, root_in, root_row}
-use Rattle.xa_store.specs.Sound.{AreRows}
-use Rattle.xa_store.specs.Tables.{meta, needed, our_schema, own_key, roots, text_if_any}
 use Rattle.xa_store.proofs.AreRowsLemmas.{rows_alone}
+use Rattle.xa_store.proofs.ColumnNumbers.{from_bit}
 use Rattle.xa_store.proofs.ShapeLemmas.{by_columns, int_held, key_null, never_int, never_text, row_long, row_short, text_held, text_if_any_held}
-use Rattle.xa_store.proofs.ShapedLemmas.{below, beyond}
-
--- ---- what a bit stands for
-
-pub kind_from_bit : (n : ℤ) → is_bit n ≡ true → n ≡ kind_number (kind_in n)
-kind_from_bit (pos zero) h = refl
-kind_from_bit (pos (suc zero)) h = refl
-kind_from_bit (pos (suc (suc n))) h = absurd (beyond n h)
-kind_from_bit (negsuc n) h = absurd (below n h)
-
-pub truth_from_bit : (n : ℤ) → is_bit n ≡ true → n ≡ bit (is_set n)
-truth_from_bit (pos zero) h = refl
-truth_from_bit (pos (suc zero)) h = refl
-truth_from_bit (pos (suc (suc n))) h = absurd (beyond n h)
-truth_from_bit (negsuc n) h = absurd (below n h)
 
 -- ---- a row of a table of roots, which may lack its last columns
 
@@ -73,7 +40,7 @@ root_back next row typed whole =
     let more : 4 ≤ length row = row_long row 3 (never_text (column row 3) _ id.0) in
     let null = key_null (own_key (codes "number")) (needed (codes "kind") kinds.Integer ∷ needed (codes "id") kinds.Text ∷ text_if_any (codes "pattern") ∷ text_if_any (codes "earliest") ∷ text_if_any (codes "latest") ∷ []) row typed in
     root_cells row more less pattern earliest latest
-    ∙ (λ i. number.0 i ∷ null i ∷ (kind.0 ∙ ap Int (kind_from_bit _ kind.1)) i ∷ id.0 i ∷ map (or_null Text) (map (unless_null bytes_of) (drop 4 row)))
+    ∙ (λ i. number.0 i ∷ null i ∷ (kind.0 ∙ ap Int (from_bit kind_number kind_in refl refl _ kind.1)) i ∷ id.0 i ∷ map (or_null Text) (map (unless_null bytes_of) (drop 4 row)))
 
 pub roots_are : (db : Trees) (next : ℤ) → IsSound our_schema db → is_sound_table db next Roots ≡ true → AreRows root_row root_in (λ r. r.number) (λ a b. false) (db 7)
 roots_are db next sound h =

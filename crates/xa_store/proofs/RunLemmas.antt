@@ -1,19 +1,10 @@
 -- A change in its transaction: from the steps to the commit.
 use Rattle.std.proofs.Common.{◌≡◌, ◌⊎◌, inl, inr, List, true, false, Result, Ok, Err, IsTrue, OnErr, OnOk, refl, sym, ap, subst, ◌∙◌, arith}
-use Rattle.std.proofs.lemmas.Bool.{both_ways}
-use Rattle.sqlite.specs.Effect.{Database}
-use Rattle.sqlite.specs.Held.{Held, state}
-use Rattle.sqlite.specs.State.{State, HasCleanDisk, KeepsCommit, Survives}
+use Rattle.xa_store.proofs.Common.{both_ways, Database, Held, state, State, HasCleanDisk, KeepsCommit, Survives, Ghosts, Trees, Error, Failure, AreTables, IsOurDatabase, Ours, Rests, SameNow, rows_of}
 use Rattle.sqlite.specs.Steps.{FailsToCommit}
-use Rattle.sqlite.specs.Store.{Ghosts}
-use Rattle.sqlite.specs.Tree.{Trees}
-use Rattle.sqlite.specs.declared.error.Error.{Error}
-use Rattle.xa_records.specs.declared.refusal.Failure.{Failure}
 use Rattle.xa_store.specs.declared.step.Step.{Step}
-use Rattle.xa_store.specs.Sound.{AreTables, IsOurDatabase, Ours, Rests, SameNow}
 use Rattle.xa_store.specs.Steps.{AllowsAll}
-use Rattle.xa_store.specs.Taking.{Committed, IsInside, Took, Holds, Runs}
-use Rattle.xa_store.specs.World.{rows_of}
+use Rattle.xa_store.specs.Execution.{Committed, IsInside, Took, Holds, Runs}
 
 module _ {S : Type 0} (g : Ghosts S) (old mid last : Held S) (steps : List Step) where
   abbrev begun : State

@@ -1,15 +1,7 @@
 -- Rows whose columns hold what they should are rows that the keeper writes.
 use Rattle.std.proofs.Common.{◌≡◌, ◌+◌, ◌≤◌, ℕ, zero, suc, ℤ, Bool, true, cond, List, [], ◌∷◌, ◌++◌, map, length, drop, slice_get, Option, Some, is_some, refl, sym, ap, ◌∙◌, true≢false, arith}
-use Rattle.sqlite.specs.Order.{Row, column}
-use Rattle.sqlite.specs.declared.types.Value.{Value}
-use Rattle.sqlite.specs.declared.types.Value.TheVariants.{Null, Int, Real, Text, Blob}
-use Rattle.sqlite_keyed.proofs.ListLemmas.{map-map}
-use Rattle.sqlite_keyed.proofs.RuleLemmas.{first_of_both, second_of_both}
-use Rattle.sqlite_schema.specs.Rules.{are_typed}
+use Rattle.xa_store.proofs.Common.{Row, column, Value, Null, Int, Real, Text, Blob, map-map, first_of_both, second_of_both, are_typed, is_null, int_of, bytes_of, or_null, unless_null, holds_int, holds_text, holds_text_if_any, holds_blob}
 use Rattle.sqlite_schema.specs.declared.schema.Column.{Column}
-use Rattle.sqlite_sql.specs.Ops.{is_null}
-use Rattle.sqlite_typed.specs.Columns.{int_of, bytes_of, or_null, unless_null}
-use Rattle.xa_store.specs.Opened.{holds_int, holds_text, holds_text_if_any, holds_blob}
 
 -- ---- one column
 

@@ -1,41 +1,17 @@
 -- Sound rows are rows that the keeper writes.
-use Rattle.std.proofs.Common.{◌≡◌, ◌≤◌, ℕ, zero, suc, ℤ, pos, negsuc, ◌<ℤ◌, Bool, true, false, ◌&&◌, ◌==◌, not, cond, unwrap_or, codes, List, [], ◌∷◌, map, length, drop, slice_get, is_some, int_lt, int_eq, bytes_eq, Option, Some, None, Result, Ok, Err, refl, sym, ap, ap₂, ◌∙◌, true≢false, arith}
-use Rattle.std.specs.List.{AllByRecursion}
-use Rattle.std.specs.Str.{is_utf8}
-use Rattle.std.proofs.lemmas.Int.{ints}
-use Rattle.sqlite.specs.Order.{Row, column}
-use Rattle.sqlite.specs.declared.types.Value.{Value}
-use Rattle.sqlite.specs.declared.types.Value.TheVariants.{Null, Int, Real, Text, Blob}
-use Rattle.sqlite_keyed.specs.Keyed.{IsKeyedBy}
-use Rattle.sqlite_keyed.specs.Rules.{AreApart}
-use Rattle.sqlite_keyed.proofs.ListLemmas.{all_from_test, all_weaker, all_both, all_unmap, ascending_from_map, none_from_any, any_from_none}
-use Rattle.sqlite_keyed.proofs.RuleLemmas.{first_of_both, second_of_both}
+use Rattle.std.proofs.Common.{◌≡◌, ◌≤◌, ℕ, ℤ, pos, negsuc, ◌<ℤ◌, Bool, true, false, ◌&&◌, ◌==◌, not, cond, unwrap_or, codes, List, [], ◌∷◌, map, length, drop, slice_get, is_some, int_lt, int_eq, bytes_eq, Option, Some, None, Result, Ok, Err, refl, sym, ap, ap₂, ◌∙◌, true≢false, arith}
+use Rattle.xa_store.proofs.Common.{AllByRecursion, is_utf8, ints, Row, column, Value, Null, Int, Real, Text, Blob, IsKeyedBy, AreApart, all_from_test, all_weaker, all_both, all_unmap, ascending_from_map, none_from_any, any_from_none, first_of_both, second_of_both, are_present, are_typed, agree, clashes, differ, suits, is_null, Eq, Ne, IsAscending, int_of, bytes_of, or_null, unless_null, at_ints, then_term, last_term, same_bytes, is_eq-slice_cmp, type_of, printed, read, read_as, Kind, Domains, Tokens, Attributes, Sources, is_domain_name, are_rising, as_read, holds_text, holds_text_if_any, holds_value, is_bit, is_count, is_digest, is_given, is_number, is_printed, is_value, is_whole_row, row_number, AttributeRow, attribute_in, attribute_row, domain_in, domain_row, given, issuer_columns, nat_of, role_in, role_number, token_in, token_row, type_number, same_place, attributes, domains, needed, own_key, rising, sources, tokens}
 use Rattle.sqlite.specs.Kind.TheVariants as kinds
 use Rattle.sqlite_schema.specs.declared.schema.Column.{Column}
-use Rattle.sqlite_schema.specs.Rules.{are_present, are_typed, agree, clashes, differ, suits}
-use Rattle.sqlite_sql.specs.Ops.{is_null}
-use Rattle.sqlite_sql.specs.declared.ops.CompareOp.TheVariants.{Eq, Ne}
 use Rattle.sqlite_value.specs.Keys.{first_key}
-use Rattle.sqlite_trees.specs.Tree.{IsAscending}
-use Rattle.sqlite_typed.specs.Columns.{int_of, bytes_of, or_null, unless_null}
-use Rattle.sqlite_typed.proofs.TestLemmas.{at_ints, then_term, last_term, same_bytes}
-use Rattle.std.proofs.lemmas.Map.Text.{is_eq-slice_cmp}
 use Rattle.xa_value.specs.declared.data_type.DataType.{DataType}
 use Rattle.xa_value.specs.declared.data_type.DataType.TheVariants.{String, Boolean, Integer, Date, Time, DateTime, DayTimeDuration, YearMonthDuration, AnyUri, HexBinary, Base64Binary}
 use Rattle.xa_value.specs.declared.read_error.ReadError.{ReadError}
 use Rattle.xa_value.specs.declared.value.Value.{Value as Datum}
 use Rattle.xa_value.specs.declared.value.Value.TheVariants as datum
-use Rattle.xa_value.specs.Order.{type_of}
-use Rattle.xa_value.specs.Printing.{printed}
-use Rattle.xa_value.specs.Reading.{read, read_as}
 use Rattle.xa_value.specs.Types.{all_types, place_of, type_at}
-use Rattle.xa_store.specs.declared.opening.kind.Kind.{Kind}
-use Rattle.xa_store.specs.declared.opening.kind.Kind.TheVariants.{Domains, Tokens, Attributes, Sources}
-use Rattle.xa_records.specs.DomainName.{is_domain_name}
-use Rattle.xa_store.specs.Opened.{are_rising, as_read, holds_text, holds_text_if_any, holds_value, is_bit, is_count, is_digest, is_given, is_number, is_printed, is_value, is_whole_row, row_number}
-use Rattle.xa_store.specs.Rows.{AttributeRow, attribute_in, attribute_row, domain_in, domain_row, given, issuer_columns, nat_of, role_in, role_number, token_in, token_row, type_number, value_in, value_text}
-use Rattle.xa_store.specs.Sound.{same_place}
-use Rattle.xa_store.specs.Tables.{attributes, domains, needed, own_key, rising, sources, tokens}
+use Rattle.xa_store.specs.Rows.{value_in, value_text}
+use Rattle.xa_store.proofs.ColumnNumbers.{from_bit}
 use Rattle.xa_store.proofs.EntryLemmas.{found_passes}
 use Rattle.xa_store.proofs.ReadLemmas.{int_back, numbers_read}
 use Rattle.xa_store.proofs.RiseLemmas.{both_true, lt_from}
@@ -104,18 +80,6 @@ domain_back next row typed whole =
     let null = key_null (own_key (codes "number")) (needed (codes "name") kinds.Text ∷ needed (codes "epoch") kinds.Integer ∷ []) row typed in
     by_columns 4 row (omega (arith, less, more)) ∙ (λ i. number.0 i ∷ null i ∷ name.0 i ∷ epoch.0 i ∷ [])
 
-pub beyond : (n : ℕ) → is_bit (pos (suc (suc n))) ≡ true → ⊥
-beyond n h = grind (arith, ints)
-
-pub below : (n : ℕ) → is_bit (negsuc n) ≡ true → ⊥
-below n h = grind (arith, ints)
-
-role_back : (n : ℤ) → is_bit n ≡ true → role_number (role_in n) ≡ n
-role_back (pos zero) h = refl
-role_back (pos (suc zero)) h = refl
-role_back (pos (suc (suc n))) h = absurd (beyond n h)
-role_back (negsuc n) h = absurd (below n h)
-
 pub token_back : (next : ℤ) (row : Row) → are_typed None 0 tokens.columns (drop 1 row) ≡ true → is_whole_row Tokens next (as_read Tokens row) ≡ true → row ≡ token_row (token_in row)
 token_back next row typed whole =
     let rest = second_of_both _ _ whole in
@@ -125,7 +89,7 @@ token_back next row typed whole =
     let rowid = int_back (column row 0) (first_of_both _ _ whole) in
     let less : length row ≤ 4 = row_short None tokens.columns row typed in
     let more = row_long row 3 (never_int (column row 3) _ role.0) in
-    by_columns 4 row (omega (arith, less, more)) ∙ (λ i. rowid i ∷ number.0 i ∷ digest.0 i ∷ (role.0 ∙ ap Int (sym (role_back _ role.1))) i ∷ [])
+    by_columns 4 row (omega (arith, less, more)) ∙ (λ i. rowid i ∷ number.0 i ∷ digest.0 i ∷ (role.0 ∙ ap Int (from_bit role_number role_in refl refl _ role.1)) i ∷ [])
 
 -- ---- a value by its type's number and its printed text
 

@@ -1,25 +1,8 @@
 -- What the query for a source finds.
 use Rattle.std.proofs.Common.{◌≡◌, ℤ, List, [], ◌∷◌, map, Bool, false, Ordering, is_eq, int_eq, int_cmp, refl, ap, ◌∙◌}
-use Rattle.std.specs.List.{AllByRecursion}
-use Rattle.sqlite.specs.Order.{Row, column}
-use Rattle.sqlite.specs.State.{State, Shown}
-use Rattle.sqlite.specs.Tree.{Trees}
-use Rattle.sqlite.specs.declared.types.Value.TheVariants.{Int, Text}
-use Rattle.sqlite.specs.Given.{IsPlain}
-use Rattle.sqlite.specs.Listing.{understood}
-use Rattle.sqlite.specs.Term.{Term, col}
-use Rattle.sqlite.proofs.Callers.{reads_as}
-use Rattle.sqlite_keyed.specs.Lists.{sort_by}
-use Rattle.sqlite_keyed.proofs.ListLemmas.{all_of, all_weaker, map-map}
-use Rattle.sqlite_trees.specs.Tree.{IsAscending}
-use Rattle.sqlite_typed.proofs.TestLemmas.{last_key}
-use Rattle.sqlite_value.proofs.OrderLemmas.{value_cmp-Int}
-use Rattle.xa_store.specs.Rows.{AttributeRow, attribute_row, attribute_in, issuer_columns, type_number, value_text}
-use Rattle.xa_store.specs.Shown.{source_told}
-use Rattle.xa_store.specs.Sound.{Ours, same_place}
-use Rattle.xa_store.specs.Tables.{our_schema}
+use Rattle.xa_store.proofs.Common.{AllByRecursion, Row, column, State, Shown, Trees, Int, Text, IsPlain, understood, Term, col, reads_as, sort_by, all_of, all_weaker, map-map, IsAscending, last_key, value_cmp-Int, AttributeRow, attribute_row, attribute_in, issuer_columns, type_number, value_text, Ours, same_place, our_schema, rows_of, state_at, attributes_at}
+use Rattle.xa_store.specs.Columns.{source_told}
 use Rattle.xa_store.specs.Texts.{source_shown}
-use Rattle.xa_store.specs.World.{rows_of, state_at, attributes_at}
 use Rattle.xa_store.proofs.FoundLemmas.{found_sorted, map_alike, read_back}
 use Rattle.xa_store.proofs.HitLemmas.{source_hit}
 use Rattle.xa_store.proofs.OrderedLemmas.{all_among, all_sorted, apart_among, apart_then}

@@ -1,90 +1,40 @@
 -- The plan of a source that is set.
-use Rattle.std.proofs.Common.{◌≡◌, ◌≢◌, inl, inr, ◌+◌, ◌<◌, ◌≤◌, ◌^◌, ◌<ℤ◌, ℕ, ℤ, pos, ◌+ℤ◌, ◌&&◌, not, List, [], ◌∷◌, ◌++◌, map, filter, length, Bool, true, false, cond, nat_le, bytes_eq, Option, Some, None, unwrap_or, Result, Ok, Err, is_gt, refl, sym, ap, subst, ◌∙◌, arith, int_eq, int_cmp, append_assoc, true≢false}
-use Rattle.std.specs.List.{AllByRecursion}
-use Rattle.std.specs.Ordering.{on}
-use Rattle.std.specs.Str.{is_utf8}
-use Rattle.std.proofs.lemmas.Int.{ints}
-use Rattle.std.proofs.lemmas.Map.Text.{is_eq-slice_cmp}
-use Rattle.sqlite_keyed.specs.Keyed.{IsKeyedBy, next_key}
-use Rattle.sqlite_keyed.specs.Lists.{delete_where, sort_by, insert_sorted}
-use Rattle.sqlite_keyed.proofs.KeyedLemmas.{Less-from_lt, int_eq_apart, same_int}
-use Rattle.sqlite_keyed.proofs.ListLemmas.{all-append, all_weaker, ascending-append, filter_none}
-use Rattle.sqlite_keyed.proofs.RuleLemmas.{first_of_both, second_of_both}
-use Rattle.sqlite_keyed.proofs.SortLemmas.{sort_by-map}
-use Rattle.sqlite_typed.proofs.TestLemmas.{bytes_eq_refl}
-use Rattle.xa_value.specs.declared.data_type.DataType.{DataType}
-use Rattle.xa_value.specs.declared.data_type.DataType.TheVariants.{String, Boolean, Integer, Date, Time, DateTime, DayTimeDuration, YearMonthDuration, AnyUri, HexBinary, Base64Binary}
+use Rattle.std.proofs.Common.{◌≡◌, ◌≢◌, inr, ◌+◌, ◌<◌, ◌≤◌, ◌^◌, ◌<ℤ◌, ℕ, ℤ, pos, ◌+ℤ◌, not, List, [], ◌∷◌, ◌++◌, map, filter, length, Bool, true, false, cond, nat_le, bytes_eq, unwrap_or, Result, Ok, Err, is_gt, refl, sym, ap, subst, ◌∙◌, arith, int_eq, int_cmp, true≢false}
+use Rattle.xa_store.proofs.Common.{AllByRecursion, on, is_utf8, ints, is_eq-slice_cmp, IsKeyedBy, next_key, delete_where, sort_by, insert_sorted, Less-from_lt, int_eq_apart, same_int, all-append, all_weaker, ascending-append, filter_none, first_of_both, second_of_both, sort_by-map, bytes_eq_refl, type_of, printed, read, SourceRow, Quota, source_set, within, DomainState, state_of, count_from, holds_value, is_count, is_given, is_printed, is_value, places_of, type_numbered, AttributeRow, DomainRow, given, nat_of, type_number, AreNumbered, AreWhole, Rows, attributes_at, kept_of, source_of, state_at}
 use Rattle.xa_value.specs.declared.read_error.ReadError.{ReadError}
 use Rattle.xa_value.specs.declared.value.Value.{Value}
 use Rattle.xa_value.specs.declared.value.Value.TheVariants as value
-use Rattle.xa_value.specs.Order.{type_of}
-use Rattle.xa_value.specs.Printing.{printed}
-use Rattle.xa_value.specs.Reading.{read}
-use Rattle.xa_value.specs.Types.{place_of}
-use Rattle.xa_decide.specs.declared.source_row.SourceRow.{SourceRow}
-use Rattle.xa_records.specs.declared.refusal.Refusal.TheVariants.{Quota}
-use Rattle.xa_records.specs.Changes.{source_set, within}
-use Rattle.xa_records.specs.DomainState.{DomainState}
-use Rattle.xa_records.specs.Kept.{IsChanged, IsNextEpoch, state_of}
-use Rattle.xa_store.specs.declared.domain_found.DomainFound.{DomainFound}
+use Rattle.xa_store.specs.declared.query.domain.DomainFound.{DomainFound}
 use Rattle.xa_store.specs.declared.step.Step.TheVariants.{AddAttribute}
-use Rattle.xa_store.specs.Found.{IsDomain}
-use Rattle.xa_store.specs.Planning.{HaveTexts, RaisesTo, RowsRead, row_steps, source_steps}
-use Rattle.xa_store.specs.Opened.{count_from, holds_value, is_count, is_given, is_printed, is_value, places_of, type_numbered}
-use Rattle.xa_store.specs.Rows.{AttributeRow, DomainRow, given, nat_of, type_in, type_number, value_in, value_text}
-use Rattle.xa_store.specs.Sound.{AreNumbered, AreWhole, place_of as placed}
+use Rattle.xa_store.specs.Lookup.{IsDomain}
+use Rattle.xa_store.specs.Plan.{HaveTexts, RaisesTo, RowsRead, row_steps, source_steps}
+use Rattle.xa_store.specs.Rows.{value_in, value_text}
+use Rattle.xa_store.specs.Sound.{place_of as placed}
 use Rattle.xa_store.specs.Steps.{AllowsAll, ReadsBack, after, after_all, is_place, with_epoch}
 use Rattle.xa_store.specs.Turns.{Plans}
-use Rattle.xa_store.specs.World.{Rows, attributes_at, domain_of, kept_of, source_of, state_at}
-use Rattle.xa_store.proofs.ChangeLemmas.{IsOnly, Rewrote, kept_one, number_of}
+use Rattle.xa_store.proofs.ChangeLemmas.{IsOnly, Rewrote, number_of}
+use Rattle.xa_store.proofs.ColumnNumbers.{of_type}
 use Rattle.xa_store.proofs.FilterLemmas.{filter_both, filter_delete_all, filter_delete_others, filter_push, filter_push_apart}
 use Rattle.xa_store.proofs.KeyLemmas.{own_number}
-use Rattle.xa_store.proofs.PlanLemmas.{changed, its_state, numbered_after}
+use Rattle.xa_store.proofs.PlanLemmas.{planned, refused, unchanged}
 use Rattle.xa_store.proofs.RiseLemmas.{both_true}
 use Rattle.xa_store.proofs.TextsKept.{all_filter, all_push}
-use Rattle.xa_store.proofs.TurnLemmas.{still}
 use Rattle.xa_store.proofs.WholeLemmas.{IsWholeAttribute, count_after, epoch_whole, its_domain, places_at}
 
 -- ---- a value that reads back
 
-type_back : (t : DataType) → type_in (pos (place_of t)) ≡ t
-type_back String = refl
-type_back Boolean = refl
-type_back Integer = refl
-type_back Date = refl
-type_back Time = refl
-type_back DateTime = refl
-type_back DayTimeDuration = refl
-type_back YearMonthDuration = refl
-type_back AnyUri = refl
-type_back HexBinary = refl
-type_back Base64Binary = refl
-
 pub value_reads : (v x : Value) (text : List ℕ) → text ≡ printed v → read (type_of v) text ≡ Ok x → x ≡ v → ReadsBack v
 unfolding value_in value_text
 value_reads v x text prints reads same =
-    ap (λ t. unwrap_or (given (read t (printed v))) (value.String (printed v))) (type_back (type_of v))
+    ap (λ t. unwrap_or (given (read t (printed v))) (value.String (printed v))) (of_type (type_of v)).back
     ∙ ap (λ (r : Result Value ReadError). unwrap_or (given r) (value.String (printed v))) (ap (read (type_of v)) (sym prints) ∙ reads) ∙ same
-
-type_named : (t : DataType) → type_numbered (pos (place_of t)) ≡ Some t
-type_named String = refl
-type_named Boolean = refl
-type_named Integer = refl
-type_named Date = refl
-type_named Time = refl
-type_named DateTime = refl
-type_named DayTimeDuration = refl
-type_named YearMonthDuration = refl
-type_named AnyUri = refl
-type_named HexBinary = refl
-type_named Base64Binary = refl
 
 -- it stands there in its printed form
 pub value_held : (v x : Value) (text : List ℕ) → text ≡ printed v → is_utf8 text ≡ true → read (type_of v) text ≡ Ok x → x ≡ v → holds_value (type_number v) (value_text v) ≡ true
 unfolding value_text
 value_held v x text prints utf8 reads same =
     let printed_so : is_printed text (Ok x) ≡ true = ap (λ w. bytes_eq (printed w) text) same ∙ ap (bytes_eq (printed v)) prints ∙ sym (is_eq-slice_cmp (printed v) (printed v)) ∙ bytes_eq_refl (printed v) in
-    let held : is_value text (type_numbered (type_number v)) ≡ true = ap (is_value text) (type_named (type_of v)) ∙ ap (is_printed text) reads ∙ printed_so in
+    let held : is_value text (type_numbered (type_number v)) ≡ true = ap (is_value text) (of_type (type_of v)).named ∙ ap (is_printed text) reads ∙ printed_so in
     ap (holds_value (type_number v)) (sym prints) ∙ both_true (is_utf8 text) (is_value text (type_numbered (type_number v))) utf8 held
 
 -- ---- rows in the order of their places
@@ -235,10 +185,10 @@ module _ (n : ℤ) where
 abbrev with_source : List SourceRow → DomainState → DomainState
 with_source source state = record { tokens = state.tokens; documents = state.documents; root = state.root; source = source }
 
-set_fits : (ss : List SourceRow) (state : DomainState) → nat_le (length ss) 4_096 ≡ true → within (source_set ss) (Some state) ≡ Ok (Some (with_source ss state))
+set_fits : (ss : List SourceRow) (state : DomainState) → nat_le (length ss) 4_096 ≡ true → source_set ss state ≡ Ok (with_source ss state)
 set_fits ss state fits = rw fits refl
 
-set_refused : (ss : List SourceRow) (state : DomainState) → nat_le (length ss) 4_096 ≡ false → within (source_set ss) (Some state) ≡ Err Quota
+set_refused : (ss : List SourceRow) (state : DomainState) → nat_le (length ss) 4_096 ≡ false → source_set ss state ≡ Err Quota
 set_refused ss state over = rw over refl
 
 pub at_most : (ss : List SourceRow) → nat_le (length ss) 4_096 ≡ true → length ss ≤ 4_096
@@ -319,28 +269,12 @@ module _ (rows : Rows) (name : List ℕ) (d : DomainRow) (one : IsOnly name d ro
   -- other rows: the steps set them and raise the epoch
   source_planned : RowsRead ss → HaveTexts ss → (state_at rows d.number).source ≢ ss → nat_of epoch ≡ nat_of d.epoch + 1 → nat_of epoch < 2 ^ 63 → Plans (source_steps d.number epoch ss) (within (source_set ss)) name rows
   source_planned reads texts differs rises low =
-      let next_epoch : IsNextEpoch (state_at rows d.number) target (nat_of d.epoch) (nat_of epoch) = inr (λ alike. differs alike.source, (rises, low)) in
-      record {
-        allows = (tt, (tt, allows_rows d.number ss begun 0 low_yet reads));
-        made = (Some target, ap (within (source_set ss)) (its_state rows name d one) ∙ set_fits ss (state_at rows d.number) fits, changed rows name d one final epoch target up rewrote next_epoch);
-        numbered = numbered_after rows name d one final epoch target up rewrote next_epoch are;
-        whole = λ whole. whole_now whole (count_after epoch (nat_of d.epoch) rises low) texts;
-      }
+      planned rows name d one (source_set ss) are target (set_fits ss (state_at rows d.number) fits) (source_steps d.number epoch ss) epoch up (tt, (tt, allows_rows d.number ss begun 0 low_yet reads)) rewrote
+      (inr (λ alike. differs alike.source, (rises, low))) (λ whole. whole_now whole (count_after epoch (nat_of d.epoch) rises low) texts)
 
   -- the rows that are there: nothing is done
   source_kept : (state_at rows d.number).source ≡ ss → Plans [] (within (source_set ss)) name rows
-  source_kept same =
-      let state : state_at rows d.number ≡ target = λ i. with_source (same i) (state_at rows d.number) in
-      record {
-        allows = tt;
-        made = (
-          Some target,
-          ap (within (source_set ss)) (its_state rows name d one) ∙ set_fits ss (state_at rows d.number) fits,
-          subst (λ s. IsChanged (kept_of rows) (kept_of rows) name (Some s)) state (still (kept_of rows) name (domain_of rows d) (kept_one rows name d one)),
-        );
-        numbered = are;
-        whole = λ whole. whole;
-      }
+  source_kept same = unchanged rows name d one (source_set ss) are target (set_fits ss (state_at rows d.number) fits) (λ i. with_source (same i) (state_at rows d.number))
 
 -- of a domain that was found
 module _ (rows : Rows) (name : List ℕ) (found : DomainFound) (there ss : List SourceRow) (are : AreNumbered rows) (up : IsKeyedBy number_of rows.domains) (is : IsDomain name rows found)
@@ -360,4 +294,4 @@ module _ (rows : Rows) (name : List ℕ) (found : DomainFound) (there ss : List 
 
 -- too many rows
 pub too_many : (rows : Rows) (name : List ℕ) (found : DomainFound) (ss : List SourceRow) → IsDomain name rows found → nat_le (length ss) 4_096 ≡ false → within (source_set ss) (state_of name (kept_of rows)) ≡ Err Quota
-too_many rows name found ss is over = ap (within (source_set ss)) (its_state rows name is.row is.only) ∙ set_refused ss (state_at rows is.row.number) over
+too_many rows name found ss is over = refused rows name is.row is.only (source_set ss) Quota (set_refused ss (state_at rows is.row.number) over)

@@ -1,17 +1,7 @@
 -- What a query of one table answers.
 use Rattle.std.proofs.Common.{◌≡◌, ℕ, List, [], ◌∷◌, ◌++◌, map, filter, flat_map, length, Bool, true, false, cond, refl, sym, ap, subst, ◌∙◌, arith}
-use Rattle.std.specs.List.{list_all}
+use Rattle.xa_store.proofs.Common.{list_all, length-map, nil_from_length, length_permutation, Row, overlay, Output, Query, output, output_cmp, Term, holds, eval_all, Trees, Null, one_permutation, IsSureAnswer}
 use Rattle.std.specs.List.Sorted.{IsPermutation, IsSorted}
-use Rattle.std.proofs.lemmas.List.{length-map, nil_from_length}
-use Rattle.std.proofs.lemmas.List.Sorted.{length_permutation}
-use Rattle.sqlite.specs.Order.{Row}
-use Rattle.sqlite.specs.Program.{overlay}
-use Rattle.sqlite.specs.Query.{Output, Query, output, output_cmp}
-use Rattle.sqlite.specs.Term.{Term, holds, eval_all}
-use Rattle.sqlite.specs.Tree.{Trees}
-use Rattle.sqlite.specs.declared.types.Value.TheVariants.{Null}
-use Rattle.sqlite.proofs.Callers.{one_permutation}
-use Rattle.sqlite_sql.specs.Query.{IsSureAnswer}
 use Rattle.xa_store.proofs.TextLemmas.{of_table}
 
 pub chosen : {A B : Type 0} (p : A → Bool) (f : A → B) (xs : List A) → flat_map (λ x. cond (p x) (f x ∷ []) []) xs ≡ map f (filter p xs)

@@ -1,19 +1,12 @@
 -- Looking at a store, and what is told after that.
 use Rattle.std.proofs.Common.{◌≡◌, inl, inr, ⊎_elim, ℕ, [], List, Bool, true, false, Option, Some, None, Result, Ok, Err, IfErr, IfOk, IsOk, IsTrue, refl, sym, subst, ◌∙◌, true≢false, arith}
-use Rattle.sqlite.specs.Order.{Row}
-use Rattle.sqlite.specs.State.{State, HasCause, HasCleanDisk, IsNoStatement, IsNotRun, IsUnchanged, Survives, store_error}
-use Rattle.sqlite.specs.declared.error.Error.{Error}
+use Rattle.xa_store.proofs.Common.{Row, State, HasCause, HasCleanDisk, IsNoStatement, IsUnchanged, Survives, store_error, Error, Rests, SameNow}
+use Rattle.sqlite.specs.State.{IsNotRun}
 use Rattle.sqlite.specs.declared.error.Error.TheVariants.{SqliteFailure}
 use Rattle.sqlite.specs.declared.error.ErrorCode.TheVariants.{Closed}
 use Rattle.sqlite_trees.specs.declared.error.StoreError.{StoreError}
 use Rattle.sqlite_trees.specs.declared.error.StoreError.TheVariants.{OutOfMemory, Io, Corrupt, Full, Broken, Unstorable}
-use Rattle.xa_records.specs.declared.refusal.ChangeError.{ChangeError}
-use Rattle.xa_records.specs.declared.refusal.ChangeError.TheVariants.{Failed}
-use Rattle.xa_records.specs.declared.refusal.Failure.{Failure}
-use Rattle.xa_records.specs.declared.refusal.Failure.TheVariants.{Memory, Store}
-use Rattle.xa_records.specs.Keeper.{IsOneMore}
-use Rattle.xa_store.specs.Sound.{Rests, SameNow}
-use Rattle.xa_store.specs.Standing.{Looks, Sees, TellsChange, TellsFailure, TellsReading}
+use Rattle.xa_store.specs.Health.{Looks, Sees}
 use Rattle.xa_store.proofs.AskLemmas.{rolled_same, unchanged_same}
 
 -- ---- a statement that is prepared, or isn't
@@ -80,80 +73,3 @@ module _ {X : Type 0} (P : X → Type 0) (old new : State) (sql : List ℕ) wher
     λ is. absurd cc,
     λ up. absurd (closed_shut old new sql [] (subst (λ (r2 : Result X Error). IfErr r2 (λ e. (params : Row) → IsNotRun old new sql params e)) (shut refl) (err (clean_up up)) []) up),
   )
-
--- ---- what is told
-
-pub still : (s : State) → Looks s s
-still s = record { was_open = λ up. up; clean = λ clean. clean; same = λ clean rests up. record { now = refl; committed = refl; idle = rests.idle }; crash = λ clean db may. may }
-
-module _ {X : Type 0} (old new : State) (after : Bool) (faults next : ℕ) where
-  -- of a keeper that was shut
-  pub shut_reading : (read : Result X Failure) (before : Bool) → before ≡ false → IsOneMore faults next → TellsReading old old before before faults next read (Err Store)
-  shut_reading read before is counts = record {
-    looks = still old;
-    answers = tt;
-    stays = tt;
-    counts = counts;
-    was_open = λ up. up;
-    stays_open = λ other. absurd (other refl);
-    goes_on = λ clean failed up. absurd (true≢false (sym up ∙ is));
-    not_shut = λ up open_now. up;
-  }
-
-  pub shut_change : (done : Result X ChangeError) (before : Bool) → before ≡ false → IsOneMore faults next → TellsChange old old before before faults next done (Err (Failed Store))
-  shut_change done before is counts = record {
-    looks = still old;
-    answers = λ up. absurd (true≢false (sym up ∙ is));
-    stays = tt;
-    counts = counts;
-    was_open = λ up. up;
-    stays_open = λ other. absurd (other refl);
-    goes_on = λ clean failed up. absurd (true≢false (sym up ∙ is));
-    not_shut = λ up open_now. up;
-  }
-
-  -- of a failure
-  pub failed_reading : (before : Bool) → IsTrue before → (read : Result X Failure) (failure : Failure) → Looks old new → TellsFailure new after faults next failure → TellsReading old new before after faults next read (Err failure)
-  failed_reading before was read Memory looks tells = record {
-    looks = looks;
-    answers = tt;
-    stays = tt;
-    counts = tells.1;
-    was_open = λ up. was;
-    stays_open = λ other. tells.0;
-    goes_on = λ clean failed up. absurd cc;
-    not_shut = λ up open_now. tells.0;
-  }
-  failed_reading before was read Store looks tells = record {
-    looks = looks;
-    answers = tt;
-    stays = tt;
-    counts = tells.0;
-    was_open = λ up. was;
-    stays_open = λ other. absurd (other refl);
-    goes_on = λ clean failed up. tells.1.0 up clean;
-    not_shut = λ up open_now. tells.1.1 open_now;
-  }
-
-  pub failed_change : (before : Bool) → IsTrue before → (first failure : Failure) → Looks old new → TellsFailure new after faults next failure
-      → TellsChange {X = X} old new before after faults next (Err (Failed first)) (Err (Failed failure))
-  failed_change before was first Memory looks tells = record {
-    looks = looks;
-    answers = λ up. (first, refl);
-    stays = tt;
-    counts = tells.1;
-    was_open = λ up. was;
-    stays_open = λ other. tells.0;
-    goes_on = λ clean failed up. absurd cc;
-    not_shut = λ up open_now. tells.0;
-  }
-  failed_change before was first Store looks tells = record {
-    looks = looks;
-    answers = λ up. (first, refl);
-    stays = tt;
-    counts = tells.0;
-    was_open = λ up. was;
-    stays_open = λ other. absurd (other refl);
-    goes_on = λ clean failed up. tells.1.0 up clean;
-    not_shut = λ up open_now. tells.1.1 open_now;
-  }

@@ -1,43 +1,18 @@
 -- What the statements on domains, on roots and on the next number make of the rows.
-use Rattle.std.proofs.Common.{◌≡◌, ℕ, ℤ, pos, List, [], ◌∷◌, map, Bool, true, false, cond, Option, Some, None, Ok, refl, sym, ap, subst, ◌∙◌, arith, int_eq, to_z, of_z, w64}
-use Rattle.std.specs.List.{AllByRecursion}
+use Rattle.std.proofs.Common.{◌≡◌, ℕ, ℤ, pos, List, [], ◌∷◌, map, Bool, true, false, cond, Option, Some, None, Ok, refl, sym, ap, subst, ◌∙◌, arith, int_eq}
+use Rattle.xa_store.proofs.Common.{AllByRecursion, Row, Chosen, State, Executes, col, lit, Value, Null, Int, Text, Eq, cast_row, with_rowid, insert_by, update_where, delete_where, AreApart, all_of, IsKeyedBy-insert_by, at_most_one, bytes_of, or_null, unless_null, at_ints, last_term, null_back, DocumentKind, Reference, DomainRow, RootRow, meta_row, next_in, domain_row, domain_in, root_row, root_in, root_of, kind_number, AreTables, IsOurDatabase, our_schema, meta, domains, roots, rows_of}
 use Rattle.sqlite.specs.Cast.{cast}
 use Rattle.sqlite.specs.Kind.TheVariants.{Integer, Text as TextKind}
 use Rattle.sqlite.specs.Ops.{unary}
-use Rattle.sqlite.specs.Order.{Row}
-use Rattle.sqlite.specs.Rowids.TheVariants.{Chosen}
-use Rattle.sqlite.specs.State.{State, Executes}
-use Rattle.sqlite.specs.Term.{col, lit}
-use Rattle.sqlite.specs.declared.types.Value.{Value}
-use Rattle.sqlite.specs.declared.types.Value.TheVariants.{Null, Int, Text}
-use Rattle.sqlite_sql.specs.declared.ops.CompareOp.TheVariants.{Eq}
-use Rattle.sqlite_rules.specs.Cast.{cast_row}
-use Rattle.sqlite_rules.specs.Edit.{with_rowid}
-use Rattle.sqlite_keyed.specs.Keyed.{insert_by}
-use Rattle.sqlite_keyed.specs.Lists.{update_where, delete_where}
-use Rattle.sqlite_keyed.specs.Rules.{AreApart}
-use Rattle.sqlite_keyed.proofs.ListLemmas.{all_of}
-use Rattle.sqlite_keyed.proofs.KeyedLemmas.{IsKeyedBy-insert_by}
-use Rattle.sqlite_keyed.proofs.RuleLemmas.{at_most_one}
-use Rattle.sqlite_typed.specs.Columns.{bytes_of, or_null, unless_null}
-use Rattle.sqlite_typed.proofs.TestLemmas.{at_ints, last_term, null_back}
-use Rattle.xa_policy.specs.declared.reference.DocumentKind.{DocumentKind}
-use Rattle.xa_policy.specs.declared.reference.DocumentKind.TheVariants.{Policy, PolicySet}
-use Rattle.xa_policy.specs.declared.reference.Reference.{Reference}
-use Rattle.xa_notation.specs.declared.token.Role.{Role}
-use Rattle.xa_notation.specs.declared.token.Role.TheVariants.{Ask, Admin}
 use Rattle.xa_store.specs.declared.step.Step.{Step}
 use Rattle.xa_store.specs.declared.step.Step.TheVariants.{SetNext, SetEpoch, AddRoot, DropRoot}
-use Rattle.xa_store.specs.Rows.{DomainRow, RootRow, meta_row, next_in, domain_row, domain_in, root_row, root_in, root_of, kind_number, kind_in, role_number, role_in}
-use Rattle.xa_store.specs.Sound.{AreTables, IsOurDatabase}
 use Rattle.xa_store.specs.Steps.{after}
-use Rattle.xa_store.specs.Tables.{our_schema, meta, domains, roots}
 use Rattle.xa_store.specs.Texts as text
-use Rattle.xa_store.specs.World.{rows_of}
+use Rattle.xa_store.proofs.ColumnNumbers.{of_kind}
 use Rattle.xa_store.proofs.HoldLemmas.{Back, Hold, came, changed, domains_now, meta_now, roots_now, went_out}
 use Rattle.xa_store.proofs.SqlLemmas.{answered}
 use Rattle.xa_store.proofs.TableLemmas.{updates, deletes, inserts}
-use Rattle.xa_store.proofs.TextLemmas.{is, is_one, epoch_set_is, epoch_set_query, next_set_is, next_set_query, root_added_given, root_added_is, root_dropped_is, root_dropped_query}
+use Rattle.xa_store.proofs.TextLemmas.{is, is_one, epoch_set_is, next_set_is, root_added_is, root_dropped_is}
 use Rattle.xa_store.proofs.WriteLemmas.{row_added, row_updated, rows_removed}
 
 -- ---- columns
@@ -60,19 +35,6 @@ cast_text (Some t) = refl
 
 -- ---- rows read back
 
-pub kind_back : (kind : DocumentKind) → kind_in (kind_number kind) ≡ kind
-kind_back Policy = refl
-kind_back PolicySet = refl
-
-pub role_back : (role : Role) → role_in (role_number role) ≡ role
-role_back Ask = refl
-role_back Admin = refl
-
--- a kind's number fits a column
-pub kind_held : (kind : DocumentKind) → to_z w64 (of_z w64 (kind_number kind)) ≡ kind_number kind
-kind_held Policy = refl
-kind_held PolicySet = refl
-
 pub text_back : (o : Option (List ℕ)) → unless_null bytes_of (or_null Text o) ≡ o
 text_back = null_back Text bytes_of (λ _. refl) (λ _. refl)
 
@@ -81,7 +43,7 @@ texts_back [] = refl
 texts_back (text ∷ texts) = λ i. text_back text i ∷ texts_back texts i
 
 pub root_back : (r : RootRow) → root_in (root_row r) ≡ r
-root_back r = λ i. record { number = r.number; kind = kind_back r.kind i; id = r.id; texts = texts_back r.texts i }
+root_back r = λ i. record { number = r.number; kind = (of_kind r.kind).back i; id = r.id; texts = texts_back r.texts i }
 
 abbrev full_root : ℤ → DocumentKind → List ℕ → Option (List ℕ) → Option (List ℕ) → Option (List ℕ) → Row
 full_root number kind id pattern earliest latest = Int number ∷ Null ∷ Int (kind_number kind) ∷ Text id ∷ or_null Text pattern ∷ or_null Text earliest ∷ or_null Text latest ∷ []
@@ -121,7 +83,7 @@ module _ (old new : State) (has : old.now.schema ≡ our_schema) (count : ℕ) (
       let params = Int n ∷ Int e ∷ [] in
       let shown = col 1 0 ∷ col 1 0 ∷ lit Null ∷ col 1 2 ∷ col 0 1 ∷ [] in
       let f : DomainRow → DomainRow = λ d. record d { epoch = e } in
-      let edits = updates text.epoch_set params old new has 1 domains refl count epoch_set_query epoch_set_is h in
+      let edits = updates text.epoch_set params old new has 1 domains refl count _ epoch_set_is h in
       let answer = answered 1 (is 0 0 ∷ []) shown [] db refl params edits.rows edits.answer.answer in
       let hit = all_of _ (λ (d : DomainRow). last_term (at_ints false Eq d.number n)) ds in
       let few = at_most_one (λ (d : DomainRow). d.number) n (λ d. int_eq d.number n) (λ d h. h) ds was.domains.rise in
@@ -140,7 +102,7 @@ module _ (old new : State) (has : old.now.schema ≡ our_schema) (count : ℕ) (
   next_stepped n h =
       let params = Int n ∷ [] in
       let shown = col 1 0 ∷ col 1 0 ∷ lit Null ∷ col 1 2 ∷ col 0 0 ∷ [] in
-      let edits = updates text.next_set params old new has 0 meta refl count next_set_query next_set_is h in
+      let edits = updates text.next_set params old new has 0 meta refl count _ next_set_is h in
       let answer = answered 0 (is_one 0 ∷ []) shown [] db refl params edits.rows edits.answer.answer in
       let hit : AllByRecursion (λ (m : ℤ). Rattle.xa_store.proofs.SqlLemmas.hits 0 (is_one 0 ∷ []) shown [] db refl params (meta_row m) ≡ true) (next_in (db 0) ∷ []) = (last_term (at_ints false Eq (pos 1) (pos 1)), tt) in
       let wrote = row_updated meta_row (λ _. pos 1) (λ _. refl) meta db next (next_in (db 0) ∷ []) was.meta (tt, tt) (is_one 0 ∷ []) shown refl params (λ _. true) hit
@@ -153,7 +115,7 @@ module _ (old new : State) (has : old.now.schema ≡ our_schema) (count : ℕ) (
       let rs = map root_in (db 7) in
       let p : RootRow → Bool = λ r. int_eq r.number n in
       let params = Int n ∷ [] in
-      let edits = deletes text.root_dropped params old new has 4 roots refl count root_dropped_query root_dropped_is h in
+      let edits = deletes text.root_dropped params old new has 4 roots refl count _ root_dropped_is h in
       let answer = answered 7 (is 0 0 ∷ []) (col 1 0 ∷ []) [] db refl params edits.rows edits.answer.answer in
       let hit = all_of _ (λ (r : RootRow). last_term (at_ints false Eq r.number n)) rs in
       let wrote = rows_removed root_row (λ r. r.number) (λ _. refl) roots db next rs was.roots.written was.roots.rise (is 0 0 ∷ []) (col 1 0 ∷ []) refl params p hit
@@ -167,7 +129,7 @@ module _ (old new : State) (has : old.now.schema ≡ our_schema) (count : ℕ) (
   root_added_stepped n reference r p e l is texts h own =
       let rs = map root_in (db 7) in
       let params = Int n ∷ Int (kind_number r.kind) ∷ Text r.id ∷ or_null Text p ∷ or_null Text e ∷ or_null Text l ∷ [] in
-      let adds = inserts text.root_added params old new has 4 roots refl count root_added_given 7 refl refl root_added_is h in
+      let adds = inserts text.root_added params old new has 4 roots refl count _ 7 refl refl root_added_is h in
       let row = full_root n r.kind r.id p e l in
       let put : with_rowid Chosen (db 7) (cast_row roots row) ≡ root_row r =
       ap (with_rowid Chosen (db 7)) (root_cast n r.kind r.id p e l) ∙ ap (λ k. with_rowid Chosen (db 7) (full_root k r.kind r.id p e l)) (sym own)

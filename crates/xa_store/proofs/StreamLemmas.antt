@@ -1,23 +1,8 @@
 -- A table that is read row by row, from one row to the next.
 use Rattle.std.proofs.Common.{◌≡◌, ◌⊎◌, inl, inr, ℕ, ℤ, w64, true, false, List, [], ◌∷◌, ◌++◌, Option, Some, None, Result, Ok, Err, IsTrue, OnOk, refl, sym, ap, subst, ◌∙◌, arith}
-use Rattle.std.specs.Prelude.{FitsSigned}
-use Rattle.sqlite.specs.Effect.{Database}
-use Rattle.sqlite.specs.Given.{HasGiven, GivesOn, HasBegun, IsPlain}
-use Rattle.sqlite.specs.Held.{Held, state}
-use Rattle.sqlite.specs.Listing.{understood}
-use Rattle.sqlite.specs.Order.{Row}
-use Rattle.sqlite.specs.State.{State, HasCleanDisk, IsUnchanged, IsRolledBack, Survives, FailsToQuery, Fails}
-use Rattle.sqlite.specs.Store.{Ghosts}
-use Rattle.sqlite.specs.declared.error.Error.{Error}
-use Rattle.sqlite.proofs.Callers.{given_begin, begins_as, begun_plain, unchanged_then}
-use Rattle.sqlite.proofs.StateLemmas.{survives_then}
-use Rattle.xa_store.specs.declared.open_error.OpenError.{OpenError}
-use Rattle.xa_store.specs.declared.open_error.OpenError.TheVariants.{NotThisSchema, Damaged, Store, Memory}
-use Rattle.xa_store.specs.declared.opening.kind.Kind.{Kind}
-use Rattle.xa_store.specs.declared.opening.schema_version.SchemaVersion.{SchemaVersion}
-use Rattle.xa_store.specs.Judging.{has_kind, text_of, AreHeld, GoesOn, HoldsBack, IsRead, IsUnguarded, Moves, refused_as, TellsNext, Walked, Walks, fits}
-use Rattle.xa_store.specs.Opened.{row_number, schema_of}
-use Rattle.xa_store.specs.Sound.{RestsIn, SameNow}
+use Rattle.xa_store.proofs.Common.{FitsSigned, Database, GivesOn, HasBegun, IsPlain, Held, state, understood, Row, State, HasCleanDisk, IsUnchanged, IsRolledBack, Survives, FailsToQuery, Fails, Ghosts, Error, given_begin, begins_as, begun_plain, unchanged_then, survives_then, OpenError, NotThisSchema, Damaged, Store, Memory, Kind, SchemaVersion, row_number, schema_of, RestsIn, SameNow}
+use Rattle.sqlite.specs.Given.{HasGiven}
+use Rattle.xa_store.specs.Check.{has_kind, text_of, AreHeld, GoesOn, HoldsBack, IsRead, IsUnguarded, Moves, refused_as, TellsNext, Walked, Walks, fits}
 use Rattle.xa_store.proofs.AskLemmas.{goes_then, goes_unchanged, held_rolled, held_unchanged, holds_then, rolled_same, shown_goes, shown_held, unchanged_same}
 use Rattle.xa_store.proofs.AskedLemmas.{failed_fits, never_damaged, never_refused, same_then}
 use Rattle.xa_store.proofs.JudgedTexts.{judged_is}

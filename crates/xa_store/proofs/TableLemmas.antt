@@ -1,28 +1,9 @@
 -- What a statement on one table writes, as the records of its rows.
 use Rattle.std.proofs.Common.{◌≡◌, ◌⊎◌, inl, inr, ℕ, ℤ, ◌/◌, List, [], length, slice_get, MatchBool, is_lt, int_cmp, false, cond, Some, None, Ok, Err, Result, Option, sym, ap, subst, ◌∙◌}
-use Rattle.sqlite.specs.Command.{Command}
-use Rattle.sqlite.specs.Command.TheVariants.{Insert}
+use Rattle.xa_store.proofs.Common.{Command, Insert, edit_of, Database, Answers, IsSource, value_rows, understood, Row, Query, Chosen, Above, Given, Written, Edited, Task, Inserts, Counts, CountsIn, Gives, sequence, stamped, count_of, Values, Term, State, mode_of, Executes, Table, Trees, statement_of, runs_as, Enforced, IsSound, ids_of, IsOurDatabase, our_schema}
 use Rattle.sqlite.specs.Does.{Tally, Does, OnRows, WritesRows}
 use Rattle.sqlite.specs.declared.run.Mode.{Mode}
-use Rattle.sqlite.specs.Edit.{edit_of}
-use Rattle.sqlite.specs.Effect.{Database, Answers, IsSource, value_rows}
-use Rattle.sqlite.specs.Listing.{understood}
-use Rattle.sqlite.specs.Order.{Row}
-use Rattle.sqlite.specs.Query.{Query}
-use Rattle.sqlite.specs.Rowids.TheVariants.{Chosen, Above, Given}
-use Rattle.sqlite.specs.Rows.{Written, Edited, Task, Inserts, Counts, CountsIn, Gives, sequence, stamped, count_of}
 use Rattle.sqlite.specs.Source.{Source}
-use Rattle.sqlite.specs.Source.TheVariants.{Values}
-use Rattle.sqlite.specs.Term.{Term}
-use Rattle.sqlite.specs.State.{State, mode_of, Executes}
-use Rattle.sqlite.specs.Table.{Table}
-use Rattle.sqlite.specs.Tree.{Trees}
-use Rattle.sqlite.proofs.Callers.{statement_of, runs_as}
-use Rattle.sqlite_schema.specs.declared.schema.Keys.TheVariants.{Enforced}
-use Rattle.sqlite_catalog.specs.Listing.{IsSound}
-use Rattle.sqlite_rules.specs.Calls.{ids_of}
-use Rattle.xa_store.specs.Sound.{IsOurDatabase}
-use Rattle.xa_store.specs.Tables.{our_schema}
 use Rattle.xa_store.proofs.TextLemmas.{IsChange, update, delete}
 
 -- ---- from a statement that ran to its edit

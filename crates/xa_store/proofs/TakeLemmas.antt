@@ -1,8 +1,8 @@
 -- Steps that were taken in a transaction.
 use Rattle.std.proofs.Common.{[], ◌∷◌, Result, Ok, Err, IsTrue, OnOk}
-use Rattle.sqlite.specs.State.{State}
+use Rattle.xa_store.proofs.Common.{State}
 use Rattle.xa_store.specs.declared.step.Step.{Step}
-use Rattle.xa_store.specs.Taking.{Took}
+use Rattle.xa_store.specs.Execution.{Took}
 use Rattle.xa_store.proofs.StepLemmas.{Stepped}
 
 -- a statement that ran took its step

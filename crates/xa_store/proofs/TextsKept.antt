@@ -1,15 +1,9 @@
 -- Each text that is kept is a document of its key: whatever steps are taken, and where opening finds the tables sound.
 use Rattle.std.proofs.Common.{ℕ, Bool, true, false, not, cond, int_eq, List, [], ◌∷◌, ◌++◌, filter}
-use Rattle.std.specs.List.{AllByRecursion}
-use Rattle.sqlite_keyed.specs.Lists.{update_where}
-use Rattle.xa_policy.specs.declared.document_key.DocumentKey.{DocumentKey}
-use Rattle.xa_records.specs.DomainState.{IsDocumentOf}
+use Rattle.xa_store.proofs.Common.{AllByRecursion, update_where, DocumentKey, IsDocumentOf, DocumentRow, AreDocuments, Rows}
 use Rattle.xa_store.specs.declared.step.Step.{Step}
 use Rattle.xa_store.specs.declared.step.Step.TheVariants.{AddDocument, SetActive, DropDocument, DropDomain}
-use Rattle.xa_store.specs.Rows.{DocumentRow}
-use Rattle.xa_store.specs.Sound.{AreDocuments}
 use Rattle.xa_store.specs.Steps.{Allows, AllowsAll, IsOfKey, after, after_all, is_document}
-use Rattle.xa_store.specs.World.{Rows}
 
 module _ {X : Type 0} (P : X → Type 0) where
   pub all_filter : (p : X → Bool) (xs : List X) → AllByRecursion P xs → AllByRecursion P (filter p xs)

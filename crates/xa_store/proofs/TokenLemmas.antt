@@ -1,39 +1,16 @@
 -- What the queries on tokens find.
-use Rattle.std.proofs.Common.{◌≡◌, ℕ, ℤ, List, [], ◌∷◌, map, length, false, Ordering, is_eq, int_eq, Option, option_map, refl, sym, ap, ◌∙◌}
-use Rattle.std.specs.FinMap.{get, entries, len, len-entries}
-use Rattle.std.proofs.lemmas.List.{length-map}
-use Rattle.sqlite.specs.Order.{Row}
-use Rattle.sqlite.specs.State.{State, Shown}
-use Rattle.sqlite.specs.Tree.{Trees}
-use Rattle.sqlite.specs.declared.types.Value.TheVariants.{Int, Blob}
-use Rattle.sqlite.specs.Given.{IsPlain}
-use Rattle.sqlite.specs.Listing.{understood}
-use Rattle.sqlite.specs.Term.{col}
-use Rattle.sqlite.proofs.Callers.{reads_as}
-use Rattle.sqlite_keyed.specs.Lists.{sort_by}
-use Rattle.sqlite_keyed.proofs.ListLemmas.{all_of, map-map, map_same}
-use Rattle.sqlite_trees.specs.Tree.{IsAscending}
-use Rattle.sqlite_typed.proofs.TestLemmas.{last_key}
-use Rattle.sqlite_value.proofs.OrderLemmas.{value_cmp-Blob}
-use Rattle.xa_notation.specs.declared.token.Role.{Role}
+use Rattle.std.proofs.Common.{◌≡◌, ℕ, ℤ, List, [], ◌∷◌, map, length, false, Ordering, is_eq, int_eq, Option, refl, sym, ap, ◌∙◌}
+use Rattle.xa_store.proofs.Common.{entries, len, len-entries, length-map, Row, State, Shown, Trees, Int, Blob, IsPlain, understood, col, reads_as, sort_by, all_of, map-map, map_same, IsAscending, last_key, value_cmp-Blob, Role, compare_bytes, token_of, bytes_total, TokenRow, token_row, token_in, role_number, Ours, same_token, our_schema, rows_of, state_at, tokens_at, token_entry}
 use Rattle.xa_records.specs.declared.gate.Token.{Token}
-use Rattle.xa_records.specs.DomainState.{compare_bytes}
-use Rattle.xa_records.specs.Readings.{token_of}
-use Rattle.xa_records.proofs.OrderLemmas.{bytes_total, bytes_exact}
-use Rattle.xa_store.specs.Found.{FindsRole}
-use Rattle.xa_store.specs.Rows.{TokenRow, token_row, token_in, role_number}
-use Rattle.xa_store.specs.Shown.{TellsOne, role_told, token_told}
-use Rattle.xa_store.specs.Sound.{Ours, same_token}
+use Rattle.xa_store.specs.Lookup.{FindsRole}
+use Rattle.xa_store.specs.Columns.{TellsOne, role_told, token_told}
 use Rattle.xa_store.specs.Steps.{is_token}
-use Rattle.xa_store.specs.Tables.{our_schema}
 use Rattle.xa_store.specs.Texts.{role_shown, tokens_shown}
-use Rattle.xa_store.specs.World.{Rows, rows_of, state_at, tokens_at, token_entry}
-use Rattle.xa_store.proofs.EntryLemmas.{got, has}
-use Rattle.xa_store.proofs.FoundLemmas.{finds_one, found_is, found_sorted, find_both}
+use Rattle.xa_store.proofs.FoundLemmas.{finds_one, found_sorted}
 use Rattle.xa_store.proofs.HitLemmas.{token_hit, tokens_hit}
 use Rattle.xa_store.proofs.OrderedLemmas.{apart_among, apart_then, entries_sorted}
 use Rattle.xa_store.proofs.SqlLemmas.{Answered, answered}
-use Rattle.xa_store.proofs.StepLemmas.{role_back}
+use Rattle.xa_store.proofs.ColumnNumbers.{of_role}
 use Rattle.xa_store.proofs.TextLemmas.{is, role_shown_is, tokens_shown_is}
 
 pub role_plain : IsPlain (understood our_schema role_shown)
@@ -59,14 +36,7 @@ module _ (old new : State) (number : ℤ) (digest : List ℕ) (ours : Ours old) 
   pub role_found : (o : Option Role) → TellsOne role_told rows o → FindsRole number digest (rows_of db) o
   role_found =
       finds_one 3 (is 1 0 ∷ is 2 1 ∷ []) (col 1 3 ∷ []) [] db refl given token_row token_in ours.tables.tokens.written (is_token number digest)
-      (all_of _ (token_hit number digest db) (map token_in (db 3))) role_told (λ t. t.role) (all_of _ (λ t. role_back t.role) _) rows answer
-
--- the role that was found is that of the domain's state
-pub role_is : (rows : Rows) (number : ℤ) (digest : List ℕ) (o : Option Role) → FindsRole number digest rows o → get (state_at rows number).tokens digest ≡ o
-role_is rows number digest o finds =
-    got bytes_total bytes_exact (λ (t : TokenRow). t.digest) (λ t. t.role) digest (tokens_at rows.tokens number)
-    ∙ ap (option_map (λ (t : TokenRow). t.role)) (find_both (λ (t : TokenRow). int_eq t.number number) (has bytes_total bytes_exact (λ (t : TokenRow). t.digest) (λ t. t.role) digest) rows.tokens)
-    ∙ found_is (is_token number digest) (λ t. t.role) rows.tokens o finds
+      (all_of _ (token_hit number digest db) (map token_in (db 3))) role_told (λ t. t.role) (all_of _ (λ t. (of_role t.role).back) _) rows answer
 
 -- ---- all of a domain
 
@@ -101,7 +71,7 @@ module _ (old new : State) (number : ℤ) (ours : Ours old) (rows : List Row) (s
   pub tokens_read : map token_told rows ≡ map token_of (entries (state_at (rows_of trees) number).tokens)
   tokens_read =
       ap (map token_told) ordered ∙ map-map token_told show_token (sort_by by_digest listed)
-      ∙ map_same _ _ (λ (t : TokenRow). ap (λ role. let token : Token = record { digest = t.digest; role = role } in token) (role_back t.role)) (sort_by by_digest listed)
+      ∙ map_same _ _ (λ (t : TokenRow). ap (λ role. let token : Token = record { digest = t.digest; role = role } in token) (of_role t.role).back) (sort_by by_digest listed)
       ∙ sym (map-map token_of token_entry (sort_by by_digest listed)) ∙ ap (map token_of) (sym (entries_sorted bytes_total (λ (t : TokenRow). t.digest) (λ t. t.role) listed untied))
 
   pub tokens_counted : length rows ≡ len (state_at (rows_of trees) number).tokens

@@ -1,31 +1,16 @@
 -- The plans of changes of tokens.
 use Rattle.std.proofs.Common.{◌≡◌, ◌≢◌, inl, ℕ, ℤ, List, [], ◌∷◌, ◌++◌, filter, find, Bool, true, false, ◌||◌, not, cond, nat_lt, Option, Some, None, option_map, is_some, Ok, Err, refl, sym, ap, subst, ◌∙◌, int_eq}
-use Rattle.std.specs.List.{AllByRecursion}
-use Rattle.std.specs.Ordering.{eq_by_cmp}
-use Rattle.std.specs.FinMap.{FinMap, contains_key, insert, remove, len}
-use Rattle.sqlite_keyed.specs.Keyed.{IsKeyedBy, next_key}
-use Rattle.sqlite_keyed.specs.Lists.{update_where, delete_where}
-use Rattle.sqlite_keyed.proofs.KeyedLemmas.{int_eq_apart, same_int}
-use Rattle.xa_notation.specs.declared.token.Role.{Role}
-use Rattle.xa_records.specs.declared.refusal.Refusal.TheVariants.{Absent, Quota}
-use Rattle.xa_records.specs.Changes.{token_dropped, token_put, with_tokens, within}
-use Rattle.xa_records.specs.DomainState.{DomainState, compare_bytes}
-use Rattle.xa_records.specs.Kept.{IsNextEpoch, state_of}
-use Rattle.xa_records.proofs.OrderLemmas.{bytes_exact, bytes_total}
-use Rattle.xa_store.specs.declared.domain_found.DomainFound.{DomainFound}
-use Rattle.xa_store.specs.Found.{FindsRole, IsDomain}
+use Rattle.xa_store.proofs.Common.{AllByRecursion, eq_by_cmp, FinMap, contains_key, insert, remove, len, IsKeyedBy, next_key, update_where, delete_where, int_eq_apart, same_int, Role, Absent, Quota, token_dropped, token_put, with_tokens, within, DomainState, compare_bytes, IsNextEpoch, state_of, bytes_exact, bytes_total, is_digest, DomainRow, TokenRow, nat_of, AreNumbered, Rows, roles_of, state_at, tokens_at, kept_of}
+use Rattle.xa_store.specs.declared.query.domain.DomainFound.{DomainFound}
+use Rattle.xa_store.specs.Lookup.{FindsRole, IsDomain}
 use Rattle.xa_store.specs.declared.step.Step.TheVariants.{AddToken, SetRole, DropToken}
-use Rattle.xa_store.specs.Opened.{is_digest}
-use Rattle.xa_store.specs.Rows.{DomainRow, TokenRow, nat_of}
-use Rattle.xa_store.specs.Sound.{AreNumbered}
 use Rattle.xa_store.specs.Steps.{is_named, is_token, with_epoch}
 use Rattle.xa_store.specs.Turns.{Plans}
-use Rattle.xa_store.specs.World.{Rows, roles_of, state_at, tokens_at, kept_of}
 use Rattle.xa_store.proofs.ChangeLemmas.{IsOnly, Rewrote, number_of, one_passes}
 use Rattle.xa_store.proofs.EntryLemmas.{got, pushed, updated, deleted}
 use Rattle.xa_store.proofs.FilterLemmas.{filter_both, filter_delete, filter_delete_apart, filter_push, filter_push_apart, filter_update, filter_update_apart, find_none, find_one, filter_alike}
 use Rattle.xa_store.proofs.KeyLemmas.{untouched, own_number}
-use Rattle.xa_store.proofs.PlanLemmas.{changed, its_state, numbered_after}
+use Rattle.xa_store.proofs.PlanLemmas.{planned, refused}
 use Rattle.xa_store.proofs.TextsKept.{all_filter, all_push, all_update}
 use Rattle.xa_store.proofs.WholeLemmas.{IsWholeToken, its_domain, tokens_whole}
 
@@ -114,17 +99,9 @@ module _ (rows : Rows) (name : List ℕ) (d : DomainRow) (one : IsOnly name d ro
         let target = insert state.tokens digest role in
         let here : roles_of (tokens_at tokens n) ≡ target = ap roles_of (filter_update ours has_digest f (λ x. refl) rows.tokens) ∙ updated bytes_total bytes_exact digest_of role_in digest f (λ x. refl) ts t found in
         let others = λ (m : ℤ) (apart : m ≢ n). filter_update_apart ours has_digest (λ t. int_eq t.number m) (apart_from m apart) f (λ x. refl) rows.tokens in
-        let wrote = rewrote tokens target here others in
-        record {
-          allows = (tt, tt);
-          made = (
-            Some (with_tokens target state),
-            ap (within (token_put digest role)) (its_state rows name d one) ∙ ap (λ b. within (λ s. cond (b || nat_lt (len state.tokens) 32) (Ok (with_tokens target state)) (Err Quota)) (Some state)) present,
-            changed rows name d one (with_rows tokens) d.epoch (with_tokens target state) up wrote (same_deciding target),
-          );
-          numbered = numbered_after rows name d one (with_rows tokens) d.epoch (with_tokens target state) up wrote (same_deciding target) are;
-          whole = λ whole. tokens_whole rows whole tokens (all_update (IsWholeToken rows.next) (is_token n digest) f (λ t h. h) rows.tokens whole.tokens);
-        }
+        planned rows name d one (token_put digest role) are (with_tokens target state) (ap (λ b. cond (b || nat_lt (len state.tokens) 32) (Ok (with_tokens target state)) (Err Quota)) present)
+        (SetRole n digest role ∷ []) d.epoch up (tt, tt) (rewrote tokens target here others) (same_deciding target)
+        (λ whole. tokens_whole rows whole tokens (all_update (IsWholeToken rows.next) (is_token n digest) f (λ t h. h) rows.tokens whole.tokens))
 
     pub drop_planned : Plans (DropToken n digest ∷ []) (within (token_dropped digest)) name rows
     drop_planned =
@@ -132,17 +109,8 @@ module _ (rows : Rows) (name : List ℕ) (d : DomainRow) (one : IsOnly name d ro
         let target = remove state.tokens digest in
         let here : roles_of (tokens_at tokens n) ≡ target = ap roles_of (filter_delete ours has_digest rows.tokens) ∙ deleted bytes_total bytes_exact digest_of role_in digest ts in
         let others = λ (m : ℤ) (apart : m ≢ n). filter_delete_apart ours has_digest (λ t. int_eq t.number m) (apart_from m apart) rows.tokens in
-        let wrote = rewrote tokens target here others in
-        record {
-          allows = (tt, tt);
-          made = (
-            Some (with_tokens target state),
-            ap (within (token_dropped digest)) (its_state rows name d one) ∙ ap (λ b. within (λ s. cond b (Ok (with_tokens target state)) (Err Absent)) (Some state)) present,
-            changed rows name d one (with_rows tokens) d.epoch (with_tokens target state) up wrote (same_deciding target),
-          );
-          numbered = numbered_after rows name d one (with_rows tokens) d.epoch (with_tokens target state) up wrote (same_deciding target) are;
-          whole = λ whole. tokens_whole rows whole tokens (all_filter (IsWholeToken rows.next) (λ t. not (is_token n digest t)) rows.tokens whole.tokens);
-        }
+        planned rows name d one (token_dropped digest) are (with_tokens target state) (ap (λ b. cond b (Ok (with_tokens target state)) (Err Absent)) present) (DropToken n digest ∷ []) d.epoch up (tt, tt)
+        (rewrote tokens target here others) (same_deciding target) (λ whole. tokens_whole rows whole tokens (all_filter (IsWholeToken rows.next) (λ t. not (is_token n digest t)) rows.tokens whole.tokens))
 
   -- ---- a token that isn't there
 
@@ -160,27 +128,18 @@ module _ (rows : Rows) (name : List ℕ) (d : DomainRow) (one : IsOnly name d ro
         let target = insert state.tokens digest role in
         let here : roles_of (tokens_at tokens n) ≡ target = ap roles_of (filter_push ours rows.tokens new (own_number n)) ∙ pushed bytes_total bytes_exact digest_of role_in ts new unfound in
         let others = λ (m : ℤ) (apart : m ≢ n). filter_push_apart (λ t. int_eq t.number m) rows.tokens new (int_eq_apart n m (λ same. apart (sym same))) in
-        let wrote = rewrote tokens target here others in
-        record {
-          allows = (none, tt);
-          made = (
-            Some (with_tokens target state),
-            ap (within (token_put digest role)) (its_state rows name d one) ∙ ap (λ b. within (λ s. cond (b || nat_lt (len state.tokens) 32) (Ok (with_tokens target state)) (Err Quota)) (Some state)) missing
-                ∙ ap (λ b. within (λ s. cond b (Ok (with_tokens target state)) (Err Quota)) (Some state)) room,
-            changed rows name d one (with_rows tokens) d.epoch (with_tokens target state) up wrote (same_deciding target),
-          );
-          numbered = numbered_after rows name d one (with_rows tokens) d.epoch (with_tokens target state) up wrote (same_deciding target) are;
-          whole = λ whole. tokens_whole rows whole tokens (all_push (IsWholeToken rows.next) rows.tokens new whole.tokens ((its_domain rows whole name d one).0, long));
-        }
+        planned rows name d one (token_put digest role) are (with_tokens target state)
+        (ap (λ b. cond (b || nat_lt (len state.tokens) 32) (Ok (with_tokens target state)) (Err Quota)) missing ∙ ap (λ b. cond b (Ok (with_tokens target state)) (Err Quota)) room) (AddToken n digest role ∷ []) d.epoch up
+        (none, tt) (rewrote tokens target here others) (same_deciding target)
+        (λ whole. tokens_whole rows whole tokens (all_push (IsWholeToken rows.next) rows.tokens new whole.tokens ((its_domain rows whole name d one).0, long)))
 
     pub token_refused : (role : Role) → nat_lt (len state.tokens) 32 ≡ false → within (token_put digest role) (state_of name (kept_of rows)) ≡ Err Quota
     token_refused role full =
-        ap (within (token_put digest role)) (its_state rows name d one)
-        ∙ ap (λ b. within (λ s. cond (b || nat_lt (len state.tokens) 32) (Ok (with_tokens (insert state.tokens digest role) state)) (Err Quota)) (Some state)) missing
-        ∙ ap (λ b. within (λ s. cond b (Ok (with_tokens (insert state.tokens digest role) state)) (Err Quota)) (Some state)) full
+        let set = with_tokens (insert state.tokens digest role) state in
+        refused rows name d one (token_put digest role) Quota (ap (λ b. cond (b || nat_lt (len state.tokens) 32) (Ok set) (Err Quota)) missing ∙ ap (λ b. cond b (Ok set) (Err Quota)) full)
 
     pub drop_refused : within (token_dropped digest) (state_of name (kept_of rows)) ≡ Err Absent
-    drop_refused = ap (within (token_dropped digest)) (its_state rows name d one) ∙ ap (λ b. within (λ s. cond b (Ok (with_tokens (remove state.tokens digest) state)) (Err Absent)) (Some state)) missing
+    drop_refused = refused rows name d one (token_dropped digest) Absent (ap (λ b. cond b (Ok (with_tokens (remove state.tokens digest) state)) (Err Absent)) missing)
 
 -- ---- of a domain that was found
 

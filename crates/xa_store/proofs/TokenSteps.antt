@@ -1,28 +1,8 @@
 -- What the statements on tokens make of the rows.
-use Rattle.std.proofs.Common.{◌≡◌, ℕ, ℤ, List, [], ◌∷◌, ◌++◌, map, filter, true, false, ◌&&◌, Ok, refl, sym, ap, ◌∙◌, int_eq, to_z, of_z, w64}
-use Rattle.std.specs.Ordering.{eq_by_cmp}
-use Rattle.std.proofs.lemmas.Bool.{and_parts, and_from}
-use Rattle.sqlite.specs.Rowids.TheVariants.{Chosen}
-use Rattle.sqlite.specs.State.{State, Executes}
-use Rattle.sqlite.specs.Term.{col}
-use Rattle.sqlite.specs.Tree.{Trees}
-use Rattle.sqlite.specs.declared.types.Value.TheVariants.{Null, Int, Blob}
-use Rattle.sqlite_sql.specs.declared.ops.CompareOp.TheVariants.{Eq}
-use Rattle.sqlite_rules.specs.Cast.{cast_row}
-use Rattle.sqlite_rules.specs.Edit.{with_rowid, next_rowid}
-use Rattle.sqlite_keyed.specs.Keyed.{next_key}
-use Rattle.sqlite_keyed.specs.Lists.{update_where, delete_where}
-use Rattle.sqlite_keyed.proofs.ListLemmas.{all_of, all_weaker}
-use Rattle.sqlite_keyed.proofs.KeyedLemmas.{same_int}
-use Rattle.sqlite_typed.proofs.TestLemmas.{at_ints, at_blobs, then_term, last_term, same_bytes, bytes_eq_refl}
-use Rattle.xa_notation.specs.declared.token.Role.{Role}
-use Rattle.xa_notation.specs.declared.token.Role.TheVariants.{Ask, Admin}
-use Rattle.xa_records.specs.DomainState.{compare_bytes}
+use Rattle.std.proofs.Common.{◌≡◌, ℕ, ℤ, List, [], ◌∷◌, ◌++◌, map, filter, true, false, ◌&&◌, Ok, refl, sym, ap, ◌∙◌, int_eq}
+use Rattle.xa_store.proofs.Common.{eq_by_cmp, and_parts, and_from, Chosen, State, Executes, col, Trees, Null, Int, Blob, Eq, cast_row, with_rowid, next_rowid, next_key, update_where, delete_where, all_of, all_weaker, same_int, at_ints, at_blobs, then_term, last_term, same_bytes, bytes_eq_refl, Role, compare_bytes, TokenRow, role_number, token_row, token_in, AreTables, same_token, our_schema, tokens}
 use Rattle.xa_store.specs.declared.step.Step.TheVariants.{AddToken, SetRole, DropToken}
-use Rattle.xa_store.specs.Rows.{TokenRow, role_number, token_row, token_in}
-use Rattle.xa_store.specs.Sound.{AreTables, same_token}
 use Rattle.xa_store.specs.Steps.{is_token}
-use Rattle.xa_store.specs.Tables.{our_schema, tokens}
 use Rattle.xa_store.specs.Texts as text
 use Rattle.xa_store.proofs.ChangeLemmas.{none_pass}
 use Rattle.xa_store.proofs.HitLemmas.{turn_bytes}
@@ -30,19 +10,16 @@ use Rattle.xa_store.proofs.HoldLemmas.{Back, came_last, changed, tokens_now, wen
 use Rattle.xa_store.proofs.KeyLemmas.{own_number}
 use Rattle.xa_store.proofs.LastLemmas.{apart_few}
 use Rattle.xa_store.proofs.SqlLemmas.{answered}
-use Rattle.xa_store.proofs.StepLemmas.{Stepped, cast_int, cast_null, role_back}
+use Rattle.xa_store.proofs.ColumnNumbers.{of_role}
+use Rattle.xa_store.proofs.StepLemmas.{Stepped, cast_int, cast_null}
 use Rattle.xa_store.proofs.TableLemmas.{updates, deletes, inserts}
-use Rattle.xa_store.proofs.TextLemmas.{is, role_set_is, role_set_query, token_added_given, token_added_is, token_dropped_is, token_dropped_query}
+use Rattle.xa_store.proofs.TextLemmas.{is, role_set_is, token_added_is, token_dropped_is}
 use Rattle.xa_store.proofs.WriteLemmas.{next_rowid_is, row_added, row_updated, rows_removed}
 
 -- ---- tokens
 
-pub role_held : (role : Role) → to_z w64 (of_z w64 (role_number role)) ≡ role_number role
-role_held Ask = refl
-role_held Admin = refl
-
 token_back : (t : TokenRow) → token_in (token_row t) ≡ t
-token_back t = λ i. record { rowid = t.rowid; number = t.number; digest = t.digest; role = role_back t.role i }
+token_back t = λ i. record { rowid = t.rowid; number = t.number; digest = t.digest; role = (of_role t.role).back i }
 
 token_cast : (t : TokenRow) → cast_row tokens (token_row t) ≡ token_row t
 token_cast t = λ i. cast_int t.rowid i ∷ cast_int t.number i ∷ Blob t.digest ∷ cast_int (role_number t.role) i ∷ []
@@ -74,7 +51,7 @@ module _ (old new : State) (has : old.now.schema ≡ our_schema) (count : ℕ) (
       let params = Int n ∷ Blob g ∷ Int (role_number role) ∷ [] in
       let token : TokenRow = record { rowid = next_key rowid_of ts; number = n; digest = g; role = role } in
       let row = Null ∷ Int n ∷ Blob g ∷ Int (role_number role) ∷ [] in
-      let adds = inserts text.token_added params old new has 2 tokens refl count token_added_given 4 refl refl token_added_is h in
+      let adds = inserts text.token_added params old new has 2 tokens refl count _ 4 refl refl token_added_is h in
       let bare : cast_row tokens row ≡ row = λ i. cast_null i ∷ cast_int n i ∷ Blob g ∷ cast_int (role_number role) i ∷ [] in
       let id : next_rowid (db 3) ≡ next_key rowid_of ts = ap next_rowid was.tokens.written ∙ next_rowid_is token_row rowid_of (λ _. refl) ts in
       let put : with_rowid Chosen (db 3) (cast_row tokens row) ≡ token_row token = ap (with_rowid Chosen (db 3)) bare ∙ ap (λ k. Int k ∷ Int n ∷ Blob g ∷ Int (role_number role) ∷ []) id in
@@ -92,7 +69,7 @@ module _ (old new : State) (has : old.now.schema ≡ our_schema) (count : ℕ) (
       let params = Int n ∷ Blob g ∷ Int (role_number role) ∷ [] in
       let shown = col 1 0 ∷ col 1 0 ∷ col 1 1 ∷ col 1 2 ∷ col 0 2 ∷ [] in
       let f : TokenRow → TokenRow = λ t. record t { role = role } in
-      let edits = updates text.role_set params old new has 2 tokens refl count role_set_query role_set_is h in
+      let edits = updates text.role_set params old new has 2 tokens refl count _ role_set_is h in
       let answer = answered 3 (is 1 0 ∷ is 2 1 ∷ []) shown [] db refl params edits.rows edits.answer.answer in
       let hit = all_of _ (λ (t : TokenRow). then_term (at_ints false Eq t.number n) (last_term (at_blobs false Eq t.digest g) ∙ turn_bytes t.digest g)) ts in
       let few = apart_few same_token (is_token n g) (tokens_alike n g) ts was.tokens.apart in
@@ -110,7 +87,7 @@ module _ (old new : State) (has : old.now.schema ≡ our_schema) (count : ℕ) (
   pub token_dropped_stepped : Executes text.token_dropped (Int n ∷ Blob g ∷ []) old new (Ok count) → Stepped old new (DropToken n g)
   token_dropped_stepped h =
       let params = Int n ∷ Blob g ∷ [] in
-      let edits = deletes text.token_dropped params old new has 2 tokens refl count token_dropped_query token_dropped_is h in
+      let edits = deletes text.token_dropped params old new has 2 tokens refl count _ token_dropped_is h in
       let answer = answered 3 (is 1 0 ∷ is 2 1 ∷ []) (col 1 0 ∷ []) [] db refl params edits.rows edits.answer.answer in
       let hit = all_of _ (λ (t : TokenRow). then_term (at_ints false Eq t.number n) (last_term (at_blobs false Eq t.digest g) ∙ turn_bytes t.digest g)) ts in
       let wrote = rows_removed token_row rowid_of (λ _. refl) tokens db next ts was.tokens.written was.tokens.rise (is 1 0 ∷ is 2 1 ∷ []) (col 1 0 ∷ []) refl params (is_token n g) hit

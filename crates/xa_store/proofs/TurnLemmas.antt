@@ -1,34 +1,16 @@
 -- A change that was planned by queries and then run.
-use Rattle.std.proofs.Common.{◌≡◌, ◌⊎◌, inl, inr, ℕ, List, Some, Result, Ok, Err, IsTrue, IfOk, refl, sym, ap, subst, ◌∙◌}
-use Rattle.std.specs.FinMap.{get}
-use Rattle.sqlite.specs.Effect.{Database}
-use Rattle.sqlite.specs.State.{State, HasCleanDisk}
-use Rattle.sqlite.specs.Tree.{Trees}
-use Rattle.xa_records.specs.declared.refusal.ChangeError.{ChangeError}
+use Rattle.std.proofs.Common.{◌≡◌, ◌⊎◌, inl, inr, ℕ, List, Result, Ok, Err, IsTrue, IfOk, sym, ap, subst, ◌∙◌}
+use Rattle.xa_store.proofs.Common.{Database, State, HasCleanDisk, Trees, ChangeError, Failure, Change, IfAnswered, IsMade, AreDocuments, AreNumbered, AreOurs, AreWhole, Ours, SameNow, Rows, rows_of, kept_of, world_of}
 use Rattle.xa_records.specs.declared.refusal.ChangeError.TheVariants.{Failed, Refused}
-use Rattle.xa_records.specs.declared.refusal.Failure.{Failure}
-use Rattle.xa_records.specs.Changes.{Change}
-use Rattle.xa_records.specs.Keeper.{IfAnswered}
-use Rattle.xa_records.specs.Kept.{Domain, Kept, IsChanged, IsMade}
 use Rattle.xa_store.specs.declared.step.Step.{Step}
-use Rattle.xa_store.specs.Planning.{told_by}
+use Rattle.xa_store.specs.Plan.{told_by}
 use Rattle.xa_store.specs.Quiet.{Quiet}
-use Rattle.xa_store.specs.Sound.{AreDocuments, AreNumbered, AreOurs, AreWhole, Ours, SameNow}
 use Rattle.xa_store.specs.Steps.{AllowsAll}
-use Rattle.xa_store.specs.Taking.{Holds, Made, Runs}
+use Rattle.xa_store.specs.Execution.{Holds, Made, Runs}
 use Rattle.xa_store.specs.Turns.{IsPlanned, Plans, Turns, answer_of}
-use Rattle.xa_store.specs.World.{Rows, rows_of, kept_of, world_of}
 use Rattle.xa_store.proofs.QuietLemmas.{ours_after}
 use Rattle.xa_store.proofs.ReopenLemmas.{tables_open}
 use Rattle.xa_store.proofs.TextsKept.{documents_kept}
-
--- a domain that goes over into the state that it has
-pub still : (kept : Kept) (name : List ℕ) (domain : Domain) → get kept.domains name ≡ Some domain → IsChanged kept kept name (Some domain.state)
-still kept name domain there = record {
-  domain = subst (λ o. Rattle.xa_records.specs.Kept.Becomes kept.next o (Some domain.state) (get kept.domains name)) (sym there) (domain.epoch, inl (record { documents = refl; root = refl; source = refl }, refl), there);
-  others = λ other apart. refl;
-  next = subst (λ o. Rattle.xa_records.specs.Kept.IsNextNumber kept.next o (Some domain.state) kept.next) (sym there) refl;
-}
 
 module _ (change : Change) (name : List ℕ) (old mid new : State) (quiet : Quiet old mid) where
   -- a change that isn't made

@@ -1,21 +1,18 @@
 -- Each document has a version, whose text reads back.
 use Rattle.std.proofs.Common.{◌≡◌, ℕ, Bool, true, false, not, cond, List, [], map, Result, Ok, Err, refl, subst}
-use Rattle.std.specs.List.{list_all}
+use Rattle.xa_store.proofs.Common.{list_all, ◌>>=◌, IsVersion, is_short, parts, read_version, version_text, Parsed, document_as_written, or_ill_typed, typed_document}
 use Rattle.std.specs.Prelude.{IfOk, nat_lt, length}
 use Rattle.std.specs.Str.Parse.{digits_value}
 use Rattle.serde_json.specs.Data.{Data}
 use Rattle.xa_value.specs.Digits.{is_number}
-use Rattle.xa_value.specs.Gives.{◌>>=◌}
 use Rattle.xa_policy.specs.declared.version_error.VersionError.{VersionError}
 use Rattle.xa_policy.specs.declared.version_error.VersionError.TheVariants.{BadText, TooLong}
-use Rattle.xa_policy.specs.Version.{IsVersion, is_short, parts, read_version, version_text}
 use Rattle.xa_policy.proofs.PartLemmas.{is_version_of}
 use Rattle.xa_policy.proofs.RoundTripLemmas.{version_reads}
-use Rattle.xa_notation.specs.declared.document.Parsed.{Parsed}
 use Rattle.xa_notation.specs.declared.member.Member.{Member}
 use Rattle.xa_notation.specs.declared.member.Member.TheVariants as member
 use Rattle.xa_notation.specs.declared.notation_error.NotationError.TheVariants.{TooLarge}
-use Rattle.xa_notation.specs.Document.{document_as_written, document_of, or_ill_typed, typed_document}
+use Rattle.xa_notation.specs.Document.{document_of}
 use Rattle.xa_notation.specs.Json.{at, chosen_member, each, fits, items_if_any, json, needed_member, text}
 use Rattle.xa_notation.specs.Shape.{description, document_named, id, or_bad, policy_algorithm, rule_algorithm, version, written_child, written_document, written_duties, written_policy, written_rule, written_set_of, written_set_within, written_target, written_variables}
 use Rattle.xa_notation.specs.Typing.{typed_tree}

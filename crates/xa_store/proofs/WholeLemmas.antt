@@ -1,19 +1,7 @@
 -- The columns of all rows hold what they should, also after rows have come, gone and changed.
 use Rattle.std.proofs.Common.{◌≡◌, ℕ, ◌+◌, ◌<◌, ◌^◌, ℤ, pos, negsuc, true, List, map, nat_lt, int_eq, int_le, int_lt, int_cmp, ap, subst, ◌∙◌, arith}
-use Rattle.std.specs.List.{AllByRecursion}
-use Rattle.std.proofs.lemmas.Bool.Decides.{nat_tests}
-use Rattle.std.proofs.lemmas.Int.{ints}
-use Rattle.sqlite_keyed.specs.Keyed.{insert_by}
-use Rattle.sqlite_keyed.specs.Lists.{sort_by}
-use Rattle.sqlite_keyed.proofs.KeyedLemmas.{all-insert_by}
-use Rattle.sqlite_keyed.proofs.ListLemmas.{all_weaker, filter-map, map-map}
-use Rattle.sqlite_keyed.proofs.RuleLemmas.{first_of_both, second_of_both}
-use Rattle.xa_records.specs.DomainName.{is_domain_name}
-use Rattle.xa_store.specs.Opened.{Place, is_count, is_digest, is_given, places_of}
-use Rattle.xa_store.specs.Rows.{DomainRow, TokenRow, DocumentRow, RootRow, AttributeRow, nat_of}
-use Rattle.xa_store.specs.Sound.{AreRootTexts, AreSourceTexts, AreWhole, place_of}
+use Rattle.xa_store.proofs.Common.{AllByRecursion, nat_tests, ints, insert_by, sort_by, all-insert_by, all_weaker, filter-map, map-map, first_of_both, second_of_both, is_domain_name, Place, is_count, is_digest, is_given, places_of, DomainRow, TokenRow, DocumentRow, RootRow, AttributeRow, nat_of, AreRootTexts, AreSourceTexts, AreWhole, place_of, Rows, attributes_at}
 use Rattle.xa_store.specs.Steps.{is_named, with_epoch}
-use Rattle.xa_store.specs.World.{Rows, attributes_at}
 use Rattle.xa_store.proofs.ChangeLemmas.{IsOnly}
 use Rattle.xa_store.proofs.RiseLemmas.{both_true, lt_trans}
 use Rattle.xa_store.proofs.TextsKept.{all_filter, all_update}

@@ -1,29 +1,7 @@
 -- What one statement makes of the rows of its table.
 use Rattle.std.proofs.Common.{◌≡◌, ◌≢◌, ℕ, ◌≤◌, ℤ, pos, ◌+ℤ◌, List, [], ◌∷◌, map, filter, fold, length, Bool, false, ◌==◌, Ok, refl, sym, ap, subst, ◌∙◌, arith}
-use Rattle.std.specs.List.{AllByRecursion}
+use Rattle.xa_store.proofs.Common.{AllByRecursion, IsPermutation-map, edit_of, Row, overlay, Output, Chosen, Given, Edited, Table, Term, Trees, Int, one_step, Enforced, rowid, ids_of, cast_row, IsNoIndex, put_all, without_all, with_rowid, next_rowid, id_in, row_at, taken_by, IsKeyedBy, insert_by, next_key, update_where, delete_where, without_key, filter-map, map-map, map_same, puts-map, deletes-map, our_schema}
 use Rattle.std.specs.List.Sorted.{IsPermutation}
-use Rattle.std.proofs.lemmas.List.Sorted.{IsPermutation-map}
-use Rattle.sqlite.specs.Edit.{edit_of}
-use Rattle.sqlite.specs.Order.{Row}
-use Rattle.sqlite.specs.Program.{overlay}
-use Rattle.sqlite.specs.Query.{Output}
-use Rattle.sqlite.specs.Rowids.TheVariants.{Chosen, Given}
-use Rattle.sqlite.specs.Rows.{Edited}
-use Rattle.sqlite.specs.Table.{Table}
-use Rattle.sqlite.specs.Term.{Term}
-use Rattle.sqlite.specs.Tree.{Trees}
-use Rattle.sqlite.specs.declared.types.Value.TheVariants.{Int}
-use Rattle.sqlite.proofs.Callers.{one_step}
-use Rattle.sqlite_schema.specs.declared.schema.Keys.TheVariants.{Enforced}
-use Rattle.sqlite_trees.specs.Tree.{rowid}
-use Rattle.sqlite_rules.specs.Calls.{ids_of}
-use Rattle.sqlite_rules.specs.Cast.{cast_row}
-use Rattle.sqlite_rules.specs.Edit.{IsNoIndex, put_all, without_all, with_rowid, next_rowid, id_in, row_at, taken_by}
-use Rattle.sqlite_keyed.specs.Keyed.{IsKeyedBy, insert_by, next_key}
-use Rattle.sqlite_keyed.specs.Lists.{update_where, delete_where, without_key}
-use Rattle.sqlite_keyed.proofs.ListLemmas.{filter-map, map-map, map_same}
-use Rattle.sqlite_typed.proofs.RowLemmas.{puts-map, deletes-map}
-use Rattle.xa_store.specs.Tables.{our_schema}
 use Rattle.xa_store.proofs.ActionLemmas.{works_of_changing, works_of_coming, works_of_going}
 use Rattle.xa_store.proofs.FilterLemmas.{filter_alike}
 use Rattle.xa_store.proofs.KeyLemmas.{replaced, untouched, removes_permuted}

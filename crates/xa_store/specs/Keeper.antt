@@ -5,8 +5,8 @@ use Rattle.sqlite.specs.Held.{Held, held_code, state}
 use Rattle.sqlite.specs.Store.{Ghosts}
 use Rattle.xa_store.specs.Sound.{IsSoundStore, Ours}
 
--- its connection; whether that was found to have our tables and no others when it was opened; whether its store was not found to be shut; and how many calls
--- failed with `Store`
+-- its connection; whether that was found to have our tables and no others when it was opened; whether its store was
+-- not found to be shut; and how many calls failed with `Store`
 pub record Keeper (S : Type 0) : Type 0 where
   pub conn : Held S
   pub ours : Bool
@@ -15,12 +15,15 @@ pub record Keeper (S : Type 0) : Type 0 where
 
 abbrev pub keeper_code : {S : Type 0} → Coded S → Coded (Keeper S)
 keeper_code {S} store =
-    code_by (Held S × (Bool × (Bool × ℕ))) (coded× (held_code store) (coded× coded_bool (coded× coded_bool coded_ℕ))) (λ k. (k.conn, (k.ours, (k.is_open, k.faults))))
+    code_by (Held S × (Bool × (Bool × ℕ))) (coded× (held_code store) (coded× coded_bool (coded× coded_bool coded_ℕ)))
+    (λ k. (k.conn, (k.ours, (k.is_open, k.faults))))
     (λ p. record { conn = p.0; ours = p.1.0; is_open = p.1.1.0; faults = p.1.1.1 }) (λ _. refl)
 
 -- while its store is open the tables of a keeper of ours are as it writes them, and no keeper is told to be shut
 abbrev pub IsKeeper : {S : Type 0} → Ghosts S → Keeper S → Type 0
-IsKeeper g k = (IsTrue k.ours → IsTrue (state g k.conn).is_open → Ours (state g k.conn)) × (IsTrue (state g k.conn).is_open → IsTrue k.is_open)
+IsKeeper g k =
+    (IsTrue k.ours → IsTrue (state g k.conn).is_open → Ours (state g k.conn))
+    × (IsTrue (state g k.conn).is_open → IsTrue k.is_open)
 
 -- what is kept is what the tables mean
 abbrev pub IsSound : {S : Type 0} → Ghosts S → Keeper S → Type 0

@@ -8,5 +8,6 @@ use Rattle.xa_store.specs.Keeper.{Keeper}
 use Rattle.xa_store.specs.KeeperReading.{custody_by}
 
 -- the trait's word of a change, where this is to be made of the domain of that name
-abbrev pub IsChanging : {S X : Type 0} → Ghosts S → Keeper S → Keeper S → Result X ChangeError → List ℕ → Change → Type 0
+abbrev pub IsChanging : {S X : Type 0} → Ghosts S → Keeper S → Keeper S → Result X ChangeError
+    → List ℕ → Change → Type 0
 IsChanging g old new r name change = Changing (custody_by g old) (custody_by g new) r name change

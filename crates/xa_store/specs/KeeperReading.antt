@@ -17,7 +17,14 @@ kept_by g k = world_of (state g k.conn).now.trees
 -- what is told of the keeper
 abbrev pub custody_by : {S : Type 0} → Ghosts S → Keeper S → Custody
 custody_by g k =
-    record { kept = kept_by g k; sound = IsSound g k; clean = HasCleanDisk (state g k.conn); may_leave = LeavesWorld (state g k.conn); faults = k.faults; is_open = k.is_open }
+    record {
+      kept = kept_by g k;
+      sound = IsSound g k;
+      clean = HasCleanDisk (state g k.conn);
+      may_leave = LeavesWorld (state g k.conn);
+      faults = k.faults;
+      is_open = k.is_open;
+    }
 
 -- the trait's word of a reading, where this is to be read of what is kept
 abbrev pub IsReading : {S X : Type 0} → Ghosts S → Keeper S → Keeper S → Result X Failure → (Kept → X) → Type 0

@@ -1,7 +1,10 @@
--- When the tables of a store are those of a keeper, and what opening it answers, by the schema that the tables have. A body is a document of the key that its columns
--- hold, versions and values stand in their printed form, and places count from 0 in each domain. Rows of a number that was given and has no domain are
--- sound: the tables' keys rule them out, where who writes a file has them enforced, and nothing is ever read of them, since no number is given twice.
-use Rattle.std.specs.Prelude.{◌==◌, ℕ, ◌+ℤ◌, ℤ, pos, Bool, true, false, ◌&&◌, if◌then◌else◌, List, [], ◌∷◌, map, filter, length, bytes_eq, is_ok, int_le, int_lt, Option, Some, None, Result, Ok, Err}
+-- When the tables of a store are those of a keeper, and what opening it answers, by the schema that the tables
+-- have. A body is a document of the key that its columns hold, versions and values stand in their printed form,
+-- and places count from 0 in each domain. Rows of a number that was given and has no domain are sound: the tables'
+-- keys rule them out, where who writes a file has them enforced, and nothing is ever read of them, since no number
+-- is given twice.
+use Rattle.std.specs.Prelude.{◌==◌, ℕ, ◌+ℤ◌, ℤ, pos, Bool, true, false, ◌&&◌, if◌then◌else◌, List, [], ◌∷◌, map}
+use Rattle.std.specs.Prelude.{filter, length, bytes_eq, is_ok, int_le, int_lt, Option, Some, None, Result, Ok, Err}
 use Rattle.std.specs.List.{list_all}
 use Rattle.std.specs.Ordering.{int_eq, int_cmp}
 use Rattle.std.specs.Str.{is_utf8}
@@ -25,12 +28,12 @@ use Rattle.xa_notation.specs.declared.document.Parsed.{Parsed}
 use Rattle.xa_notation.specs.declared.notation_error.NotationError.{NotationError}
 use Rattle.xa_notation.specs.Document.{document_of}
 use Rattle.xa_records.specs.DomainName.{is_domain_name}
-use Rattle.xa_store.specs.declared.open_error.OpenError.{OpenError}
-use Rattle.xa_store.specs.declared.open_error.OpenError.TheVariants.{NotThisSchema, Damaged}
-use Rattle.xa_store.specs.declared.opening.kind.Kind.{Kind}
-use Rattle.xa_store.specs.declared.opening.kind.Kind.TheVariants.{Domains, Tokens, Documents, Roots, Attributes, Sources}
-use Rattle.xa_store.specs.declared.opening.schema_version.SchemaVersion.{SchemaVersion}
-use Rattle.xa_store.specs.declared.opening.schema_version.SchemaVersion.TheVariants.{Schema1, Schema2}
+use Rattle.xa_store.specs.declared.error.OpenError.{OpenError}
+use Rattle.xa_store.specs.declared.error.OpenError.TheVariants.{NotThisSchema, Damaged}
+use Rattle.xa_store.specs.declared.schema.kind.Kind.{Kind}
+use Rattle.xa_store.specs.declared.schema.kind.Kind.TheVariants.{Domains, Tokens, Documents, Roots, Attributes, Sources}
+use Rattle.xa_store.specs.declared.schema.version.SchemaVersion.{SchemaVersion}
+use Rattle.xa_store.specs.declared.schema.version.SchemaVersion.TheVariants.{Schema1, Schema2}
 use Rattle.xa_store.specs.Rows.{nat_of, kind_number}
 use Rattle.xa_store.specs.Tables.{first_schema, our_schema}
 
@@ -77,7 +80,8 @@ is_version text = is_utf8 text && is_ok (read_version text)
 
 abbrev pub holds_key : Value → Value → Value → Result Parsed NotationError → Bool
 holds_key kind id version (Ok parsed) =
-    holds_int (int_eq (kind_number parsed.kind)) kind && holds_text (bytes_eq parsed.id) id && holds_text (bytes_eq (version_text parsed.version)) version
+    holds_int (int_eq (kind_number parsed.kind)) kind && holds_text (bytes_eq parsed.id) id
+    && holds_text (bytes_eq (version_text parsed.version)) version
 holds_key kind id version (Err _) = false
 
 -- ---- a value, in its printed form
@@ -101,18 +105,23 @@ holds_value number text = is_utf8 text && is_value text (type_numbered number)
 -- a row of a source, whoever says so
 abbrev pub is_row_of_source : ℤ → Row → Bool
 is_row_of_source next row =
-    holds_int (is_given next) (column row 1) && holds_text is_utf8 (column row 3) && holds_text is_utf8 (column row 4) && holds_text is_utf8 (column row 5)
+    holds_int (is_given next) (column row 1) && holds_text is_utf8 (column row 3) && holds_text is_utf8 (column row 4)
+    && holds_text is_utf8 (column row 5)
     && holds_int (λ number. holds_text (holds_value number) (column row 7)) (column row 6)
 
 abbrev pub is_sound_row : Kind → ℤ → Row → Bool
-is_sound_row Domains next row = holds_int (is_given next) (column row 0) && holds_text is_domain_name (column row 1) && holds_int is_count (column row 2)
-is_sound_row Tokens next row = holds_int (is_given next) (column row 1) && holds_blob is_digest (column row 2) && holds_int is_bit (column row 3)
+is_sound_row Domains next row =
+    holds_int (is_given next) (column row 0) && holds_text is_domain_name (column row 1)
+    && holds_int is_count (column row 2)
+is_sound_row Tokens next row =
+    holds_int (is_given next) (column row 1) && holds_blob is_digest (column row 2) && holds_int is_bit (column row 3)
 is_sound_row Documents next row =
     holds_int (is_given next) (column row 1) && holds_int is_bit (column row 6)
     && holds_blob (λ body. holds_key (column row 2) (column row 3) (column row 4) (document_of body)) (column row 5)
 is_sound_row Roots next row =
     holds_int (is_given next) (column row 0) && holds_int is_bit (column row 1) && holds_text is_utf8 (column row 2)
-    && holds_text_if_any is_pattern (column row 3) && holds_text_if_any is_version (column row 4) && holds_text_if_any is_version (column row 5)
+    && holds_text_if_any is_pattern (column row 3) && holds_text_if_any is_version (column row 4)
+    && holds_text_if_any is_version (column row 5)
 is_sound_row Attributes next row = is_row_of_source next row
 is_sound_row Sources next row = is_row_of_source next row && holds_text_if_any is_utf8 (column row 8)
 
@@ -212,7 +221,10 @@ int_in _ = None
 
 -- the number of the next domain, in the one row of the first table as it is read, if that has the schema's number
 abbrev pub next_of : SchemaVersion → Row → Option ℤ
-next_of version row = if holds_int (int_eq (pos 1)) (column row 0) && holds_int (int_eq (number_of version)) (column row 1) then int_in (column row 2) else None
+next_of version row =
+    if holds_int (int_eq (pos 1)) (column row 0) && holds_int (int_eq (number_of version)) (column row 1)
+    then int_in (column row 2)
+    else None
 
 abbrev pub known_next : SchemaVersion → List Row → Option ℤ
 known_next version (row ∷ []) = next_of version row
@@ -229,7 +241,8 @@ kinds_in version = Domains ∷ Tokens ∷ Documents ∷ Roots ∷ sources_in ver
 
 abbrev pub is_sound : SchemaVersion → Trees → ℤ → Bool
 is_sound version db next =
-    is_count next && list_all (is_sound_table db next) (kinds_in version) && (are_counted (map place_in (db (tree_of (sources_in version)))) && is_left_empty version db)
+    is_count next && list_all (is_sound_table db next) (kinds_in version)
+    && (are_counted (map place_in (db (tree_of (sources_in version)))) && is_left_empty version db)
 
 abbrev pub judged : SchemaVersion → Trees → Option ℤ → Result (Unit {0}) OpenError
 judged version db None = Err NotThisSchema

@@ -1,5 +1,6 @@
 -- What opening a connection as a keeper answers, and what it leaves.
-use Rattle.std.specs.Prelude.{◌≡◌, ◌⊎◌, ℕ, pos, Bool, false, ◌&&◌, List, [], ◌∷◌, codes, is_none, if◌then◌else◌, Result, Ok, Err, IsTrue}
+use Rattle.std.specs.Prelude.{◌≡◌, ◌⊎◌, ℕ, pos, Bool, false, ◌&&◌, List, [], ◌∷◌}
+use Rattle.std.specs.Prelude.{codes, is_none, if◌then◌else◌, Result, Ok, Err, IsTrue}
 use Rattle.sqlite.specs.Held.{Held, state}
 use Rattle.sqlite.specs.Schema.{Schema}
 use Rattle.sqlite.specs.State.{State, HasCleanDisk, Survives}
@@ -7,11 +8,11 @@ use Rattle.sqlite.specs.Store.{Ghosts}
 use Rattle.sqlite.specs.Tree.{Trees}
 use Rattle.sqlite_schema.specs.Names.{table_named, index_named, view_named}
 use Rattle.xa_records.specs.Kept.{nothing_kept}
-use Rattle.xa_store.specs.declared.open_error.OpenError.{OpenError}
-use Rattle.xa_store.specs.declared.open_error.OpenError.TheVariants.{NotThisSchema, Damaged, Store, Memory}
-use Rattle.xa_store.specs.declared.opening.kind.Kind.{Kind}
-use Rattle.xa_store.specs.declared.opening.schema_version.SchemaVersion.{SchemaVersion}
-use Rattle.xa_store.specs.declared.opening.schema_version.SchemaVersion.TheVariants.{Schema1, Schema2}
+use Rattle.xa_store.specs.declared.error.OpenError.{OpenError}
+use Rattle.xa_store.specs.declared.error.OpenError.TheVariants.{NotThisSchema, Damaged, Store, Memory}
+use Rattle.xa_store.specs.declared.schema.kind.Kind.{Kind}
+use Rattle.xa_store.specs.declared.schema.version.SchemaVersion.{SchemaVersion}
+use Rattle.xa_store.specs.declared.schema.version.SchemaVersion.TheVariants.{Schema1, Schema2}
 use Rattle.xa_store.specs.Keeper.{Keeper}
 use Rattle.xa_store.specs.Opened.{opened, tree_of}
 use Rattle.xa_store.specs.Rows.{meta_row}
@@ -24,13 +25,15 @@ no_tables = record { tables = []; indexes = []; views = [] }
 
 -- no table, index or view has that name
 abbrev pub is_free : Schema → List ℕ → Bool
-is_free schema name = is_none (table_named schema name) && is_none (index_named schema name) && is_none (view_named schema name)
+is_free schema name =
+    is_none (table_named schema name) && is_none (index_named schema name) && is_none (view_named schema name)
 
 -- none has the name of one of a keeper's tables, so these can be made
 abbrev pub has_room : Schema → Bool
 has_room schema =
-    is_free schema (codes "meta") && is_free schema (codes "domains") && is_free schema (codes "tokens") && is_free schema (codes "policies") && is_free schema (codes "roots")
-    && is_free schema (codes "attributes") && is_free schema (codes "sources")
+    is_free schema (codes "meta") && is_free schema (codes "domains") && is_free schema (codes "tokens")
+    && is_free schema (codes "policies") && is_free schema (codes "roots") && is_free schema (codes "attributes")
+    && is_free schema (codes "sources")
 
 -- which schema it is, if it has a keeper's tables: in the first there is none of the name that the second has more
 abbrev pub version_in : Schema → SchemaVersion
@@ -86,29 +89,45 @@ module _ {S : Type 0} (g : Ghosts S) where
   -- of a store with our tables: sound ones are taken as they are, and others are left as they are
   abbrev pub Opens : State → Result (Keeper S) (OpenError × Held S) → Type 0
   Opens old (Ok k) =
-      HasCleanDisk (state g k.conn) → (opened Schema2 old.now.trees ≡ Ok tt) × SameNow old (state g k.conn) × Holds k × (world_of (state g k.conn).now.trees ≡ world_of old.committed.trees)
-  Opens old (Err e) = HasCleanDisk (state g e.1) → Gives (Err e.0) (opened Schema2 old.now.trees) × (IsTrue (state g e.1).is_open → SameNow old (state g e.1))
+      HasCleanDisk (state g k.conn)
+      → (opened Schema2 old.now.trees ≡ Ok tt) × SameNow old (state g k.conn) × Holds k
+      × (world_of (state g k.conn).now.trees ≡ world_of old.committed.trees)
+  Opens old (Err e) =
+      HasCleanDisk (state g e.1)
+      → Gives (Err e.0) (opened Schema2 old.now.trees) × (IsTrue (state g e.1).is_open → SameNow old (state g e.1))
 
   -- of a store with the tables of schema 1: sound ones are brought into schema 2, and others are left as they are
   abbrev pub Migrates : State → Result (Keeper S) (OpenError × Held S) → Type 0
-  Migrates old (Ok k) = HasCleanDisk (state g k.conn) → (opened Schema1 old.now.trees ≡ Ok tt) × Holds k × IsMigrated old.committed.trees (state g k.conn).now.trees
-  Migrates old (Err e) = HasCleanDisk (state g e.1) → Gives (Err e.0) (opened Schema1 old.now.trees) × (IsTrue (state g e.1).is_open → SameNow old (state g e.1))
+  Migrates old (Ok k) =
+      HasCleanDisk (state g k.conn)
+      → (opened Schema1 old.now.trees ≡ Ok tt) × Holds k × IsMigrated old.committed.trees (state g k.conn).now.trees
+  Migrates old (Err e) =
+      HasCleanDisk (state g e.1)
+      → Gives (Err e.0) (opened Schema1 old.now.trees) × (IsTrue (state g e.1).is_open → SameNow old (state g e.1))
 
   -- of a store without any table: all are made, or none
   abbrev pub Makes : State → Result (Keeper S) (OpenError × Held S) → Type 0
-  Makes old (Ok k) = HasCleanDisk (state g k.conn) → IsMade (state g k.conn).now.trees × Holds k × (world_of (state g k.conn).now.trees ≡ nothing_kept)
-  Makes old (Err e) = IsFailure e.0 × (IsTrue (state g e.1).is_open → SameNow old (state g e.1) ⊎ IsMade (state g e.1).now.trees)
+  Makes old (Ok k) =
+      HasCleanDisk (state g k.conn)
+      → IsMade (state g k.conn).now.trees × Holds k × (world_of (state g k.conn).now.trees ≡ nothing_kept)
+  Makes old (Err e) =
+      IsFailure e.0 × (IsTrue (state g e.1).is_open → SameNow old (state g e.1) ⊎ IsMade (state g e.1).now.trees)
 
 -- the tables are as they were, and a crash leaves nothing that it couldn't leave before
 pub record LeavesAlone (old new : State) : Type 0 where
   pub survives : Survives old new (λ _. ⊥)
   pub same : IsTrue new.is_open → SameNow old new
 
--- what a crash may leave beside what it could leave before: something where the table of sources can be made, the tables as they are made where there is none, and tables
--- of schema 2 that mean the same where those of schema 1 are there
+-- what a crash may leave beside what it could leave before: something where the table of sources can be made, the
+-- tables as they are made where there is none, and tables of schema 2 that mean the same where those of schema 1
+-- are there
 abbrev pub Leaves : State → Trees → Type 0
-Leaves old db = IsTrue (is_free old.now.schema (codes "sources")) × (IsBlank old → IsMade db) × (RestsIn first_schema old → IsMigrated old.committed.trees db)
+Leaves old db =
+    IsTrue (is_free old.now.schema (codes "sources")) × (IsBlank old → IsMade db)
+    × (RestsIn first_schema old → IsMigrated old.committed.trees db)
 
 -- a crash after it leaves what the keeper holds, in our tables
 abbrev pub Settles : {S : Type 0} → Ghosts S → Keeper S → Type 0
-Settles g k = IsTrue k.ours → IsTrue (state g k.conn).is_open → (db : Trees) → (state g k.conn).may_leave db → AreOurs db × (world_of db ≡ world_of (state g k.conn).now.trees)
+Settles g k =
+    IsTrue k.ours → IsTrue (state g k.conn).is_open → (db : Trees) → (state g k.conn).may_leave db
+    → AreOurs db × (world_of db ≡ world_of (state g k.conn).now.trees)

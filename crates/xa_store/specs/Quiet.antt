@@ -4,7 +4,8 @@ use Rattle.sqlite.specs.State.{State, HasCleanDisk}
 use Rattle.sqlite.specs.Tree.{Trees}
 use Rattle.xa_store.specs.Sound.{Rests, SameNow}
 
--- An open connection was open before, and a clean one clean. Over our tables it holds what it held, and a crash now leaves what one might have left before.
+-- An open connection was open before, and a clean one clean. Over our tables it holds what it held, and a crash now
+-- leaves what one might have left before.
 pub record Quiet (old new : State) : Type 0 where
   pub was_open : IsTrue new.is_open → IsTrue old.is_open
   pub clean : HasCleanDisk new → HasCleanDisk old

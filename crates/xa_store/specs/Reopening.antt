@@ -2,7 +2,7 @@
 use Rattle.std.specs.Prelude.{◌≡◌, Ok}
 use Rattle.sqlite.specs.State.{State, Opens as IsJustOpened}
 use Rattle.xa_records.specs.Kept.{Kept}
-use Rattle.xa_store.specs.declared.opening.schema_version.SchemaVersion.TheVariants.{Schema2}
+use Rattle.xa_store.specs.declared.schema.version.SchemaVersion.TheVariants.{Schema2}
 use Rattle.xa_store.specs.Opened.{opened}
 use Rattle.xa_store.specs.Sound.{LeavesWorld, Rests}
 use Rattle.xa_store.specs.World.{world_of}

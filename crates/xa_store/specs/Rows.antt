@@ -1,6 +1,8 @@
--- The rows of the tables: of each a record, the row that writes it, and the record that a row writes. A row begins with its rowid;
--- where that is a column of the table, that column holds NULL.
-use Rattle.std.specs.Prelude.{ℕ, zero, ℤ, pos, negsuc, Bool, true, false, List, [], ◌∷◌, map, drop, slice_get, slice_index_or, unwrap_or, Option, Some, None, is_some, option_map, option_and_then, Result, Ok, Err}
+-- The rows of the tables: of each a record, the row that writes it, and the record that a row writes. A row begins
+-- with its rowid; where that is a column of the table, that column holds NULL.
+use Rattle.std.specs.Prelude.{ℕ, zero, ℤ, pos, negsuc, Bool, true, false, List, [], ◌∷◌}
+use Rattle.std.specs.Prelude.{map, drop, slice_get, slice_index_or, unwrap_or, Option, Some}
+use Rattle.std.specs.Prelude.{None, is_some, option_map, option_and_then, Result, Ok, Err}
 use Rattle.sqlite.specs.Order.{Row, column}
 use Rattle.sqlite.specs.declared.types.Value.TheVariants.{Null, Int, Text, Blob}
 use Rattle.sqlite_typed.specs.Columns.{int_of, bytes_of, or_null, unless_null}
@@ -57,7 +59,8 @@ abbrev pub given : {X E : Type 0} → Result X E → Option X
 given (Ok x) = Some x
 given (Err e) = None
 
--- a version as a text; one that doesn't read gives no numbers, as no version has, so none but the empty text is written back from them
+-- a version as a text; one that doesn't read gives no numbers, as no version has, so none but the empty text is
+-- written back from them
 unfoldable pub version_in : List ℕ → List ℕ
 version_in text = unwrap_or (given (read_version text)) []
 
@@ -112,7 +115,13 @@ abbrev pub token_row : TokenRow → Row
 token_row t = Int t.rowid ∷ Int t.number ∷ Blob t.digest ∷ Int (role_number t.role) ∷ []
 
 abbrev pub token_in : Row → TokenRow
-token_in row = record { rowid = int_of (column row 0); number = int_of (column row 1); digest = bytes_of (column row 2); role = role_in (int_of (column row 3)) }
+token_in row =
+    record {
+      rowid = int_of (column row 0);
+      number = int_of (column row 1);
+      digest = bytes_of (column row 2);
+      role = role_in (int_of (column row 3));
+    }
 
 -- ---- documents, in the table of policies
 
@@ -124,16 +133,23 @@ pub record DocumentRow : Type 0 where
   pub active : Bool
 
 abbrev pub document_row : DocumentRow → Row
-document_row d = Int d.rowid ∷ Int d.number ∷ Int (kind_number d.key.kind) ∷ Text d.key.id ∷ Text (version_text d.key.version) ∷ Blob d.text ∷ Int (bit d.active) ∷ []
+document_row d =
+    Int d.rowid ∷ Int d.number ∷ Int (kind_number d.key.kind) ∷ Text d.key.id ∷ Text (version_text d.key.version)
+    ∷ Blob d.text ∷ Int (bit d.active) ∷ []
 
 abbrev pub document_in : Row → DocumentRow
-document_in row = record {
-  rowid = int_of (column row 0);
-  number = int_of (column row 1);
-  key = record { kind = kind_in (int_of (column row 2)); id = bytes_of (column row 3); version = version_in (bytes_of (column row 4)) };
-  text = bytes_of (column row 5);
-  active = is_set (int_of (column row 6));
-}
+document_in row =
+    record {
+      rowid = int_of (column row 0);
+      number = int_of (column row 1);
+      key = record {
+        kind = kind_in (int_of (column row 2));
+        id = bytes_of (column row 3);
+        version = version_in (bytes_of (column row 4));
+      };
+      text = bytes_of (column row 5);
+      active = is_set (int_of (column row 6));
+    }
 
 -- ---- roots. Of the pattern and the bounds of versions each text that reads will do, so the record has the texts.
 
@@ -141,7 +157,8 @@ pub record RootRow : Type 0 where
   pub number : ℤ
   pub kind : DocumentKind
   pub id : List ℕ
-  -- the pattern, the earliest version and the latest; of a row that lacks its last columns, which read as NULL, so many fewer
+  -- the pattern, the earliest version and the latest; of a row that lacks its last columns, which read as NULL, so
+  -- many fewer
   pub texts : List (Option (List ℕ))
 
 abbrev pub root_row : RootRow → Row
@@ -170,21 +187,25 @@ reference_of r = record {
 
 -- the root that a reference is
 unfoldable pub root_of : ℤ → Reference → RootRow
-root_of number reference = record {
-  number = number;
-  kind = reference.kind;
-  id = reference.id;
-  texts = option_map pattern_text reference.version ∷ option_map version_text reference.earliest ∷ option_map version_text reference.latest ∷ [];
-}
+root_of number reference =
+    record {
+      number = number;
+      kind = reference.kind;
+      id = reference.id;
+      texts = option_map pattern_text reference.version ∷ option_map version_text reference.earliest
+          ∷ option_map version_text reference.latest ∷ [];
+    }
 
--- ---- rows of sources, in the table of sources, and in that of attributes in schema 1; their places count from 0 in each domain
+-- ---- rows of sources, in the table of sources, and in that of attributes in schema 1; their places count from 0 in
+-- each domain
 
 pub record AttributeRow : Type 0 where
   pub rowid : ℤ
   pub number : ℤ
   pub place : ℤ
   pub row : SourceRow
-  -- the row has a column for its issuer; one of schema 1 has none, and another program may have left one without it, which reads as NULL
+  -- the row has a column for its issuer; one of schema 1 has none, and another program may have left one without it,
+  -- which reads as NULL
   pub is_full : Bool
 
 abbrev pub issuer_columns : Bool → Option (List ℕ) → Row
@@ -193,8 +214,8 @@ issuer_columns false issuer = []
 
 abbrev pub attribute_row : AttributeRow → Row
 attribute_row a =
-    Int a.rowid ∷ Int a.number ∷ Int a.place ∷ Text a.row.category ∷ Text a.row.entity ∷ Text a.row.attribute_id ∷ Int (type_number a.row.value) ∷ Text (value_text a.row.value)
-    ∷ issuer_columns a.is_full a.row.issuer
+    Int a.rowid ∷ Int a.number ∷ Int a.place ∷ Text a.row.category ∷ Text a.row.entity ∷ Text a.row.attribute_id
+    ∷ Int (type_number a.row.value) ∷ Text (value_text a.row.value) ∷ issuer_columns a.is_full a.row.issuer
 
 abbrev pub attribute_in : Row → AttributeRow
 attribute_in row = record {

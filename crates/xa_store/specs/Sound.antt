@@ -1,5 +1,6 @@
 -- When the tables mean what the keeper says that they do.
-use Rattle.std.specs.Prelude.{◌≡◌, ◌≤◌, ℕ, ℤ, pos, Bool, false, ◌&&◌, true, List, [], ◌∷◌, map, Option, Some, None, Ok, IsTrue}
+use Rattle.std.specs.Prelude.{◌≡◌, ◌≤◌, ℕ, ℤ, pos, Bool, false, ◌&&◌, true}
+use Rattle.std.specs.Prelude.{List, [], ◌∷◌, map, Option, Some, None, Ok, IsTrue}
 use Rattle.std.specs.List.{AllByRecursion}
 use Rattle.std.specs.Ordering.{eq_by_cmp, int_eq}
 use Rattle.std.specs.Str.{is_utf8}
@@ -15,10 +16,13 @@ use Rattle.xa_decide.specs.declared.source_row.SourceRow.{SourceRow}
 use Rattle.xa_records.specs.DomainName.{is_domain_name}
 use Rattle.xa_records.specs.DomainState.{IsDocumentOf, compare_bytes, new_domain}
 use Rattle.xa_records.specs.Kept.{IsNumbered, Kept}
-use Rattle.xa_store.specs.Opened.{Place, count_from, holds_value, is_count, is_digest, is_given, is_pattern, is_version, opened, places_of}
-use Rattle.xa_store.specs.Rows.{DomainRow, TokenRow, DocumentRow, RootRow, AttributeRow, meta_row, next_in, domain_row, domain_in, token_row, token_in, document_row, document_in, root_row, root_in, attribute_row, attribute_in, text_at, type_number, value_text}
+use Rattle.xa_store.specs.Opened.{Place, count_from, holds_value, is_count, is_digest}
+use Rattle.xa_store.specs.Opened.{is_given, is_pattern, is_version, opened, places_of}
+use Rattle.xa_store.specs.Rows.{DomainRow, TokenRow, DocumentRow, RootRow, AttributeRow, meta_row, next_in}
+use Rattle.xa_store.specs.Rows.{domain_row, domain_in, token_row, token_in, document_row, document_in, root_row}
+use Rattle.xa_store.specs.Rows.{root_in, attribute_row, attribute_in, text_at, type_number, value_text}
 use Rattle.xa_store.specs.Tables.{our_schema}
-use Rattle.xa_store.specs.declared.opening.schema_version.SchemaVersion.TheVariants.{Schema2}
+use Rattle.xa_store.specs.declared.schema.version.SchemaVersion.TheVariants.{Schema2}
 use Rattle.xa_store.specs.World.{Rows, rows_of, state_at, kept_of, world_of}
 
 -- ---- rows as the keeper writes them
@@ -37,7 +41,8 @@ abbrev pub same_place : AttributeRow → AttributeRow → Bool
 same_place a b = int_eq a.number b.number && int_eq a.place b.place
 
 -- the rows of a table are those that these records write, their rowids rise, and no two have one key
-pub record AreRows {X : Type 0} (write : X → Row) (read : Row → X) (rowid : X → ℤ) (same : X → X → Bool) (rows : List Row) : Type 0 where
+pub record AreRows {X : Type 0} (write : X → Row) (read : Row → X) (rowid : X → ℤ) (same : X → X → Bool)
+    (rows : List Row) : Type 0 where
   pub written : rows ≡ map write (map read rows)
   pub rise : IsKeyedBy rowid (map read rows)
   pub apart : AreApart same (map read rows)
@@ -73,13 +78,15 @@ is_if_any test (Some text) = test text
 
 -- the id of a root is a text, and what it says of versions are a pattern and versions
 abbrev pub AreRootTexts : RootRow → Type 0
-AreRootTexts r = (is_utf8 r.id ≡ true) × (is_if_any is_pattern (text_at r.texts 0) ≡ true) × (is_if_any is_version (text_at r.texts 1) ≡ true) × (is_if_any is_version (text_at r.texts 2) ≡ true)
+AreRootTexts r =
+    (is_utf8 r.id ≡ true) × (is_if_any is_pattern (text_at r.texts 0) ≡ true)
+    × (is_if_any is_version (text_at r.texts 1) ≡ true) × (is_if_any is_version (text_at r.texts 2) ≡ true)
 
 -- the names in a row of a source are texts, so is its issuer, and its value reads back from one
 abbrev pub AreSourceTexts : SourceRow → Type 0
 AreSourceTexts row =
-    (is_utf8 row.category ≡ true) × (is_utf8 row.entity ≡ true) × (is_utf8 row.attribute_id ≡ true) × (holds_value (type_number row.value) (value_text row.value) ≡ true)
-    × (is_if_any is_utf8 row.issuer ≡ true)
+    (is_utf8 row.category ≡ true) × (is_utf8 row.entity ≡ true) × (is_utf8 row.attribute_id ≡ true)
+    × (holds_value (type_number row.value) (value_text row.value) ≡ true) × (is_if_any is_utf8 row.issuer ≡ true)
 
 abbrev pub place_of : AttributeRow → Place
 place_of a = (a.number, a.place)
@@ -87,7 +94,9 @@ place_of a = (a.number, a.place)
 -- the columns of all rows hold what they should, beside what is said above: so opening finds them sound
 pub record AreWhole (rows : Rows) : Type 0 where
   pub next : is_count rows.next ≡ true
-  pub domains : AllByRecursion (λ d. (is_given rows.next d.number ≡ true) × (is_domain_name d.name ≡ true) × (is_count d.epoch ≡ true)) rows.domains
+  pub domains : AllByRecursion
+      (λ d. (is_given rows.next d.number ≡ true) × (is_domain_name d.name ≡ true) × (is_count d.epoch ≡ true))
+      rows.domains
   pub tokens : AllByRecursion (λ t. (is_given rows.next t.number ≡ true) × (is_digest t.digest ≡ true)) rows.tokens
   pub documents : AllByRecursion (λ d. is_given rows.next d.number ≡ true) rows.documents
   pub roots : AllByRecursion (λ r. (is_given rows.next r.number ≡ true) × AreRootTexts r) rows.roots
@@ -131,8 +140,8 @@ pub record Ours (s : State) : Type 0 where
   pub documents : AreDocuments (rows_of s.now.trees).documents
   pub whole : AreWhole (rows_of s.now.trees)
 
--- What a crash now may leave: what our tables mean, and of trees that aren't ours whatever one likes. So where this says that only some things may be left, it says
--- that all trees that may be left are ours.
+-- What a crash now may leave: what our tables mean, and of trees that aren't ours whatever one likes. So where this
+-- says that only some things may be left, it says that all trees that may be left are ours.
 abbrev pub LeavesWorld : State → Kept → Type 0
 LeavesWorld s left = (db : Trees) × s.may_leave db × (AreOurs db → left ≡ world_of db)
 

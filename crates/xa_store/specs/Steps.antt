@@ -9,8 +9,11 @@ use Rattle.xa_policy.specs.DocumentKey.{compare_keys}
 use Rattle.xa_policy.specs.Version.{version_text}
 use Rattle.xa_records.specs.DomainState.{IsDocumentOf, compare_bytes}
 use Rattle.xa_store.specs.declared.step.Step.{Step}
-use Rattle.xa_store.specs.declared.step.Step.TheVariants.{AddDomain, SetNext, SetEpoch, DropDomain, AddToken, SetRole, DropToken, AddDocument, SetActive, DropDocument, AddRoot, DropRoot, AddAttribute, DropSource}
-use Rattle.xa_store.specs.Rows.{DomainRow, TokenRow, DocumentRow, AttributeRow, root_of, type_number, value_in, value_text, version_in}
+use Rattle.xa_store.specs.declared.step.Step.TheVariants.{AddDomain, SetNext, SetEpoch, DropDomain, AddToken}
+use Rattle.xa_store.specs.declared.step.Step.TheVariants.{SetRole, DropToken, AddDocument, SetActive, DropDocument}
+use Rattle.xa_store.specs.declared.step.Step.TheVariants.{AddRoot, DropRoot, AddAttribute, DropSource}
+use Rattle.xa_store.specs.Rows.{DomainRow, TokenRow, DocumentRow, AttributeRow}
+use Rattle.xa_store.specs.Rows.{root_of, type_number, value_in, value_text, version_in}
 use Rattle.xa_store.specs.World.{Rows}
 
 -- ---- the row of a key
@@ -45,29 +48,57 @@ without_domain number rows = record {
 
 -- a row that is added stands last, but that domains and roots stand in the order of their numbers
 abbrev pub after : Step → Rows → Rows
-after (AddDomain number name) rows = record rows { domains = insert_by (λ d. d.number) rows.domains (record { number = number; name = name; epoch = pos 0 }) }
+after (AddDomain number name) rows =
+    record rows {
+      domains = insert_by (λ d. d.number) rows.domains (record { number = number; name = name; epoch = pos 0 });
+    }
 after (SetNext next) rows = record rows { next = next }
 after (SetEpoch number epoch) rows = record rows { domains = with_epoch number epoch rows.domains }
 after (DropDomain number) rows = without_domain number rows
 after (AddToken number digest role) rows =
-    record rows { tokens = rows.tokens ++ record { rowid = next_key (λ t. t.rowid) rows.tokens; number = number; digest = digest; role = role } ∷ [] }
-after (SetRole number digest role) rows = record rows { tokens = update_where (is_token number digest) (λ t. record t { role = role }) rows.tokens }
+    record rows {
+      tokens = rows.tokens
+          ++ record { rowid = next_key (λ t. t.rowid) rows.tokens; number = number; digest = digest; role = role } ∷ [];
+    }
+after (SetRole number digest role) rows =
+    record rows { tokens = update_where (is_token number digest) (λ t. record t { role = role }) rows.tokens }
 after (DropToken number digest) rows = record rows { tokens = delete_where (is_token number digest) rows.tokens }
 after (AddDocument number key text) rows =
-    record rows { documents = rows.documents ++ record { rowid = next_key (λ d. d.rowid) rows.documents; number = number; key = key; text = text; active = false } ∷ [] }
-after (SetActive number key active) rows = record rows { documents = update_where (is_document number key) (λ d. record d { active = active }) rows.documents }
+    record rows {
+      documents = rows.documents ++ record {
+        rowid = next_key (λ d. d.rowid) rows.documents;
+        number = number;
+        key = key;
+        text = text;
+        active = false;
+      }
+          ∷ [];
+    }
+after (SetActive number key active) rows =
+    record rows { documents = update_where (is_document number key) (λ d. record d { active = active }) rows.documents }
 after (DropDocument number key) rows = record rows { documents = delete_where (is_document number key) rows.documents }
 after (AddRoot number root) rows = record rows { roots = insert_by (λ r. r.number) rows.roots (root_of number root) }
 after (DropRoot number) rows = record rows { roots = delete_where (λ r. int_eq r.number number) rows.roots }
 after (AddAttribute number place row) rows =
-    record rows { attributes = rows.attributes ++ record { rowid = next_key (λ a. a.rowid) rows.attributes; number = number; place = place; row = row; is_full = true } ∷ [] }
+    record rows {
+      attributes = rows.attributes ++ record {
+        rowid = next_key (λ a. a.rowid) rows.attributes;
+        number = number;
+        place = place;
+        row = row;
+        is_full = true;
+      }
+          ∷ [];
+    }
 after (DropSource number) rows = record rows { attributes = delete_where (λ a. int_eq a.number number) rows.attributes }
 
 abbrev pub after_all : List Step → Rows → Rows
 after_all steps rows = fold (λ rows step. after step rows) rows steps
 
--- ---- under what it is taken: no row of that key is there, where one comes, and a text that comes is a document of its key; the domain is there, where it goes. Of a domain or a root that comes it
--- isn't asked that its number has no row yet: where it has one, `after` puts the new row in its place, and the statement fails and makes nothing
+-- ---- under what it is taken: no row of that key is there, where one comes, and a text that comes is a document of
+-- its key; the domain is there, where it goes. Of a domain or a root that comes it
+-- isn't asked that its number has no row yet: where it has one, `after` puts the new row in its place, and the
+-- statement fails and makes nothing
 
 -- the text of the value reads as the value
 abbrev pub ReadsBack : Value → Type 0
@@ -84,10 +115,12 @@ IsOfKey key text = IsDocumentOf key text
 abbrev pub Allows : Step → Rows → Type 0
 Allows (AddDomain number name) rows = filter (is_named name) rows.domains ≡ []
 Allows (AddToken number digest role) rows = filter (is_token number digest) rows.tokens ≡ []
-Allows (AddDocument number key text) rows = (filter (is_document number key) rows.documents ≡ []) × KeyReads key × IsOfKey key text
+Allows (AddDocument number key text) rows =
+    (filter (is_document number key) rows.documents ≡ []) × KeyReads key × IsOfKey key text
 Allows (SetActive number key active) rows = KeyReads key
 Allows (DropDocument number key) rows = KeyReads key
-Allows (AddAttribute number place row) rows = (filter (is_place number place) rows.attributes ≡ []) × ReadsBack row.value
+Allows (AddAttribute number place row) rows =
+    (filter (is_place number place) rows.attributes ≡ []) × ReadsBack row.value
 Allows (DropDomain number) rows = (d : DomainRow) × (filter (λ x. int_eq x.number number) rows.domains ≡ d ∷ [])
 Allows _ rows = Unit {0}
 

@@ -1,5 +1,6 @@
--- The tables in which domains are kept, of both schemas. Trees are numbered as the tables and their automatic indexes are made, and schema 2 is schema 1 with one more table:
--- so a store that was made with schema 2 and one that was brought into it have the same trees.
+-- The tables in which domains are kept, of both schemas. Trees are numbered as the tables and their automatic indexes
+-- are made, and schema 2 is schema 1 with one more table: so a store that was made with schema 2 and one that was
+-- brought into it have the same trees.
 use Rattle.std.specs.Prelude.{ℕ, List, [], ◌∷◌, ◌++◌, codes, true, false, None, Some}
 use Rattle.sqlite.specs.Collation.TheVariants.{Binary}
 use Rattle.sqlite.specs.Kind.{Kind}
@@ -16,18 +17,29 @@ use Rattle.sqlite_value.specs.declared.keys.Order.{Order}
 -- ---- columns
 
 abbrev pub needed : List ℕ → Kind → Column
-needed name kind = record { name = name; kind = kind; is_strict = true; not_null = true; default = Null; collation = Binary }
+needed name kind =
+    record { name = name; kind = kind; is_strict = true; not_null = true; default = Null; collation = Binary }
 
 abbrev pub text_if_any : List ℕ → Column
-text_if_any name = record { name = name; kind = Text; is_strict = true; not_null = false; default = Null; collation = Binary }
+text_if_any name =
+    record { name = name; kind = Text; is_strict = true; not_null = false; default = Null; collation = Binary }
 
 -- the INTEGER PRIMARY KEY, which is never NULL
 abbrev pub own_key : List ℕ → Column
-own_key name = record { name = name; kind = Integer; is_strict = true; not_null = false; default = Null; collation = Binary }
+own_key name =
+    record { name = name; kind = Integer; is_strict = true; not_null = false; default = Null; collation = Binary }
 
 -- to the domain of that number, with which the row goes
 abbrev pub of_domain : Reference
-of_domain = record { columns = 1 ∷ []; parent = codes "domains"; parent_columns = codes "number" ∷ []; on_delete = Cascade; on_update = NoAction; is_deferred = false }
+of_domain =
+    record {
+      columns = 1 ∷ [];
+      parent = codes "domains";
+      parent_columns = codes "number" ∷ [];
+      on_delete = Cascade;
+      on_update = NoAction;
+      is_deferred = false;
+    }
 
 -- ---- tables
 
@@ -70,31 +82,45 @@ abbrev pub rising : Order
 rising = record { digits = 0 }
 
 abbrev pub meta : Table
-meta = with_own_key (codes "meta") 0 (own_key (codes "id") ∷ needed (codes "schema_no") Integer ∷ needed (codes "next_number") Integer ∷ [])
+meta =
+    with_own_key (codes "meta") 0
+    (own_key (codes "id") ∷ needed (codes "schema_no") Integer ∷ needed (codes "next_number") Integer ∷ [])
 
 abbrev pub domains : Table
-domains = record (with_own_key (codes "domains") 1 (own_key (codes "number") ∷ needed (codes "name") Text ∷ needed (codes "epoch") Integer ∷ [])) { uniques = (2 ∷ []) ∷ []; orders = rising ∷ [] }
+domains =
+    record (with_own_key (codes "domains") 1
+    (own_key (codes "number") ∷ needed (codes "name") Text ∷ needed (codes "epoch") Integer ∷ [])) {
+      uniques = (2 ∷ []) ∷ [];
+      orders = rising ∷ [];
+    }
 
 abbrev pub tokens : Table
-tokens = of_domains (codes "tokens") 3 (needed (codes "number") Integer ∷ needed (codes "digest") Blob ∷ needed (codes "role") Integer ∷ []) (1 ∷ 2 ∷ []) rising
+tokens =
+    of_domains (codes "tokens") 3
+    (needed (codes "number") Integer ∷ needed (codes "digest") Blob ∷ needed (codes "role") Integer ∷ [])
+    (1 ∷ 2 ∷ []) rising
 
 abbrev pub policies : Table
 policies =
     of_domains (codes "policies") 5
-    (needed (codes "number") Integer ∷ needed (codes "kind") Integer ∷ needed (codes "id") Text ∷ needed (codes "version") Text ∷ needed (codes "body") Blob ∷ needed (codes "active") Integer ∷ [])
+    (needed (codes "number") Integer ∷ needed (codes "kind") Integer ∷ needed (codes "id") Text
+    ∷ needed (codes "version") Text ∷ needed (codes "body") Blob ∷ needed (codes "active") Integer ∷ [])
     (1 ∷ 2 ∷ 3 ∷ 4 ∷ []) rising
 
 abbrev pub roots : Table
 roots =
-    record (with_own_key (codes "roots") 7 (own_key (codes "number") ∷ needed (codes "kind") Integer ∷ needed (codes "id") Text ∷ text_if_any (codes "pattern") ∷ text_if_any (codes "earliest") ∷ text_if_any (codes "latest") ∷ []))
-    { references = record of_domain { columns = 0 ∷ [] } ∷ [] }
+    record (with_own_key (codes "roots") 7
+    (own_key (codes "number") ∷ needed (codes "kind") Integer ∷ needed (codes "id") Text ∷ text_if_any (codes "pattern")
+    ∷ text_if_any (codes "earliest") ∷ text_if_any (codes "latest") ∷ [])) {
+      references = record of_domain { columns = 0 ∷ [] } ∷ [];
+    }
 
 -- the rows of sources in schema 1, and no row in schema 2
 abbrev pub attributes : Table
 attributes =
-    of_domains (codes "attributes") 8
-    (needed (codes "number") Integer ∷ needed (codes "place") Integer ∷ needed (codes "category") Text ∷ needed (codes "entity") Text ∷ needed (codes "attribute") Text ∷ needed (codes "value_type") Integer ∷ needed (codes "value") Text ∷ [])
-    (1 ∷ 2 ∷ []) rising
+    of_domains (codes "attributes") 8 (needed (codes "number") Integer ∷ needed (codes "place") Integer
+    ∷ needed (codes "category") Text ∷ needed (codes "entity") Text ∷ needed (codes "attribute") Text
+    ∷ needed (codes "value_type") Integer ∷ needed (codes "value") Text ∷ []) (1 ∷ 2 ∷ []) rising
 
 -- the rows of sources in schema 2: the same columns, and who says so
 abbrev pub sources : Table
@@ -103,7 +129,8 @@ sources = of_domains (codes "sources") 10 (attributes.columns ++ text_if_any (co
 -- ---- their automatic indexes
 
 abbrev pub index_of : List ℕ → ℕ → ℕ → List ℕ → Index
-index_of name tree table columns = record { name = name; tree = tree; table = table; columns = columns; order = rising; is_unique = true }
+index_of name tree table columns =
+    record { name = name; tree = tree; table = table; columns = columns; order = rising; is_unique = true }
 
 abbrev pub first_indexes : List Index
 first_indexes =
@@ -120,8 +147,18 @@ our_indexes = first_indexes ++ index_of (codes "sqlite_autoindex_sources_1") 11 
 
 -- schema 1, which is only read, and brought into schema 2
 abbrev pub first_schema : Schema
-first_schema = record { tables = meta ∷ domains ∷ tokens ∷ policies ∷ roots ∷ attributes ∷ []; indexes = first_indexes; views = [] }
+first_schema =
+    record {
+      tables = meta ∷ domains ∷ tokens ∷ policies ∷ roots ∷ attributes ∷ [];
+      indexes = first_indexes;
+      views = [];
+    }
 
 -- schema 2, that of a keeper
 abbrev pub our_schema : Schema
-our_schema = record { tables = meta ∷ domains ∷ tokens ∷ policies ∷ roots ∷ attributes ∷ sources ∷ []; indexes = our_indexes; views = [] }
+our_schema =
+    record {
+      tables = meta ∷ domains ∷ tokens ∷ policies ∷ roots ∷ attributes ∷ sources ∷ [];
+      indexes = our_indexes;
+      views = [];
+    }

@@ -4,10 +4,12 @@ use Rattle.std.specs.Prelude.{ℕ, List, codes}
 -- ---- the tables are made
 
 abbrev pub meta_made : List ℕ
-meta_made = codes "CREATE TABLE meta (id INTEGER PRIMARY KEY, schema_no INTEGER NOT NULL, next_number INTEGER NOT NULL) STRICT"
+meta_made =
+    codes "CREATE TABLE meta (id INTEGER PRIMARY KEY, schema_no INTEGER NOT NULL, next_number INTEGER NOT NULL) STRICT"
 
 abbrev pub domains_made : List ℕ
-domains_made = codes "CREATE TABLE domains (number INTEGER PRIMARY KEY, name TEXT NOT NULL UNIQUE, epoch INTEGER NOT NULL) STRICT"
+domains_made =
+    codes "CREATE TABLE domains (number INTEGER PRIMARY KEY, name TEXT NOT NULL UNIQUE, epoch INTEGER NOT NULL) STRICT"
 
 abbrev pub tokens_made : List ℕ
 tokens_made =
@@ -69,7 +71,8 @@ abbrev pub documents_shown : List ℕ
 documents_shown = codes "SELECT kind, id, version, active FROM policies WHERE number = ?1 ORDER BY kind, id, version"
 
 abbrev pub active_shown : List ℕ
-active_shown = codes "SELECT kind, id, version, body FROM policies WHERE number = ?1 AND active = 1 ORDER BY kind, id, version"
+active_shown =
+    codes "SELECT kind, id, version, body FROM policies WHERE number = ?1 AND active = 1 ORDER BY kind, id, version"
 
 abbrev pub document_shown : List ℕ
 document_shown = codes "SELECT body, active FROM policies WHERE number = ?1 AND kind = ?2 AND id = ?3 AND version = ?4"
@@ -78,7 +81,8 @@ abbrev pub root_shown : List ℕ
 root_shown = codes "SELECT kind, id, pattern, earliest, latest FROM roots WHERE number = ?1"
 
 abbrev pub source_shown : List ℕ
-source_shown = codes "SELECT category, entity, attribute, value_type, value, issuer FROM sources WHERE number = ?1 ORDER BY place"
+source_shown =
+    codes "SELECT category, entity, attribute, value_type, value, issuer FROM sources WHERE number = ?1 ORDER BY place"
 
 -- ---- changes
 
@@ -122,4 +126,5 @@ abbrev pub source_dropped : List ℕ
 source_dropped = codes "DELETE FROM sources WHERE number = ?1"
 
 abbrev pub attribute_added : List ℕ
-attribute_added = codes "INSERT INTO sources (number, place, category, entity, attribute, value_type, value, issuer) VALUES (?1, ?2, ?3, ?4, ?5, ?6, ?7, ?8)"
+attribute_added =
+    codes "INSERT INTO sources (number, place, category, entity, attribute, value_type, value, issuer) VALUES (?1, ?2, ?3, ?4, ?5, ?6, ?7, ?8)"

@@ -30,12 +30,16 @@ abbrev pub answer_of : Result (Unit {0}) Failure → Result (Unit {0}) ChangeErr
 answer_of (Ok x) = Ok x
 answer_of (Err failure) = Err (Failed failure)
 
--- An open connection was open before, and a clean one clean. Over our tables the change was made, or is refused, or the call has failed; the tables are
--- ours again, and a crash leaves what it might have left before, or our tables with the change made.
-pub record Turns {X : Type 0} (change : Change) (name : List ℕ) (old new : State) (result : Result X ChangeError) : Type 0 where
+-- An open connection was open before, and a clean one clean. Over our tables the change was made, or is refused, or
+-- the call has failed; the tables are ours again, and a crash leaves what it might have left before, or our tables
+-- with the change made.
+pub record Turns {X : Type 0} (change : Change) (name : List ℕ) (old new : State) (result : Result X ChangeError)
+    : Type 0 where
   pub was_open : HasCleanDisk new → IsTrue new.is_open → IsTrue old.is_open
   pub clean : HasCleanDisk new → HasCleanDisk old
-  pub does : HasCleanDisk new → Ours old → IsTrue new.is_open → Changes (world_of old.now.trees) (world_of new.now.trees) result name change
+  pub does : HasCleanDisk new → Ours old → IsTrue new.is_open
+      → Changes (world_of old.now.trees) (world_of new.now.trees) result name change
   pub ours : HasCleanDisk new → Ours old → IsTrue new.is_open → Ours new
   pub stays : HasCleanDisk new → Ours old → IfAnswered result (IsTrue new.is_open)
-  pub leaves : HasCleanDisk new → Ours old → (db : Trees) → new.may_leave db → old.may_leave db ⊎ (AreOurs db × IsMade change name (world_of old.now.trees) (world_of db))
+  pub leaves : HasCleanDisk new → Ours old → (db : Trees) → new.may_leave db
+      → old.may_leave db ⊎ (AreOurs db × IsMade change name (world_of old.now.trees) (world_of db))

@@ -12,7 +12,8 @@ use Rattle.xa_notation.specs.declared.token.Role.{Role}
 use Rattle.xa_decide.specs.declared.source_row.SourceRow.{SourceRow}
 use Rattle.xa_records.specs.DomainState.{DomainState, StoredDocument, compare_bytes}
 use Rattle.xa_records.specs.Kept.{Domain, Kept}
-use Rattle.xa_store.specs.Rows.{DomainRow, TokenRow, DocumentRow, RootRow, AttributeRow, nat_of, next_in, domain_in, token_in, document_in, root_in, attribute_in, unissued_in, reference_of}
+use Rattle.xa_store.specs.Rows.{DomainRow, TokenRow, DocumentRow, RootRow, AttributeRow, nat_of, next_in}
+use Rattle.xa_store.specs.Rows.{domain_in, token_in, document_in, root_in, attribute_in, unissued_in, reference_of}
 
 -- ---- the rows of all tables
 

@@ -1,4 +1,5 @@
-//! Why a call of the store failed.
+//! What an error of the database means for a reading or a change: want of memory, or a failure of the
+//! store.
 ghost use Rattle.std.specs.Prelude.{◌≡◌, ◌↔◌};
 ghost use Rattle.sqlite.specs.declared.error.Error.TheVariants.{SqliteFailure};
 ghost use Rattle.sqlite.specs.declared.error.ErrorCode.TheVariants.{OutOfMemory};

@@ -1,13 +1,14 @@
-//! The keeper.
+//! The keeper: a connection, and what is known of its store.
 ghost use Rattle.std.specs.Prelude.{◌≡◌, true, Ok, IsTrue};
 ghost use Rattle.sqlite.specs.Held.{state};
 ghost use Rattle.xa_store.specs.Keeper.{IsSound};
 ghost use Rattle.xa_store.specs.Opened.{opened};
-ghost use Rattle.xa_store.specs.declared.opening.schema_version.SchemaVersion.TheVariants.{Schema2};
+ghost use Rattle.xa_store.specs.declared.schema.version.SchemaVersion.TheVariants.{Schema2};
 ghost use Rattle.xa_store.specs.Sound.{Ours};
 
-mod reading;
-mod records;
+pub(crate) mod health;
+pub(crate) mod laws;
+pub(crate) mod records;
 
 use sqlite::{Alter, Connection};
 use std::marker::Model;
@@ -30,7 +31,8 @@ impl<S: Alter> Model for SqlRecords<S> {
 
     ghost view = { λ r. record { conn = r.conn; ours = r.ours; is_open = r.is_open; faults = r.faults } };
 
-    ghost invariant = { λ r. IsKeeper S.Store (record { conn = r.conn; ours = r.ours; is_open = r.is_open; faults = r.faults }) };
+    ghost invariant = { λ r.
+        IsKeeper S.Store (record { conn = r.conn; ours = r.ours; is_open = r.is_open; faults = r.faults }) };
 }
 
 impl<S: Alter> SqlRecords<S> {
@@ -47,7 +49,8 @@ impl<S: Alter> SqlRecords<S> {
         }
     }
 
-    /// Whether its store had a keeper's tables and no others when it was opened. Only of such a keeper do the clauses of `Records` say what it holds.
+    /// Whether its store had a keeper's tables and no others when it was opened. Only of such a keeper
+    /// do the clauses of `Records` say what it holds.
     pub fn is_ours(&self) -> bool
         ensures { result ≡ self.now.ours }
     {

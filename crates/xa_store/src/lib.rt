@@ -1,30 +1,18 @@
-//! A keeper of domains over the tables of a database.
+//! A keeper of domains over the tables of a database. Its readings are queries, and each change is a
+//! plan of steps that one transaction takes.
 #![tactic(auto)]
 
-mod ask;
-mod changes;
-mod counts;
-mod document_found;
-mod documents;
-mod domain_found;
+mod change;
+mod check;
+mod error;
 mod failure;
 mod keeper;
-mod keyed_rows;
-mod names;
-mod next_number;
-mod open_error;
 mod opening;
-mod readings;
-mod root;
-mod run;
-mod shown;
-mod source;
-mod standing;
+mod query;
+mod refusal;
+mod schema;
+mod sql;
 mod step;
-mod take;
-mod text;
-mod tokens;
-mod told;
 
+pub use error::OpenError;
 pub use keeper::SqlRecords;
-pub use open_error::OpenError;

@@ -1,40 +1,27 @@
-//! Opening a store as a keeper.
+//! Opening a connection as a keeper. Tables are made where there are none, else checked, and those of
+//! schema 1 are brought into schema 2.
 ghost use Rattle.std.specs.Prelude.{◌≡◌, false, Err, IfErr, IfOk, IsTrue};
 ghost use Rattle.sqlite.specs.Held.{state};
 ghost use Rattle.sqlite.specs.State.{HasCleanDisk, Survives};
-ghost use Rattle.xa_store.specs.Judging.{IsIdle, Loads, Tested};
+ghost use Rattle.xa_store.specs.Check.{IsIdle, Loads, Tested};
 ghost use Rattle.xa_store.specs.Keeper.{IsSound};
 ghost use Rattle.xa_store.specs.Opened.{schema_of};
-ghost use Rattle.xa_store.specs.Opening.{has_room, held_in, version_in, IsBlank, IsKnown, IsRefusal, Leaves, LeavesAlone, Makes, Migrates, Opens, Settles};
-ghost use Rattle.xa_store.specs.declared.open_error.OpenError.TheVariants.{Store};
-ghost use Rattle.xa_store.specs.declared.opening.schema_version.SchemaVersion.TheVariants.{Schema1};
+ghost use Rattle.xa_store.specs.Opening.{has_room, held_in, version_in, IsBlank, IsKnown, IsRefusal};
+ghost use Rattle.xa_store.specs.Opening.{Leaves, LeavesAlone, Makes, Migrates, Opens, Settles};
+ghost use Rattle.xa_store.specs.declared.error.OpenError.TheVariants.{Store};
+ghost use Rattle.xa_store.specs.declared.schema.version.SchemaVersion.TheVariants.{Schema1};
 ghost use Rattle.xa_store.specs.Sound.{Rests, RestsIn};
 ghost use Rattle.xa_store.specs.Tables.{first_schema};
 
-mod apart;
-mod asking;
-mod columns;
-mod judging;
-mod kind;
-mod loading;
-mod looking;
-mod making;
-mod migrating;
-mod refusing;
-mod reopening;
-mod schema_version;
-mod table_columns;
-mod walking;
-
+use crate::check::rollback::check_apart;
+use crate::check::tables::check;
+use crate::error::OpenError;
 use crate::keeper::SqlRecords;
-use crate::open_error::OpenError;
-use apart::check_apart;
-use loading::check;
-use looking::{has_room, is_of, version_in};
-pub(crate) use making::make;
-use migrating::migrate;
-use refusing::failed_after;
-use schema_version::SchemaVersion;
+use crate::refusal::failed_after;
+use crate::schema::creation::make;
+use crate::schema::migration::migrate;
+use crate::schema::shape::{has_room, is_of, version_in};
+use crate::schema::version::SchemaVersion;
 use sqlite::{Alter, Connection};
 use std::alloc::Global;
 
@@ -72,7 +59,8 @@ fn judge<S: Alter>(
     }
 }
 
-/// Makes the tables beside what is there, and then judges them as any others. Where these aren't sound, the store has failed.
+/// Makes the tables beside what is there, and then judges them as any others. Where these aren't sound,
+/// the store has failed.
 fn make_and_judge<S: Alter>(alloc: Global, conn: &mut Connection<S>) -> Result<bool, OpenError>
     requires { IsTrue (has_room (state S.Store conn.old).now.schema) }
     ensures { Loads (state S.Store conn.old) (state S.Store conn.new) result }
@@ -109,7 +97,8 @@ fn load_kept<S: Alter>(alloc: Global, conn: &mut Connection<S>) -> Result<bool, 
 /// Makes the tables or judges them, and says whether they are a keeper's tables and no others.
 fn load<S: Alter>(alloc: Global, conn: &mut Connection<S>) -> Result<bool, OpenError>
     ensures loads { Loads (state S.Store conn.old) (state S.Store conn.new) result }
-    ensures busy { IsTrue (state S.Store conn.old).in_transaction → (result ≡ Err Store) × (conn.new ≡ conn.old) }
+    ensures busy { IsTrue (state S.Store conn.old).in_transaction
+        → (result ≡ Err Store) × (conn.new ≡ conn.old) }
 {
     let is_busy = !conn.is_autocommit();
     if is_busy {
@@ -133,14 +122,19 @@ impl<S: Alter> SqlRecords<S> {
         mut conn: Connection<S>,
     ) -> Result<SqlRecords<S>, (OpenError, Connection<S>)>
         ensures opens { Rests (state S.Store conn) → Opens S.Store (state S.Store conn) result }
-        ensures migrates { RestsIn first_schema (state S.Store conn) → Migrates S.Store (state S.Store conn) result }
+        ensures migrates { RestsIn first_schema (state S.Store conn)
+            → Migrates S.Store (state S.Store conn) result }
         ensures makes { IsBlank (state S.Store conn) → Makes S.Store (state S.Store conn) result }
-        ensures refused { IfErr result (λ e. IsRefusal e.0 → LeavesAlone (state S.Store conn) (state S.Store e.1)) }
+        ensures refused { IfErr result (λ e.
+            IsRefusal e.0 → LeavesAlone (state S.Store conn) (state S.Store e.1)) }
         ensures busy { IsTrue (state S.Store conn).in_transaction → result ≡ Err (Store, conn) }
-        ensures leaves { Survives (state S.Store conn) (state S.Store (held_in S.Store result)) (Leaves (state S.Store conn)) }
+        ensures leaves { Survives (state S.Store conn) (state S.Store (held_in S.Store result))
+            (Leaves (state S.Store conn)) }
         ensures settled { IfOk result (Settles S.Store) }
-        ensures sound { IfOk result (λ k. IsTrue k.ours → IsTrue (state S.Store k.conn).is_open → IsSound S.Store k) }
-        ensures stays { HasCleanDisk (state S.Store (held_in S.Store result)) → IsKnown (state S.Store conn) → IfOk result (λ k. IsTrue (state S.Store k.conn).is_open) }
+        ensures sound { IfOk result (λ k.
+            IsTrue k.ours → IsTrue (state S.Store k.conn).is_open → IsSound S.Store k) }
+        ensures stays { HasCleanDisk (state S.Store (held_in S.Store result)) → IsKnown (state S.Store conn)
+            → IfOk result (λ k. IsTrue (state S.Store k.conn).is_open) }
     {
         match load(alloc, &mut conn) {
             Ok(ours) => Ok(SqlRecords::over(conn, ours)),

@@ -1,4 +1,12 @@
-//! The steps of which changes are made.
+//! Steps, of which each change is made: a step is one statement.
+
+pub(crate) mod document;
+pub(crate) mod domain;
+pub(crate) mod execution;
+pub(crate) mod root;
+pub(crate) mod source;
+pub(crate) mod token;
+pub(crate) mod transaction;
 
 use xa_decide::SourceRow;
 use xa_notation::Role;
@@ -6,35 +14,70 @@ use xa_policy::{DocumentKey, Reference};
 use xa_records::Digest;
 use xa_value::{Items, Text};
 
-/// One statement of a change. The numbers are those of domains.
+/// One statement of a change. Each `number` is that of a domain.
 #[derive(Debug, Drop)]
 pub(crate) enum Step {
     /// A domain of that number and name, with epoch 0.
-    AddDomain(i64, Text),
+    AddDomain {
+        number: i64,
+        name: Text,
+    },
     /// The number of the next domain.
     SetNext(i64),
     /// The domain's epoch.
-    SetEpoch(i64, i64),
+    SetEpoch {
+        number: i64,
+        epoch: i64,
+    },
     /// The domain goes with all its rows.
     DropDomain(i64),
     /// A token that isn't there, with its role.
-    AddToken(i64, Digest, Role),
+    AddToken {
+        number: i64,
+        digest: Digest,
+        role: Role,
+    },
     /// The role of a token that is there.
-    SetRole(i64, Digest, Role),
+    SetRole {
+        number: i64,
+        digest: Digest,
+        role: Role,
+    },
     /// The token goes.
-    DropToken(i64, Digest),
+    DropToken {
+        number: i64,
+        digest: Digest,
+    },
     /// A document that isn't there, with its text. It isn't active.
-    AddDocument(i64, DocumentKey, Items<u8>),
+    AddDocument {
+        number: i64,
+        key: DocumentKey,
+        text: Items<u8>,
+    },
     /// Whether references may resolve to the document.
-    SetActive(i64, DocumentKey, bool),
+    SetActive {
+        number: i64,
+        key: DocumentKey,
+        active: bool,
+    },
     /// The document goes.
-    DropDocument(i64, DocumentKey),
+    DropDocument {
+        number: i64,
+        key: DocumentKey,
+    },
     /// The root, where there is none.
-    AddRoot(i64, Reference),
+    AddRoot {
+        number: i64,
+        root: Reference,
+    },
     /// The root goes, if there is one.
     DropRoot(i64),
     /// A row of the source, with its issuer, at a place that has none.
-    AddAttribute(i64, i64, SourceRow),
+    AddAttribute {
+        number: i64,
+        place: i64,
+        row: SourceRow,
+    },
     /// All rows of the source go.
     DropSource(i64),
 }

@@ -1,8 +1,17 @@
-//! The keeper of tables as a keeper of domains.
+//! The keeper's readings and changes, as the trait `Records` asks for them: each is done on the
+//! connection, and then what is known of its store is brought up to date.
 ghost use Rattle.std.proofs.Common.{◌∙◌};
 ghost use Rattle.xa_store.specs.KeeperReading.{custody_by};
 
-use super::SqlRecords;
+use crate::change::document::{delete_in, set_active_in, upload_in};
+use crate::change::domain::{create_in, remove_in};
+use crate::change::root::set_root_in;
+use crate::change::source::set_source_in;
+use crate::change::token::{drop_token_in, put_token_in};
+use crate::keeper::SqlRecords;
+use crate::keeper::health::{after_change, after_reading};
+use crate::query::name::names_in;
+use crate::query::reading::{gate_in, listing_in, text_in, view_in};
 use sqlite::Alter;
 use std::alloc::Global;
 use xa_decide::SourceRow;
@@ -16,7 +25,8 @@ impl<S: Alter> Records for SqlRecords<S> {
 
     ghost numbered = { λ r is. is.1.ours.domains.numbered };
 
-    ghost settled = { λ r is left leaves. leaves.2 (is.1.settled leaves.0 leaves.1).0 ∙ (is.1.settled leaves.0 leaves.1).1 };
+    ghost settled = { λ r is left leaves.
+        leaves.2 (is.1.settled leaves.0 leaves.1).0 ∙ (is.1.settled leaves.0 leaves.1).1 };
 
     fn keeps_documents(&self) {}
 
@@ -29,11 +39,13 @@ impl<S: Alter> Records for SqlRecords<S> {
     }
 
     fn gate(&mut self, alloc: Global, name: &Text) -> Result<Option<Gate>, Failure> {
-        self.read_gate(alloc, name)
+        let read = gate_in(&mut self.conn, alloc, name);
+        after_reading(&mut self.conn, &mut self.is_open, &mut self.faults, read)
     }
 
     fn view(&mut self, alloc: Global, name: &Text) -> Result<Option<KeptView>, Failure> {
-        self.read_view(alloc, name)
+        let read = view_in(&mut self.conn, alloc, name);
+        after_reading(&mut self.conn, &mut self.is_open, &mut self.faults, read)
     }
 
     fn document(
@@ -42,23 +54,28 @@ impl<S: Alter> Records for SqlRecords<S> {
         name: &Text,
         key: &DocumentKey,
     ) -> Result<Option<Items<u8>>, Failure> {
-        self.read_document(alloc, name, key)
+        let read = text_in(&mut self.conn, alloc, name, key);
+        after_reading(&mut self.conn, &mut self.is_open, &mut self.faults, read)
     }
 
     fn list(&mut self, alloc: Global, name: &Text) -> Result<Option<Items<Listed>>, Failure> {
-        self.read_list(alloc, name)
+        let read = listing_in(&mut self.conn, alloc, name);
+        after_reading(&mut self.conn, &mut self.is_open, &mut self.faults, read)
     }
 
     fn domains(&mut self, alloc: Global) -> Result<Items<Text>, Failure> {
-        self.read_domains(alloc)
+        let read = names_in(&mut self.conn, alloc);
+        after_reading(&mut self.conn, &mut self.is_open, &mut self.faults, read)
     }
 
     fn create(&mut self, alloc: Global, name: &Text) -> Result<(), ChangeError> {
-        self.make_domain(alloc, name)
+        let done = create_in(&mut self.conn, alloc, name);
+        after_change(&mut self.conn, &mut self.is_open, &mut self.faults, done)
     }
 
     fn remove(&mut self, alloc: Global, name: &Text) -> Result<(), ChangeError> {
-        self.remove_domain(alloc, name)
+        let done = remove_in(&mut self.conn, alloc, name);
+        after_change(&mut self.conn, &mut self.is_open, &mut self.faults, done)
     }
 
     fn put_token(
@@ -68,7 +85,8 @@ impl<S: Alter> Records for SqlRecords<S> {
         digest: Digest,
         role: Role,
     ) -> Result<(), ChangeError> {
-        self.change_token(alloc, name, digest, role)
+        let done = put_token_in(&mut self.conn, alloc, name, digest, role);
+        after_change(&mut self.conn, &mut self.is_open, &mut self.faults, done)
     }
 
     fn drop_token(
@@ -77,7 +95,8 @@ impl<S: Alter> Records for SqlRecords<S> {
         name: &Text,
         digest: Digest,
     ) -> Result<(), ChangeError> {
-        self.take_token(alloc, name, digest)
+        let done = drop_token_in(&mut self.conn, alloc, name, digest);
+        after_change(&mut self.conn, &mut self.is_open, &mut self.faults, done)
     }
 
     fn upload(
@@ -87,7 +106,8 @@ impl<S: Alter> Records for SqlRecords<S> {
         key: DocumentKey,
         text: &[u8],
     ) -> Result<Upload, ChangeError> {
-        self.add_document(alloc, name, key, text)
+        let done = upload_in(&mut self.conn, alloc, name, key, text);
+        after_change(&mut self.conn, &mut self.is_open, &mut self.faults, done)
     }
 
     fn set_active(
@@ -97,11 +117,13 @@ impl<S: Alter> Records for SqlRecords<S> {
         key: &DocumentKey,
         active: bool,
     ) -> Result<(), ChangeError> {
-        self.change_activity(alloc, name, key, active)
+        let done = set_active_in(&mut self.conn, alloc, name, key, active);
+        after_change(&mut self.conn, &mut self.is_open, &mut self.faults, done)
     }
 
     fn delete(&mut self, alloc: Global, name: &Text, key: &DocumentKey) -> Result<(), ChangeError> {
-        self.delete_document(alloc, name, key)
+        let done = delete_in(&mut self.conn, alloc, name, key);
+        after_change(&mut self.conn, &mut self.is_open, &mut self.faults, done)
     }
 
     fn set_root(
@@ -110,7 +132,8 @@ impl<S: Alter> Records for SqlRecords<S> {
         name: &Text,
         root: Option<Reference>,
     ) -> Result<(), ChangeError> {
-        self.change_root(alloc, name, root)
+        let done = set_root_in(&mut self.conn, alloc, name, root);
+        after_change(&mut self.conn, &mut self.is_open, &mut self.faults, done)
     }
 
     fn set_source(
@@ -119,6 +142,7 @@ impl<S: Alter> Records for SqlRecords<S> {
         name: &Text,
         rows: Items<SourceRow>,
     ) -> Result<(), ChangeError> {
-        self.change_source(alloc, name, rows)
+        let done = set_source_in(&mut self.conn, alloc, name, rows);
+        after_change(&mut self.conn, &mut self.is_open, &mut self.faults, done)
     }
 }

@@ -1,4 +1,4 @@
-use Rattle.sqlite.specs.Held.{state}
+use Rattle.xa_store.proofs.Common.{state}
 use Rattle.xa_store.proofs.OpenLemmas.{ours_refused, ours_sound}
 use Rattle.xa_store.proofs.opening.check_ours.Goals as goal
 

@@ -1,5 +1,5 @@
 use Rattle.std.proofs.Common.{◌≡◌, false, IsTrue, rules, sym, ◌∙◌}
-use Rattle.sqlite.specs.Held.{state}
+use Rattle.xa_store.proofs.Common.{state}
 use Rattle.xa_store.proofs.OpenLemmas.{not_tested}
 use Rattle.xa_store.proofs.opening.judge.Goals as goal
 

@@ -1,5 +1,5 @@
 use Rattle.std.proofs.Common.{◌≡◌, Err, rules}
-use Rattle.sqlite.specs.Held.{state}
+use Rattle.xa_store.proofs.Common.{state}
 use Rattle.xa_store.proofs.OpenLemmas.{first_refused, migrated_loads, unmigrated_loads}
 use Rattle.xa_store.proofs.opening.judge_and_migrate.Goals as goal
 

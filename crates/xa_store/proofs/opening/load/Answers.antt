@@ -1,5 +1,5 @@
 use Rattle.std.proofs.Common.{sym, ap, ◌∙◌}
-use Rattle.sqlite.specs.Held.{state}
+use Rattle.xa_store.proofs.Common.{state}
 use Rattle.xa_store.specs.Opening.{has_room}
 use Rattle.xa_store.proofs.OpenLemmas.{busy_loads}
 use Rattle.xa_store.proofs.opening.load.Goals as goal

@@ -1,5 +1,5 @@
 use Rattle.std.proofs.Common.{sym, ap, ◌∙◌}
-use Rattle.sqlite.specs.Held.{state}
+use Rattle.xa_store.proofs.Common.{state}
 use Rattle.xa_store.specs.Opening.{version_in}
 use Rattle.xa_store.proofs.OpenLemmas.{tested_loads}
 use Rattle.xa_store.proofs.opening.load_kept.Goals as goal

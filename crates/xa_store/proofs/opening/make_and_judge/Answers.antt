@@ -1,5 +1,5 @@
 use Rattle.std.proofs.Common.{◌≡◌, Err, rules}
-use Rattle.sqlite.specs.Held.{state}
+use Rattle.xa_store.proofs.Common.{state}
 use Rattle.xa_store.proofs.OpenLemmas.{made_failed, made_sound, not_made}
 use Rattle.xa_store.proofs.opening.make_and_judge.Goals as goal
 

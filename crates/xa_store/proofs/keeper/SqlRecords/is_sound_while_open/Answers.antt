@@ -1,5 +1,5 @@
 use Rattle.std.proofs.Common.{IsTrue, subst}
-use Rattle.sqlite.specs.Held.{state}
+use Rattle.xa_store.proofs.Common.{state}
 use Rattle.xa_store.specs.Keeper.{IsSound}
 use Rattle.xa_store.proofs.ReopeningLemmas.{sound_while_open}
 use Rattle.xa_store.proofs.keeper.SqlRecords.is_sound_while_open.Goals as goal

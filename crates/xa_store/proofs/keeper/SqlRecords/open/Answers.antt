@@ -1,5 +1,5 @@
 use Rattle.std.proofs.Common.{IsTrue, Ok, sym, subst}
-use Rattle.sqlite.specs.Held.{state}
+use Rattle.xa_store.proofs.Common.{state}
 use Rattle.xa_store.specs.Keeper.{IsSound}
 use Rattle.xa_store.specs.Opening.{Makes, Migrates, Opens, Settles}
 use Rattle.xa_store.proofs.OpenLemmas.{is_keeper, leaves_alone, makes_keeper, makes_refused, migrates_keeper, migrates_refused, opens_keeper, opens_refused, settles_keeper, sound_keeper}

@@ -1,4 +1,4 @@
-use Rattle.sqlite.specs.Held.{state}
+use Rattle.xa_store.proofs.Common.{state}
 use Rattle.xa_store.proofs.ReopenLemmas.{ours_open}
 use Rattle.xa_store.proofs.keeper.SqlRecords.opens_again.Goals as goal
 

@@ -1,7 +1,6 @@
 use Rattle.std.proofs.Common.{◌≡◌, ◌↔◌, IsTrue, subst}
 use Rattle.sqlite_schema.specs.declared.schema.Schema.{Schema}
-use Rattle.sqlite.specs.Held.{state}
-use Rattle.xa_store.specs.Tables.{our_schema}
+use Rattle.xa_store.proofs.Common.{state, our_schema}
 use Rattle.xa_store.proofs.ReopeningLemmas.{reopens}
 use Rattle.xa_store.proofs.keeper.SqlRecords.reopens.Goals as goal
 

@@ -1,5 +1,4 @@
-use Rattle.sqlite.specs.Held.{state}
-use Rattle.xa_store.specs.World.{rows_of}
+use Rattle.xa_store.proofs.Common.{state, rows_of}
 use Rattle.xa_store.proofs.KeptLemmas.{keeps_documents}
 use Rattle.xa_store.proofs.keeper.records.SqlRecordsRecords.keeps_documents.Goals as goal
 

@@ -1,0 +1,8 @@
+use Rattle.std.proofs.Common.{ap}
+use Rattle.xa_store.proofs.Common.{state, token_dropped, within, rows_of}
+use Rattle.xa_store.proofs.PlanLemmas.{absent_state}
+use Rattle.xa_store.proofs.change.token.plan_drop.Goals as goal
+
+pub returns-in_default-clause-plans : goal.returns-in_default-clause-plans
+returns-in_default-clause-plans g c clean ours =
+    ap (within (token_dropped c.args.digest)) (absent_state (rows_of (state g.S.Store c.args.conn.now).now.trees) c.args.name.now c.in_ok-found.found (c.in_ok-found.ensures.finds clean ours) c.in_default.not-Some)

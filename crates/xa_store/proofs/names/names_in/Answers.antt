@@ -1,8 +1,0 @@
-use Rattle.sqlite.specs.Held.{state}
-use Rattle.xa_store.proofs.FoundLemmas.{becomes}
-use Rattle.xa_store.proofs.NameLemmas.{names_read}
-use Rattle.xa_store.proofs.names.names_in.Goals as goal
-
-pub returns-clause-reads : goal.returns-clause-reads
-returns-clause-reads g c clean ours =
-    becomes c.all_told.result _ _ (names_read (state g.S.Store c.args.conn.now) (state g.S.Store c.shown.new.conn) ours c.in_ok-rows.rows.items (c.in_ok-rows.ensures.shows clean)) c.all_told.ensures

@@ -1,7 +1,0 @@
-use Rattle.sqlite.specs.Held.{state}
-use Rattle.xa_store.proofs.NextLemmas.{next_finds_in}
-use Rattle.xa_store.proofs.next_number.next_number.Goals as goal
-
-pub returns-clause-finds : goal.returns-clause-finds
-returns-clause-finds g c clean ours =
-    next_finds_in (state g.S.Store c.args.conn.now) (state g.S.Store c.shown.new.conn) ours c.in_ok-rows.rows.items (c.in_ok-rows.ensures.shows clean) c.next_told.result (rw c.as_slice.ensures.value at c.next_told.ensures)

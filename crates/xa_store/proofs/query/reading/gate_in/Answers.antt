@@ -1,0 +1,32 @@
+use Rattle.std.proofs.Common.{◌≡◌, None, Some, map, rules, w64, ap, subst, ◌∙◌}
+use Rattle.xa_store.proofs.Common.{to_z-of_z, state, entries, gate_of, token_of, rows_of, state_at, world_of}
+use Rattle.xa_store.specs.Lookup.{FindsDomain, TellsGate}
+use Rattle.xa_store.proofs.QuietLemmas.{ours_between, rows_between}
+use Rattle.xa_store.proofs.FoundLemmas.{finds_in}
+use Rattle.xa_store.proofs.ReadingLemmas.{gate_absent, gate_is}
+use Rattle.xa_store.proofs.query.reading.gate_in.Goals as goal
+
+pub returns-in_default-clause-reads : goal.returns-in_default-clause-reads
+returns-in_default-clause-reads g c clean ours =
+    let none : c.in_ok-found.found ≡ None = search rules in
+    let rows = rows_of (state g.S.Store c.args.conn.now).now.trees in
+    gate_absent rows c.args.name.now (subst (FindsDomain c.args.name.now rows) none (c.in_ok-found.ensures.finds clean ours))
+
+pub returns-clause-reads : goal.returns-clause-reads
+returns-clause-reads g c clean ours =
+    let old = state g.S.Store c.args.conn.now in
+    let middle = state g.S.Store c.domain_named.new.conn in
+    let new = state g.S.Store c.tokens_of.new.conn in
+    let name = c.args.name.now in
+    let domain = c.in-Some.domain in
+    let n = to_z-of_z w64 domain.number (search rules) in
+    let first = c.in_ok-found.ensures.quiet in
+    let opens = c.in_ok-found.ensures.opens in
+    let second = c.tokens_of.ensures.quiet in
+    let there : c.in_ok-found.found ≡ Some domain = search rules in
+    let is = subst (FindsDomain name (rows_of old.now.trees)) there (c.in_ok-found.ensures.finds (second.clean clean) ours) in
+    let between = ours_between old middle new first opens second clean ours in
+    let same = rows_between old middle new first opens second clean ours in
+    let tokens = c.in_ok-tokens.tokens in
+    let told = (rw n at (c.in_ok-tokens.ensures.reads clean between)) ∙ ap (λ w. map token_of (entries (state_at w domain.number).tokens)) same in
+    finds_in (TellsGate domain tokens) (λ gate. gate ≡ gate_of name (world_of old.now.trees)) (gate_is (rows_of old.now.trees) name domain is tokens told) c.gate_by.result c.gate_by.ensures

@@ -1,0 +1,8 @@
+use Rattle.xa_store.proofs.Common.{state}
+use Rattle.sqlite.specs.Values.{bound}
+use Rattle.xa_store.proofs.AskLemmas.{shown_open}
+use Rattle.xa_store.proofs.query.shown.Goals as goal
+
+pub returns-in-Ok-clause-opens : goal.returns-in-Ok-clause-opens
+returns-in-Ok-clause-opens g c clean =
+    (shown_open c.args.sql.now (bound c.args.given.now) (state g.S.Store c.args.conn.now) (state g.S.Store c.ask.new.conn) c.in-Ok.rows.items (c.in-Ok.ensures.shows clean)).1

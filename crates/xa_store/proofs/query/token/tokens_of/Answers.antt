@@ -1,0 +1,11 @@
+use Rattle.std.proofs.Common.{w64}
+use Rattle.xa_store.proofs.Common.{to_z-of_z, state}
+use Rattle.xa_store.proofs.FoundLemmas.{becomes}
+use Rattle.xa_store.proofs.TokenLemmas.{tokens_read}
+use Rattle.xa_store.proofs.query.token.tokens_of.Goals as goal
+
+pub returns-clause-reads : goal.returns-clause-reads
+returns-clause-reads g c clean ours =
+    let n = to_z-of_z w64 c.args.number c.ranges.number in
+    becomes c.all_told.result _ _
+    (tokens_read (state g.S.Store c.args.conn.now) (state g.S.Store c.shown.new.conn) c.args.number ours c.in_ok-rows.rows.items (rw n at (c.in_ok-rows.ensures.shows clean))) c.all_told.ensures

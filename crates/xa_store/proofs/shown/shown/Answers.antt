@@ -1,8 +1,0 @@
-use Rattle.sqlite.specs.Held.{state}
-use Rattle.sqlite.specs.Values.{bound}
-use Rattle.xa_store.proofs.AskLemmas.{shown_open}
-use Rattle.xa_store.proofs.shown.shown.Goals as goal
-
-pub returns-in-Ok-clause-opens : goal.returns-in-Ok-clause-opens
-returns-in-Ok-clause-opens g c clean =
-    (shown_open c.args.sql.now (bound c.args.given.now) (state g.S.Store c.args.conn.now) (state g.S.Store c.ask.new.conn) c.in-Ok.rows.items (c.in-Ok.ensures.shows clean)).1

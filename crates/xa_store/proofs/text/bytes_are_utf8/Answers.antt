@@ -1,5 +1,0 @@
-use Rattle.std.proofs.lemmas.Str.{is_utf8-from_IsUtf8}
-use Rattle.xa_store.proofs.text.bytes_are_utf8.Goals as goal
-
-pub returns : goal.returns
-returns c = rw c.as_str-text.ensures at (is_utf8-from_IsUtf8 _ c.as_str-text.utf8)

@@ -1,0 +1,349 @@
+-- How the tables are read and judged when a store is opened: one query for the rows of each, in the order of their
+-- numbers, and one for whether the table has them in that order. It is said of tables of a schema, whichever that is.
+use Rattle.std.specs.Prelude.{◌≡◌, ◌≢◌, ◌⊎◌, ℕ, ◌+ℤ◌, ℤ, pos, negsuc, FitsSigned, Bool, true, false, ◌&&◌, List}
+use Rattle.std.specs.Prelude.{[], ◌∷◌, ◌++◌, map, int_lt, codes, IsPermutation, IsTrue, if◌then◌else◌, Option, Some}
+use Rattle.std.specs.Prelude.{None, option_map, option_and_then, unwrap_or, Result, Ok, Err, OnOk, OnErr, IfOk, IfErr}
+use Rattle.std.specs.Int.{w64}
+use Rattle.std.specs.List.{AllByRecursion}
+use Rattle.std.specs.Ordering.{int_cmp, int_eq, ordering_then}
+use Rattle.std.specs.declared.cmp.Ordering.{Ordering}
+use Rattle.sqlite.specs.Effect.{IsDatabase}
+use Rattle.sqlite.specs.Given.{HasGiven, IsPlain}
+use Rattle.sqlite.specs.Listing.{understood}
+use Rattle.sqlite.specs.Held.{Held, state}
+use Rattle.sqlite.specs.Order.{Row, column}
+use Rattle.sqlite.specs.State.{State, HasCleanDisk, Shown, Shows, Survives}
+use Rattle.sqlite.specs.Store.{Ghosts}
+use Rattle.sqlite.specs.Tree.{Trees}
+use Rattle.sqlite.specs.declared.error.Error.{Error}
+use Rattle.sqlite.specs.declared.error.Error.TheVariants.{SqliteFailure, SqlInputError}
+use Rattle.sqlite.specs.declared.error.ErrorCode.TheVariants.{NameTaken, OutOfMemory}
+use Rattle.xa_store.specs.declared.error.OpenError.{OpenError}
+use Rattle.xa_store.specs.declared.error.OpenError.TheVariants.{NotThisSchema, Damaged, Store, Memory}
+use Rattle.xa_store.specs.declared.schema.kind.Kind.{Kind}
+use Rattle.xa_store.specs.declared.schema.kind.Kind.TheVariants.{Domains, Tokens, Documents, Roots, Attributes, Sources}
+use Rattle.xa_store.specs.declared.schema.version.SchemaVersion.{SchemaVersion}
+use Rattle.xa_store.specs.declared.schema.version.SchemaVersion.TheVariants.{Schema1, Schema2}
+use Rattle.xa_store.specs.Opened.{are_counted, as_read, is_left_empty, place_in, sources_in, tree_of, are_rising}
+use Rattle.xa_store.specs.Opened.{int_in, is_number, is_whole_row, row_number, Place, opened, schema_of}
+use Rattle.xa_store.specs.Opening.{Gives, IsBlank, IsFailure, IsKnown, IsMade, IsMigrated, IsRefusal, Leaves}
+use Rattle.xa_store.specs.Rows.{attribute_in, attribute_row}
+use Rattle.xa_store.specs.Sound.{AreRows, Ours, Rests, RestsIn, SameNow, same_place}
+use Rattle.xa_store.specs.Tables.{first_schema}
+
+abbrev pub text_of : Kind → List ℕ
+text_of Domains = codes "SELECT number, name, epoch FROM domains ORDER BY number"
+text_of Tokens = codes "SELECT rowid, number, digest, role FROM tokens ORDER BY rowid"
+text_of Documents = codes "SELECT rowid, number, kind, id, version, body, active FROM policies ORDER BY rowid"
+text_of Roots = codes "SELECT number, kind, id, pattern, earliest, latest FROM roots ORDER BY number"
+text_of Attributes =
+    codes "SELECT rowid, number, place, category, entity, attribute, value_type, value FROM attributes ORDER BY rowid"
+text_of Sources =
+    codes "SELECT rowid, number, place, category, entity, attribute, value_type, value, issuer FROM sources ORDER BY rowid"
+
+-- it shows a row exactly where the rowids, as the table has them, are other than in their order: then the texts of
+-- both differ
+abbrev pub order_text_of : Kind → List ℕ
+order_text_of Domains =
+    codes "WITH s(n) AS (SELECT rowid FROM domains ORDER BY rowid) SELECT 1 WHERE (SELECT group_concat(rowid) FROM domains) IS NOT (SELECT group_concat(n) FROM s)"
+order_text_of Tokens =
+    codes "WITH s(n) AS (SELECT rowid FROM tokens ORDER BY rowid) SELECT 1 WHERE (SELECT group_concat(rowid) FROM tokens) IS NOT (SELECT group_concat(n) FROM s)"
+order_text_of Documents =
+    codes "WITH s(n) AS (SELECT rowid FROM policies ORDER BY rowid) SELECT 1 WHERE (SELECT group_concat(rowid) FROM policies) IS NOT (SELECT group_concat(n) FROM s)"
+order_text_of Roots =
+    codes "WITH s(n) AS (SELECT rowid FROM roots ORDER BY rowid) SELECT 1 WHERE (SELECT group_concat(rowid) FROM roots) IS NOT (SELECT group_concat(n) FROM s)"
+order_text_of Attributes =
+    codes "WITH s(n) AS (SELECT rowid FROM attributes ORDER BY rowid) SELECT 1 WHERE (SELECT group_concat(rowid) FROM attributes) IS NOT (SELECT group_concat(n) FROM s)"
+order_text_of Sources =
+    codes "WITH s(n) AS (SELECT rowid FROM sources ORDER BY rowid) SELECT 1 WHERE (SELECT group_concat(rowid) FROM sources) IS NOT (SELECT group_concat(n) FROM s)"
+
+-- the domains and places of the rows of sources
+abbrev pub places_text_of : SchemaVersion → List ℕ
+places_text_of Schema1 = codes "SELECT number, place FROM attributes ORDER BY number, place"
+places_text_of Schema2 = codes "SELECT number, place FROM sources ORDER BY number, place"
+
+-- the schema has the table
+abbrev pub has_kind : Kind → SchemaVersion → Bool
+has_kind Sources Schema1 = false
+has_kind _ _ = true
+
+-- ---- what a call that only reads leaves
+
+-- its tables aren't those of the schema alone, and no transaction is under way
+abbrev pub IsUnguarded : SchemaVersion → State → Type 0
+IsUnguarded version s = (s.now.schema ≢ schema_of version) × (s.in_transaction ≡ false)
+
+-- the transaction goes on, and tables that were those of the schema are
+pub record GoesOn (version : SchemaVersion) (old new : State) : Type 0 where
+  pub was_open : IsTrue old.is_open
+  pub is_open : IsTrue new.is_open
+  pub schema : old.now.schema ≡ schema_of version → new.now.schema ≡ schema_of version
+  pub mode : new.in_transaction ≡ old.in_transaction
+
+-- of a transaction: nothing was committed, and where it has ended all is undone
+pub record HoldsBack (old new : State) : Type 0 where
+  pub committed : new.committed ≡ old.committed
+  pub undone : new.in_transaction ≡ false → new.now ≡ old.committed
+
+-- The connection holds what it held, if the tables are those of the schema, and in a transaction it commits nothing.
+-- A crash leaves what it left.
+pub record Asks {X : Type 0} (version : SchemaVersion) (old new : State) (result : Result X OpenError) : Type 0 where
+  pub survives : Survives old new (λ db. IsUnguarded version old)
+  pub was_open : HasCleanDisk new → IsTrue new.is_open → IsTrue old.is_open
+  pub same : HasCleanDisk new → RestsIn (schema_of version) old → IsTrue new.is_open → SameNow old new
+  pub held : HasCleanDisk new → IsTrue old.in_transaction → IsTrue new.is_open → HoldsBack old new
+  pub goes_on : HasCleanDisk new → OnOk result (GoesOn version old new)
+
+-- an error that no query of a keeper's tables has
+abbrev pub is_misfit : Error → Bool
+is_misfit (SqlInputError fault) = true
+is_misfit (SqliteFailure NameTaken) = true
+is_misfit _ = false
+
+-- what an error means for opening
+abbrev pub refused_as : Error → OpenError
+refused_as (SqlInputError fault) = NotThisSchema
+refused_as (SqliteFailure NameTaken) = NotThisSchema
+refused_as (SqliteFailure OutOfMemory) = Memory
+refused_as _ = Store
+
+-- sound, or damaged; or want of memory or a failure of the store
+abbrev pub Judges : Bool → Result (Unit {0}) OpenError → Type 0
+Judges sound (Ok x) = sound ≡ true
+Judges sound (Err Damaged) = sound ≡ false
+Judges sound (Err NotThisSchema) = ⊥
+Judges sound (Err Store) = Unit {0}
+Judges sound (Err Memory) = Unit {0}
+
+-- what the tables hold was judged by a test of them
+pub record Judged (version : SchemaVersion) (sound : Trees → Bool) (old new : State)
+    (result : Result (Unit {0}) OpenError) : Type 0 where
+  pub asks : Asks version old new result
+  pub finds : HasCleanDisk new → RestsIn (schema_of version) old → Judges (sound old.now.trees) result
+
+-- ---- the rows of one table, in the order of their numbers
+
+-- each row begins with a number
+abbrev pub HasNumbers : Kind → Trees → Type 0
+HasNumbers kind db = AllByRecursion (λ row. is_number (column row 0) ≡ true) (db (tree_of kind))
+
+-- the rows are those of the table, and in its order if that rises
+pub record IsRead (kind : Kind) (db : Trees) (rows : List Row) : Type 0 where
+  pub all : IsPermutation (map (as_read kind) (db (tree_of kind))) rows
+  pub ordered : HasNumbers kind db → are_rising (map row_number (map (as_read kind) (db (tree_of kind)))) ≡ true
+      → rows ≡ map (as_read kind) (db (tree_of kind))
+
+abbrev pub comes_after : Option ℤ → ℤ → Bool
+comes_after None number = true
+comes_after (Some last) number = int_lt last number
+
+abbrev pub fits : Kind → ℤ → Option ℤ → Row → Bool
+fits kind next last row = is_whole_row kind next row && comes_after last (row_number row)
+
+-- each row is sound, and its number above the last
+abbrev pub checks : Kind → ℤ → Option ℤ → List Row → Bool
+checks kind next last [] = true
+checks kind next last (row ∷ rows) = fits kind next last row && checks kind next (Some (row_number row)) rows
+
+-- the numbers of rows are such as a column can hold
+abbrev pub AreHeld : List Row → Type 0
+AreHeld = AllByRecursion (λ row. FitsSigned w64 (row_number row))
+
+abbrev pub Walks : Kind → ℤ → Trees → Result (Unit {0}) OpenError → Type 0
+Walks kind next db (Ok x) = (rows : List Row) × IsRead kind db rows × (checks kind next None rows ≡ true) × AreHeld rows
+Walks kind next db (Err Damaged) = (rows : List Row) × IsRead kind db rows × (checks kind next None rows ≡ false)
+Walks kind next db (Err NotThisSchema) = ⊥
+Walks kind next db (Err Store) = Unit {0}
+Walks kind next db (Err Memory) = Unit {0}
+
+pub record Walked (version : SchemaVersion) (kind : Kind) (next : ℤ) (old new : State)
+    (result : Result (Unit {0}) OpenError) : Type 0 where
+  pub asks : Asks version old new result
+  pub finds : HasCleanDisk new → RestsIn (schema_of version) old → Walks kind next old.now.trees result
+
+-- the number of a row that fits, or that it doesn't
+abbrev pub TellsNumber : Kind → ℤ → Option ℤ → Row → Result ℤ OpenError → Type 0
+TellsNumber kind next last row (Ok number) = (number ≡ row_number row) × (fits kind next last row ≡ true)
+TellsNumber kind next last row (Err Damaged) = fits kind next last row ≡ false
+TellsNumber kind next last row (Err NotThisSchema) = ⊥
+TellsNumber kind next last row (Err Store) = Unit {0}
+TellsNumber kind next last row (Err Memory) = Unit {0}
+
+-- of the row at which a query stands, if it isn't at its end
+abbrev pub TellsNext : Kind → ℤ → Option ℤ → Option Row → Result (Option ℤ) OpenError → Type 0
+TellsNext kind next last (Some row) (Ok (Some number)) = TellsNumber kind next last row (Ok number)
+TellsNext kind next last (Some row) (Ok None) = ⊥
+TellsNext kind next last (Some row) (Err e) = TellsNumber kind next last row (Err e)
+TellsNext kind next last None (Ok (Some number)) = ⊥
+TellsNext kind next last None (Ok None) = Unit {0}
+TellsNext kind next last None (Err e) = IsFailure e
+
+module _ {S : Type 0} (g : Ghosts S) (kind : Kind) (next : ℤ) (last : Option ℤ) (old new : Held S) where
+  -- one more row, which fits or doesn't
+  abbrev pub GivesRow : Bool → List ℕ → List Row → Option ℤ → Type 0
+  GivesRow is sql given number =
+      (row : Row) × HasGiven g sql [] new (given ++ row ∷ []) × (fits kind next last row ≡ is)
+      × (number ≡ Some (row_number row))
+
+  -- the query goes on by one row: that is a sound one after the last; or it isn't; or all rows were given
+  abbrev pub Moves : List ℕ → List Row → Result (Option ℤ) OpenError → Type 0
+  Moves sql given (Ok (Some number)) = GivesRow true sql given (Some number)
+  Moves sql given (Ok None) = Shown sql [] (state g old) (state g new) given
+  Moves sql given (Err Damaged) =
+      (row : Row) × HasGiven g sql [] new (given ++ row ∷ []) × (fits kind next last row ≡ false)
+  Moves sql given (Err NotThisSchema) =
+      (version : SchemaVersion) → IsPlain (understood (schema_of version) sql)
+      → ¬ RestsIn (schema_of version) (state g old)
+  Moves sql given (Err Store) = Unit {0}
+  Moves sql given (Err Memory) = Unit {0}
+
+-- ---- the order of the table
+
+-- of a table that was walked to its end
+abbrev pub Orders : Kind → Trees → Result (Unit {0}) OpenError → Type 0
+Orders kind db result =
+    (next : ℤ) → Walks kind next db (Ok tt)
+    → Judges (are_rising (map row_number (map (as_read kind) (db (tree_of kind))))) result
+
+-- ---- the places of the rows of sources
+
+-- the place comes after the one before: the first of a domain is 0
+abbrev pub counts_on : Place → Place → Bool
+counts_on last place = if int_eq place.0 last.0 then int_eq place.1 (last.1 +ℤ pos 1) else int_eq place.1 (pos 0)
+
+abbrev pub count_on : Place → List Place → Bool
+count_on last [] = true
+count_on last (place ∷ places) = counts_on last place && count_on place places
+
+-- a place before the first of any domain
+abbrev pub no_place : Place
+no_place = (negsuc 0, negsuc 0)
+
+-- by the domain, and then by the place
+abbrev pub place_cmp : Place → Place → Ordering
+place_cmp a b = ordering_then (int_cmp a.0 b.0) (int_cmp a.1 b.1)
+
+-- a row shows a domain and a place
+abbrev pub place_told : Row → Option Place
+place_told row =
+    option_and_then (λ number. option_map (λ place. (number, place)) (int_in (column row 1))) (int_in (column row 0))
+
+abbrev pub is_next : Place → Option Place → Bool
+is_next last None = false
+is_next last (Some place) = counts_on last place
+
+-- each row shows a place that comes after the one before
+abbrev pub counts : Place → List Row → Bool
+counts last [] = true
+counts last (row ∷ rows) = is_next last (place_told row) && counts (unwrap_or (place_told row) last) rows
+
+-- the rows of sources as a keeper writes them, in the table that the schema has for them
+abbrev pub AreSources : SchemaVersion → Trees → Type 0
+AreSources version db = AreRows attribute_row attribute_in (λ a. a.rowid) same_place (db (tree_of (sources_in version)))
+
+-- their places were judged, and whether none of them stands where the schema has none
+abbrev pub FindsRest : SchemaVersion → State → State → Result (Unit {0}) OpenError → Type 0
+FindsRest version old new result =
+    HasCleanDisk new → RestsIn (schema_of version) old → AreSources version old.now.trees
+    → Judges (are_counted (map place_in (old.now.trees (tree_of (sources_in version))))
+    && is_left_empty version old.now.trees) result
+
+-- ---- what the parts of opening answer
+
+-- the number of the next domain, if that is known
+abbrev pub GivesNext : Option ℤ → Result ℤ OpenError → Type 0
+GivesNext known (Ok next) = known ≡ Some next
+GivesNext known (Err NotThisSchema) = known ≡ None
+GivesNext known (Err Damaged) = ⊥
+GivesNext known (Err Store) = Unit {0}
+GivesNext known (Err Memory) = Unit {0}
+
+-- what opening answers, whatever is found beside it
+abbrev pub GivesAs : {X : Type 0} → Result X OpenError → Result (Unit {0}) OpenError → Type 0
+GivesAs (Ok x) given = given ≡ Ok tt
+GivesAs (Err e) given = Gives (Err e) given
+
+-- the tables were judged
+pub record Checked (version : SchemaVersion) (old new : State) (result : Result (Unit {0}) OpenError) : Type 0 where
+  pub asks : Asks version old new result
+  pub opened : HasCleanDisk new → RestsIn (schema_of version) old → GivesAs result (opened version old.now.trees)
+  pub live : HasCleanDisk new → OnOk result (IsDatabase old.now)
+
+-- nothing waits for a commit
+pub record IsIdle (s : State) : Type 0 where
+  pub idle : s.in_transaction ≡ false
+  pub settled : IsTrue s.is_open → s.now ≡ s.committed
+
+-- a transaction was begun
+pub record Begun (old new : State) (result : Result (Unit {0}) OpenError) : Type 0 where
+  pub survives : Survives old new (λ _. ⊥)
+  pub begins : HasCleanDisk new → OnOk result (Shows old new old.now old.committed true)
+  pub fails : IfErr result IsFailure
+
+-- the transaction that was under way, if there was one, is undone
+pub record Undone (old new : State) : Type 0 where
+  pub was_open : IsTrue new.is_open → IsTrue old.is_open
+  pub committed : IsTrue new.is_open → new.committed ≡ old.committed
+  pub now : IsTrue new.is_open → new.now ≡ (if old.in_transaction then old.committed else old.now)
+  pub idle : new.in_transaction ≡ false
+
+pub record Ended (old new : State) (result : Result (Unit {0}) OpenError) : Type 0 where
+  pub survives : Survives old new (λ _. ⊥)
+  pub undone : HasCleanDisk new → OnOk result (Undone old new)
+  pub fails : IfErr result IsFailure
+
+-- the connection holds the tables of that schema, and they are sound
+pub record IsSoundIn (version : SchemaVersion) (s : State) : Type 0 where
+  pub rests : RestsIn (schema_of version) s
+  pub database : IsDatabase s.now
+  pub opens : opened version s.now.trees ≡ Ok tt
+
+-- the tables were judged, and nothing has changed: of those that aren't the schema's alone that is said where the
+-- answer is about them
+pub record Tested (version : SchemaVersion) (old new : State) (result : Result Bool OpenError) : Type 0 where
+  pub survives : Survives old new (λ _. ⊥)
+  pub refused : HasCleanDisk new → IsTrue new.is_open → IfErr result (λ e. IsRefusal e → SameNow old new)
+  pub same : HasCleanDisk new → RestsIn (schema_of version) old → IsTrue new.is_open → SameNow old new
+  pub opened : HasCleanDisk new → RestsIn (schema_of version) old → GivesAs result (opened version old.now.trees)
+  pub known : RestsIn (schema_of version) old → IfOk result IsTrue
+  pub stays : HasCleanDisk new → RestsIn (schema_of version) old → OnOk result (IsTrue new.is_open)
+  pub sound : HasCleanDisk new → IfOk result (λ ours. IsTrue ours → IsSoundIn version new)
+
+-- the tables were made, all or none
+pub record Made {X : Type 0} (old new : State) (result : Result X OpenError) : Type 0 where
+  pub survives : Survives old new (λ db. IsBlank old → IsMade db)
+  pub made : HasCleanDisk new → IsBlank old → OnOk result (IsTrue new.is_open × Rests new × IsMade new.now.trees)
+  pub same : HasCleanDisk new → IsBlank old → IsTrue new.is_open → OnErr result (SameNow old new)
+  pub fails : IfErr result IsFailure
+
+-- the tables of schema 1 were brought into schema 2, or stay as they were
+pub record Migrated {X : Type 0} (old new : State) (result : Result X OpenError) : Type 0 where
+  pub survives : Survives old new (λ db. IsSoundIn Schema1 old → IsMigrated old.committed.trees db)
+  pub migrated : HasCleanDisk new → IsSoundIn Schema1 old
+      → OnOk result (IsTrue new.is_open × Rests new × IsMigrated old.committed.trees new.now.trees)
+  pub same : HasCleanDisk new → RestsIn first_schema old → IsTrue new.is_open → OnErr result (SameNow old new)
+  pub fails : IfErr result IsFailure
+
+abbrev pub OpensAs : State → State → Result Bool OpenError → Type 0
+OpensAs old new result =
+    GivesAs result (opened Schema2 old.now.trees) × IfOk result IsTrue × (IsTrue new.is_open → SameNow old new)
+
+abbrev pub MigratesAs : State → State → Result Bool OpenError → Type 0
+MigratesAs old new (Ok ours) =
+    (opened Schema1 old.now.trees ≡ Ok tt) × IsTrue ours × IsMigrated old.committed.trees new.now.trees
+MigratesAs old new (Err e) = Gives (Err e) (opened Schema1 old.now.trees) × (IsTrue new.is_open → SameNow old new)
+
+abbrev pub MakesAs : State → State → Result Bool OpenError → Type 0
+MakesAs old new (Ok ours) = IsTrue ours × IsMade new.now.trees
+MakesAs old new (Err e) = IsTrue new.is_open → SameNow old new ⊎ IsMade new.now.trees
+
+pub record Loads (old new : State) (result : Result Bool OpenError) : Type 0 where
+  pub survives : Survives old new (Leaves old)
+  pub left : IfErr result (λ e. IsRefusal e → Survives old new (λ _. ⊥))
+  pub refused : HasCleanDisk new → IsTrue new.is_open → IfErr result (λ e. IsRefusal e → SameNow old new)
+  pub opens : HasCleanDisk new → Rests old → OpensAs old new result
+  pub migrates : HasCleanDisk new → RestsIn first_schema old → MigratesAs old new result
+  pub makes : HasCleanDisk new → IsBlank old → MakesAs old new result
+  pub fails : IsBlank old → IfErr result IsFailure
+  pub ours : HasCleanDisk new → IfOk result (λ ours. IsTrue ours → Ours new)
+  pub stays : HasCleanDisk new → IsKnown old → OnOk result (IsTrue new.is_open)

@@ -1,0 +1,65 @@
+-- What the rows of the queries tell, by the columns that they show.
+use Rattle.std.specs.Prelude.{◌≡◌, ℕ, List, [], ◌∷◌, Option, Some, None, option_and_then}
+use Rattle.sqlite.specs.Order.{Row, column}
+use Rattle.sqlite_typed.specs.Columns.{int_of, bytes_of, unless_null}
+use Rattle.xa_policy.specs.declared.document_key.DocumentKey.{DocumentKey}
+use Rattle.xa_policy.specs.declared.reference.Reference.{Reference}
+use Rattle.xa_policy.specs.Pattern.{read_pattern}
+use Rattle.xa_policy.specs.Version.{read_version}
+use Rattle.xa_notation.specs.declared.token.Role.{Role}
+use Rattle.xa_decide.specs.declared.source_row.SourceRow.{SourceRow}
+use Rattle.xa_records.specs.declared.gate.Token.{Token}
+use Rattle.xa_records.specs.declared.listed.Listed.{Listed}
+use Rattle.xa_records.specs.declared.active_text.ActiveText.{ActiveText}
+use Rattle.xa_store.specs.declared.query.document_row.DocumentFound.{DocumentFound}
+use Rattle.xa_store.specs.Rows.{given, is_set, kind_in, role_in, value_in, version_in}
+
+-- the one row tells this, or there is none
+abbrev pub TellsOne : {X : Type 0} → (Row → X) → List Row → Option X → Type 0
+TellsOne told [] None = Unit {0}
+TellsOne told (row ∷ []) (Some x) = x ≡ told row
+TellsOne told _ _ = ⊥
+
+abbrev pub name_told : Row → List ℕ
+name_told row = bytes_of (column row 0)
+
+abbrev pub role_told : Row → Role
+role_told row = role_in (int_of (column row 0))
+
+abbrev pub token_told : Row → Token
+token_told row = record { digest = bytes_of (column row 0); role = role_in (int_of (column row 1)) }
+
+abbrev pub key_told : Row → DocumentKey
+key_told row =
+    record {
+      kind = kind_in (int_of (column row 0));
+      id = bytes_of (column row 1);
+      version = version_in (bytes_of (column row 2));
+    }
+
+abbrev pub listed_told : Row → Listed
+listed_told row = record { key = key_told row; active = is_set (int_of (column row 3)) }
+
+abbrev pub text_told : Row → ActiveText
+text_told row = record { key = key_told row; text = bytes_of (column row 3) }
+
+abbrev pub document_told : Row → DocumentFound
+document_told row = record { text = bytes_of (column row 0); active = is_set (int_of (column row 1)) }
+
+abbrev pub root_told : Row → Reference
+root_told row = record {
+  kind = kind_in (int_of (column row 0));
+  id = bytes_of (column row 1);
+  version = option_and_then (λ text. given (read_pattern text)) (unless_null bytes_of (column row 2));
+  earliest = option_and_then (λ text. given (read_version text)) (unless_null bytes_of (column row 3));
+  latest = option_and_then (λ text. given (read_version text)) (unless_null bytes_of (column row 4));
+}
+
+abbrev pub source_told : Row → SourceRow
+source_told row = record {
+  category = bytes_of (column row 0);
+  entity = bytes_of (column row 1);
+  attribute_id = bytes_of (column row 2);
+  value = value_in (int_of (column row 3)) (bytes_of (column row 4));
+  issuer = unless_null bytes_of (column row 5);
+}

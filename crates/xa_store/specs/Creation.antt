@@ -1,0 +1,82 @@
+-- How the tables are made: part by part, in one transaction.
+use Rattle.std.specs.Prelude.{◌≡◌, ℕ, List, [], ◌∷◌}
+use Rattle.std.specs.List.{AllByRecursion}
+use Rattle.sqlite.specs.Change.{created}
+use Rattle.sqlite.specs.Effect.{Database}
+use Rattle.sqlite.specs.Schema.{Schema}
+use Rattle.xa_store.specs.declared.schema.creation.Part.{Part}
+use Rattle.xa_store.specs.declared.schema.creation.Part.TheVariants as part
+use Rattle.xa_store.specs.Opening.{no_tables, IsMade}
+use Rattle.xa_store.specs.Tables.{first_schema, our_schema, meta, domains, tokens, policies, roots}
+use Rattle.xa_store.specs.Texts as text
+
+-- the statement that makes it
+abbrev pub text_of : Part → List ℕ
+text_of part.Meta = text.meta_made
+text_of part.Domains = text.domains_made
+text_of part.Tokens = text.tokens_made
+text_of part.Policies = text.policies_made
+text_of part.Roots = text.roots_made
+text_of part.Attributes = text.attributes_made
+text_of part.Sources = text.sources_made
+text_of part.FirstRow = text.meta_begun
+
+abbrev pub first : Schema
+first = created no_tables meta
+
+abbrev pub second : Schema
+second = created first domains
+
+abbrev pub third : Schema
+third = created second tokens
+
+abbrev pub fourth : Schema
+fourth = created third policies
+
+abbrev pub fifth : Schema
+fifth = created fourth roots
+
+-- the schema under which it is made
+abbrev pub before : Part → Schema
+before part.Meta = no_tables
+before part.Domains = first
+before part.Tokens = second
+before part.Policies = third
+before part.Roots = fourth
+before part.Attributes = fifth
+before part.Sources = first_schema
+before part.FirstRow = our_schema
+
+-- the tables that were made before it
+abbrev pub trees_before : Part → List ℕ
+trees_before part.Meta = []
+trees_before part.Domains = 0 ∷ []
+trees_before part.Tokens = 0 ∷ 1 ∷ []
+trees_before part.Policies = 0 ∷ 1 ∷ 3 ∷ []
+trees_before part.Roots = 0 ∷ 1 ∷ 3 ∷ 5 ∷ []
+trees_before part.Attributes = 0 ∷ 1 ∷ 3 ∷ 5 ∷ 7 ∷ []
+trees_before part.Sources = 0 ∷ 1 ∷ 3 ∷ 5 ∷ 7 ∷ 8 ∷ []
+trees_before part.FirstRow = 0 ∷ 1 ∷ 3 ∷ 5 ∷ 7 ∷ 8 ∷ 10 ∷ []
+
+-- these tables are there, without rows
+pub record AreEmpty (under : Schema) (trees : List ℕ) (db : Database) : Type 0 where
+  pub schema : db.schema ≡ under
+  pub empty : AllByRecursion (λ t. db.trees t ≡ []) trees
+
+abbrev pub IsBefore : Part → Database → Type 0
+IsBefore part = AreEmpty (before part) (trees_before part)
+
+-- all are there
+pub record AreMade (db : Database) : Type 0 where
+  pub schema : db.schema ≡ our_schema
+  pub made : IsMade db.trees
+
+abbrev pub IsAfter : Part → Database → Type 0
+IsAfter part.Meta = IsBefore part.Domains
+IsAfter part.Domains = IsBefore part.Tokens
+IsAfter part.Tokens = IsBefore part.Policies
+IsAfter part.Policies = IsBefore part.Roots
+IsAfter part.Roots = IsBefore part.Attributes
+IsAfter part.Attributes = IsBefore part.Sources
+IsAfter part.Sources = IsBefore part.FirstRow
+IsAfter part.FirstRow = AreMade

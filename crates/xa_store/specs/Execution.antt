@@ -1,0 +1,56 @@
+-- What the steps of a change do in their transaction.
+use Rattle.std.specs.Prelude.{◌≡◌, ◌⊎◌, ℕ, false, List, [], Option, Result, IsTrue, OnOk, OnErr}
+use Rattle.sqlite.specs.State.{State, HasCleanDisk, KeepsCounts, Shows}
+use Rattle.sqlite.specs.Tree.{Trees}
+use Rattle.sqlite.specs.declared.types.Value.{Value}
+use Rattle.sqlite.specs.declared.types.Value.TheVariants.{Text}
+use Rattle.sqlite_typed.specs.Columns.{or_null}
+use Rattle.xa_records.specs.declared.refusal.Failure.{Failure}
+use Rattle.xa_store.specs.declared.step.Step.{Step}
+use Rattle.xa_store.specs.Sound.{AreTables, IsOurDatabase, Ours, Rests, SameNow}
+use Rattle.xa_store.specs.Steps.{AllowsAll, after_all}
+use Rattle.xa_store.specs.Tables.{our_schema}
+use Rattle.xa_store.specs.World.{Rows, rows_of}
+
+-- a text as a column holds it
+abbrev pub text_column : Option (List ℕ) → Value
+text_column = or_null Text
+
+-- a transaction over our tables
+pub record IsInside (s : State) : Type 0 where
+  pub inside : IsTrue s.in_transaction
+  pub schema : s.now.schema ≡ our_schema
+  pub database : IsOurDatabase s.now.trees
+  pub tables : AreTables s.now.trees
+
+-- the steps were taken one after another, and the transaction goes on
+pub record Took (steps : List Step) (old new : State) : Type 0 where
+  pub within : IsInside new
+  pub rows : rows_of new.now.trees ≡ after_all steps (rows_of old.now.trees)
+
+-- the tables are the rows after the steps
+pub record Holds (steps : List Step) (before : Rows) (db : Trees) : Type 0 where
+  pub database : IsOurDatabase db
+  pub tables : AreTables db
+  pub rows : rows_of db ≡ after_all steps before
+
+-- all the steps were taken, and committed
+pub record Made (steps : List Step) (old new : State) : Type 0 where
+  pub is_open : IsTrue new.is_open
+  pub rests : Rests new
+  pub holds : Holds steps (rows_of old.now.trees) new.now.trees
+
+-- the transaction was committed with what it held
+abbrev pub Committed : State → State → Type 0
+Committed old new =
+    IsTrue old.in_transaction × Shows old new old.now old.now false × KeepsCounts old new × (new.marks ≡ [])
+
+-- All the steps or none of them, also over a crash.
+pub record Runs {X : Type 0} (steps : List Step) (old new : State) (result : Result X Failure) : Type 0 where
+  pub was_open : HasCleanDisk new → IsTrue new.is_open → IsTrue old.is_open
+  pub clean : HasCleanDisk new → HasCleanDisk old
+  pub made : HasCleanDisk new → IsTrue old.is_open → Ours old → AllowsAll steps (rows_of old.now.trees)
+      → OnOk result (Made steps old new)
+  pub same : HasCleanDisk new → Rests old → IsTrue new.is_open → OnErr result (SameNow old new)
+  pub crash : HasCleanDisk new → IsTrue old.is_open → Ours old → AllowsAll steps (rows_of old.now.trees)
+      → (db : Trees) → new.may_leave db → old.may_leave db ⊎ Holds steps (rows_of old.now.trees) db

@@ -1,0 +1,75 @@
+-- How tables of schema 1 are brought into schema 2: statement by statement, in one transaction. `first` are the
+-- tables of schema 1.
+use Rattle.std.specs.Prelude.{◌≡◌, ℕ, ◌+◌, ℤ, pos, List, [], ◌∷◌, Ok}
+use Rattle.std.specs.List.{AllByRecursion}
+use Rattle.sqlite.specs.Effect.{Database, IsDatabase}
+use Rattle.sqlite.specs.Order.{Row, column}
+use Rattle.sqlite.specs.Tree.{Trees}
+use Rattle.sqlite.specs.declared.types.Value.TheVariants.{Int, Null}
+use Rattle.sqlite_catalog.specs.Listing.{IsSound}
+use Rattle.xa_store.specs.declared.schema.migration.Stage.{Stage}
+use Rattle.xa_store.specs.declared.schema.migration.Stage.TheVariants as stage
+use Rattle.xa_store.specs.declared.schema.version.SchemaVersion.TheVariants.{Schema1}
+use Rattle.xa_store.specs.Opened.{opened}
+use Rattle.xa_store.specs.Rows.{meta_row, next_in}
+use Rattle.xa_store.specs.Tables.{first_schema, our_schema}
+use Rattle.xa_store.specs.Texts as text
+
+-- the statement
+abbrev pub text_of : Stage → List ℕ
+text_of stage.Sources = text.sources_made
+text_of stage.Rows = text.sources_filled
+text_of stage.Attributes = text.attributes_emptied
+text_of stage.Number = text.schema_raised
+
+-- a row of a source as it stands in the table of sources: under another rowid, without an issuer
+abbrev pub moved_row : ℤ → Row → Row
+moved_row rowid row =
+    Int rowid ∷ column row 1 ∷ column row 2 ∷ column row 3 ∷ column row 4 ∷ column row 5 ∷ column row 6
+    ∷ column row 7 ∷ Null ∷ []
+
+-- all of them, in their order, under rowids that count on from this
+abbrev pub moved_rows : ℕ → List Row → List Row
+moved_rows rowid [] = []
+moved_rows rowid (row ∷ rows) = moved_row (pos rowid) row ∷ moved_rows (rowid + 1) rows
+
+-- the tables of schema 1 and no others, whose rows obey the rules of these tables, and opening finds them sound
+pub record IsSoundFirst (first : Trees) : Type 0 where
+  pub database : IsSound first_schema first
+  pub opens : opened Schema1 first ≡ Ok tt
+
+-- the tables that no stage touches are as they were
+abbrev pub KeepsOthers : Trees → Trees → Type 0
+KeepsOthers first db = AllByRecursion (λ t. db t ≡ first t) (1 ∷ 3 ∷ 5 ∷ 7 ∷ [])
+
+-- under schema 2, whose rules they obey, with these rows in the three tables that the stages touch
+pub record Stands (first : Trees) (first_rows left moved : List Row) (db : Database) : Type 0 where
+  pub schema : db.schema ≡ our_schema
+  pub database : IsDatabase db
+  pub meta : db.trees 0 ≡ first_rows
+  pub attributes : db.trees 8 ≡ left
+  pub sources : db.trees 10 ≡ moved
+  pub others : KeepsOthers first db.trees
+
+-- the tables are those of schema 1
+pub record IsFirst (first : Trees) (db : Database) : Type 0 where
+  pub schema : db.schema ≡ first_schema
+  pub meta : db.trees 0 ≡ first 0
+  pub attributes : db.trees 8 ≡ first 8
+  pub others : KeepsOthers first db.trees
+
+abbrev pub IsBefore : Stage → Trees → Database → Type 0
+IsBefore stage.Sources first = IsFirst first
+IsBefore stage.Rows first = Stands first (first 0) (first 8) []
+IsBefore stage.Attributes first = Stands first (first 0) (first 8) (moved_rows 1 (first 8))
+IsBefore stage.Number first = Stands first (first 0) [] (moved_rows 1 (first 8))
+
+-- all are done
+abbrev pub IsDone : Trees → Database → Type 0
+IsDone first = Stands first (meta_row (next_in (first 0)) ∷ []) [] (moved_rows 1 (first 8))
+
+abbrev pub IsAfter : Stage → Trees → Database → Type 0
+IsAfter stage.Sources = IsBefore stage.Rows
+IsAfter stage.Rows = IsBefore stage.Attributes
+IsAfter stage.Attributes = IsBefore stage.Number
+IsAfter stage.Number = IsDone

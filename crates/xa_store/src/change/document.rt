@@ -1,0 +1,386 @@
+//! The upload of a document, its activation and its deletion.
+ghost use Rattle.std.specs.Prelude.{◌≡◌, ℕ, nat_lt, List, [], ◌∷◌, bytes_eq, Some, None, IsTrue, IfOk};
+ghost use Rattle.sqlite.specs.Held.{state};
+ghost use Rattle.sqlite.specs.State.{HasCleanDisk};
+ghost use Rattle.sqlite_keyed.specs.Keyed.{IsKeyedBy};
+ghost use Rattle.xa_records.specs.Changes.{activity_set, deleted, upload_of, uploaded, within};
+ghost use Rattle.xa_records.specs.DomainState.{IsDocumentOf};
+ghost use Rattle.xa_records.specs.Keeper.{IfAnswered};
+ghost use Rattle.xa_records.specs.Kept.{state_of};
+ghost use Rattle.xa_store.specs.declared.step.Step.TheVariants.{SetEpoch};
+ghost use Rattle.xa_store.specs.Lookup.{FindsDocument, IsDomain};
+ghost use Rattle.xa_store.specs.Plan.{IsUploadPlanned, number_key, told_by, upload_by};
+ghost use Rattle.xa_store.specs.Quiet.{Quiet};
+ghost use Rattle.xa_store.specs.Sound.{AreNumbered, Ours};
+ghost use Rattle.xa_store.specs.Steps.{KeyReads};
+ghost use Rattle.xa_store.specs.Turns.{IsPlanned, Turns};
+ghost use Rattle.xa_store.specs.World.{Rows, rows_of, world_of};
+
+use crate::change::answered;
+use crate::change::number::next_after;
+use crate::query::count::document_count;
+use crate::query::document::document_of;
+use crate::query::document_row::DocumentFound;
+use crate::query::domain::{DomainFound, domain_named};
+use crate::step::Step;
+use crate::step::transaction::run;
+use sqlite::{Alter, Connection};
+use std::alloc::{AllocError, Global};
+use xa_policy::DocumentKey;
+use xa_records::{ChangeError, MAX_DOCUMENTS, Refusal, Upload, is_same_activity};
+use xa_value::{Items, Text};
+
+/// Law: a key reads back from the texts of its row.
+fn key_reads_back(key: &DocumentKey)
+    ensures { KeyReads key.now }
+{
+    key.version.reads_back();
+}
+
+/// A copy of the text.
+fn copy_of_text(alloc: Global, text: &[u8]) -> Result<Items<u8>, AllocError>
+    ensures { IfOk result (λ copy. copy ≡ text.now) }
+{
+    let mut copy = Vec::with_capacity(alloc, text.len())?;
+    copy.extend_from_slice(text)?;
+    Ok(Items::from_vec(copy))
+}
+
+/// Whether the two texts are one.
+fn is_same_body(one: &[u8], other: &[u8]) -> bool
+    ensures { result ≡ bytes_eq one.now other.now }
+{
+    one == other
+}
+
+/// The step, and then the epoch.
+fn raising_steps(
+    alloc: Global,
+    step: Step,
+    number: i64,
+    epoch: i64,
+) -> Result<Items<Step>, AllocError>
+    ensures { IfOk result (λ steps. steps ≡ step ∷ SetEpoch number epoch ∷ []) }
+{
+    let mut steps = Items::new(alloc);
+    steps.push(step)?;
+    steps.push(Step::SetEpoch { number, epoch })?;
+    Ok(steps)
+}
+
+/// Whether a domain of so many documents may have one more.
+fn has_room(count: usize) -> bool
+    ensures { result ≡ nat_lt count 1_024 }
+{
+    count < MAX_DOCUMENTS
+}
+
+/// The plan for a document that isn't there.
+fn plan_new<S: Alter>(
+    conn: &mut Connection<S>,
+    alloc: Global,
+    found: DomainFound,
+    key: DocumentKey,
+    text: &[u8],
+) -> Result<Items<Step>, ChangeError>
+    requires { IsDocumentOf key text.now }
+    ensures quiet { Quiet (state S.Store conn.old) (state S.Store conn.new) }
+    ensures opens { HasCleanDisk (state S.Store conn.new)
+        → IfAnswered result (IsTrue (state S.Store conn.new).is_open) }
+    ensures plans { HasCleanDisk (state S.Store conn.new) → Ours (state S.Store conn.old)
+        → (name : List ℕ) → IsDomain name (rows_of (state S.Store conn.old).now.trees) found
+        → FindsDocument found.number key (rows_of (state S.Store conn.old).now.trees) None
+        → IsUploadPlanned key text.now name (rows_of (state S.Store conn.old).now.trees) result }
+{
+    key_reads_back(&key);
+    let count = document_count(conn, found.number)?;
+    if !has_room(count) {
+        return Err(ChangeError::Refused(Refusal::Quota));
+    }
+    let epoch = next_after(found.epoch)?;
+    let copy = copy_of_text(alloc, text)?;
+    let step = Step::AddDocument {
+        number: found.number,
+        key,
+        text: copy,
+    };
+    Ok(raising_steps(alloc, step, found.number, epoch)?)
+}
+
+/// The plan for a document that is there with that text: the very text again changes nothing.
+fn plan_again(
+    alloc: Global,
+    found: DomainFound,
+    there: &DocumentFound,
+    key: &DocumentKey,
+    text: &[u8],
+) -> Result<Items<Step>, ChangeError>
+    ensures plans { (name : List ℕ) → (rows : Rows) → AreNumbered rows → IsKeyedBy number_key rows.domains
+        → IsDomain name rows found → FindsDocument found.number key.now rows (Some there.now)
+        → IsUploadPlanned key.now text.now name rows result }
+{
+    key_reads_back(key);
+    if is_same_body(there.text.as_slice(), text) {
+        return Ok(Items::new(alloc));
+    }
+    Err(ChangeError::Refused(Refusal::SameVersionOtherText))
+}
+
+/// The plan for a document of a domain that was found.
+fn plan_found<S: Alter>(
+    conn: &mut Connection<S>,
+    alloc: Global,
+    found: DomainFound,
+    key: DocumentKey,
+    text: &[u8],
+) -> Result<Items<Step>, ChangeError>
+    requires { IsDocumentOf key text.now }
+    ensures quiet { Quiet (state S.Store conn.old) (state S.Store conn.new) }
+    ensures opens { HasCleanDisk (state S.Store conn.new)
+        → IfAnswered result (IsTrue (state S.Store conn.new).is_open) }
+    ensures plans { HasCleanDisk (state S.Store conn.new) → Ours (state S.Store conn.old)
+        → (name : List ℕ) → IsDomain name (rows_of (state S.Store conn.old).now.trees) found
+        → IsUploadPlanned key text.now name (rows_of (state S.Store conn.old).now.trees) result }
+{
+    let there = document_of(conn, alloc, found.number, &key)?;
+    match there {
+        Some(there) => plan_again(alloc, found, &there, &key, text),
+        None => plan_new(conn, alloc, found, key, text),
+    }
+}
+
+/// The plan, or why the document isn't uploaded.
+fn plan_upload<S: Alter>(
+    conn: &mut Connection<S>,
+    alloc: Global,
+    name: &Text,
+    key: DocumentKey,
+    text: &[u8],
+) -> Result<Items<Step>, ChangeError>
+    requires { IsDocumentOf key text.now }
+    ensures quiet { Quiet (state S.Store conn.old) (state S.Store conn.new) }
+    ensures opens { HasCleanDisk (state S.Store conn.new)
+        → IfAnswered result (IsTrue (state S.Store conn.new).is_open) }
+    ensures plans { HasCleanDisk (state S.Store conn.new) → Ours (state S.Store conn.old)
+        → IsUploadPlanned key text.now name.now (rows_of (state S.Store conn.old).now.trees) result }
+{
+    let found = domain_named(conn, name)?;
+    let Some(found) = found else {
+        return Err(ChangeError::Refused(Refusal::Absent));
+    };
+    plan_found(conn, alloc, found, key, text)
+}
+
+/// Whether the steps of an upload put a document in.
+fn upload_by(steps: &[Step]) -> Upload
+    ensures { result ≡ upload_by steps.now }
+{
+    match steps {
+        [] => Upload::Same,
+        [_, ..] => Upload::New,
+    }
+}
+
+/// The upload that was made, if it was.
+fn uploaded_as(done: Result<(), ChangeError>, upload: Upload) -> Result<Upload, ChangeError>
+    ensures { result ≡ told_by upload done }
+{
+    match done {
+        Ok(()) => Ok(upload),
+        Err(error) => Err(error),
+    }
+}
+
+/// Uploads a document to the domain of that name. It isn't active at first.
+pub(crate) fn upload_in<S: Alter>(
+    conn: &mut Connection<S>,
+    alloc: Global,
+    name: &Text,
+    key: DocumentKey,
+    text: &[u8],
+) -> Result<Upload, ChangeError>
+    requires { IsDocumentOf key text.now }
+    ensures turns { Turns (within (uploaded key text.now)) name.now
+        (state S.Store conn.old) (state S.Store conn.new) result }
+    ensures which { HasCleanDisk (state S.Store conn.new) → Ours (state S.Store conn.old) → IfOk result (λ u.
+        u ≡ upload_of key (state_of name.now (world_of (state S.Store conn.old).now.trees))) }
+{
+    match plan_upload(conn, alloc, name, key, text) {
+        Ok(steps) => {
+            let upload = upload_by(steps.as_slice());
+            uploaded_as(answered(run(conn, alloc, steps.as_slice())), upload)
+        }
+        Err(error) => Err(error),
+    }
+}
+
+/// The plan for a document that is there, active or not.
+fn plan_activity(
+    alloc: Global,
+    found: DomainFound,
+    there: &DocumentFound,
+    key: &DocumentKey,
+    active: bool,
+) -> Result<Items<Step>, ChangeError>
+    ensures plans { (name : List ℕ) → (rows : Rows) → AreNumbered rows → IsKeyedBy number_key rows.domains
+        → IsDomain name rows found → FindsDocument found.number key.now rows (Some there.now)
+        → IsPlanned (within (activity_set key.now active)) name rows result }
+{
+    key_reads_back(key);
+    if is_same_activity(there.active, active) {
+        return Ok(Items::new(alloc));
+    }
+    let epoch = next_after(found.epoch)?;
+    let copy = key.clone()?;
+    let step = Step::SetActive {
+        number: found.number,
+        key: copy,
+        active,
+    };
+    Ok(raising_steps(alloc, step, found.number, epoch)?)
+}
+
+/// The plan for the activity of a document of a domain that was found.
+fn plan_active_found<S: Alter>(
+    conn: &mut Connection<S>,
+    alloc: Global,
+    found: DomainFound,
+    key: &DocumentKey,
+    active: bool,
+) -> Result<Items<Step>, ChangeError>
+    ensures quiet { Quiet (state S.Store conn.old) (state S.Store conn.new) }
+    ensures opens { HasCleanDisk (state S.Store conn.new)
+        → IfAnswered result (IsTrue (state S.Store conn.new).is_open) }
+    ensures plans { HasCleanDisk (state S.Store conn.new) → Ours (state S.Store conn.old)
+        → (name : List ℕ) → IsDomain name (rows_of (state S.Store conn.old).now.trees) found
+        → IsPlanned (within (activity_set key.now active)) name
+        (rows_of (state S.Store conn.old).now.trees) result }
+{
+    key_reads_back(key);
+    let there = document_of(conn, alloc, found.number, key)?;
+    match there {
+        Some(there) => plan_activity(alloc, found, &there, key, active),
+        None => Err(ChangeError::Refused(Refusal::Absent)),
+    }
+}
+
+/// The plan, or why the activity isn't set.
+fn plan_active<S: Alter>(
+    conn: &mut Connection<S>,
+    alloc: Global,
+    name: &Text,
+    key: &DocumentKey,
+    active: bool,
+) -> Result<Items<Step>, ChangeError>
+    ensures quiet { Quiet (state S.Store conn.old) (state S.Store conn.new) }
+    ensures opens { HasCleanDisk (state S.Store conn.new)
+        → IfAnswered result (IsTrue (state S.Store conn.new).is_open) }
+    ensures plans { HasCleanDisk (state S.Store conn.new) → Ours (state S.Store conn.old)
+        → IsPlanned (within (activity_set key.now active)) name.now
+        (rows_of (state S.Store conn.old).now.trees) result }
+{
+    let found = domain_named(conn, name)?;
+    let Some(found) = found else {
+        return Err(ChangeError::Refused(Refusal::Absent));
+    };
+    plan_active_found(conn, alloc, found, key, active)
+}
+
+/// Sets whether references may resolve to the document of that key in the domain of that name.
+pub(crate) fn set_active_in<S: Alter>(
+    conn: &mut Connection<S>,
+    alloc: Global,
+    name: &Text,
+    key: &DocumentKey,
+    active: bool,
+) -> Result<(), ChangeError>
+    ensures turns { Turns (within (activity_set key.now active)) name.now
+        (state S.Store conn.old) (state S.Store conn.new) result }
+{
+    match plan_active(conn, alloc, name, key, active) {
+        Ok(steps) => answered(run(conn, alloc, steps.as_slice())),
+        Err(error) => Err(error),
+    }
+}
+
+/// The plan to take out a document that is there.
+fn plan_gone(
+    alloc: Global,
+    found: DomainFound,
+    there: &DocumentFound,
+    key: &DocumentKey,
+) -> Result<Items<Step>, ChangeError>
+    ensures plans { (name : List ℕ) → (rows : Rows) → AreNumbered rows → IsKeyedBy number_key rows.domains
+        → IsDomain name rows found → FindsDocument found.number key.now rows (Some there.now)
+        → IsPlanned (within (deleted key.now)) name rows result }
+{
+    key_reads_back(key);
+    if there.active {
+        return Err(ChangeError::Refused(Refusal::StillActive));
+    }
+    let epoch = next_after(found.epoch)?;
+    let copy = key.clone()?;
+    let step = Step::DropDocument {
+        number: found.number,
+        key: copy,
+    };
+    Ok(raising_steps(alloc, step, found.number, epoch)?)
+}
+
+/// The plan to take a document out of a domain that was found.
+fn plan_delete_found<S: Alter>(
+    conn: &mut Connection<S>,
+    alloc: Global,
+    found: DomainFound,
+    key: &DocumentKey,
+) -> Result<Items<Step>, ChangeError>
+    ensures quiet { Quiet (state S.Store conn.old) (state S.Store conn.new) }
+    ensures opens { HasCleanDisk (state S.Store conn.new)
+        → IfAnswered result (IsTrue (state S.Store conn.new).is_open) }
+    ensures plans { HasCleanDisk (state S.Store conn.new) → Ours (state S.Store conn.old)
+        → (name : List ℕ) → IsDomain name (rows_of (state S.Store conn.old).now.trees) found
+        → IsPlanned (within (deleted key.now)) name (rows_of (state S.Store conn.old).now.trees) result }
+{
+    key_reads_back(key);
+    let there = document_of(conn, alloc, found.number, key)?;
+    match there {
+        Some(there) => plan_gone(alloc, found, &there, key),
+        None => Err(ChangeError::Refused(Refusal::Absent)),
+    }
+}
+
+/// The plan, or why the document isn't deleted.
+fn plan_delete<S: Alter>(
+    conn: &mut Connection<S>,
+    alloc: Global,
+    name: &Text,
+    key: &DocumentKey,
+) -> Result<Items<Step>, ChangeError>
+    ensures quiet { Quiet (state S.Store conn.old) (state S.Store conn.new) }
+    ensures opens { HasCleanDisk (state S.Store conn.new)
+        → IfAnswered result (IsTrue (state S.Store conn.new).is_open) }
+    ensures plans { HasCleanDisk (state S.Store conn.new) → Ours (state S.Store conn.old)
+        → IsPlanned (within (deleted key.now)) name.now (rows_of (state S.Store conn.old).now.trees) result }
+{
+    let found = domain_named(conn, name)?;
+    let Some(found) = found else {
+        return Err(ChangeError::Refused(Refusal::Absent));
+    };
+    plan_delete_found(conn, alloc, found, key)
+}
+
+/// Deletes a document of the domain of that name, which must not be active.
+pub(crate) fn delete_in<S: Alter>(
+    conn: &mut Connection<S>,
+    alloc: Global,
+    name: &Text,
+    key: &DocumentKey,
+) -> Result<(), ChangeError>
+    ensures turns { Turns (within (deleted key.now)) name.now
+        (state S.Store conn.old) (state S.Store conn.new) result }
+{
+    match plan_delete(conn, alloc, name, key) {
+        Ok(steps) => answered(run(conn, alloc, steps.as_slice())),
+        Err(error) => Err(error),
+    }
+}

@@ -1,0 +1,141 @@
+//! The creation and the removal of a domain.
+ghost use Rattle.std.specs.Prelude.{◌≡◌, ℕ, List, [], ◌∷◌, filter, IsTrue, IfOk};
+ghost use Rattle.sqlite.specs.Held.{state};
+ghost use Rattle.sqlite.specs.State.{HasCleanDisk};
+ghost use Rattle.sqlite_keyed.specs.Keyed.{IsKeyedBy};
+ghost use Rattle.sqlite_keyed.specs.Rules.{AreApart};
+ghost use Rattle.xa_records.specs.Changes.{created, removed};
+ghost use Rattle.xa_records.specs.DomainName.{is_domain_name};
+ghost use Rattle.xa_records.specs.Keeper.{IfAnswered};
+ghost use Rattle.xa_store.specs.declared.step.Step.TheVariants.{DropDomain};
+ghost use Rattle.xa_store.specs.Lookup.{IsDomain, IsNext};
+ghost use Rattle.xa_store.specs.Plan.{create_steps, number_key};
+ghost use Rattle.xa_store.specs.Quiet.{Quiet};
+ghost use Rattle.xa_store.specs.Sound.{AreNumbered, Ours, same_name};
+ghost use Rattle.xa_store.specs.Steps.{is_named};
+ghost use Rattle.xa_store.specs.Turns.{IsPlanned, Turns};
+ghost use Rattle.xa_store.specs.World.{Rows, rows_of};
+
+use crate::change::answered;
+use crate::change::number::next_after;
+use crate::query::domain::{DomainFound, domain_named};
+use crate::query::number::next_number;
+use crate::step::Step;
+use crate::step::transaction::run;
+use sqlite::{Alter, Connection};
+use std::alloc::{AllocError, Global};
+use xa_records::{ChangeError, Refusal};
+use xa_value::{Items, Text};
+
+/// The steps that make a domain.
+fn create_steps(
+    alloc: Global,
+    name: &Text,
+    number: i64,
+    next: i64,
+) -> Result<Items<Step>, AllocError>
+    ensures { IfOk result (λ steps. steps ≡ create_steps name.now number next) }
+{
+    let mut steps = Items::new(alloc);
+    let name = name.clone()?;
+    steps.push(Step::AddDomain { number, name })?;
+    steps.push(Step::SetNext(next))?;
+    Ok(steps)
+}
+
+/// The plan for a domain that isn't there, with the next number.
+fn plan_made(alloc: Global, name: &Text, number: i64) -> Result<Items<Step>, ChangeError>
+    requires { IsTrue (is_domain_name name.now) }
+    ensures plans { (rows : Rows) → AreNumbered rows → AreApart same_name rows.domains
+        → filter (is_named name.now) rows.domains ≡ [] → IsNext rows number
+        → IsPlanned created name.now rows result }
+{
+    let next = next_after(number)?;
+    Ok(create_steps(alloc, name, number, next)?)
+}
+
+/// The plan, or why the domain isn't made.
+fn plan_create<S: Alter>(
+    conn: &mut Connection<S>,
+    alloc: Global,
+    name: &Text,
+) -> Result<Items<Step>, ChangeError>
+    requires { IsTrue (is_domain_name name.now) }
+    ensures quiet { Quiet (state S.Store conn.old) (state S.Store conn.new) }
+    ensures opens { HasCleanDisk (state S.Store conn.new)
+        → IfAnswered result (IsTrue (state S.Store conn.new).is_open) }
+    ensures plans { HasCleanDisk (state S.Store conn.new) → Ours (state S.Store conn.old)
+        → IsPlanned created name.now (rows_of (state S.Store conn.old).now.trees) result }
+{
+    let found = domain_named(conn, name)?;
+    if let Some(_) = found {
+        return Err(ChangeError::Refused(Refusal::Exists));
+    }
+    let number = next_number(conn)?;
+    plan_made(alloc, name, number)
+}
+
+/// Makes the domain of that name, in which nothing has been put yet.
+pub(crate) fn create_in<S: Alter>(
+    conn: &mut Connection<S>,
+    alloc: Global,
+    name: &Text,
+) -> Result<(), ChangeError>
+    requires { IsTrue (is_domain_name name.now) }
+    ensures turns { Turns created name.now (state S.Store conn.old) (state S.Store conn.new) result }
+{
+    match plan_create(conn, alloc, name) {
+        Ok(steps) => answered(run(conn, alloc, steps.as_slice())),
+        Err(error) => Err(error),
+    }
+}
+
+/// The one step that takes a domain out.
+fn remove_steps(alloc: Global, number: i64) -> Result<Items<Step>, AllocError>
+    ensures { IfOk result (λ steps. steps ≡ DropDomain number ∷ []) }
+{
+    let mut steps = Items::new(alloc);
+    steps.push(Step::DropDomain(number))?;
+    Ok(steps)
+}
+
+/// The plan for a domain that was found.
+fn plan_found(alloc: Global, found: DomainFound) -> Result<Items<Step>, ChangeError>
+    ensures plans { (name : List ℕ) → (rows : Rows) → AreNumbered rows → IsKeyedBy number_key rows.domains
+        → IsDomain name rows found → IsPlanned removed name rows result }
+{
+    Ok(remove_steps(alloc, found.number)?)
+}
+
+/// The plan, or why the domain isn't removed.
+fn plan_remove<S: Alter>(
+    conn: &mut Connection<S>,
+    alloc: Global,
+    name: &Text,
+) -> Result<Items<Step>, ChangeError>
+    ensures quiet { Quiet (state S.Store conn.old) (state S.Store conn.new) }
+    ensures opens { HasCleanDisk (state S.Store conn.new)
+        → IfAnswered result (IsTrue (state S.Store conn.new).is_open) }
+    ensures plans { HasCleanDisk (state S.Store conn.new) → Ours (state S.Store conn.old)
+        → IsPlanned removed name.now (rows_of (state S.Store conn.old).now.trees) result }
+{
+    let found = domain_named(conn, name)?;
+    let Some(found) = found else {
+        return Err(ChangeError::Refused(Refusal::Absent));
+    };
+    plan_found(alloc, found)
+}
+
+/// Removes the domain of that name, with all that is in it.
+pub(crate) fn remove_in<S: Alter>(
+    conn: &mut Connection<S>,
+    alloc: Global,
+    name: &Text,
+) -> Result<(), ChangeError>
+    ensures turns { Turns removed name.now (state S.Store conn.old) (state S.Store conn.new) result }
+{
+    match plan_remove(conn, alloc, name) {
+        Ok(steps) => answered(run(conn, alloc, steps.as_slice())),
+        Err(error) => Err(error),
+    }
+}

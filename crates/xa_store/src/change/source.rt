@@ -1,0 +1,173 @@
+//! The source of a domain gets other rows.
+ghost use Rattle.std.specs.Prelude.{◌≡◌, ◌≤◌, ◌++◌, ℕ, true, List, length, IsTrue, IfOk, OnOk};
+ghost use Rattle.sqlite.specs.Held.{state};
+ghost use Rattle.sqlite.specs.State.{HasCleanDisk};
+ghost use Rattle.sqlite_keyed.specs.Keyed.{IsKeyedBy};
+ghost use Rattle.xa_records.specs.Changes.{source_set, within};
+ghost use Rattle.xa_records.specs.Keeper.{IfAnswered};
+ghost use Rattle.xa_store.specs.Lookup.{IsDomain};
+ghost use Rattle.xa_store.specs.Plan.{HaveTexts, RowsRead, SetsSource, number_key, row_steps, source_steps};
+ghost use Rattle.xa_store.specs.Opened.{holds_value};
+ghost use Rattle.xa_store.specs.Quiet.{Quiet};
+ghost use Rattle.xa_store.specs.Rows.{type_number, value_text};
+ghost use Rattle.xa_store.specs.Sound.{AreNumbered, AreSourceTexts, Ours};
+ghost use Rattle.xa_store.specs.Steps.{ReadsBack};
+ghost use Rattle.xa_store.specs.Turns.{IsPlanned, Turns};
+ghost use Rattle.xa_store.specs.World.{Rows, rows_of, state_at};
+
+use crate::change::answered;
+use crate::change::number::next_after;
+use crate::change::text::{bytes_are_utf8, bytes_are_utf8_if_any};
+use crate::query::domain::{DomainFound, domain_named};
+use crate::query::source::source_of;
+use crate::step::Step;
+use crate::step::transaction::run;
+use sqlite::{Alter, Connection};
+use std::alloc::{AllocError, Global};
+use xa_decide::SourceRow;
+use xa_records::{ChangeError, Failure, Refusal, is_same_source, is_same_value, may_be_kept};
+use xa_value::{Items, OrMemory, Text, Value};
+
+/// Answers where the value reads back from its text. One that doesn't, a URI with white space around it
+/// for one, can't be kept.
+fn check_value(alloc: Global, value: &Value) -> Result<(), Failure>
+    ensures reads { OnOk result (ReadsBack value.now) }
+    ensures text { OnOk result (holds_value (type_number value.now) (value_text value.now) ≡ true) }
+{
+    let text = value.to_text(alloc)?;
+    match Value::read(alloc, value.data_type(), text.as_str()) {
+        Ok(read) => {
+            if is_same_value(&read, value) {
+                return Ok(());
+            }
+            Err(Failure::Store)
+        }
+        Err(OrMemory::Memory) => Err(Failure::Memory),
+        Err(OrMemory::Error(_)) => Err(Failure::Store),
+    }
+}
+
+/// Answers where the value of the row reads back.
+fn check_row(alloc: Global, row: &SourceRow) -> Result<(), Failure>
+    ensures reads { OnOk result (ReadsBack row.now.value) }
+    ensures texts { OnOk result (AreSourceTexts row.now) }
+{
+    bytes_are_utf8(&row.category);
+    bytes_are_utf8(&row.entity);
+    bytes_are_utf8(&row.attribute_id);
+    bytes_are_utf8_if_any(&row.issuer);
+    check_value(alloc, &row.value)
+}
+
+/// Answers where the values of all the rows read back. In time in proportion to their texts.
+fn check_rows(alloc: Global, rows: &[SourceRow]) -> Result<(), Failure>
+    ensures reads { OnOk result (RowsRead rows.now) }
+    ensures texts { OnOk result (HaveTexts rows.now) }
+{
+    match rows {
+        [] => Ok(()),
+        [row, rest @ ..] => {
+            check_row(alloc, row)?;
+            check_rows(alloc, rest)
+        }
+    }
+}
+
+/// The steps, and then those that put the rows in.
+fn row_steps(
+    mut steps: Items<Step>,
+    number: i64,
+    rows: Items<SourceRow>,
+) -> Result<Items<Step>, AllocError>
+    requires { length rows ≤ 4_096 }
+    ensures { IfOk result (λ all. all ≡ steps ++ row_steps number 0 rows) }
+{
+    let mut place: u32 = 0;
+    for row in rows.into_vec() {
+        steps.push(Step::AddAttribute {
+            number,
+            place: i64::from(place),
+            row,
+        })?;
+        place += 1;
+    }
+    Ok(steps)
+}
+
+/// The steps that set the source.
+fn source_steps(
+    alloc: Global,
+    number: i64,
+    epoch: i64,
+    rows: Items<SourceRow>,
+) -> Result<Items<Step>, AllocError>
+    requires { length rows ≤ 4_096 }
+    ensures { IfOk result (λ steps. steps ≡ source_steps number epoch rows) }
+{
+    let mut steps = Items::new(alloc);
+    steps.push(Step::DropSource(number))?;
+    steps.push(Step::SetEpoch { number, epoch })?;
+    row_steps(steps, number, rows)
+}
+
+/// The plan for a domain that was found with that source.
+fn plan_found(
+    alloc: Global,
+    found: DomainFound,
+    there: &Items<SourceRow>,
+    rows: Items<SourceRow>,
+) -> Result<Items<Step>, ChangeError>
+    ensures plans { (name : List ℕ) → (kept : Rows) → AreNumbered kept → IsKeyedBy number_key kept.domains
+        → IsDomain name kept found → there.now ≡ (state_at kept found.number).source
+        → IsPlanned (within (source_set rows)) name kept result }
+    ensures steps { IfOk result (SetsSource found.number rows) }
+{
+    if !may_be_kept(&rows) {
+        return Err(ChangeError::Refused(Refusal::Quota));
+    }
+    if is_same_source(there, &rows) {
+        return Ok(Items::new(alloc));
+    }
+    check_rows(alloc, rows.as_slice())?;
+    let epoch = next_after(found.epoch)?;
+    Ok(source_steps(alloc, found.number, epoch, rows)?)
+}
+
+/// The plan, or why the source isn't set.
+fn plan<S: Alter>(
+    conn: &mut Connection<S>,
+    alloc: Global,
+    name: &Text,
+    rows: Items<SourceRow>,
+) -> Result<Items<Step>, ChangeError>
+    ensures quiet { Quiet (state S.Store conn.old) (state S.Store conn.new) }
+    ensures opens { HasCleanDisk (state S.Store conn.new)
+        → IfAnswered result (IsTrue (state S.Store conn.new).is_open) }
+    ensures plans { HasCleanDisk (state S.Store conn.new) → Ours (state S.Store conn.old)
+        → IsPlanned (within (source_set rows)) name.now (rows_of (state S.Store conn.old).now.trees) result }
+{
+    let found = domain_named(conn, name)?;
+    let Some(found) = found else {
+        return Err(ChangeError::Refused(Refusal::Absent));
+    };
+    let there = source_of(conn, alloc, found.number)?;
+    plan_found(alloc, found, &there, rows)
+}
+
+/// Puts these rows into the source of the domain of that name, in place of all that were there.
+/// It fails with `Store`, too, where a value doesn't read back from its printed text, as a URI with white
+/// space around it; no value that was read is such a one.
+pub(crate) fn set_source_in<S: Alter>(
+    conn: &mut Connection<S>,
+    alloc: Global,
+    name: &Text,
+    rows: Items<SourceRow>,
+) -> Result<(), ChangeError>
+    ensures turns { Turns (within (source_set rows)) name.now
+        (state S.Store conn.old) (state S.Store conn.new) result }
+{
+    match plan(conn, alloc, name, rows) {
+        Ok(steps) => answered(run(conn, alloc, steps.as_slice())),
+        Err(error) => Err(error),
+    }
+}

@@ -1,0 +1,210 @@
+//! A token is put in, gets another role, or is taken out.
+ghost use Rattle.std.specs.Prelude.{◌≡◌, ℕ, nat_lt, true, List, [], ◌∷◌, None, IsTrue, IfOk};
+ghost use Rattle.sqlite.specs.Held.{state};
+ghost use Rattle.sqlite.specs.State.{HasCleanDisk};
+ghost use Rattle.xa_records.specs.Changes.{token_dropped, token_put, within};
+ghost use Rattle.xa_records.specs.Keeper.{IfAnswered};
+ghost use Rattle.xa_store.specs.Lookup.{FindsRole, IsDomain};
+ghost use Rattle.xa_store.specs.Opened.{is_digest};
+ghost use Rattle.xa_store.specs.Quiet.{Quiet};
+ghost use Rattle.xa_store.specs.Sound.{Ours};
+ghost use Rattle.xa_store.specs.Turns.{IsPlanned, Turns};
+ghost use Rattle.xa_store.specs.World.{rows_of};
+
+use crate::change::answered;
+use crate::query::count::token_count;
+use crate::query::domain::{DomainFound, domain_named};
+use crate::query::token::role_of;
+use crate::step::Step;
+use crate::step::transaction::run;
+use sqlite::{Alter, Connection};
+use std::alloc::{AllocError, Global};
+use xa_notation::Role;
+use xa_records::{ChangeError, Digest, MAX_TOKENS, Refusal};
+use xa_value::{Items, Text};
+
+/// One step alone.
+fn one_step(alloc: Global, step: Step) -> Result<Items<Step>, AllocError>
+    ensures { IfOk result (λ steps. steps ≡ step ∷ []) }
+{
+    let mut steps = Items::new(alloc);
+    steps.push(step)?;
+    Ok(steps)
+}
+
+/// Whether a domain of so many tokens may have one more.
+fn has_room(count: usize) -> bool
+    ensures { result ≡ nat_lt count 32 }
+{
+    count < MAX_TOKENS
+}
+
+/// Law: a digest has 32 bytes.
+fn has_all_bytes(digest: &Digest)
+    ensures { is_digest digest.now ≡ true }
+{
+    let _bytes = digest.as_bytes();
+}
+
+/// The plan for a token that isn't there.
+fn plan_new<S: Alter>(
+    conn: &mut Connection<S>,
+    alloc: Global,
+    found: DomainFound,
+    digest: Digest,
+    role: Role,
+) -> Result<Items<Step>, ChangeError>
+    ensures quiet { Quiet (state S.Store conn.old) (state S.Store conn.new) }
+    ensures opens { HasCleanDisk (state S.Store conn.new)
+        → IfAnswered result (IsTrue (state S.Store conn.new).is_open) }
+    ensures plans { HasCleanDisk (state S.Store conn.new) → Ours (state S.Store conn.old)
+        → (name : List ℕ) → IsDomain name (rows_of (state S.Store conn.old).now.trees) found
+        → FindsRole found.number digest (rows_of (state S.Store conn.old).now.trees) None
+        → IsPlanned (within (token_put digest role)) name
+        (rows_of (state S.Store conn.old).now.trees) result }
+{
+    has_all_bytes(&digest);
+    let count = token_count(conn, found.number)?;
+    if !has_room(count) {
+        return Err(ChangeError::Refused(Refusal::Quota));
+    }
+    let step = Step::AddToken {
+        number: found.number,
+        digest,
+        role,
+    };
+    Ok(one_step(alloc, step)?)
+}
+
+/// The plan for a token of a domain that was found.
+fn plan_found<S: Alter>(
+    conn: &mut Connection<S>,
+    alloc: Global,
+    found: DomainFound,
+    digest: Digest,
+    role: Role,
+) -> Result<Items<Step>, ChangeError>
+    ensures quiet { Quiet (state S.Store conn.old) (state S.Store conn.new) }
+    ensures opens { HasCleanDisk (state S.Store conn.new)
+        → IfAnswered result (IsTrue (state S.Store conn.new).is_open) }
+    ensures plans { HasCleanDisk (state S.Store conn.new) → Ours (state S.Store conn.old)
+        → (name : List ℕ) → IsDomain name (rows_of (state S.Store conn.old).now.trees) found
+        → IsPlanned (within (token_put digest role)) name
+        (rows_of (state S.Store conn.old).now.trees) result }
+{
+    let there = role_of(conn, alloc, found.number, &digest)?;
+    match there {
+        Some(_) => {
+            let step = Step::SetRole {
+                number: found.number,
+                digest,
+                role,
+            };
+            Ok(one_step(alloc, step)?)
+        }
+        None => plan_new(conn, alloc, found, digest, role),
+    }
+}
+
+/// The plan, or why the token isn't put in.
+fn plan_put<S: Alter>(
+    conn: &mut Connection<S>,
+    alloc: Global,
+    name: &Text,
+    digest: Digest,
+    role: Role,
+) -> Result<Items<Step>, ChangeError>
+    ensures quiet { Quiet (state S.Store conn.old) (state S.Store conn.new) }
+    ensures opens { HasCleanDisk (state S.Store conn.new)
+        → IfAnswered result (IsTrue (state S.Store conn.new).is_open) }
+    ensures plans { HasCleanDisk (state S.Store conn.new) → Ours (state S.Store conn.old)
+        → IsPlanned (within (token_put digest role)) name.now
+        (rows_of (state S.Store conn.old).now.trees) result }
+{
+    let found = domain_named(conn, name)?;
+    let Some(found) = found else {
+        return Err(ChangeError::Refused(Refusal::Absent));
+    };
+    plan_found(conn, alloc, found, digest, role)
+}
+
+/// Puts a token into the domain of that name, or replaces the role of one that is there.
+pub(crate) fn put_token_in<S: Alter>(
+    conn: &mut Connection<S>,
+    alloc: Global,
+    name: &Text,
+    digest: Digest,
+    role: Role,
+) -> Result<(), ChangeError>
+    ensures turns { Turns (within (token_put digest role)) name.now
+        (state S.Store conn.old) (state S.Store conn.new) result }
+{
+    match plan_put(conn, alloc, name, digest, role) {
+        Ok(steps) => answered(run(conn, alloc, steps.as_slice())),
+        Err(error) => Err(error),
+    }
+}
+
+/// The plan to take a token out of a domain that was found.
+fn plan_gone<S: Alter>(
+    conn: &mut Connection<S>,
+    alloc: Global,
+    found: DomainFound,
+    digest: Digest,
+) -> Result<Items<Step>, ChangeError>
+    ensures quiet { Quiet (state S.Store conn.old) (state S.Store conn.new) }
+    ensures opens { HasCleanDisk (state S.Store conn.new)
+        → IfAnswered result (IsTrue (state S.Store conn.new).is_open) }
+    ensures plans { HasCleanDisk (state S.Store conn.new) → Ours (state S.Store conn.old)
+        → (name : List ℕ) → IsDomain name (rows_of (state S.Store conn.old).now.trees) found
+        → IsPlanned (within (token_dropped digest)) name (rows_of (state S.Store conn.old).now.trees) result }
+{
+    let there = role_of(conn, alloc, found.number, &digest)?;
+    match there {
+        Some(_) => {
+            let step = Step::DropToken {
+                number: found.number,
+                digest,
+            };
+            Ok(one_step(alloc, step)?)
+        }
+        None => Err(ChangeError::Refused(Refusal::Absent)),
+    }
+}
+
+/// The plan, or why the token isn't taken out.
+fn plan_drop<S: Alter>(
+    conn: &mut Connection<S>,
+    alloc: Global,
+    name: &Text,
+    digest: Digest,
+) -> Result<Items<Step>, ChangeError>
+    ensures quiet { Quiet (state S.Store conn.old) (state S.Store conn.new) }
+    ensures opens { HasCleanDisk (state S.Store conn.new)
+        → IfAnswered result (IsTrue (state S.Store conn.new).is_open) }
+    ensures plans { HasCleanDisk (state S.Store conn.new) → Ours (state S.Store conn.old)
+        → IsPlanned (within (token_dropped digest)) name.now
+        (rows_of (state S.Store conn.old).now.trees) result }
+{
+    let found = domain_named(conn, name)?;
+    let Some(found) = found else {
+        return Err(ChangeError::Refused(Refusal::Absent));
+    };
+    plan_gone(conn, alloc, found, digest)
+}
+
+/// Takes a token out of the domain of that name.
+pub(crate) fn drop_token_in<S: Alter>(
+    conn: &mut Connection<S>,
+    alloc: Global,
+    name: &Text,
+    digest: Digest,
+) -> Result<(), ChangeError>
+    ensures turns { Turns (within (token_dropped digest)) name.now
+        (state S.Store conn.old) (state S.Store conn.new) result }
+{
+    match plan_drop(conn, alloc, name, digest) {
+        Ok(steps) => answered(run(conn, alloc, steps.as_slice())),
+        Err(error) => Err(error),
+    }
+}

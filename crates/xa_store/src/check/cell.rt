@@ -1,0 +1,181 @@
+//! What one column of a row holds.
+ghost use Rattle.std.specs.Prelude.{◌≡◌, is_ok, bytes_eq};
+ghost use Rattle.std.specs.Ordering.{int_eq};
+ghost use Rattle.std.specs.Str.{is_utf8};
+ghost use Rattle.sqlite.specs.Order.{column};
+ghost use Rattle.xa_records.specs.DomainName.{is_domain_name};
+ghost use Rattle.xa_store.specs.Opened.{holds_int, holds_text, holds_text_if_any, holds_blob, is_bit};
+ghost use Rattle.xa_store.specs.Opened.{is_count, is_digest, is_given, is_pattern, is_version};
+
+use sqlite::Row;
+use sqlite::types::ValueRef;
+use std::str;
+use xa_policy::{Pattern, Version};
+use xa_records::is_domain_name;
+
+/// Whether it is an epoch or a number, of which none is negative.
+pub(crate) fn is_count(number: i64) -> bool
+    ensures { result ≡ is_count number }
+{
+    0 <= number
+}
+
+/// Whether it is the number of a domain that has been made, where `next` is that of the next.
+fn is_given(next: i64, number: i64) -> bool
+    ensures { result ≡ is_given next number }
+{
+    is_count(number) && number < next
+}
+
+/// Whether it stands for a role, for a kind of documents or for a truth.
+fn is_bit(number: i64) -> bool
+    ensures { result ≡ is_bit number }
+{
+    is_count(number) && number <= 1
+}
+
+/// Whether the bytes are UTF-8.
+#[tactic(auto, using(crate::proofs::OpenedLemmas::is_text, crate::proofs::OpenedLemmas::is_no_text))]
+pub(crate) fn is_text(bytes: &[u8]) -> bool
+    ensures { result ≡ is_utf8 bytes.now }
+{
+    match str::from_utf8(bytes) {
+        Ok(_) => true,
+        Err(_) => false,
+    }
+}
+
+/// Whether the text is a pattern of versions.
+#[tactic(auto, using(crate::proofs::OpenedLemmas::is_text, crate::proofs::OpenedLemmas::is_no_text))]
+fn is_pattern(bytes: &[u8]) -> bool
+    ensures { result ≡ is_pattern bytes.now }
+{
+    match str::from_utf8(bytes) {
+        Ok(text) => Pattern::read(text).is_ok(),
+        Err(_) => false,
+    }
+}
+
+/// Whether the text is a version.
+#[tactic(auto, using(crate::proofs::OpenedLemmas::is_text, crate::proofs::OpenedLemmas::is_no_text))]
+fn is_version(bytes: &[u8]) -> bool
+    ensures { result ≡ is_version bytes.now }
+{
+    match str::from_utf8(bytes) {
+        Ok(text) => Version::read(text).is_ok(),
+        Err(_) => false,
+    }
+}
+
+/// Whether the column holds the number of a domain that has been made.
+pub(crate) fn holds_given(row: &Row, at: usize, next: i64) -> bool
+    ensures { result ≡ holds_int (is_given next) (column row.now at) }
+{
+    match row.get_ref(at) {
+        Ok(ValueRef::Int(number)) => is_given(next, number),
+        _ => false,
+    }
+}
+
+/// Whether the column holds a number that isn't negative.
+pub(crate) fn holds_count(row: &Row, at: usize) -> bool
+    ensures { result ≡ holds_int is_count (column row.now at) }
+{
+    match row.get_ref(at) {
+        Ok(ValueRef::Int(number)) => is_count(number),
+        _ => false,
+    }
+}
+
+/// Whether the column holds 0 or 1.
+pub(crate) fn holds_bit(row: &Row, at: usize) -> bool
+    ensures { result ≡ holds_int is_bit (column row.now at) }
+{
+    match row.get_ref(at) {
+        Ok(ValueRef::Int(number)) => is_bit(number),
+        _ => false,
+    }
+}
+
+/// Whether the column holds this number.
+pub(crate) fn holds_number(row: &Row, at: usize, wanted: i64) -> bool
+    ensures { result ≡ holds_int (int_eq wanted) (column row.now at) }
+{
+    match row.get_ref(at) {
+        Ok(ValueRef::Int(number)) => wanted == number,
+        _ => false,
+    }
+}
+
+/// Whether the column holds the name of a domain.
+pub(crate) fn holds_name(row: &Row, at: usize) -> bool
+    ensures { result ≡ holds_text is_domain_name (column row.now at) }
+{
+    match row.get_ref(at) {
+        Ok(ValueRef::Text(bytes)) => is_domain_name(bytes),
+        _ => false,
+    }
+}
+
+/// Whether the column holds a text.
+pub(crate) fn holds_text(row: &Row, at: usize) -> bool
+    ensures { result ≡ holds_text is_utf8 (column row.now at) }
+{
+    match row.get_ref(at) {
+        Ok(ValueRef::Text(bytes)) => is_text(bytes),
+        _ => false,
+    }
+}
+
+/// Whether the column holds a text, or nothing.
+pub(crate) fn holds_text_if_any(row: &Row, at: usize) -> bool
+    ensures { result ≡ holds_text_if_any is_utf8 (column row.now at) }
+{
+    match row.get_ref(at) {
+        Ok(ValueRef::Text(bytes)) => is_text(bytes),
+        Ok(ValueRef::Null) | Err(_) => true,
+        _ => false,
+    }
+}
+
+/// Whether the column holds this text.
+pub(crate) fn holds_bytes(row: &Row, at: usize, wanted: &[u8]) -> bool
+    ensures { result ≡ holds_text (bytes_eq wanted.now) (column row.now at) }
+{
+    match row.get_ref(at) {
+        Ok(ValueRef::Text(bytes)) => wanted == bytes,
+        _ => false,
+    }
+}
+
+/// Whether the column holds the digest of a token.
+pub(crate) fn holds_digest(row: &Row, at: usize) -> bool
+    ensures { result ≡ holds_blob is_digest (column row.now at) }
+{
+    match row.get_ref(at) {
+        Ok(ValueRef::Blob(bytes)) => bytes.len() == 32,
+        _ => false,
+    }
+}
+
+/// Whether the column holds a pattern of versions, or nothing.
+pub(crate) fn holds_pattern_if_any(row: &Row, at: usize) -> bool
+    ensures { result ≡ holds_text_if_any is_pattern (column row.now at) }
+{
+    match row.get_ref(at) {
+        Ok(ValueRef::Text(bytes)) => is_pattern(bytes),
+        Ok(ValueRef::Null) | Err(_) => true,
+        _ => false,
+    }
+}
+
+/// Whether the column holds a version, or nothing.
+pub(crate) fn holds_version_if_any(row: &Row, at: usize) -> bool
+    ensures { result ≡ holds_text_if_any is_version (column row.now at) }
+{
+    match row.get_ref(at) {
+        Ok(ValueRef::Text(bytes)) => is_version(bytes),
+        Ok(ValueRef::Null) | Err(_) => true,
+        _ => false,
+    }
+}

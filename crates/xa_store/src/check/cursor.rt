@@ -1,0 +1,107 @@
+//! The rows of one table, one at a time, so that one body at a time is in memory.
+ghost use Rattle.std.specs.Prelude.{◌≡◌, ◌⊎◌, ℕ, List, [], IsTrue, OnOk};
+ghost use Rattle.sqlite.specs.Given.{HasGiven, row_if};
+ghost use Rattle.sqlite.specs.Held.{state};
+ghost use Rattle.sqlite.specs.Order.{Row as SqlRow};
+ghost use Rattle.sqlite.specs.State.{HasCleanDisk, IsRolledBack, IsUnchanged, Survives};
+ghost use Rattle.xa_store.specs.Check.{Moves, TellsNext, TellsNumber, Walked, comes_after, has_kind};
+
+use crate::check::row::{is_sound_row, row_number};
+use crate::error::OpenError;
+use crate::refusal::refused;
+use crate::schema::kind::Kind;
+use crate::schema::version::Known;
+use sqlite::{Alter, Connection, Row, Rows};
+use std::alloc::Global;
+
+/// Whether the number is above the last.
+fn comes_after(last: Option<i64>, number: i64) -> bool
+    ensures { result ≡ comes_after last number }
+{
+    match last {
+        Some(last) => last < number,
+        None => true,
+    }
+}
+
+/// The number of the row, if it is a sound one that comes after the last.
+fn sound_number(
+    alloc: Global,
+    kind: Kind,
+    next: i64,
+    last: Option<i64>,
+    row: &Row,
+) -> Result<i64, OpenError>
+    ensures { TellsNumber kind next last row.now result }
+{
+    let Some(number) = row_number(row) else {
+        return Err(OpenError::Damaged);
+    };
+    if is_sound_row(alloc, kind, next, row)? && comes_after(last, number) {
+        Ok(number)
+    } else {
+        Err(OpenError::Damaged)
+    }
+}
+
+/// The number of the row at which the query stands, or none past the last.
+fn number_here<S: Alter>(
+    alloc: Global,
+    kind: Kind,
+    next: i64,
+    last: Option<i64>,
+    rows: &Rows<'_, S>,
+) -> Result<Option<i64>, OpenError>
+    ensures { TellsNext kind next last (row_if rows.now.has_row rows.now.conn.now) result }
+{
+    match rows.get() {
+        Some(row) => Ok(Some(sound_number(alloc, kind, next, last, row)?)),
+        None => Ok(None),
+    }
+}
+
+/// The number of the next row, if there is one.
+fn next_number<S: Alter>(
+    alloc: Global,
+    kind: Kind,
+    next: i64,
+    last: Option<i64>,
+    rows: &mut Rows<'_, S>,
+) -> Result<Option<i64>, OpenError>
+    ensures same_reference { rows.new.conn.ghost_name ≡ rows.old.conn.ghost_name }
+    ensures survives { Survives (state S.Store rows.old.conn.now) (state S.Store rows.new.conn.now) (λ _. ⊥) }
+    ensures same { HasCleanDisk (state S.Store rows.new.conn.now)
+        → OnOk result (IsUnchanged (state S.Store rows.old.conn.now) (state S.Store rows.new.conn.now)) }
+    ensures kept { HasCleanDisk (state S.Store rows.new.conn.now)
+        → IsUnchanged (state S.Store rows.old.conn.now) (state S.Store rows.new.conn.now)
+        ⊎ IsRolledBack (state S.Store rows.old.conn.now) (state S.Store rows.new.conn.now) }
+    ensures moves { HasCleanDisk (state S.Store rows.new.conn.now)
+        → (sql : List ℕ) → (given : List SqlRow) → HasGiven S.Store sql [] rows.old.conn.now given
+        → Moves S.Store kind next last rows.old.conn.now rows.new.conn.now sql given result }
+{
+    match rows.advance() {
+        Ok(()) => number_here(alloc, kind, next, last, rows),
+        Err(error) => Err(refused(error)),
+    }
+}
+
+/// Judges all rows of the table, in the order of their numbers.
+pub(crate) fn walk<S: Alter>(
+    alloc: Global,
+    conn: &mut Connection<S>,
+    kind: Kind,
+    known: Known,
+) -> Result<(), OpenError>
+    requires { IsTrue (has_kind kind known.version) }
+    ensures { Walked known.version kind known.next (state S.Store conn.old) (state S.Store conn.new) result }
+{
+    let mut last = None;
+    let mut rows = conn.query(kind.text(), &[])?;
+    'rows: for _ in 0..u64::MAX {
+        match next_number(alloc, kind, known.next, last, &mut rows)? {
+            Some(number) => last = Some(number),
+            None => return Ok(()),
+        }
+    }
+    Err(OpenError::Store)
+}

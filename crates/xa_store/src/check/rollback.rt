@@ -1,0 +1,57 @@
+//! The check of tables that aren't a keeper's alone: in a transaction that is undone, so they stay as
+//! they were, whatever the queries do.
+ghost use Rattle.std.specs.Prelude.{◌≢◌};
+ghost use Rattle.sqlite.specs.Held.{state};
+ghost use Rattle.xa_store.specs.Check.{Begun, Ended, IsIdle, Tested};
+ghost use Rattle.xa_store.specs.Opened.{schema_of};
+
+use crate::check::tables::check;
+use crate::error::OpenError;
+use crate::failure::failure_of;
+use crate::refusal::failed;
+use crate::schema::version::SchemaVersion;
+use crate::sql;
+use sqlite::{Alter, Connection};
+use std::alloc::Global;
+
+/// Begins a transaction.
+fn begin<S: Alter>(conn: &mut Connection<S>) -> Result<(), OpenError>
+    ensures { Begun (state S.Store conn.old) (state S.Store conn.new) result }
+{
+    match conn.execute(sql::BEGIN, &[]) {
+        Ok(_) => Ok(()),
+        Err(error) => Err(failed(failure_of(&error))),
+    }
+}
+
+/// Undoes the transaction, if an error has not yet done so.
+fn end<S: Alter>(conn: &mut Connection<S>) -> Result<(), OpenError>
+    ensures { Ended (state S.Store conn.old) (state S.Store conn.new) result }
+{
+    if conn.is_autocommit() {
+        return Ok(());
+    }
+    match conn.execute(sql::ROLLBACK, &[]) {
+        Ok(_) => Ok(()),
+        Err(error) => Err(failed(failure_of(&error))),
+    }
+}
+
+/// Judges the tables as those of that schema. They aren't these alone.
+pub(crate) fn check_apart<S: Alter>(
+    alloc: Global,
+    conn: &mut Connection<S>,
+    version: SchemaVersion,
+) -> Result<bool, OpenError>
+    requires quiet { IsIdle (state S.Store conn.old) }
+    requires other { (state S.Store conn.old).now.schema ≢ schema_of version }
+    ensures { Tested version (state S.Store conn.old) (state S.Store conn.new) result }
+{
+    begin(conn)?;
+    let checked = check(alloc, conn, version);
+    end(conn)?;
+    match checked {
+        Ok(()) => Ok(false),
+        Err(error) => Err(error),
+    }
+}

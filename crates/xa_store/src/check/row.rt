@@ -1,0 +1,258 @@
+//! Which rows are those of a keeper, kind by kind.
+ghost use Rattle.std.specs.Prelude.{◌≡◌, IfOk};
+ghost use Rattle.sqlite.specs.Order.{column};
+ghost use Rattle.xa_notation.specs.Document.{document_of};
+ghost use Rattle.xa_value.specs.Reading.{read};
+ghost use Rattle.xa_store.specs.Opened.{holds_blob, holds_int, holds_key, holds_text};
+ghost use Rattle.xa_store.specs.Opened.{holds_value, int_in, is_printed, is_sound_row};
+ghost use Rattle.xa_store.specs.Opened.{is_value, known_next, next_of, type_numbered};
+ghost use Rattle.xa_store.specs.Check.{counts_on, place_told};
+ghost use Rattle.xa_store.specs.declared.schema.kind.Kind.TheVariants.{Attributes, Documents, Domains};
+ghost use Rattle.xa_store.specs.declared.schema.kind.Kind.TheVariants.{Roots, Sources, Tokens};
+
+use crate::check::cell::{
+    holds_bit, holds_bytes, holds_count, holds_digest, holds_given, holds_name, holds_number,
+    holds_pattern_if_any, holds_text, holds_text_if_any, holds_version_if_any,
+};
+use crate::schema::kind::Kind;
+use crate::schema::version::SchemaVersion;
+use sqlite::Row;
+use sqlite::types::ValueRef;
+use std::alloc::{AllocError, Global};
+use std::str;
+use xa_notation::Parsed;
+use xa_value::{DataType, OrMemory, Value};
+
+/// Whether the row is one of a table of domains.
+fn is_domain(next: i64, row: &Row) -> bool
+    ensures { result ≡ is_sound_row Domains next row.now }
+{
+    holds_given(row, 0, next) && holds_name(row, 1) && holds_count(row, 2)
+}
+
+/// Whether the row is one of a table of tokens.
+fn is_token(next: i64, row: &Row) -> bool
+    ensures { result ≡ is_sound_row Tokens next row.now }
+{
+    holds_given(row, 1, next) && holds_digest(row, 2) && holds_bit(row, 3)
+}
+
+/// Whether the row is one of a table of roots.
+fn is_root(next: i64, row: &Row) -> bool
+    ensures { result ≡ is_sound_row Roots next row.now }
+{
+    holds_given(row, 0, next)
+        && holds_bit(row, 1)
+        && holds_text(row, 2)
+        && holds_pattern_if_any(row, 3)
+        && holds_version_if_any(row, 4)
+        && holds_version_if_any(row, 5)
+}
+
+/// Whether the columns hold the key of the document.
+fn holds_key_of(alloc: Global, row: &Row, parsed: &Parsed) -> Result<bool, AllocError>
+    ensures { IfOk result (λ b.
+        b ≡ holds_key (column row.now 2) (column row.now 3) (column row.now 4) (Ok parsed.now)) }
+{
+    let version = parsed.version().to_text(alloc)?;
+    let kind = i64::from(parsed.kind().place());
+    Ok(
+        holds_number(row, 2, kind)
+            && holds_bytes(row, 3, parsed.id().as_bytes())
+            && holds_bytes(row, 4, version.as_bytes()),
+    )
+}
+
+/// Whether the body is a document of the key that the columns hold.
+fn is_body(alloc: Global, row: &Row, body: &[u8]) -> Result<bool, AllocError>
+    ensures { IfOk result (λ b.
+        b ≡ holds_key (column row.now 2) (column row.now 3) (column row.now 4) (document_of body.now)) }
+{
+    match Parsed::read(alloc, body) {
+        Ok(parsed) => holds_key_of(alloc, row, &parsed),
+        Err(OrMemory::Error(_)) => Ok(false),
+        Err(OrMemory::Memory) => Err(AllocError),
+    }
+}
+
+/// Whether a column holds a body of the key that the others hold.
+fn holds_body(alloc: Global, row: &Row) -> Result<bool, AllocError>
+    ensures { IfOk result (λ b. b ≡ holds_blob
+        (λ body. holds_key (column row.now 2) (column row.now 3) (column row.now 4) (document_of body))
+        (column row.now 5)) }
+{
+    match row.get_ref(5) {
+        Ok(ValueRef::Blob(body)) => is_body(alloc, row, body),
+        _ => Ok(false),
+    }
+}
+
+/// Whether the row is one of a table of documents.
+fn is_document(alloc: Global, next: i64, row: &Row) -> Result<bool, AllocError>
+    ensures { IfOk result (λ b. b ≡ is_sound_row Documents next row.now) }
+{
+    if holds_given(row, 1, next) && holds_bit(row, 6) {
+        holds_body(alloc, row)
+    } else {
+        Ok(false)
+    }
+}
+
+/// The type of that number.
+fn type_numbered(number: i64) -> Option<DataType>
+    ensures { result ≡ type_numbered number }
+{
+    match u8::try_from(number) {
+        Ok(number) => DataType::from_number(number),
+        Err(_) => None,
+    }
+}
+
+/// Whether the text is that of a value of the type as it is printed.
+fn is_printed(alloc: Global, data_type: DataType, text: &str) -> Result<bool, AllocError>
+    ensures { IfOk result (λ b. b ≡ is_printed text.now (read data_type text.now)) }
+{
+    match Value::read(alloc, data_type, text) {
+        Ok(value) => Ok(value.to_text(alloc)?.as_str() == text),
+        Err(OrMemory::Error(_)) => Ok(false),
+        Err(OrMemory::Memory) => Err(AllocError),
+    }
+}
+
+/// Whether the text is the printed one of a value of the type of that number.
+fn is_typed(alloc: Global, number: i64, text: &str) -> Result<bool, AllocError>
+    ensures { IfOk result (λ b. b ≡ is_value text.now (type_numbered number)) }
+{
+    match type_numbered(number) {
+        Some(data_type) => is_printed(alloc, data_type, text),
+        None => Ok(false),
+    }
+}
+
+/// Whether the bytes are the printed text of a value of the type of that number.
+#[tactic(auto, using(crate::proofs::OpenedLemmas::is_text, crate::proofs::OpenedLemmas::is_no_text))]
+fn is_value(alloc: Global, number: i64, bytes: &[u8]) -> Result<bool, AllocError>
+    ensures { IfOk result (λ b. b ≡ holds_value number bytes.now) }
+{
+    match str::from_utf8(bytes) {
+        Ok(text) => is_typed(alloc, number, text),
+        Err(_) => Ok(false),
+    }
+}
+
+/// Whether a column holds the printed text of a value of the type of that number.
+fn holds_value(alloc: Global, row: &Row, number: i64) -> Result<bool, AllocError>
+    ensures { IfOk result (λ b. b ≡ holds_text (holds_value number) (column row.now 7)) }
+{
+    match row.get_ref(7) {
+        Ok(ValueRef::Text(bytes)) => is_value(alloc, number, bytes),
+        _ => Ok(false),
+    }
+}
+
+/// Whether two columns hold a value, by its type and its printed text.
+fn holds_typed_value(alloc: Global, row: &Row) -> Result<bool, AllocError>
+    ensures { IfOk result (λ b.
+        b ≡ holds_int (λ number. holds_text (holds_value number) (column row.now 7)) (column row.now 6)) }
+{
+    match row.get_ref(6) {
+        Ok(ValueRef::Int(number)) => holds_value(alloc, row, number),
+        _ => Ok(false),
+    }
+}
+
+/// Whether the row is one of a source in schema 1.
+fn is_attribute(alloc: Global, next: i64, row: &Row) -> Result<bool, AllocError>
+    ensures { IfOk result (λ b. b ≡ is_sound_row Attributes next row.now) }
+{
+    if holds_given(row, 1, next) && holds_text(row, 3) && holds_text(row, 4) && holds_text(row, 5) {
+        holds_typed_value(alloc, row)
+    } else {
+        Ok(false)
+    }
+}
+
+/// Whether the row is one of a source in schema 2.
+fn is_source(alloc: Global, next: i64, row: &Row) -> Result<bool, AllocError>
+    ensures { IfOk result (λ b. b ≡ is_sound_row Sources next row.now) }
+{
+    Ok(is_attribute(alloc, next, row)? && holds_text_if_any(row, 8))
+}
+
+/// Whether the row is one of that table, where `next` is the number of the next domain.
+pub(crate) fn is_sound_row(
+    alloc: Global,
+    kind: Kind,
+    next: i64,
+    row: &Row,
+) -> Result<bool, AllocError>
+    ensures { IfOk result (λ b. b ≡ is_sound_row kind next row.now) }
+{
+    match kind {
+        Kind::Domains => Ok(is_domain(next, row)),
+        Kind::Tokens => Ok(is_token(next, row)),
+        Kind::Documents => is_document(alloc, next, row),
+        Kind::Roots => Ok(is_root(next, row)),
+        Kind::Attributes => is_attribute(alloc, next, row),
+        Kind::Sources => is_source(alloc, next, row),
+    }
+}
+
+/// The number in a column, if it holds one.
+fn number_at(row: &Row, at: usize) -> Option<i64>
+    ensures { result ≡ int_in (column row.now at) }
+{
+    match row.get_ref(at) {
+        Ok(ValueRef::Int(number)) => Some(number),
+        _ => None,
+    }
+}
+
+/// The number by which the row is kept.
+pub(crate) fn row_number(row: &Row) -> Option<i64>
+    ensures { result ≡ int_in (column row.now 0) }
+{
+    number_at(row, 0)
+}
+
+/// The number of a domain and a place in its source.
+pub(crate) fn place_of(row: &Row) -> Option<(i64, i64)>
+    ensures { result ≡ place_told row.now }
+{
+    let number = number_at(row, 0)?;
+    let place = number_at(row, 1)?;
+    Some((number, place))
+}
+
+/// Whether the place comes after the last: the first of a domain is 0.
+pub(crate) fn follows(last: (i64, i64), place: (i64, i64)) -> bool
+    ensures { result ≡ counts_on last place }
+{
+    if place.0 != last.0 {
+        return place.1 == 0;
+    }
+    match last.1.checked_add(1) {
+        Some(wanted) => place.1 == wanted,
+        None => false,
+    }
+}
+
+/// The number of the next domain, if the rows of the first table are one row of that schema.
+pub(crate) fn known_next(version: SchemaVersion, rows: &[Row]) -> Option<i64>
+    ensures { result ≡ known_next version rows.now }
+{
+    match rows {
+        [row] => next_of(version, row),
+        _ => None,
+    }
+}
+
+/// The number of the next domain, if the row is of that schema.
+fn next_of(version: SchemaVersion, row: &Row) -> Option<i64>
+    ensures { result ≡ next_of version row.now }
+{
+    if !holds_number(row, 0, 1) || !holds_number(row, 1, version.number()) {
+        return None;
+    }
+    number_at(row, 2)
+}

@@ -1,0 +1,81 @@
+//! Plain queries of a keeper's tables, which change nothing. Each file asks for one thing, and reads the
+//! rows that are shown.
+ghost use Rattle.std.specs.Prelude.{IsTrue, IfErr, IfOk, IsErrOf, OnOk};
+ghost use Rattle.sqlite.specs.Given.{IsPlain};
+ghost use Rattle.sqlite.specs.Held.{state};
+ghost use Rattle.sqlite.specs.Listing.{understood};
+ghost use Rattle.sqlite.specs.State.{FailsToQuery, HasCleanDisk, Shown};
+ghost use Rattle.sqlite.specs.Values.{bound};
+ghost use Rattle.sqlite.specs.declared.error.Error.TheVariants.{SqliteFailure};
+ghost use Rattle.sqlite.specs.declared.error.ErrorCode.TheVariants.{OutOfMemory};
+ghost use Rattle.xa_records.specs.declared.refusal.Failure.TheVariants.{Memory};
+ghost use Rattle.xa_store.specs.Quiet.{Quiet};
+ghost use Rattle.xa_store.specs.Sound.{Rests, SameNow};
+ghost use Rattle.xa_store.specs.Tables.{our_schema};
+
+pub(crate) mod column;
+pub(crate) mod count;
+pub(crate) mod document;
+pub(crate) mod document_key;
+pub(crate) mod document_row;
+pub(crate) mod domain;
+pub(crate) mod name;
+pub(crate) mod number;
+pub(crate) mod reading;
+pub(crate) mod root;
+pub(crate) mod row;
+pub(crate) mod source;
+pub(crate) mod token;
+
+use crate::failure::failure_of;
+use sqlite::types::ValueRef;
+use sqlite::{Alter, Connection, Error, Row};
+use xa_records::Failure;
+
+/// All rows that a plain query of these tables shows. It changes nothing.
+pub fn ask<S: Alter>(
+    conn: &mut Connection<S>,
+    sql: &str,
+    given: &[ValueRef<'_>],
+) -> Result<Vec<Row>, Error>
+    requires { IsPlain (understood our_schema sql.now) }
+    ensures was_open { IsTrue (state S.Store conn.new).is_open → IsTrue (state S.Store conn.old).is_open }
+    ensures clean { HasCleanDisk (state S.Store conn.new) → HasCleanDisk (state S.Store conn.old) }
+    ensures same { HasCleanDisk (state S.Store conn.new) → Rests (state S.Store conn.old)
+        → IsTrue (state S.Store conn.new).is_open
+        → SameNow (state S.Store conn.old) (state S.Store conn.new) }
+    ensures stays { HasCleanDisk (state S.Store conn.new) → Rests (state S.Store conn.old)
+        → OnOk result (IsTrue (state S.Store conn.new).is_open) }
+    ensures crash { HasCleanDisk (state S.Store conn.new) → Rests (state S.Store conn.old)
+        → (db : _) → (state S.Store conn.new).may_leave db → (state S.Store conn.old).may_leave db }
+    ensures fails { HasCleanDisk (state S.Store conn.new)
+        → IfErr result
+        (FailsToQuery sql.now (bound given.now) (state S.Store conn.old) (state S.Store conn.new)) }
+    ensures shows { HasCleanDisk (state S.Store conn.new) → IfOk result (λ rows.
+        Shown sql.now (bound given.now) (state S.Store conn.old) (state S.Store conn.new) rows.items) }
+{
+    conn.query_all(sql, given)
+}
+
+/// All rows that a plain query of these tables shows; want of memory is told where the store told it.
+/// The connection keeps the plan of each text, so none is prepared.
+pub(crate) fn shown<S: Alter>(
+    conn: &mut Connection<S>,
+    sql: &str,
+    given: &[ValueRef<'_>],
+) -> Result<Vec<Row>, Failure>
+    requires { IsPlain (understood our_schema sql.now) }
+    ensures quiet { Quiet (state S.Store conn.old) (state S.Store conn.new) }
+    ensures opens { HasCleanDisk (state S.Store conn.new)
+        → OnOk result (IsTrue (state S.Store conn.new).is_open) }
+    ensures wants { HasCleanDisk (state S.Store conn.new) → IsErrOf result Memory
+        → FailsToQuery sql.now (bound given.now) (state S.Store conn.old) (state S.Store conn.new)
+        (SqliteFailure OutOfMemory) }
+    ensures shows { HasCleanDisk (state S.Store conn.new) → IfOk result (λ rows.
+        Shown sql.now (bound given.now) (state S.Store conn.old) (state S.Store conn.new) rows.items) }
+{
+    match ask(conn, sql, given) {
+        Ok(rows) => Ok(rows),
+        Err(error) => Err(failure_of(&error)),
+    }
+}

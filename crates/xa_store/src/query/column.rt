@@ -1,0 +1,139 @@
+//! Columns as values: numbers, texts, flags, roles, kinds, versions and patterns.
+ghost use Rattle.std.specs.Prelude.{◌≡◌, option_and_then, IfOk};
+ghost use Rattle.sqlite.specs.Order.{column};
+ghost use Rattle.sqlite.specs.declared.types.Value.TheVariants.{Int};
+ghost use Rattle.sqlite_typed.specs.Columns.{bytes_of, int_of, unless_null};
+ghost use Rattle.xa_policy.specs.Pattern.{read_pattern};
+ghost use Rattle.xa_policy.specs.Version.{read_version};
+ghost use Rattle.xa_store.specs.Rows.{given, is_set, kind_in, kind_number, role_in, version_in};
+
+use crate::failure::failure_of;
+use sqlite::Row;
+use xa_notation::Role;
+use xa_policy::{DocumentKind, Pattern, Version};
+use xa_records::Failure;
+use xa_value::{Items, Text};
+
+/// The number in a column.
+pub(crate) fn number_in(row: &Row, at: usize) -> Result<i64, Failure>
+    ensures { IfOk result (λ n. column row.now at ≡ Int n) }
+{
+    match row.get::<i64>(at) {
+        Ok(number) => Ok(number),
+        Err(error) => Err(failure_of(&error)),
+    }
+}
+
+/// The text in a column.
+pub(crate) fn text_in(row: &Row, at: usize) -> Result<Text, Failure>
+    ensures { IfOk result (λ text. text ≡ bytes_of (column row.now at)) }
+{
+    match row.get::<String>(at) {
+        Ok(text) => Ok(Text::from_string(text)),
+        Err(error) => Err(failure_of(&error)),
+    }
+}
+
+/// The bytes in a column.
+pub(crate) fn bytes_in(row: &Row, at: usize) -> Result<Items<u8>, Failure>
+    ensures { IfOk result (λ bytes. bytes ≡ bytes_of (column row.now at)) }
+{
+    match row.get::<Vec<u8>>(at) {
+        Ok(bytes) => Ok(Items::from_vec(bytes)),
+        Err(error) => Err(failure_of(&error)),
+    }
+}
+
+/// The text in a column that may hold none.
+pub(crate) fn text_if_any(row: &Row, at: usize) -> Result<Option<Text>, Failure>
+    ensures { IfOk result (λ text. text ≡ unless_null bytes_of (column row.now at)) }
+{
+    match row.get::<Option<String>>(at) {
+        Ok(Some(text)) => Ok(Some(Text::from_string(text))),
+        Ok(None) => Ok(None),
+        Err(error) => Err(failure_of(&error)),
+    }
+}
+
+/// The flag in a column: 0 or 1.
+pub(crate) fn flag_in(row: &Row, at: usize) -> Result<bool, Failure>
+    ensures { IfOk result (λ flag. flag ≡ is_set (int_of (column row.now at))) }
+{
+    match number_in(row, at)? {
+        0 => Ok(false),
+        1 => Ok(true),
+        _ => Err(Failure::Store),
+    }
+}
+
+/// The role in a column: 0 or 1.
+pub(crate) fn role_in(row: &Row, at: usize) -> Result<Role, Failure>
+    ensures { IfOk result (λ role. role ≡ role_in (int_of (column row.now at))) }
+{
+    match number_in(row, at)? {
+        0 => Ok(Role::Ask),
+        1 => Ok(Role::Admin),
+        _ => Err(Failure::Store),
+    }
+}
+
+/// The kind of documents in a column: 0 or 1.
+pub(crate) fn kind_in(row: &Row, at: usize) -> Result<DocumentKind, Failure>
+    ensures { IfOk result (λ kind. kind ≡ kind_in (int_of (column row.now at))) }
+{
+    match number_in(row, at)? {
+        0 => Ok(DocumentKind::Policy),
+        1 => Ok(DocumentKind::PolicySet),
+        _ => Err(Failure::Store),
+    }
+}
+
+/// A kind of documents as a column holds it.
+pub(crate) fn kind_column(kind: DocumentKind) -> i64
+    ensures { result ≡ kind_number kind }
+{
+    match kind {
+        DocumentKind::Policy => 0,
+        DocumentKind::PolicySet => 1,
+    }
+}
+
+/// The version in a column.
+#[tactic(auto, unfolding(crate::specs::Rows::version_in))]
+pub(crate) fn version_in(row: &Row, at: usize) -> Result<Version, Failure>
+    ensures { IfOk result (λ version. version ≡ version_in (bytes_of (column row.now at))) }
+{
+    let text = text_in(row, at)?;
+    match Version::read(text.as_str()) {
+        Ok(version) => Ok(version),
+        Err(_) => Err(Failure::Store),
+    }
+}
+
+/// The version in a column that may hold none.
+pub(crate) fn version_if_any(row: &Row, at: usize) -> Result<Option<Version>, Failure>
+    ensures { IfOk result (λ version. version
+        ≡ option_and_then (λ text. given (read_version text)) (unless_null bytes_of (column row.now at))) }
+{
+    let Some(text) = text_if_any(row, at)? else {
+        return Ok(None);
+    };
+    match Version::read(text.as_str()) {
+        Ok(version) => Ok(Some(version)),
+        Err(_) => Err(Failure::Store),
+    }
+}
+
+/// The pattern of versions in a column that may hold none.
+pub(crate) fn pattern_if_any(row: &Row, at: usize) -> Result<Option<Pattern>, Failure>
+    ensures { IfOk result (λ pattern. pattern
+        ≡ option_and_then (λ text. given (read_pattern text)) (unless_null bytes_of (column row.now at))) }
+{
+    let Some(text) = text_if_any(row, at)? else {
+        return Ok(None);
+    };
+    match Pattern::read(text.as_str()) {
+        Ok(pattern) => Ok(Some(pattern)),
+        Err(_) => Err(Failure::Store),
+    }
+}

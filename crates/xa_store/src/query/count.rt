@@ -1,0 +1,44 @@
+//! How many tokens and documents a domain has.
+ghost use Rattle.std.specs.Prelude.{◌≡◌, IsTrue, IfOk, OnOk};
+ghost use Rattle.std.specs.FinMap.{len};
+ghost use Rattle.sqlite.specs.Held.{state};
+ghost use Rattle.sqlite.specs.State.{HasCleanDisk};
+ghost use Rattle.xa_store.specs.Quiet.{Quiet};
+ghost use Rattle.xa_store.specs.Sound.{Ours};
+ghost use Rattle.xa_store.specs.World.{rows_of, state_at};
+
+use crate::query::shown;
+use crate::sql;
+use sqlite::types::ValueRef;
+use sqlite::{Alter, Connection};
+use xa_records::Failure;
+
+/// How many tokens the domain of that number has: 32 at most. In time in proportion to that.
+#[tactic(auto, using(crate::proofs::TokenLemmas::tokens_plain))]
+pub(crate) fn token_count<S: Alter>(conn: &mut Connection<S>, number: i64) -> Result<usize, Failure>
+    ensures quiet { Quiet (state S.Store conn.old) (state S.Store conn.new) }
+    ensures opens { HasCleanDisk (state S.Store conn.new)
+        → OnOk result (IsTrue (state S.Store conn.new).is_open) }
+    ensures reads { HasCleanDisk (state S.Store conn.new) → Ours (state S.Store conn.old)
+        → IfOk result (λ n. n ≡ len (state_at (rows_of (state S.Store conn.old).now.trees) number).tokens) }
+{
+    let rows = shown(conn, sql::TOKENS, &[ValueRef::Int(number)])?;
+    Ok(rows.as_slice().len())
+}
+
+/// How many documents the domain of that number has: 1,024 at most. In time in proportion to that,
+/// whatever their texts.
+#[tactic(auto, using(crate::proofs::DocumentLemmas::documents_plain))]
+pub(crate) fn document_count<S: Alter>(
+    conn: &mut Connection<S>,
+    number: i64,
+) -> Result<usize, Failure>
+    ensures quiet { Quiet (state S.Store conn.old) (state S.Store conn.new) }
+    ensures opens { HasCleanDisk (state S.Store conn.new)
+        → OnOk result (IsTrue (state S.Store conn.new).is_open) }
+    ensures reads { HasCleanDisk (state S.Store conn.new) → Ours (state S.Store conn.old) → IfOk result (λ n.
+        n ≡ len (state_at (rows_of (state S.Store conn.old).now.trees) number).documents) }
+{
+    let rows = shown(conn, sql::DOCUMENTS, &[ValueRef::Int(number)])?;
+    Ok(rows.as_slice().len())
+}

@@ -1,0 +1,158 @@
+//! The documents of a domain: the one of a key, the list of all, and the texts of the active ones.
+ghost use Rattle.std.specs.Prelude.{◌≡◌, [], ◌∷◌, IsTrue, IfOk, OnOk};
+ghost use Rattle.std.specs.List.Sorted.{IsPermutation, IsSorted};
+ghost use Rattle.std.specs.Ordering.{on};
+ghost use Rattle.sqlite.specs.Held.{state};
+ghost use Rattle.sqlite.specs.State.{HasCleanDisk, Shown};
+ghost use Rattle.sqlite.specs.declared.types.Value.TheVariants.{Int, Text as SqlText};
+ghost use Rattle.xa_policy.specs.declared.document_key.DocumentKey.{DocumentKey as Key};
+ghost use Rattle.xa_policy.specs.DocumentKey.{compare_keys};
+ghost use Rattle.xa_policy.specs.Version.{version_text};
+ghost use Rattle.xa_records.specs.Readings.{active_texts, listing_of_state};
+ghost use Rattle.xa_store.specs.Lookup.{FindsDocument};
+ghost use Rattle.xa_store.specs.Quiet.{Quiet};
+ghost use Rattle.xa_store.specs.Rows.{kind_number};
+ghost use Rattle.xa_store.specs.Sound.{Ours};
+ghost use Rattle.xa_store.specs.Texts.{document_shown};
+ghost use Rattle.xa_store.specs.World.{rows_of, state_at};
+
+use crate::query::column::kind_column;
+use crate::query::document_row::DocumentFound;
+use crate::query::row::{all_told, one_told};
+use crate::query::shown;
+use crate::sql;
+use sqlite::types::ValueRef;
+use sqlite::{Alter, Connection, Row};
+use std::alloc::Global;
+use xa_policy::DocumentKey;
+use xa_records::{ActiveText, Failure, Listed};
+use xa_value::{Items, Text};
+
+/// What has a document's key.
+pub(crate) trait Keyed {
+    /// Its key.
+    ghost key_of: { Self → Key };
+
+    /// Its key.
+    fn key(&self) -> &DocumentKey
+        ensures { result.now ≡ key_of self.now };
+}
+
+impl Keyed for Listed {
+    ghost key_of = { λ listed. listed.key };
+
+    fn key(&self) -> &DocumentKey {
+        &self.key
+    }
+}
+
+impl Keyed for ActiveText {
+    ghost key_of = { λ active. active.key };
+
+    fn key(&self) -> &DocumentKey {
+        &self.key
+    }
+}
+
+/// The items in the order of their keys. SQL compares the texts of versions, and keys the numbers.
+fn in_order<T: Keyed>(items: Items<T>) -> Vec<T>
+    ensures same { IsPermutation items result.items }
+    ensures sorted { IsSorted (on T.Keyed.key_of compare_keys) result.items }
+{
+    let mut items = items.into_vec();
+    items.sort_unstable_by(|one, other| one.key().cmp(other.key()));
+    items
+}
+
+/// The row of the document of that key, whose kind and version stand beside it as columns hold them.
+#[tactic(auto, using(crate::proofs::DocumentLemmas::document_plain))]
+fn document_rows<'k, S: Alter>(
+    conn: &mut Connection<S>,
+    number: i64,
+    kind: i64,
+    key: &'k DocumentKey,
+    version: &'k Text,
+) -> Result<Vec<Row>, Failure>
+    requires kind { kind ≡ kind_number key.now.kind }
+    requires version { version.now ≡ version_text key.now.version }
+    ensures quiet { Quiet (state S.Store conn.old) (state S.Store conn.new) }
+    ensures opens { HasCleanDisk (state S.Store conn.new)
+        → OnOk result (IsTrue (state S.Store conn.new).is_open) }
+    ensures shows { HasCleanDisk (state S.Store conn.new)
+        → IfOk result (λ rows. Shown document_shown (Int number ∷ Int (kind_number key.now.kind)
+        ∷ SqlText key.now.id ∷ SqlText (version_text key.now.version) ∷ [])
+        (state S.Store conn.old) (state S.Store conn.new) rows.items) }
+{
+    shown(
+        conn,
+        sql::DOCUMENT,
+        &[
+            ValueRef::Int(number),
+            ValueRef::Int(kind),
+            ValueRef::Text(key.id.as_bytes()),
+            ValueRef::Text(version.as_bytes()),
+        ],
+    )
+}
+
+/// The document of that key in the domain of that number, if it is there: a point query, and the text
+/// once more.
+pub(crate) fn document_of<S: Alter>(
+    conn: &mut Connection<S>,
+    alloc: Global,
+    number: i64,
+    key: &DocumentKey,
+) -> Result<Option<DocumentFound>, Failure>
+    ensures quiet { Quiet (state S.Store conn.old) (state S.Store conn.new) }
+    ensures opens { HasCleanDisk (state S.Store conn.new)
+        → OnOk result (IsTrue (state S.Store conn.new).is_open) }
+    ensures finds { HasCleanDisk (state S.Store conn.new) → Ours (state S.Store conn.old)
+        → IfOk result (FindsDocument number key.now (rows_of (state S.Store conn.old).now.trees)) }
+{
+    key.version.reads_back();
+    let version = key.version.to_text(alloc)?;
+    let kind = kind_column(key.kind);
+    let rows = document_rows(conn, number, kind, key, &version)?;
+    one_told(alloc, rows.as_slice())
+}
+
+/// All documents of the domain of that number, in the order of their keys; there are 1,024 at most. In
+/// time in proportion to their number, whatever their texts.
+#[tactic(auto, using(crate::proofs::DocumentLemmas::documents_plain))]
+pub(crate) fn documents_of<S: Alter>(
+    conn: &mut Connection<S>,
+    alloc: Global,
+    number: i64,
+) -> Result<Items<Listed>, Failure>
+    ensures quiet { Quiet (state S.Store conn.old) (state S.Store conn.new) }
+    ensures opens { HasCleanDisk (state S.Store conn.new)
+        → OnOk result (IsTrue (state S.Store conn.new).is_open) }
+    ensures reads { HasCleanDisk (state S.Store conn.new) → Ours (state S.Store conn.old)
+        → IfOk result (λ listed.
+        listed ≡ listing_of_state (state_at (rows_of (state S.Store conn.old).now.trees) number)) }
+{
+    let rows = shown(conn, sql::DOCUMENTS, &[ValueRef::Int(number)])?;
+    let listed = all_told::<Listed>(alloc, rows)?;
+    Ok(Items::from_vec(in_order(listed)))
+}
+
+/// The texts of the active documents of the domain of that number, in the order of their keys. A view
+/// gives them all, so one query reads them all: the texts and the longest of them once more. In time in
+/// proportion to the texts.
+#[tactic(auto, using(crate::proofs::DocumentLemmas::active_plain))]
+pub(crate) fn active_texts_of<S: Alter>(
+    conn: &mut Connection<S>,
+    alloc: Global,
+    number: i64,
+) -> Result<Items<ActiveText>, Failure>
+    ensures quiet { Quiet (state S.Store conn.old) (state S.Store conn.new) }
+    ensures opens { HasCleanDisk (state S.Store conn.new)
+        → OnOk result (IsTrue (state S.Store conn.new).is_open) }
+    ensures reads { HasCleanDisk (state S.Store conn.new) → Ours (state S.Store conn.old)
+        → IfOk result (λ texts.
+        texts ≡ active_texts (state_at (rows_of (state S.Store conn.old).now.trees) number)) }
+{
+    let rows = shown(conn, sql::ACTIVE_DOCUMENTS, &[ValueRef::Int(number)])?;
+    let active = all_told::<ActiveText>(alloc, rows)?;
+    Ok(Items::from_vec(in_order(active)))
+}

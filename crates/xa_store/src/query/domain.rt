@@ -1,0 +1,61 @@
+//! The domain of a name: its number and its epoch.
+ghost use Rattle.std.specs.Prelude.{IsTrue, IfOk, OnOk};
+ghost use Rattle.sqlite.specs.Held.{state};
+ghost use Rattle.sqlite.specs.State.{HasCleanDisk};
+ghost use Rattle.xa_store.specs.Lookup.{FindsDomain, TellDomain};
+ghost use Rattle.xa_store.specs.Quiet.{Quiet};
+ghost use Rattle.xa_store.specs.Sound.{Ours};
+ghost use Rattle.xa_store.specs.World.{rows_of};
+
+use crate::query::column::number_in;
+use crate::query::shown;
+use crate::sql;
+use sqlite::types::ValueRef;
+use sqlite::{Alter, Connection, Row};
+use xa_records::Failure;
+use xa_value::Text;
+
+/// A domain that was found.
+#[derive(Clone, Copy, Debug)]
+pub(crate) struct DomainFound {
+    /// Its number.
+    pub number: i64,
+    /// Its epoch.
+    pub epoch: i64,
+}
+
+/// The domain of that name, if there is one: neither its number nor its epoch is negative. A point
+/// query, whatever the number of domains.
+#[tactic(auto, using(crate::proofs::DomainLemmas::domain_plain))]
+pub(crate) fn domain_named<S: Alter>(
+    conn: &mut Connection<S>,
+    name: &Text,
+) -> Result<Option<DomainFound>, Failure>
+    ensures quiet { Quiet (state S.Store conn.old) (state S.Store conn.new) }
+    ensures opens { HasCleanDisk (state S.Store conn.new)
+        → OnOk result (IsTrue (state S.Store conn.new).is_open) }
+    ensures finds { HasCleanDisk (state S.Store conn.new) → Ours (state S.Store conn.old)
+        → IfOk result (FindsDomain name.now (rows_of (state S.Store conn.old).now.trees)) }
+{
+    let rows = shown(conn, sql::DOMAIN, &[ValueRef::Text(name.as_bytes())])?;
+    domain_told(rows.as_slice())
+}
+
+/// The domain that the rows of the look tell: none, where there is no row, and a failure where there are
+/// several.
+fn domain_told(rows: &[Row]) -> Result<Option<DomainFound>, Failure>
+    ensures { IfOk result (TellDomain rows.now) }
+{
+    match rows {
+        [] => Ok(None),
+        [row] => {
+            let number = number_in(row, 0)?;
+            let epoch = number_in(row, 1)?;
+            if number < 0 || epoch < 0 {
+                return Err(Failure::Store);
+            }
+            Ok(Some(DomainFound { number, epoch }))
+        }
+        _ => Err(Failure::Store),
+    }
+}

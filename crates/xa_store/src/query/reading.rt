@@ -1,0 +1,168 @@
+//! The readings of a domain by its name: its gate, its view, a document's text, and its list of
+//! documents.
+ghost use Rattle.std.specs.Prelude.{◌≡◌, pos, Some, IsTrue, IfOk, OnOk};
+ghost use Rattle.sqlite.specs.Held.{state};
+ghost use Rattle.sqlite.specs.State.{HasCleanDisk};
+ghost use Rattle.xa_records.specs.Readings.{gate_of, listing_of, text_in, text_of, view_of, view_of_state};
+ghost use Rattle.xa_store.specs.Lookup.{TellsGate};
+ghost use Rattle.xa_store.specs.Quiet.{Quiet};
+ghost use Rattle.xa_store.specs.Sound.{Ours};
+ghost use Rattle.xa_store.specs.World.{rows_of, state_at, world_of};
+
+use crate::query::document::{active_texts_of, document_of, documents_of};
+use crate::query::domain::{DomainFound, domain_named};
+use crate::query::root::root_of;
+use crate::query::source::source_of;
+use crate::query::token::tokens_of;
+use sqlite::{Alter, Connection};
+use std::alloc::Global;
+use xa_policy::DocumentKey;
+use xa_records::{Failure, Gate, KeptView, Listed, Token};
+use xa_value::{Items, Text};
+
+/// The number, which isn't negative.
+fn natural(number: i64) -> Result<u64, Failure>
+    ensures { IfOk result (λ n. number ≡ pos n) }
+{
+    match u64::try_from(number) {
+        Ok(natural) => Ok(natural),
+        Err(_) => Err(Failure::Store),
+    }
+}
+
+/// The gate of the domain that was found, by its tokens.
+fn gate_by(domain: DomainFound, tokens: Items<Token>) -> Result<Option<Gate>, Failure>
+    ensures { IfOk result (TellsGate domain tokens) }
+{
+    let number = natural(domain.number)?;
+    let epoch = natural(domain.epoch)?;
+    Ok(Some(Gate {
+        number,
+        epoch,
+        tokens,
+    }))
+}
+
+/// What lets messages into the domain: two queries, and time in proportion to its tokens.
+pub(crate) fn gate_in<S: Alter>(
+    conn: &mut Connection<S>,
+    alloc: Global,
+    name: &Text,
+) -> Result<Option<Gate>, Failure>
+    ensures quiet { Quiet (state S.Store conn.old) (state S.Store conn.new) }
+    ensures opens { HasCleanDisk (state S.Store conn.new)
+        → OnOk result (IsTrue (state S.Store conn.new).is_open) }
+    ensures reads { HasCleanDisk (state S.Store conn.new) → Ours (state S.Store conn.old)
+        → IfOk result (λ gate. gate ≡ gate_of name.now (world_of (state S.Store conn.old).now.trees)) }
+{
+    let found = domain_named(conn, name)?;
+    let Some(domain) = found else {
+        return Ok(None);
+    };
+    let tokens = tokens_of(conn, alloc, domain.number)?;
+    gate_by(domain, tokens)
+}
+
+/// The text of the document of that key: two point queries, and time in proportion to the text.
+pub(crate) fn text_in<S: Alter>(
+    conn: &mut Connection<S>,
+    alloc: Global,
+    name: &Text,
+    key: &DocumentKey,
+) -> Result<Option<Items<u8>>, Failure>
+    ensures quiet { Quiet (state S.Store conn.old) (state S.Store conn.new) }
+    ensures opens { HasCleanDisk (state S.Store conn.new)
+        → OnOk result (IsTrue (state S.Store conn.new).is_open) }
+    ensures reads { HasCleanDisk (state S.Store conn.new) → Ours (state S.Store conn.old)
+        → IfOk result (λ text.
+        text ≡ text_of name.now key.now (world_of (state S.Store conn.old).now.trees)) }
+{
+    let found = domain_named(conn, name)?;
+    let Some(domain) = found else {
+        return Ok(None);
+    };
+    text_at(conn, alloc, domain.number, key)
+}
+
+/// The text of the document of that key in the domain of that number.
+fn text_at<S: Alter>(
+    conn: &mut Connection<S>,
+    alloc: Global,
+    number: i64,
+    key: &DocumentKey,
+) -> Result<Option<Items<u8>>, Failure>
+    ensures quiet { Quiet (state S.Store conn.old) (state S.Store conn.new) }
+    ensures opens { HasCleanDisk (state S.Store conn.new)
+        → OnOk result (IsTrue (state S.Store conn.new).is_open) }
+    ensures reads { HasCleanDisk (state S.Store conn.new) → Ours (state S.Store conn.old)
+        → IfOk result (λ text.
+        text ≡ text_in key.now (state_at (rows_of (state S.Store conn.old).now.trees) number)) }
+{
+    match document_of(conn, alloc, number, key)? {
+        Some(document) => Ok(Some(document.text)),
+        None => Ok(None),
+    }
+}
+
+/// The domain's documents, in the order of their keys: two queries, and time in proportion to their number.
+pub(crate) fn listing_in<S: Alter>(
+    conn: &mut Connection<S>,
+    alloc: Global,
+    name: &Text,
+) -> Result<Option<Items<Listed>>, Failure>
+    ensures quiet { Quiet (state S.Store conn.old) (state S.Store conn.new) }
+    ensures opens { HasCleanDisk (state S.Store conn.new)
+        → OnOk result (IsTrue (state S.Store conn.new).is_open) }
+    ensures reads { HasCleanDisk (state S.Store conn.new) → Ours (state S.Store conn.old)
+        → IfOk result (λ listed. listed ≡ listing_of name.now (world_of (state S.Store conn.old).now.trees)) }
+{
+    let found = domain_named(conn, name)?;
+    let Some(domain) = found else {
+        return Ok(None);
+    };
+    let listed = documents_of(conn, alloc, domain.number)?;
+    Ok(Some(listed))
+}
+
+/// What decides in the domain: four queries, and time in proportion to its active texts and its source.
+pub(crate) fn view_in<S: Alter>(
+    conn: &mut Connection<S>,
+    alloc: Global,
+    name: &Text,
+) -> Result<Option<KeptView>, Failure>
+    ensures quiet { Quiet (state S.Store conn.old) (state S.Store conn.new) }
+    ensures opens { HasCleanDisk (state S.Store conn.new)
+        → OnOk result (IsTrue (state S.Store conn.new).is_open) }
+    ensures reads { HasCleanDisk (state S.Store conn.new) → Ours (state S.Store conn.old)
+        → IfOk result (λ view. view ≡ view_of name.now (world_of (state S.Store conn.old).now.trees)) }
+{
+    let found = domain_named(conn, name)?;
+    let Some(domain) = found else {
+        return Ok(None);
+    };
+    let view = view_at(conn, alloc, domain.number)?;
+    Ok(Some(view))
+}
+
+/// What decides in the domain of that number.
+fn view_at<S: Alter>(
+    conn: &mut Connection<S>,
+    alloc: Global,
+    number: i64,
+) -> Result<KeptView, Failure>
+    ensures quiet { Quiet (state S.Store conn.old) (state S.Store conn.new) }
+    ensures opens { HasCleanDisk (state S.Store conn.new)
+        → OnOk result (IsTrue (state S.Store conn.new).is_open) }
+    ensures reads { HasCleanDisk (state S.Store conn.new) → Ours (state S.Store conn.old)
+        → IfOk result (λ view.
+        view ≡ view_of_state (state_at (rows_of (state S.Store conn.old).now.trees) number)) }
+{
+    let texts = active_texts_of(conn, alloc, number)?;
+    let root = root_of(conn, alloc, number)?;
+    let source = source_of(conn, alloc, number)?;
+    Ok(KeptView {
+        texts,
+        root,
+        source,
+    })
+}

@@ -1,0 +1,94 @@
+//! The tokens of a domain: the role of one, and all of them.
+ghost use Rattle.std.specs.Prelude.{◌≡◌, map, IsTrue, IfOk, OnOk};
+ghost use Rattle.std.specs.FinMap.{entries};
+ghost use Rattle.sqlite.specs.Held.{state};
+ghost use Rattle.sqlite.specs.State.{HasCleanDisk};
+ghost use Rattle.sqlite_typed.specs.Columns.{bytes_of};
+ghost use Rattle.sqlite.specs.Order.{column};
+ghost use Rattle.xa_records.specs.Readings.{token_of};
+ghost use Rattle.xa_store.specs.Lookup.{FindsRole};
+ghost use Rattle.xa_store.specs.Quiet.{Quiet};
+ghost use Rattle.xa_store.specs.Columns.{role_told, token_told};
+ghost use Rattle.xa_store.specs.Sound.{Ours};
+ghost use Rattle.xa_store.specs.World.{rows_of, state_at};
+
+use crate::query::column::{bytes_in, role_in};
+use crate::query::row::{Told, all_told, one_told};
+use crate::query::shown;
+use crate::sql;
+use sqlite::types::ValueRef;
+use sqlite::{Alter, Connection, Row};
+use std::alloc::Global;
+use xa_notation::Role;
+use xa_records::{Digest, Failure, Token};
+use xa_value::Items;
+
+impl Told for Role {
+    ghost told = { role_told };
+
+    fn told(_: Global, row: &Row) -> Result<Role, Failure> {
+        role_in(row, 0)
+    }
+}
+
+impl Told for Token {
+    ghost told = { token_told };
+
+    fn told(_: Global, row: &Row) -> Result<Token, Failure> {
+        let digest = digest_in(row, 0)?;
+        let role = role_in(row, 1)?;
+        Ok(Token { digest, role })
+    }
+}
+
+/// The digest in a column.
+fn digest_in(row: &Row, at: usize) -> Result<Digest, Failure>
+    ensures { IfOk result (λ digest. digest ≡ bytes_of (column row.now at)) }
+{
+    let bytes = bytes_in(row, at)?;
+    match <[u8; 32]>::try_from(bytes.as_slice()) {
+        Ok(bytes) => Ok(Digest::from_bytes(bytes)),
+        Err(_) => Err(Failure::Store),
+    }
+}
+
+/// The role of the token in the domain of that number, if it has that token: a point query.
+#[tactic(auto, using(crate::proofs::TokenLemmas::role_plain))]
+pub(crate) fn role_of<S: Alter>(
+    conn: &mut Connection<S>,
+    alloc: Global,
+    number: i64,
+    digest: &Digest,
+) -> Result<Option<Role>, Failure>
+    ensures quiet { Quiet (state S.Store conn.old) (state S.Store conn.new) }
+    ensures opens { HasCleanDisk (state S.Store conn.new)
+        → OnOk result (IsTrue (state S.Store conn.new).is_open) }
+    ensures finds { HasCleanDisk (state S.Store conn.new) → Ours (state S.Store conn.old)
+        → IfOk result (FindsRole number digest.now (rows_of (state S.Store conn.old).now.trees)) }
+{
+    let rows = shown(
+        conn,
+        sql::ROLE,
+        &[ValueRef::Int(number), ValueRef::Blob(digest.as_bytes())],
+    )?;
+    one_told(alloc, rows.as_slice())
+}
+
+/// All tokens of the domain of that number, in the order of their digests; there are 32 at most. In time
+/// in proportion to their number.
+#[tactic(auto, using(crate::proofs::TokenLemmas::tokens_plain))]
+pub(crate) fn tokens_of<S: Alter>(
+    conn: &mut Connection<S>,
+    alloc: Global,
+    number: i64,
+) -> Result<Items<Token>, Failure>
+    ensures quiet { Quiet (state S.Store conn.old) (state S.Store conn.new) }
+    ensures opens { HasCleanDisk (state S.Store conn.new)
+        → OnOk result (IsTrue (state S.Store conn.new).is_open) }
+    ensures reads { HasCleanDisk (state S.Store conn.new) → Ours (state S.Store conn.old)
+        → IfOk result (λ tokens. tokens
+        ≡ map token_of (entries (state_at (rows_of (state S.Store conn.old).now.trees) number).tokens)) }
+{
+    let rows = shown(conn, sql::TOKENS, &[ValueRef::Int(number)])?;
+    all_told(alloc, rows)
+}

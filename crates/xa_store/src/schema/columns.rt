@@ -1,0 +1,215 @@
+//! The columns that each table has in a keeper's store.
+ghost use Rattle.std.specs.Prelude.{◌≡◌, ◌↔◌, ◌∷◌, [], true, IsTrue, codes};
+ghost use Rattle.sqlite.specs.Collation.TheVariants.{Binary};
+ghost use Rattle.sqlite.specs.declared.types.Value.TheVariants.{Null};
+ghost use Rattle.xa_store.specs.Tables.{attributes, domains, meta, needed, policies};
+ghost use Rattle.xa_store.specs.Tables.{roots, sources, text_if_any, tokens};
+
+use sqlite_schema::schema::{Column, Kind};
+use sqlite_value::keys::Collation;
+use sqlite_value::value::Value;
+
+/// Whether the column has this name and takes values of this kind alone.
+fn is_column(column: &Column, name: &str, kind: Kind, not_null: bool) -> bool
+    ensures { IsTrue result ↔ (column.now ≡ record {
+      name = name.now;
+      kind = kind;
+      is_strict = true;
+      not_null = not_null;
+      default = Null;
+      collation = Binary;
+    }) }
+{
+    column.name.as_slice() == name.as_bytes()
+        && column.kind == kind
+        && column.is_strict
+        && column.not_null == not_null
+        && matches!(column.default, Value::Null)
+        && column.collation == Collation::Binary
+}
+
+/// Whether they are the columns of the table `meta`.
+pub(crate) fn are_meta_columns(columns: &[Column]) -> bool
+    ensures { IsTrue result ↔ (columns.now ≡ meta.columns) }
+{
+    match columns {
+        [id, schema, next] => {
+            is_column(id, "id", Kind::Integer, false)
+                && is_column(schema, "schema_no", Kind::Integer, true)
+                && is_column(next, "next_number", Kind::Integer, true)
+        }
+        _ => false,
+    }
+}
+
+/// Whether they are the columns of the table `domains`.
+pub(crate) fn are_domain_columns(columns: &[Column]) -> bool
+    ensures { IsTrue result ↔ (columns.now ≡ domains.columns) }
+{
+    match columns {
+        [number, name, epoch] => {
+            is_column(number, "number", Kind::Integer, false)
+                && is_column(name, "name", Kind::Text, true)
+                && is_column(epoch, "epoch", Kind::Integer, true)
+        }
+        _ => false,
+    }
+}
+
+/// Whether they are the columns of the table `tokens`.
+pub(crate) fn are_token_columns(columns: &[Column]) -> bool
+    ensures { IsTrue result ↔ (columns.now ≡ tokens.columns) }
+{
+    match columns {
+        [number, digest, role] => {
+            is_column(number, "number", Kind::Integer, true)
+                && is_column(digest, "digest", Kind::Blob, true)
+                && is_column(role, "role", Kind::Integer, true)
+        }
+        _ => false,
+    }
+}
+
+/// Whether they are the columns of a document's key.
+fn are_key_columns(number: &Column, kind: &Column, id: &Column, version: &Column) -> bool
+    ensures { IsTrue result
+        ↔ ((number.now ≡ needed (codes "number") Kind.Integer)
+        × (kind.now ≡ needed (codes "kind") Kind.Integer) × (id.now ≡ needed (codes "id") Kind.Text)
+        × (version.now ≡ needed (codes "version") Kind.Text)) }
+{
+    is_column(number, "number", Kind::Integer, true)
+        && is_column(kind, "kind", Kind::Integer, true)
+        && is_column(id, "id", Kind::Text, true)
+        && is_column(version, "version", Kind::Text, true)
+}
+
+/// Whether they are the columns of a document's text and of whether it is active.
+fn are_body_columns(body: &Column, active: &Column) -> bool
+    ensures { IsTrue result
+        ↔ ((body.now ≡ needed (codes "body") Kind.Blob)
+        × (active.now ≡ needed (codes "active") Kind.Integer)) }
+{
+    is_column(body, "body", Kind::Blob, true) && is_column(active, "active", Kind::Integer, true)
+}
+
+/// Whether they are the columns of the table `policies`.
+pub(crate) fn are_policy_columns(columns: &[Column]) -> bool
+    ensures { IsTrue result ↔ (columns.now ≡ policies.columns) }
+{
+    match columns {
+        [number, kind, id, version, body, active] => {
+            are_key_columns(number, kind, id, version) && are_body_columns(body, active)
+        }
+        _ => false,
+    }
+}
+
+/// Whether they are the columns of the table `roots`.
+pub(crate) fn are_root_columns(columns: &[Column]) -> bool
+    ensures { IsTrue result ↔ (columns.now ≡ roots.columns) }
+{
+    match columns {
+        [number, kind, id, pattern, earliest, latest] => {
+            is_column(number, "number", Kind::Integer, false)
+                && is_column(kind, "kind", Kind::Integer, true)
+                && is_column(id, "id", Kind::Text, true)
+                && is_column(pattern, "pattern", Kind::Text, false)
+                && is_column(earliest, "earliest", Kind::Text, false)
+                && is_column(latest, "latest", Kind::Text, false)
+        }
+        _ => false,
+    }
+}
+
+/// Whether they are the columns that name an attribute.
+fn are_name_columns(category: &Column, entity: &Column, attribute: &Column) -> bool
+    ensures { IsTrue result
+        ↔ ((category.now ≡ needed (codes "category") Kind.Text)
+        × (entity.now ≡ needed (codes "entity") Kind.Text)
+        × (attribute.now ≡ needed (codes "attribute") Kind.Text)) }
+{
+    is_column(category, "category", Kind::Text, true)
+        && is_column(entity, "entity", Kind::Text, true)
+        && is_column(attribute, "attribute", Kind::Text, true)
+}
+
+/// Whether they are the columns of a value.
+fn are_value_columns(value_type: &Column, value: &Column) -> bool
+    ensures { IsTrue result
+        ↔ ((value_type.now ≡ needed (codes "value_type") Kind.Integer)
+        × (value.now ≡ needed (codes "value") Kind.Text)) }
+{
+    is_column(value_type, "value_type", Kind::Integer, true)
+        && is_column(value, "value", Kind::Text, true)
+}
+
+/// Whether they are the columns of a value and of its issuer.
+fn are_issued_value_columns(value_type: &Column, value: &Column, issuer: &Column) -> bool
+    ensures { IsTrue result
+        ↔ ((value_type.now ≡ needed (codes "value_type") Kind.Integer)
+        × (value.now ≡ needed (codes "value") Kind.Text) × (issuer.now ≡ text_if_any (codes "issuer"))) }
+{
+    is_column(value_type, "value_type", Kind::Integer, true)
+        && is_column(value, "value", Kind::Text, true)
+        && is_column(issuer, "issuer", Kind::Text, false)
+}
+
+/// Whether they are the columns of a row's domain and place.
+fn are_place_columns(number: &Column, place: &Column) -> bool
+    ensures { IsTrue result
+        ↔ ((number.now ≡ needed (codes "number") Kind.Integer)
+        × (place.now ≡ needed (codes "place") Kind.Integer)) }
+{
+    is_column(number, "number", Kind::Integer, true)
+        && is_column(place, "place", Kind::Integer, true)
+}
+
+/// Whether they are the columns of the table `attributes`.
+pub(crate) fn are_attribute_columns(columns: &[Column]) -> bool
+    ensures { IsTrue result ↔ (columns.now ≡ attributes.columns) }
+{
+    match columns {
+        [
+            number,
+            place,
+            category,
+            entity,
+            attribute,
+            value_type,
+            value,
+        ] => {
+            are_place_columns(number, place)
+                && are_name_columns(category, entity, attribute)
+                && are_value_columns(value_type, value)
+        }
+        _ => false,
+    }
+}
+
+/// Whether they are the columns that name an attribute, and those of a value and of its issuer.
+fn are_described_columns(columns: &[Column]) -> bool
+    ensures { IsTrue result
+        ↔ (columns.now ≡ needed (codes "category") Kind.Text ∷ needed (codes "entity") Kind.Text
+        ∷ needed (codes "attribute") Kind.Text ∷ needed (codes "value_type") Kind.Integer
+        ∷ needed (codes "value") Kind.Text ∷ text_if_any (codes "issuer") ∷ []) }
+{
+    match columns {
+        [category, entity, attribute, value_type, value, issuer] => {
+            are_name_columns(category, entity, attribute)
+                && are_issued_value_columns(value_type, value, issuer)
+        }
+        _ => false,
+    }
+}
+
+/// Whether they are the columns of the table `sources`.
+pub(crate) fn are_source_columns(columns: &[Column]) -> bool
+    ensures { IsTrue result ↔ (columns.now ≡ sources.columns) }
+{
+    match columns {
+        [number, place, others @ ..] => {
+            are_place_columns(number, place) && are_described_columns(others)
+        }
+        _ => false,
+    }
+}

@@ -1,0 +1,148 @@
+//! The creation of the tables, in one transaction.
+ghost use Rattle.std.specs.Prelude.{◌≡◌, IsTrue, OnOk};
+ghost use Rattle.sqlite.specs.Held.{state};
+ghost use Rattle.sqlite.specs.State.{HasCleanDisk, KeepsCommit, Survives};
+ghost use Rattle.xa_store.specs.Check.{Made};
+ghost use Rattle.xa_store.specs.Creation.{text_of, AreMade, IsAfter, IsBefore};
+ghost use Rattle.xa_store.specs.declared.schema.creation.Part.TheVariants as parts;
+
+use crate::error::OpenError;
+use crate::failure::failure_of;
+use crate::refusal::failed;
+use crate::sql;
+use crate::step::execution::execute_in;
+use sqlite::{Alter, Connection, Transaction};
+use xa_records::Failure;
+
+/// A part of what is made.
+#[derive(Clone, Copy, Debug)]
+pub(super) enum Part {
+    /// The table of the schema's number and the next domain's.
+    Meta,
+    /// The table of domains.
+    Domains,
+    /// The table of their tokens.
+    Tokens,
+    /// The table of their documents.
+    Policies,
+    /// The table of their roots.
+    Roots,
+    /// The table of the rows of their sources in schema 1, which stays empty.
+    Attributes,
+    /// The table of the rows of their sources.
+    Sources,
+    /// The one row of the first table.
+    FirstRow,
+}
+
+impl Part {
+    /// The statement that makes it.
+    pub(super) fn text(self) -> &'static str
+        ensures { result.now ≡ text_of self }
+    {
+        match self {
+            Part::Meta => sql::CREATE_META,
+            Part::Domains => sql::CREATE_DOMAINS,
+            Part::Tokens => sql::CREATE_TOKENS,
+            Part::Policies => sql::CREATE_POLICIES,
+            Part::Roots => sql::CREATE_ROOTS,
+            Part::Attributes => sql::CREATE_ATTRIBUTES,
+            Part::Sources => sql::CREATE_SOURCES,
+            Part::FirstRow => sql::ADD_META_ROW,
+        }
+    }
+}
+
+/// Makes that part.
+fn take<S: Alter>(tx: &mut Transaction<'_, S>, part: Part) -> Result<(), Failure>
+    ensures same_reference { tx.new.conn.ghost_name ≡ tx.old.conn.ghost_name }
+    ensures survives { Survives (state S.Store tx.old.conn.now) (state S.Store tx.new.conn.now) (λ _. ⊥) }
+    ensures kept { HasCleanDisk (state S.Store tx.new.conn.now)
+        → IsTrue (state S.Store tx.old.conn.now).in_transaction
+        → KeepsCommit (state S.Store tx.old.conn.now) (state S.Store tx.new.conn.now) }
+    ensures inside { HasCleanDisk (state S.Store tx.new.conn.now)
+        → IsTrue (state S.Store tx.old.conn.now).in_transaction
+        → OnOk result (IsTrue (state S.Store tx.new.conn.now).in_transaction) }
+    ensures makes { HasCleanDisk (state S.Store tx.new.conn.now)
+        → IsTrue (state S.Store tx.old.conn.now).in_transaction
+        → IsBefore part (state S.Store tx.old.conn.now).now
+        → OnOk result (IsAfter part (state S.Store tx.new.conn.now).now) }
+{
+    execute_in(tx, part.text(), &[])
+}
+
+/// The tables of domains and of what each has by its own number.
+fn take_front<S: Alter>(tx: &mut Transaction<'_, S>) -> Result<(), Failure>
+    ensures same_reference { tx.new.conn.ghost_name ≡ tx.old.conn.ghost_name }
+    ensures survives { Survives (state S.Store tx.old.conn.now) (state S.Store tx.new.conn.now) (λ _. ⊥) }
+    ensures kept { HasCleanDisk (state S.Store tx.new.conn.now)
+        → IsTrue (state S.Store tx.old.conn.now).in_transaction
+        → KeepsCommit (state S.Store tx.old.conn.now) (state S.Store tx.new.conn.now) }
+    ensures inside { HasCleanDisk (state S.Store tx.new.conn.now)
+        → IsTrue (state S.Store tx.old.conn.now).in_transaction
+        → OnOk result (IsTrue (state S.Store tx.new.conn.now).in_transaction) }
+    ensures makes { HasCleanDisk (state S.Store tx.new.conn.now)
+        → IsTrue (state S.Store tx.old.conn.now).in_transaction
+        → IsBefore parts.Meta (state S.Store tx.old.conn.now).now
+        → OnOk result (IsBefore parts.Roots (state S.Store tx.new.conn.now).now) }
+{
+    take(tx, Part::Meta)?;
+    take(tx, Part::Domains)?;
+    take(tx, Part::Tokens)?;
+    take(tx, Part::Policies)
+}
+
+/// The other tables, and the first row.
+fn take_back<S: Alter>(tx: &mut Transaction<'_, S>) -> Result<(), Failure>
+    ensures same_reference { tx.new.conn.ghost_name ≡ tx.old.conn.ghost_name }
+    ensures survives { Survives (state S.Store tx.old.conn.now) (state S.Store tx.new.conn.now) (λ _. ⊥) }
+    ensures kept { HasCleanDisk (state S.Store tx.new.conn.now)
+        → IsTrue (state S.Store tx.old.conn.now).in_transaction
+        → KeepsCommit (state S.Store tx.old.conn.now) (state S.Store tx.new.conn.now) }
+    ensures inside { HasCleanDisk (state S.Store tx.new.conn.now)
+        → IsTrue (state S.Store tx.old.conn.now).in_transaction
+        → OnOk result (IsTrue (state S.Store tx.new.conn.now).in_transaction) }
+    ensures makes { HasCleanDisk (state S.Store tx.new.conn.now)
+        → IsTrue (state S.Store tx.old.conn.now).in_transaction
+        → IsBefore parts.Roots (state S.Store tx.old.conn.now).now
+        → OnOk result (AreMade (state S.Store tx.new.conn.now).now) }
+{
+    take(tx, Part::Roots)?;
+    take(tx, Part::Attributes)?;
+    take(tx, Part::Sources)?;
+    take(tx, Part::FirstRow)
+}
+
+/// All parts, one after another.
+fn take_all<S: Alter>(tx: &mut Transaction<'_, S>) -> Result<(), Failure>
+    ensures same_reference { tx.new.conn.ghost_name ≡ tx.old.conn.ghost_name }
+    ensures survives { Survives (state S.Store tx.old.conn.now) (state S.Store tx.new.conn.now) (λ _. ⊥) }
+    ensures kept { HasCleanDisk (state S.Store tx.new.conn.now)
+        → IsTrue (state S.Store tx.old.conn.now).in_transaction
+        → KeepsCommit (state S.Store tx.old.conn.now) (state S.Store tx.new.conn.now) }
+    ensures inside { HasCleanDisk (state S.Store tx.new.conn.now)
+        → IsTrue (state S.Store tx.old.conn.now).in_transaction
+        → OnOk result (IsTrue (state S.Store tx.new.conn.now).in_transaction) }
+    ensures makes { HasCleanDisk (state S.Store tx.new.conn.now)
+        → IsTrue (state S.Store tx.old.conn.now).in_transaction
+        → IsBefore parts.Meta (state S.Store tx.old.conn.now).now
+        → OnOk result (AreMade (state S.Store tx.new.conn.now).now) }
+{
+    take_front(tx)?;
+    take_back(tx)
+}
+
+/// Makes the tables, all or none.
+pub(crate) fn make<S: Alter>(conn: &mut Connection<S>) -> Result<(), OpenError>
+    ensures { Made (state S.Store conn.old) (state S.Store conn.new) result }
+{
+    if !conn.is_autocommit() {
+        return Err(OpenError::Store);
+    }
+    let mut tx = conn.transaction();
+    take_all(&mut tx)?;
+    match tx.commit() {
+        Ok(()) => Ok(()),
+        Err(error) => Err(failed(failure_of(&error))),
+    }
+}

@@ -1,0 +1,99 @@
+//! The migration of tables of schema 1 to schema 2, in one transaction.
+ghost use Rattle.std.specs.Prelude.{◌≡◌, IsTrue, OnOk};
+ghost use Rattle.sqlite.specs.Held.{state};
+ghost use Rattle.sqlite.specs.State.{HasCleanDisk, KeepsCommit, Survives};
+ghost use Rattle.sqlite.specs.Tree.{Trees};
+ghost use Rattle.xa_store.specs.Check.{Migrated};
+ghost use Rattle.xa_store.specs.Migration.{text_of, IsAfter, IsBefore, IsDone, IsSoundFirst};
+ghost use Rattle.xa_store.specs.declared.schema.migration.Stage.TheVariants as stages;
+
+use crate::error::OpenError;
+use crate::failure::failure_of;
+use crate::refusal::failed;
+use crate::schema::creation::Part;
+use crate::sql;
+use crate::step::execution::execute_in;
+use sqlite::{Alter, Connection, Transaction};
+use xa_records::Failure;
+
+/// A statement of the migration.
+#[derive(Clone, Copy, Debug)]
+enum Stage {
+    /// The table of the rows of sources, with their issuers.
+    Sources,
+    /// All rows of sources in it, in the order in which they stood, without issuers.
+    Rows,
+    /// The table in which they stood, without rows.
+    Attributes,
+    /// The schema's number.
+    Number,
+}
+
+impl Stage {
+    /// Its text. It takes time and memory in proportion to the rows of sources of all domains, of which
+    /// none is held here.
+    fn text(self) -> &'static str
+        ensures { result.now ≡ text_of self }
+    {
+        match self {
+            Stage::Sources => Part::Sources.text(),
+            Stage::Rows => sql::COPY_ATTRIBUTES,
+            Stage::Attributes => sql::EMPTY_ATTRIBUTES,
+            Stage::Number => sql::SET_SCHEMA,
+        }
+    }
+}
+
+/// Runs that statement.
+fn take<S: Alter>(tx: &mut Transaction<'_, S>, stage: Stage) -> Result<(), Failure>
+    ensures same_reference { tx.new.conn.ghost_name ≡ tx.old.conn.ghost_name }
+    ensures survives { Survives (state S.Store tx.old.conn.now) (state S.Store tx.new.conn.now) (λ _. ⊥) }
+    ensures kept { HasCleanDisk (state S.Store tx.new.conn.now)
+        → IsTrue (state S.Store tx.old.conn.now).in_transaction
+        → KeepsCommit (state S.Store tx.old.conn.now) (state S.Store tx.new.conn.now) }
+    ensures inside { HasCleanDisk (state S.Store tx.new.conn.now)
+        → IsTrue (state S.Store tx.old.conn.now).in_transaction
+        → OnOk result (IsTrue (state S.Store tx.new.conn.now).in_transaction) }
+    ensures moves { HasCleanDisk (state S.Store tx.new.conn.now)
+        → IsTrue (state S.Store tx.old.conn.now).in_transaction → (first : Trees) → IsSoundFirst first
+        → IsBefore stage first (state S.Store tx.old.conn.now).now
+        → OnOk result (IsAfter stage first (state S.Store tx.new.conn.now).now) }
+{
+    execute_in(tx, stage.text(), &[])
+}
+
+/// All of them, one after another.
+fn take_all<S: Alter>(tx: &mut Transaction<'_, S>) -> Result<(), Failure>
+    ensures same_reference { tx.new.conn.ghost_name ≡ tx.old.conn.ghost_name }
+    ensures survives { Survives (state S.Store tx.old.conn.now) (state S.Store tx.new.conn.now) (λ _. ⊥) }
+    ensures kept { HasCleanDisk (state S.Store tx.new.conn.now)
+        → IsTrue (state S.Store tx.old.conn.now).in_transaction
+        → KeepsCommit (state S.Store tx.old.conn.now) (state S.Store tx.new.conn.now) }
+    ensures inside { HasCleanDisk (state S.Store tx.new.conn.now)
+        → IsTrue (state S.Store tx.old.conn.now).in_transaction
+        → OnOk result (IsTrue (state S.Store tx.new.conn.now).in_transaction) }
+    ensures moves { HasCleanDisk (state S.Store tx.new.conn.now)
+        → IsTrue (state S.Store tx.old.conn.now).in_transaction → (first : Trees) → IsSoundFirst first
+        → IsBefore stages.Sources first (state S.Store tx.old.conn.now).now
+        → OnOk result (IsDone first (state S.Store tx.new.conn.now).now) }
+{
+    take(tx, Stage::Sources)?;
+    take(tx, Stage::Rows)?;
+    take(tx, Stage::Attributes)?;
+    take(tx, Stage::Number)
+}
+
+/// Brings the tables into schema 2, all of them or none.
+pub(crate) fn migrate<S: Alter>(conn: &mut Connection<S>) -> Result<(), OpenError>
+    ensures { Migrated (state S.Store conn.old) (state S.Store conn.new) result }
+{
+    if !conn.is_autocommit() {
+        return Err(OpenError::Store);
+    }
+    let mut tx = conn.transaction();
+    take_all(&mut tx)?;
+    match tx.commit() {
+        Ok(()) => Ok(()),
+        Err(error) => Err(failed(failure_of(&error))),
+    }
+}

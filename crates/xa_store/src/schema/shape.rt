@@ -1,0 +1,381 @@
+//! The tables and indexes that a keeper's store has, with no others beside them.
+ghost use Rattle.std.specs.Prelude.{◌≡◌, ◌↔◌, false, [], ◌∷◌, None, Some, IsTrue, codes};
+ghost use Rattle.xa_store.specs.Opened.{schema_of};
+ghost use Rattle.xa_store.specs.Opening.{has_room, is_free, version_in};
+ghost use Rattle.xa_store.specs.Tables.{attributes, domains, first_indexes, first_schema};
+ghost use Rattle.xa_store.specs.Tables.{index_of, meta, of_domain, our_indexes, our_schema};
+ghost use Rattle.xa_store.specs.Tables.{policies, rising, roots, sources, tokens};
+
+use crate::schema::columns::{
+    are_attribute_columns, are_domain_columns, are_meta_columns, are_policy_columns,
+    are_root_columns, are_source_columns, are_token_columns,
+};
+use crate::schema::version::SchemaVersion;
+use sqlite_items::Items;
+use sqlite_schema::schema::{Action, Index, Reference, Schema, Stamps, Table};
+use sqlite_value::keys::Order;
+use sqlite_value::value::Bytes;
+
+/// Whether it is this one place.
+fn is_place(places: &[usize], place: usize) -> bool
+    ensures { IsTrue result ↔ (places.now ≡ place ∷ []) }
+{
+    match places {
+        [one] => *one == place,
+        _ => false,
+    }
+}
+
+/// Whether the bytes are this name.
+fn is_named(bytes: &Bytes, name: &str) -> bool
+    ensures { IsTrue result ↔ (bytes.now ≡ name.now) }
+{
+    bytes.as_slice() == name.as_bytes()
+}
+
+/// Whether it is this one name.
+fn is_name(names: &[Bytes], name: &str) -> bool
+    ensures { IsTrue result ↔ (names.now ≡ name.now ∷ []) }
+{
+    match names {
+        [one] => is_named(one, name),
+        _ => false,
+    }
+}
+
+/// Whether the reference goes from that column to a domain's number, and the row with its domain.
+fn is_of_domain(reference: &Reference, column: usize) -> bool
+    ensures { IsTrue result ↔ (reference.now ≡ record of_domain { columns = column ∷ [] }) }
+{
+    is_place(reference.columns.as_slice(), column)
+        && reference.parent.as_slice() == "domains".as_bytes()
+        && is_name(reference.parent_columns.as_slice(), "number")
+        && reference.on_delete == Action::Cascade
+        && reference.on_update == Action::NoAction
+        && !reference.is_deferred
+}
+
+fn refers_by(references: &[Reference], column: usize) -> bool
+    ensures { IsTrue result ↔ (references.now ≡ record of_domain { columns = column ∷ [] } ∷ []) }
+{
+    match references {
+        [one] => is_of_domain(one, column),
+        _ => false,
+    }
+}
+
+/// Whether the table has that name and tree.
+fn is_titled(table: &Table, name: &str, tree: u32) -> bool
+    ensures { IsTrue result ↔ ((table.now.name ≡ name.now) × (table.now.tree ≡ tree)) }
+{
+    is_named(&table.name, name) && table.tree == tree
+}
+
+/// Whether no column of the table reads the time.
+fn is_timeless(stamps: &Stamps) -> bool
+    ensures { IsTrue result ↔ (stamps.now ≡ record { places = []; terms = []; formats = [] }) }
+{
+    stamps.places.is_empty() && stamps.terms.roots.is_empty() && stamps.formats.is_empty()
+}
+
+/// Whether the table has no check, no computed default and no counter.
+fn is_bare(table: &Table) -> bool
+    ensures { IsTrue result
+        ↔ ((table.now.checks ≡ []) × (table.now.computed ≡ [])
+        × (table.now.stamps ≡ record { places = []; terms = []; formats = [] })
+        × (table.now.is_counted ≡ false)) }
+{
+    table.checks.roots.is_empty()
+        && table.computed.is_empty()
+        && is_timeless(&table.stamps)
+        && !table.is_counted
+}
+
+/// Whether the table has that name and tree, and no check, no computed default and no counter.
+fn is_plain(table: &Table, name: &str, tree: u32) -> bool
+    ensures { IsTrue result
+        ↔ (((table.now.name ≡ name.now) × (table.now.tree ≡ tree))
+        × ((table.now.checks ≡ []) × (table.now.computed ≡ [])
+        × (table.now.stamps ≡ record { places = []; terms = []; formats = [] })
+        × (table.now.is_counted ≡ false))) }
+{
+    is_titled(table, name, tree) && is_bare(table)
+}
+
+/// Whether the first column is the row's own key.
+fn has_own_key(table: &Table) -> bool
+    ensures { IsTrue result ↔ ((table.now.key ≡ Some 0) × (table.now.primary ≡ 0 ∷ [])) }
+{
+    table.key == Some(0) && is_place(table.primary.as_slice(), 0)
+}
+
+/// Whether the places are these.
+fn are_places(all: &Items<usize>, places: &[usize]) -> bool
+    ensures { IsTrue result ↔ (all.now ≡ places.now) }
+{
+    all.as_slice() == places
+}
+
+/// Whether it is the one key of these places.
+fn is_one_key(keys: &[Items<usize>], places: &[usize]) -> bool
+    ensures { IsTrue result ↔ (keys.now ≡ places.now ∷ []) }
+{
+    match keys {
+        [one] => are_places(one, places),
+        _ => false,
+    }
+}
+
+/// Whether it is one order, which rises.
+fn is_one_order(orders: &[Order]) -> bool
+    ensures { IsTrue result ↔ (orders.now ≡ rising ∷ []) }
+{
+    match orders {
+        [order] => order.digits == 0,
+        _ => false,
+    }
+}
+
+/// Whether these columns alone have to be unique, in rising order.
+fn has_unique(table: &Table, places: &[usize]) -> bool
+    ensures { IsTrue result ↔ ((table.now.uniques ≡ places.now ∷ []) × (table.now.orders ≡ rising ∷ [])) }
+{
+    is_one_key(table.uniques.as_slice(), places) && is_one_order(table.orders.as_slice())
+}
+
+/// Whether no columns have to be unique but the row's own key.
+fn has_no_unique(table: &Table) -> bool
+    ensures { IsTrue result ↔ ((table.now.uniques ≡ []) × (table.now.orders ≡ [])) }
+{
+    table.uniques.is_empty() && table.orders.is_empty()
+}
+
+/// Whether the table's key is these columns, and its rows are of domains.
+fn is_of_domains(table: &Table, places: &[usize]) -> bool
+    ensures { IsTrue result
+        ↔ ((table.now.key ≡ None) × (table.now.primary ≡ places.now) × (table.now.uniques ≡ places.now ∷ [])
+        × (table.now.orders ≡ rising ∷ []) × (table.now.references ≡ of_domain ∷ [])) }
+{
+    table.key.is_none()
+        && table.primary.as_slice() == places
+        && has_unique(table, places)
+        && refers_by(table.references.as_slice(), 1)
+}
+
+fn is_meta(table: &Table) -> bool
+    ensures { IsTrue result ↔ (table.now ≡ meta) }
+{
+    is_plain(table, "meta", 0)
+        && are_meta_columns(table.columns.as_slice())
+        && has_own_key(table)
+        && has_no_unique(table)
+        && table.references.is_empty()
+}
+
+fn is_domains(table: &Table) -> bool
+    ensures { IsTrue result ↔ (table.now ≡ domains) }
+{
+    is_plain(table, "domains", 1)
+        && are_domain_columns(table.columns.as_slice())
+        && has_own_key(table)
+        && has_unique(table, &[2])
+        && table.references.is_empty()
+}
+
+fn is_tokens(table: &Table) -> bool
+    ensures { IsTrue result ↔ (table.now ≡ tokens) }
+{
+    is_plain(table, "tokens", 3)
+        && are_token_columns(table.columns.as_slice())
+        && is_of_domains(table, &[1, 2])
+}
+
+fn is_policies(table: &Table) -> bool
+    ensures { IsTrue result ↔ (table.now ≡ policies) }
+{
+    is_plain(table, "policies", 5)
+        && are_policy_columns(table.columns.as_slice())
+        && is_of_domains(table, &[1, 2, 3, 4])
+}
+
+fn is_roots(table: &Table) -> bool
+    ensures { IsTrue result ↔ (table.now ≡ roots) }
+{
+    is_plain(table, "roots", 7)
+        && are_root_columns(table.columns.as_slice())
+        && has_own_key(table)
+        && has_no_unique(table)
+        && refers_by(table.references.as_slice(), 0)
+}
+
+fn is_attributes(table: &Table) -> bool
+    ensures { IsTrue result ↔ (table.now ≡ attributes) }
+{
+    is_plain(table, "attributes", 8)
+        && are_attribute_columns(table.columns.as_slice())
+        && is_of_domains(table, &[1, 2])
+}
+
+fn is_sources(table: &Table) -> bool
+    ensures { IsTrue result ↔ (table.now ≡ sources) }
+{
+    is_plain(table, "sources", 10)
+        && are_source_columns(table.columns.as_slice())
+        && is_of_domains(table, &[1, 2])
+}
+
+/// Whether they are the tables of the first row, of domains and of their tokens.
+fn are_front(first: &Table, second: &Table, third: &Table) -> bool
+    ensures { IsTrue result ↔ ((first.now ≡ meta) × (second.now ≡ domains) × (third.now ≡ tokens)) }
+{
+    is_meta(first) && is_domains(second) && is_tokens(third)
+}
+
+/// Whether they are the tables of documents, of roots and of the rows of sources in schema 1.
+fn are_back(first: &Table, second: &Table, third: &Table) -> bool
+    ensures { IsTrue result ↔ ((first.now ≡ policies) × (second.now ≡ roots) × (third.now ≡ attributes)) }
+{
+    is_policies(first) && is_roots(second) && is_attributes(third)
+}
+
+fn are_first_tables(all: &[Table]) -> bool
+    ensures { IsTrue result ↔ (all.now ≡ first_schema.tables) }
+{
+    match all {
+        [meta, domains, tokens, policies, roots, attributes] => {
+            are_front(meta, domains, tokens) && are_back(policies, roots, attributes)
+        }
+        _ => false,
+    }
+}
+
+fn are_our_tables(all: &[Table]) -> bool
+    ensures { IsTrue result ↔ (all.now ≡ our_schema.tables) }
+{
+    match all {
+        [meta, domains, tokens, policies, roots, attributes, sources] => {
+            are_front(meta, domains, tokens)
+                && are_back(policies, roots, attributes)
+                && is_sources(sources)
+        }
+        _ => false,
+    }
+}
+
+/// Whether the index is the automatic one of that name, over these columns of the table.
+fn is_index(index: &Index, name: &str, tree: u32, table: u32, columns: &[usize]) -> bool
+    ensures { IsTrue result ↔ (index.now ≡ index_of name.now tree table columns.now) }
+{
+    index.name.as_slice() == name.as_bytes()
+        && index.tree == tree
+        && index.table == table
+        && index.columns.as_slice() == columns
+        && index.order == Order::PLAIN
+        && index.is_unique
+}
+
+/// Whether they are the indexes of the domains' names and of the tokens' digests.
+fn are_front_indexes(names: &Index, digests: &Index) -> bool
+    ensures { IsTrue result
+        ↔ ((names.now ≡ index_of (codes "sqlite_autoindex_domains_1") 2 1 (2 ∷ []))
+        × (digests.now ≡ index_of (codes "sqlite_autoindex_tokens_1") 4 3 (1 ∷ 2 ∷ []))) }
+{
+    is_index(names, "sqlite_autoindex_domains_1", 2, 1, &[2])
+        && is_index(digests, "sqlite_autoindex_tokens_1", 4, 3, &[1, 2])
+}
+
+/// Whether they are the indexes of the documents' keys and of the places in sources of schema 1.
+fn are_back_indexes(keys: &Index, places: &Index) -> bool
+    ensures { IsTrue result
+        ↔ ((keys.now ≡ index_of (codes "sqlite_autoindex_policies_1") 6 5 (1 ∷ 2 ∷ 3 ∷ 4 ∷ []))
+        × (places.now ≡ index_of (codes "sqlite_autoindex_attributes_1") 9 8 (1 ∷ 2 ∷ []))) }
+{
+    is_index(keys, "sqlite_autoindex_policies_1", 6, 5, &[1, 2, 3, 4])
+        && is_index(places, "sqlite_autoindex_attributes_1", 9, 8, &[1, 2])
+}
+
+fn are_first_indexes(all: &[Index]) -> bool
+    ensures { IsTrue result ↔ (all.now ≡ first_indexes) }
+{
+    match all {
+        [names, digests, keys, places] => {
+            are_front_indexes(names, digests) && are_back_indexes(keys, places)
+        }
+        _ => false,
+    }
+}
+
+fn are_our_indexes(all: &[Index]) -> bool
+    ensures { IsTrue result ↔ (all.now ≡ our_indexes) }
+{
+    match all {
+        [names, digests, keys, places, sources] => {
+            are_front_indexes(names, digests)
+                && are_back_indexes(keys, places)
+                && is_index(sources, "sqlite_autoindex_sources_1", 11, 10, &[1, 2])
+        }
+        _ => false,
+    }
+}
+
+/// Whether the schema has the tables of schema 1 and nothing else.
+fn is_first(schema: &Schema) -> bool
+    ensures { IsTrue result ↔ (schema.now ≡ first_schema) }
+{
+    are_first_tables(schema.tables.as_slice())
+        && are_first_indexes(schema.indexes.as_slice())
+        && schema.views.is_empty()
+}
+
+/// Whether the schema has the tables of a keeper and nothing else.
+pub(crate) fn is_ours(schema: &Schema) -> bool
+    ensures { IsTrue result ↔ (schema.now ≡ our_schema) }
+{
+    are_our_tables(schema.tables.as_slice())
+        && are_our_indexes(schema.indexes.as_slice())
+        && schema.views.is_empty()
+}
+
+/// Whether it is that schema, and nothing else is in it.
+pub(crate) fn is_of(version: SchemaVersion, schema: &Schema) -> bool
+    ensures { IsTrue result ↔ (schema.now ≡ schema_of version) }
+{
+    match version {
+        SchemaVersion::Schema1 => is_first(schema),
+        SchemaVersion::Schema2 => is_ours(schema),
+    }
+}
+
+/// Whether no table, index or view has that name. Names that differ in the case of letters alone are one.
+fn is_free(schema: &Schema, name: &str) -> bool
+    ensures { result ≡ is_free schema.now name.now }
+{
+    let name = name.as_bytes();
+    schema.table_named(name).is_none()
+        && schema.index_named(name).is_none()
+        && schema.view_named(name).is_none()
+}
+
+/// Whether no name of a keeper's tables is taken.
+pub(crate) fn has_room(schema: &Schema) -> bool
+    ensures { result ≡ has_room schema.now }
+{
+    is_free(schema, "meta")
+        && is_free(schema, "domains")
+        && is_free(schema, "tokens")
+        && is_free(schema, "policies")
+        && is_free(schema, "roots")
+        && is_free(schema, "attributes")
+        && is_free(schema, "sources")
+}
+
+/// Which schema it is, if it has a keeper's tables.
+pub(crate) fn version_in(schema: &Schema) -> SchemaVersion
+    ensures { result ≡ version_in schema.now }
+{
+    if is_free(schema, "sources") {
+        SchemaVersion::Schema1
+    } else {
+        SchemaVersion::Schema2
+    }
+}

@@ -1,0 +1,159 @@
+//! The statements that add and drop a document, and set whether it is active.
+ghost use Rattle.std.specs.Prelude.{◌≡◌, [], ◌∷◌, IsTrue, OnOk};
+ghost use Rattle.sqlite.specs.Held.{state};
+ghost use Rattle.sqlite.specs.State.{HasCleanDisk, KeepsCommit, Survives};
+ghost use Rattle.xa_store.specs.declared.step.Step.TheVariants.{AddDocument, DropDocument, SetActive};
+ghost use Rattle.xa_policy.specs.Version.{version_text};
+ghost use Rattle.xa_store.specs.Rows.{bit};
+ghost use Rattle.xa_store.specs.Steps.{Allows};
+ghost use Rattle.xa_store.specs.Execution.{IsInside, Took};
+ghost use Rattle.xa_store.specs.World.{rows_of};
+
+use crate::query::column::kind_column;
+use crate::sql;
+use crate::step::execution::execute_in;
+use sqlite::types::ValueRef;
+use sqlite::{Alter, Transaction};
+use std::alloc::Global;
+use xa_policy::DocumentKey;
+use xa_records::Failure;
+use xa_value::Text;
+
+/// The number of an activity.
+fn number_of_activity(active: bool) -> i64
+    ensures { result ≡ bit active }
+{
+    if active { 1 } else { 0 }
+}
+
+/// Adds a document, which isn't active.
+pub(crate) fn add_document<S: Alter>(
+    tx: &mut Transaction<'_, S>,
+    alloc: Global,
+    number: i64,
+    key: &DocumentKey,
+    text: &[u8],
+) -> Result<(), Failure>
+    ensures same_reference { tx.new.conn.ghost_name ≡ tx.old.conn.ghost_name }
+    ensures survives { Survives (state S.Store tx.old.conn.now) (state S.Store tx.new.conn.now) (λ _. ⊥) }
+    ensures kept { HasCleanDisk (state S.Store tx.new.conn.now)
+        → IsTrue (state S.Store tx.old.conn.now).in_transaction
+        → KeepsCommit (state S.Store tx.old.conn.now) (state S.Store tx.new.conn.now) }
+    ensures inside { HasCleanDisk (state S.Store tx.new.conn.now)
+        → IsTrue (state S.Store tx.old.conn.now).in_transaction
+        → OnOk result (IsTrue (state S.Store tx.new.conn.now).in_transaction) }
+    ensures takes { HasCleanDisk (state S.Store tx.new.conn.now) → IsInside (state S.Store tx.old.conn.now)
+        → Allows (AddDocument number key.now text.now) (rows_of (state S.Store tx.old.conn.now).now.trees)
+        → OnOk result
+        (Took ((AddDocument number key.now text.now) ∷ [])
+        (state S.Store tx.old.conn.now) (state S.Store tx.new.conn.now)) }
+{
+    let version = key.version.to_text(alloc)?;
+    execute_in(
+        tx,
+        sql::ADD_DOCUMENT,
+        &[
+            ValueRef::Int(number),
+            ValueRef::Int(kind_column(key.kind)),
+            ValueRef::Text(key.id.as_bytes()),
+            ValueRef::Text(version.as_bytes()),
+            ValueRef::Blob(text),
+        ],
+    )
+}
+
+/// So it does, by the text of the key's version.
+fn set_active_at<'a, S: Alter>(
+    tx: &mut Transaction<'_, S>,
+    number: i64,
+    key: &'a DocumentKey,
+    version: &'a Text,
+    active: bool,
+) -> Result<(), Failure>
+    ensures same_reference { tx.new.conn.ghost_name ≡ tx.old.conn.ghost_name }
+    ensures survives { Survives (state S.Store tx.old.conn.now) (state S.Store tx.new.conn.now) (λ _. ⊥) }
+    ensures kept { HasCleanDisk (state S.Store tx.new.conn.now)
+        → IsTrue (state S.Store tx.old.conn.now).in_transaction
+        → KeepsCommit (state S.Store tx.old.conn.now) (state S.Store tx.new.conn.now) }
+    ensures inside { HasCleanDisk (state S.Store tx.new.conn.now)
+        → IsTrue (state S.Store tx.old.conn.now).in_transaction
+        → OnOk result (IsTrue (state S.Store tx.new.conn.now).in_transaction) }
+    ensures takes { HasCleanDisk (state S.Store tx.new.conn.now) → IsInside (state S.Store tx.old.conn.now)
+        → version.now ≡ version_text key.now.version
+        → Allows (SetActive number key.now active) (rows_of (state S.Store tx.old.conn.now).now.trees)
+        → OnOk result
+        (Took ((SetActive number key.now active) ∷ [])
+        (state S.Store tx.old.conn.now) (state S.Store tx.new.conn.now)) }
+{
+    execute_in(
+        tx,
+        sql::SET_ACTIVE,
+        &[
+            ValueRef::Int(number),
+            ValueRef::Int(kind_column(key.kind)),
+            ValueRef::Text(key.id.as_bytes()),
+            ValueRef::Text(version.as_bytes()),
+            ValueRef::Int(number_of_activity(active)),
+        ],
+    )
+}
+
+/// Sets whether references may resolve to the document.
+pub(crate) fn set_active<S: Alter>(
+    tx: &mut Transaction<'_, S>,
+    alloc: Global,
+    number: i64,
+    key: &DocumentKey,
+    active: bool,
+) -> Result<(), Failure>
+    ensures same_reference { tx.new.conn.ghost_name ≡ tx.old.conn.ghost_name }
+    ensures survives { Survives (state S.Store tx.old.conn.now) (state S.Store tx.new.conn.now) (λ _. ⊥) }
+    ensures kept { HasCleanDisk (state S.Store tx.new.conn.now)
+        → IsTrue (state S.Store tx.old.conn.now).in_transaction
+        → KeepsCommit (state S.Store tx.old.conn.now) (state S.Store tx.new.conn.now) }
+    ensures inside { HasCleanDisk (state S.Store tx.new.conn.now)
+        → IsTrue (state S.Store tx.old.conn.now).in_transaction
+        → OnOk result (IsTrue (state S.Store tx.new.conn.now).in_transaction) }
+    ensures takes { HasCleanDisk (state S.Store tx.new.conn.now) → IsInside (state S.Store tx.old.conn.now)
+        → Allows (SetActive number key.now active) (rows_of (state S.Store tx.old.conn.now).now.trees)
+        → OnOk result
+        (Took ((SetActive number key.now active) ∷ [])
+        (state S.Store tx.old.conn.now) (state S.Store tx.new.conn.now)) }
+{
+    let version = key.version.to_text(alloc)?;
+    set_active_at(tx, number, key, &version, active)
+}
+
+/// Takes a document out.
+pub(crate) fn drop_document<S: Alter>(
+    tx: &mut Transaction<'_, S>,
+    alloc: Global,
+    number: i64,
+    key: &DocumentKey,
+) -> Result<(), Failure>
+    ensures same_reference { tx.new.conn.ghost_name ≡ tx.old.conn.ghost_name }
+    ensures survives { Survives (state S.Store tx.old.conn.now) (state S.Store tx.new.conn.now) (λ _. ⊥) }
+    ensures kept { HasCleanDisk (state S.Store tx.new.conn.now)
+        → IsTrue (state S.Store tx.old.conn.now).in_transaction
+        → KeepsCommit (state S.Store tx.old.conn.now) (state S.Store tx.new.conn.now) }
+    ensures inside { HasCleanDisk (state S.Store tx.new.conn.now)
+        → IsTrue (state S.Store tx.old.conn.now).in_transaction
+        → OnOk result (IsTrue (state S.Store tx.new.conn.now).in_transaction) }
+    ensures takes { HasCleanDisk (state S.Store tx.new.conn.now) → IsInside (state S.Store tx.old.conn.now)
+        → Allows (DropDocument number key.now) (rows_of (state S.Store tx.old.conn.now).now.trees)
+        → OnOk result
+        (Took ((DropDocument number key.now) ∷ [])
+        (state S.Store tx.old.conn.now) (state S.Store tx.new.conn.now)) }
+{
+    let version = key.version.to_text(alloc)?;
+    execute_in(
+        tx,
+        sql::DROP_DOCUMENT,
+        &[
+            ValueRef::Int(number),
+            ValueRef::Int(kind_column(key.kind)),
+            ValueRef::Text(key.id.as_bytes()),
+            ValueRef::Text(version.as_bytes()),
+        ],
+    )
+}

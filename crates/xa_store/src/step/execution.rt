@@ -1,0 +1,125 @@
+//! The steps of a change, executed one after another in its transaction.
+ghost use Rattle.std.specs.Prelude.{◌≡◌, ℕ, [], ◌∷◌, Ok, Err, IsErrOf, IsTrue, OnOk};
+ghost use Rattle.sqlite.specs.Held.{state};
+ghost use Rattle.sqlite.specs.State.{HasCleanDisk, KeepsCommit, Survives, Executes, ExecutesInside};
+ghost use Rattle.sqlite.specs.Values.{bound};
+ghost use Rattle.sqlite.specs.declared.error.Error.TheVariants.{SqliteFailure};
+ghost use Rattle.sqlite.specs.declared.error.ErrorCode.TheVariants.{OutOfMemory};
+ghost use Rattle.xa_records.specs.declared.refusal.Failure.TheVariants.{Memory};
+ghost use Rattle.xa_store.specs.Steps.{Allows, AllowsAll};
+ghost use Rattle.xa_store.specs.Execution.{IsInside, Took};
+ghost use Rattle.xa_store.specs.World.{rows_of};
+
+use crate::failure::failure_of;
+use crate::step::Step;
+use crate::step::document::{add_document, drop_document, set_active};
+use crate::step::domain::{add_domain, drop_domain, set_epoch, set_next};
+use crate::step::root::{add_root, drop_root};
+use crate::step::source::{add_attribute, drop_source};
+use crate::step::token::{add_token, drop_token, set_role};
+use sqlite::types::ValueRef;
+use sqlite::{Alter, Transaction};
+use std::alloc::Global;
+use xa_records::Failure;
+
+/// Runs one statement. Want of memory is told where the store told it.
+pub(crate) fn execute_in<S: Alter>(
+    tx: &mut Transaction<'_, S>,
+    sql: &str,
+    given: &[ValueRef<'_>],
+) -> Result<(), Failure>
+    ensures same_reference { tx.new.conn.ghost_name ≡ tx.old.conn.ghost_name }
+    ensures survives { Survives (state S.Store tx.old.conn.now) (state S.Store tx.new.conn.now) (λ _. ⊥) }
+    ensures kept { HasCleanDisk (state S.Store tx.new.conn.now)
+        → IsTrue (state S.Store tx.old.conn.now).in_transaction
+        → KeepsCommit (state S.Store tx.old.conn.now) (state S.Store tx.new.conn.now) }
+    ensures inside { HasCleanDisk (state S.Store tx.new.conn.now)
+        → IsTrue (state S.Store tx.old.conn.now).in_transaction
+        → OnOk result (IsTrue (state S.Store tx.new.conn.now).in_transaction) }
+    ensures wants { HasCleanDisk (state S.Store tx.new.conn.now)
+        → IsTrue (state S.Store tx.old.conn.now).in_transaction → IsErrOf result Memory
+        → ExecutesInside 0 sql.now (bound given.now)
+        (state S.Store tx.old.conn.now) (state S.Store tx.new.conn.now) (Err (SqliteFailure OutOfMemory)) }
+    ensures runs { HasCleanDisk (state S.Store tx.new.conn.now)
+        → IsTrue (state S.Store tx.old.conn.now).in_transaction
+        → OnOk result ((count : ℕ) × Executes sql.now (bound given.now)
+        (state S.Store tx.old.conn.now) (state S.Store tx.new.conn.now) (Ok count)) }
+{
+    match tx.execute(sql, given) {
+        Ok(_) => Ok(()),
+        Err(error) => Err(failure_of(&error)),
+    }
+}
+
+/// Takes the step.
+fn take<S: Alter>(tx: &mut Transaction<'_, S>, alloc: Global, step: &Step) -> Result<(), Failure>
+    ensures same_reference { tx.new.conn.ghost_name ≡ tx.old.conn.ghost_name }
+    ensures survives { Survives (state S.Store tx.old.conn.now) (state S.Store tx.new.conn.now) (λ _. ⊥) }
+    ensures kept { HasCleanDisk (state S.Store tx.new.conn.now)
+        → IsTrue (state S.Store tx.old.conn.now).in_transaction
+        → KeepsCommit (state S.Store tx.old.conn.now) (state S.Store tx.new.conn.now) }
+    ensures inside { HasCleanDisk (state S.Store tx.new.conn.now)
+        → IsTrue (state S.Store tx.old.conn.now).in_transaction
+        → OnOk result (IsTrue (state S.Store tx.new.conn.now).in_transaction) }
+    ensures takes { HasCleanDisk (state S.Store tx.new.conn.now) → IsInside (state S.Store tx.old.conn.now)
+        → Allows step.now (rows_of (state S.Store tx.old.conn.now).now.trees)
+        → OnOk result (Took (step.now ∷ []) (state S.Store tx.old.conn.now) (state S.Store tx.new.conn.now)) }
+{
+    match step {
+        Step::AddDomain { number, name } => add_domain(tx, *number, name),
+        Step::SetNext(next) => set_next(tx, *next),
+        Step::SetEpoch { number, epoch } => set_epoch(tx, *number, *epoch),
+        Step::AddToken {
+            number,
+            digest,
+            role,
+        } => add_token(tx, *number, digest, *role),
+        Step::SetRole {
+            number,
+            digest,
+            role,
+        } => set_role(tx, *number, digest, *role),
+        Step::DropToken { number, digest } => drop_token(tx, *number, digest),
+        Step::AddDocument { number, key, text } => {
+            add_document(tx, alloc, *number, key, text.as_slice())
+        }
+        Step::SetActive {
+            number,
+            key,
+            active,
+        } => set_active(tx, alloc, *number, key, *active),
+        Step::DropDocument { number, key } => drop_document(tx, alloc, *number, key),
+        Step::AddRoot { number, root } => add_root(tx, alloc, *number, root),
+        Step::DropRoot(number) => drop_root(tx, *number),
+        Step::DropSource(number) => drop_source(tx, *number),
+        Step::DropDomain(number) => drop_domain(tx, *number),
+        Step::AddAttribute { number, place, row } => add_attribute(tx, alloc, *number, *place, row),
+    }
+}
+
+/// Takes the steps, one after another.
+pub(crate) fn take_all<S: Alter>(
+    tx: &mut Transaction<'_, S>,
+    alloc: Global,
+    steps: &[Step],
+) -> Result<(), Failure>
+    ensures same_reference { tx.new.conn.ghost_name ≡ tx.old.conn.ghost_name }
+    ensures survives { Survives (state S.Store tx.old.conn.now) (state S.Store tx.new.conn.now) (λ _. ⊥) }
+    ensures kept { HasCleanDisk (state S.Store tx.new.conn.now)
+        → IsTrue (state S.Store tx.old.conn.now).in_transaction
+        → KeepsCommit (state S.Store tx.old.conn.now) (state S.Store tx.new.conn.now) }
+    ensures inside { HasCleanDisk (state S.Store tx.new.conn.now)
+        → IsTrue (state S.Store tx.old.conn.now).in_transaction
+        → OnOk result (IsTrue (state S.Store tx.new.conn.now).in_transaction) }
+    ensures takes { HasCleanDisk (state S.Store tx.new.conn.now) → IsInside (state S.Store tx.old.conn.now)
+        → AllowsAll steps.now (rows_of (state S.Store tx.old.conn.now).now.trees)
+        → OnOk result (Took steps.now (state S.Store tx.old.conn.now) (state S.Store tx.new.conn.now)) }
+{
+    match steps {
+        [] => Ok(()),
+        [step, rest @ ..] => {
+            take(tx, alloc, step)?;
+            take_all(tx, alloc, rest)
+        }
+    }
+}
