@@ -1,5 +1,6 @@
 -- The command line, and the variables PDPD_WORK, PDPD_REPLY, PDPD_READING, PDPD_VIEWS and PDPD_IDLE of the environment.
-use Rattle.std.specs.Prelude.{ℕ, ◌==◌, ◌^◌, ◌-◌, List, [], ◌∷◌, Option, Some, None, if◌then◌else◌, bytes_eq, codes, option_map}
+use Rattle.std.specs.Prelude.{ℕ, ◌==◌, ◌^◌, ◌-◌, List, [], ◌∷◌, Option, Some}
+use Rattle.std.specs.Prelude.{None, if◌then◌else◌, bytes_eq, codes, option_map}
 use Rattle.std.specs.Option.{option_and_then}
 use Rattle.xa_value.specs.Digits.{number_up_to}
 use Rattle.pdpd.specs.declared.command_line.Command.{Command}
@@ -18,7 +19,9 @@ option_of word =
 -- what the four words after `serve` ask for
 unfoldable pub serving_of : List ℕ → List ℕ → List ℕ → List ℕ → Option Command
 serving_of database address token_file connections =
-    option_map (λ n. Serve (record { database = database; address = address; token_file = token_file; connections = n })) (connections_of connections)
+    option_map
+    (λ n. Serve (record { database = database; address = address; token_file = token_file; connections = n }))
+    (connections_of connections)
 
 -- what the words ask for, of which the first is the program's name
 abbrev pub command_of : List (List ℕ) → Option Command
@@ -38,17 +41,20 @@ abbrev pub reply_of : Option (List ℕ) → Option ℕ
 reply_of None = Some 16_777_216
 reply_of (Some text) = number_up_to 18_446_744_073_709_551_615 text
 
--- how many bytes of policies may be read for one message, by what PDPD_READING is set to, if it is: a number; 0 for any number
+-- how many bytes of policies may be read for one message, by what PDPD_READING is set to, if it is: a number; 0 for
+-- any number
 abbrev pub reading_of : Option (List ℕ) → Option ℕ
 reading_of None = Some 16_000_000
 reading_of (Some text) = number_up_to 18_446_744_073_709_551_615 text
 
--- how many bytes of memory the views of domains may take that are kept ready, by what PDPD_VIEWS is set to, if it is: a number
+-- how many bytes of memory the views of domains may take that are kept ready, by what PDPD_VIEWS is set to, if it is:
+-- a number
 abbrev pub views_of : Option (List ℕ) → Option ℕ
 views_of None = Some 268_435_456
 views_of (Some text) = number_up_to 18_446_744_073_709_551_615 text
 
--- for how many seconds a connection may give nothing, or take nothing, by what PDPD_IDLE is set to, if it is: a number; 0 for ever
+-- for how many seconds a connection may give nothing, or take nothing, by what PDPD_IDLE is set to, if it is: a
+-- number; 0 for ever
 abbrev pub idle_of : Option (List ℕ) → Option ℕ
 idle_of None = Some 30
 idle_of (Some text) = number_up_to 18_446_744_073_709_551_615 text

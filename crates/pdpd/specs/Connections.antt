@@ -12,26 +12,29 @@ use Rattle.xa_server.specs.Served.{IsRun}
 use Rattle.xa_server.specs.Work.{IsWorkOfRun}
 use Rattle.pdpd.specs.Fault.{fault_of_end}
 
--- where no connection was open, one was opened, of which nothing had come; it was driven to an end after which the next is served, and closed. `before` and
--- `now` are what is known of its reader, its writer and the clock
+-- where no connection was open, one was opened, of which nothing had come; it was driven to an end after which the
+-- next is served, and closed. `before` and `now` are what is known of its reader, its writer and the clock
 pub record IsConnectionServed (old new : FrontState) (before now : Known) : Type 0 where
   pub conn : Conn
   pub driven : Driven
   pub left : FrontState
-  pub is_driven : IsDrivenWithin 1_000_000 driven conn (record old { lines = with_line conn (Some empty_stream) none_open }) left empty_stream before now
+  pub is_driven : IsDrivenWithin 1_000_000 driven conn
+      (record old { lines = with_line conn (Some empty_stream) none_open }) left empty_stream before now
   pub goes_on : fault_of_end driven ≡ None
   pub closed : new ≡ record left { lines = none_open }
 
--- so many connections were served, one after another; `events` and `replies` are theirs, those of the first before those of the second, and so on. Which
--- connections these were, and what came and went on them, isn't said: of a socket nothing is known
+-- so many connections were served, one after another; `events` and `replies` are theirs, those of the first before
+-- those of the second, and so on. Which connections these were, and what came and went on them, isn't said: of a
+-- socket nothing is known
 abbrev pub AreServed : ℕ → FrontState → FrontState → List Event → List Reply → Type 0
 AreServed zero old new events replies = (new ≡ old) × (events ≡ []) × (replies ≡ [])
 AreServed (suc count) old new events replies =
-    (mid : FrontState) × (earlier : List Event) × (told : List Reply) × AreServed count old mid earlier told × (before : Known) × (now : Known)
-    × (last : IsConnectionServed mid new before now) × (events ≡ earlier ++ last.is_driven.0.events) × (replies ≡ told ++ last.is_driven.0.run)
+    (mid : FrontState) × (earlier : List Event) × (told : List Reply) × AreServed count old mid earlier told
+    × (before : Known) × (now : Known) × (last : IsConnectionServed mid new before now)
+    × (events ≡ earlier ++ last.is_driven.0.events) × (replies ≡ told ++ last.is_driven.0.run)
 
--- the headline over so many connections: all of their events are one run of the server, and each domain's replies in it, whatever the connections
--- on which its messages came, are those of its own machine, used by it alone
+-- the headline over so many connections: all of their events are one run of the server, and each domain's replies in
+-- it, whatever the connections on which its messages came, are those of its own machine, used by it alone
 pub record AreIsolated (count : ℕ) (old new : FrontState) : Type 0 where
   pub events : List Event
   pub replies : List Reply

@@ -16,14 +16,15 @@ events_at moment messages = map (λ message. (moment, message)) messages
 
 -- what is written of a reply: a line of its connection and the count of its bytes, the bytes, and a line feed
 abbrev pub reply_entry : ℕ → List ℕ → List ℕ
-reply_entry connection bytes = decimal connection ++ codes " " ++ decimal (length bytes) ++ codes "\n" ++ bytes ++ codes "\n"
+reply_entry connection bytes =
+    decimal connection ++ codes " " ++ decimal (length bytes) ++ codes "\n" ++ bytes ++ codes "\n"
 
 -- the replies to a connection, one after another
 abbrev pub reply_entries : ℕ → List (List ℕ) → List ℕ
 reply_entries connection replies = flat_map (reply_entry connection) replies
 
--- the replies to what a stream holds: those of a run of the server on the whole messages, each at that moment, and after them
--- the reply to the fault by which it ends, if it does
+-- the replies to what a stream holds: those of a run of the server on the whole messages, each at that moment, and
+-- after them the reply to the fault by which it ends, if it does
 pub record IsAnswered (moment : ℤ) (old new : World) (stream after : Stream) (replies : List (List ℕ)) : Type 0 where
   pub messages : List Message
   pub fault : Option SessionFault

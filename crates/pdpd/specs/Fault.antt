@@ -10,7 +10,9 @@ use Rattle.xa_server.specs.declared.driven.Driven.TheVariants as driven
 use Rattle.pdpd.specs.declared.exit.Exit.{Exit}
 use Rattle.pdpd.specs.declared.exit.Exit.TheVariants as exit
 use Rattle.pdpd.specs.declared.fault.Fault.{Fault}
-use Rattle.pdpd.specs.declared.fault.Fault.TheVariants.{Address, Work, Reply, Reading, Views, Idle, TokenUnread, TokenBad, Store, Shut, Socket, Connection, Clock, Output, Memory}
+use Rattle.pdpd.specs.declared.fault.Fault.TheVariants.{Address, Work, Reply, Reading, Views}
+use Rattle.pdpd.specs.declared.fault.Fault.TheVariants.{Idle, TokenUnread, TokenBad, Store, Shut}
+use Rattle.pdpd.specs.declared.fault.Fault.TheVariants.{Socket, Connection, Clock, Output, Memory}
 
 -- how the program ends
 abbrev pub exit_of_fault : Fault → Exit
@@ -95,7 +97,8 @@ is_passing kind.TimedOut = true
 is_passing kind.Interrupted = true
 is_passing _ = false
 
--- so it may after these failures of the network, which have no kind of their own: Linux's EPROTO, ENOPROTOOPT, EHOSTDOWN, ENONET and EOPNOTSUPP (accept(2))
+-- so it may after these failures of the network, which have no kind of their own: Linux's EPROTO, ENOPROTOOPT,
+-- EHOSTDOWN, ENONET and EOPNOTSUPP (accept(2))
 abbrev pub is_of_network : ℕ → Bool
 is_of_network number = list_any (λ n. number == n) (71 ∷ 92 ∷ 112 ∷ 64 ∷ 95 ∷ [])
 

@@ -1,5 +1,6 @@
 -- How a transcript is read, a piece at a time: words that only contracts of private functions cite.
-use Rattle.std.specs.Prelude.{◌≡◌, ◌≤◌, ◌<◌, ⊤, ℕ, Bool, true, false, List, [], ◌∷◌, ◌++◌, length, codes, Option, Some, None}
+use Rattle.std.specs.Prelude.{◌≡◌, ◌≤◌, ◌<◌, ⊤, ℕ, Bool, true, false, List}
+use Rattle.std.specs.Prelude.{[], ◌∷◌, ◌++◌, length, codes, Option, Some, None}
 use Rattle.std.specs.Io.KnownBytes.{Consumes, IsAtEnd, prepend_known}
 use Rattle.pdpd.specs.declared.heading.Heading.{Heading}
 use Rattle.pdpd.specs.declared.transcript.ReadFault.{ReadFault}
@@ -23,7 +24,9 @@ TakesByte left rest (Some byte) = Consumes left rest (byte ∷ [])
 
 -- at most so many bytes are moved behind others, and some if any are left
 abbrev pub Adds : ℕ → Option (List ℕ) → Option (List ℕ) → List ℕ → List ℕ → Bool → Type 0
-Adds most left rest old new true = (taken : List ℕ) × Consumes left rest taken × (new ≡ old ++ taken) × (length taken ≤ most) × (0 < most → 0 < length taken)
+Adds most left rest old new true =
+    (taken : List ℕ) × Consumes left rest taken × (new ≡ old ++ taken) × (length taken ≤ most)
+    × (0 < most → 0 < length taken)
 Adds most left rest old new false = Consumes left rest [] × IsAtEnd rest × (new ≡ old)
 
 -- a line and its line feed are taken, or nothing is left

@@ -1,5 +1,6 @@
 -- The entries of a transcript, answered one after another.
-use Rattle.std.specs.Prelude.{◌≡◌, ◌⊎◌, ℕ, ◌+◌, ⊤, Bool, true, false, List, [], ◌∷◌, ◌++◌, length, replicate, Option, Some}
+use Rattle.std.specs.Prelude.{◌≡◌, ◌⊎◌, ℕ, ◌+◌, ⊤, Bool, true, false, List}
+use Rattle.std.specs.Prelude.{[], ◌∷◌, ◌++◌, length, replicate, Option, Some}
 use Rattle.std.specs.Io.KnownBytes.{Appends, Consumes, IsAtEnd}
 use Rattle.xa_http.specs.Stream.{Stream, fed}
 use Rattle.xa_records.specs.Kept.{Kept}
@@ -46,26 +47,36 @@ followed first others = record {
 abbrev pub IsKept : Stream → Stream → Type 0
 IsKept after is = (is ≡ after) ⊎ ((after.ended ≡ true) × (is.ended ≡ true))
 
--- a stream takes the bytes of an entry, and what it then holds is answered at the entry's moment; the replies are written to the entry's connection
+-- a stream takes the bytes of an entry, and what it then holds is answered at the entry's moment; the replies are
+-- written to the entry's connection
 abbrev pub StreamTakes : Heading → List ℕ → Stream → Stream → World → World → Exchange → Type 0
 StreamTakes heading bytes was is old new exchange =
-    (after : Stream) × (replies : List (List ℕ)) × (answered : IsAnswered heading.moment old new (fed was bytes) after replies) × IsKept after is
-    × (exchange ≡ record { events = events_at heading.moment answered.messages; replies = answered.run; written = reply_entries heading.connection replies })
+    (after : Stream) × (replies : List (List ℕ))
+    × (answered : IsAnswered heading.moment old new (fed was bytes) after replies) × IsKept after is
+    × (exchange ≡ record {
+      events = events_at heading.moment answered.messages;
+      replies = answered.run;
+      written = reply_entries heading.connection replies;
+    })
 
 -- unless it has ended: then they are passed over
 abbrev pub OpenTakes : Bool → Heading → List ℕ → Stream → Stream → FrontState → FrontState → Exchange → Type 0
 OpenTakes true heading bytes was is old new exchange = (is ≡ was) × (new.server ≡ old.server) × (exchange ≡ no_exchange)
-OpenTakes false heading bytes was is old new exchange = StreamTakes heading bytes was is old.server.world new.server.world exchange
+OpenTakes false heading bytes was is old new exchange =
+    StreamTakes heading bytes was is old.server.world new.server.world exchange
 
 -- a connection takes the bytes of an entry: no bytes close it, and its next begins a new stream
 abbrev pub ConnectionTakes : Heading → List ℕ → Stream → Stream → FrontState → FrontState → Exchange → Type 0
-ConnectionTakes heading [] was is old new exchange = (is ≡ empty_stream) × (new.server ≡ old.server) × (exchange ≡ no_exchange)
-ConnectionTakes heading (byte ∷ bytes) was is old new exchange = OpenTakes was.ended heading (byte ∷ bytes) was is old new exchange
+ConnectionTakes heading [] was is old new exchange =
+    (is ≡ empty_stream) × (new.server ≡ old.server) × (exchange ≡ no_exchange)
+ConnectionTakes heading (byte ∷ bytes) was is old new exchange =
+    OpenTakes was.ended heading (byte ∷ bytes) was is old new exchange
 
 -- an entry is answered: its connection takes its bytes, and no other connection changes
 abbrev pub IsEntryReplied : Heading → List ℕ → FrontState → FrontState → Exchange → Type 0
 IsEntryReplied heading bytes old new exchange =
-    (was : Stream) × (is : Stream) × IsOpen (record { number = heading.connection }) old.lines was × ConnectionTakes heading bytes was is old new exchange
+    (was : Stream) × (is : Stream) × IsOpen (record { number = heading.connection }) old.lines was
+    × ConnectionTakes heading bytes was is old new exchange
     × (new.lines ≡ with_line (record { number = heading.connection }) (Some is) old.lines)
 
 -- ---- one entry after another
@@ -74,18 +85,20 @@ IsEntryReplied heading bytes old new exchange =
 abbrev pub AreReplied : List Entry → FrontState → FrontState → Exchange → Type 0
 AreReplied [] old new exchange = (new ≡ old) × (exchange ≡ no_exchange)
 AreReplied (entry ∷ entries) old new exchange =
-    (mid : FrontState) × (first : Exchange) × (others : Exchange) × IsEntryReplied entry.heading entry.bytes old mid first
-    × AreReplied entries mid new others × (exchange ≡ followed first others)
+    (mid : FrontState) × (first : Exchange) × (others : Exchange)
+    × IsEntryReplied entry.heading entry.bytes old mid first × AreReplied entries mid new others
+    × (exchange ≡ followed first others)
 
 -- the text of entries, one after another
 abbrev pub AreEntries : List Entry → List ℕ → Type 0
 AreEntries [] text = text ≡ []
 AreEntries (entry ∷ entries) text =
-    (first : List ℕ) × (others : List ℕ) × IsEntry entry.heading entry.bytes first × AreEntries entries others × (text ≡ first ++ others)
+    (first : List ℕ) × (others : List ℕ) × IsEntry entry.heading entry.bytes first × AreEntries entries others
+    × (text ≡ first ++ others)
 
--- entries were answered, and a writer took the replies; `before` is what is known of it before, and `now` afterwards. The headline over all entries:
--- their events are one run of the server, and each domain's replies in it, whatever the connections on which its messages came, are those of its own
--- machine, used by it alone
+-- entries were answered, and a writer took the replies; `before` is what is known of it before, and `now` afterwards.
+-- The headline over all entries: their events are one run of the server, and each domain's replies in it, whatever
+-- the connections on which its messages came, are those of its own machine, used by it alone
 pub record Replays (old new : FrontState) (before now : Option (List ℕ)) (entries : List Entry) : Type 0 where
   pub exchange : Exchange
   pub are_replied : AreReplied entries old new exchange
@@ -99,22 +112,32 @@ pub record Replays (old new : FrontState) (before now : Option (List ℕ)) (entr
 abbrev pub all_open : Lines
 all_open = replicate 64 (Some empty_stream)
 
--- a reader gave the text of the entries, and `behind` after it; `left` is what is known of it before, and `rest` afterwards
+-- a reader gave the text of the entries, and `behind` after it; `left` is what is known of it before, and
+-- `rest` afterwards
 abbrev pub Gave : Option (List ℕ) → Option (List ℕ) → List Entry → List ℕ → Type 0
 Gave left rest entries behind = (text : List ℕ) × Consumes left rest (text ++ behind) × AreEntries entries text
 
--- how a transcript was read: all of it, or up to an entry that is malformed. All entries that were read have what `done` says; nothing is said where a
--- reader, a writer or memory failed
+-- how a transcript was read: all of it, or up to an entry that is malformed. All entries that were read have what
+-- `done` says; nothing is said where a reader, a writer or memory failed
 abbrev pub IsTranscriptRead : (List Entry → Type 0) → Option (List ℕ) → Option (List ℕ) → Exit → Type 0
 IsTranscriptRead done left rest Done = (entries : List Entry) × Gave left rest entries [] × IsAtEnd rest × done entries
 IsTranscriptRead done left rest (Malformed number wrong) =
-    (entries : List Entry) × (behind : List ℕ) × Gave left rest entries behind × IsNoEntry wrong behind rest × (number ≡ length entries + 1) × done entries
+    (entries : List Entry) × (behind : List ℕ) × Gave left rest entries behind × IsNoEntry wrong behind rest
+    × (number ≡ length entries + 1) × done entries
 IsTranscriptRead done left rest _ = ⊤
 
--- how it was replayed: so it was read, and all those entries were answered, one after another, from connections of which nothing has come
-abbrev pub IsReplayed : FrontState → FrontState → Option (List ℕ) → Option (List ℕ) → Option (List ℕ) → Option (List ℕ) → Exit → Type 0
-IsReplayed old new left rest before now exit = IsTranscriptRead (Replays (record old { lines = all_open }) new before now) left rest exit
+-- how it was replayed: so it was read, and all those entries were answered, one after another, from connections of
+-- which nothing has come
+abbrev pub IsReplayed : FrontState → FrontState → Option (List ℕ) → Option (List ℕ) → Option (List ℕ)
+    → Option (List ℕ) → Exit → Type 0
+IsReplayed old new left rest before now exit =
+    IsTranscriptRead (Replays (record old { lines = all_open }) new before now) left rest exit
 
--- a front as it begins: for the operator of that digest, over what is kept; nothing is held of decisions, and no connection is open
+-- a front as it begins: for the operator of that digest, over what is kept; nothing is held of decisions, and no
+-- connection is open
 abbrev pub beginning : List ℕ → Kept → FrontState
-beginning operator kept = record { server = record { world = record { operator = operator; kept = kept }; tally = nothing_held }; lines = none_open }
+beginning operator kept =
+    record {
+      server = record { world = record { operator = operator; kept = kept }; tally = nothing_held };
+      lines = none_open;
+    }

@@ -1,4 +1,5 @@
--- What the program holds and writes while a transcript is replayed: words that only contracts of private functions cite.
+-- What the program holds and writes while a transcript is replayed: words that only contracts of private
+-- functions cite.
 use Rattle.std.specs.Prelude.{◌≡◌, ℕ, suc, Bool, false, List, [], ◌∷◌, length, Option, Some, None, Result, Ok, Err}
 use Rattle.std.specs.Io.KnownBytes.{Appends}
 use Rattle.std.specs.List.{All}
@@ -22,7 +23,8 @@ end_of (Err exit) = exit
 abbrev pub Writes : Option (List ℕ) → Option (List ℕ) → (Exchange → Type 0) → Type 0
 Writes before now is = (exchange : Exchange) × Appends before now exchange.written × is exchange
 
--- the connections from that number on, as far as they are open: each with its own number, and whether its session has ended
+-- the connections from that number on, as far as they are open: each with its own number, and whether its session
+-- has ended
 abbrev pub connections_from : ℕ → Lines → List Connection
 connections_from number [] = []
 connections_from number (None ∷ lines) = []
@@ -53,31 +55,39 @@ HasFree lines = (number : ℕ) × (first_free lines ≡ Some number)
 unfoldable pub IsOneOpen : Conn → Lines → Type 0
 IsOneOpen conn lines = (stream : Stream) × IsOpen conn lines stream
 
--- a connection that goes on took the bytes of an entry, and the replies were written; whether its session has ended then
-pub record HasStreamTaken (conn : Conn) (heading : Heading) (bytes : List ℕ) (old new : FrontState) (stream : Stream) (has_ended : Bool) (before now : Option (List ℕ)) : Type 0 where
+-- a connection that goes on took the bytes of an entry, and the replies were written; whether its session has
+-- ended then
+pub record HasStreamTaken (conn : Conn) (heading : Heading) (bytes : List ℕ) (old new : FrontState) (stream : Stream)
+    (has_ended : Bool) (before now : Option (List ℕ)) : Type 0 where
   pub after : Stream
   pub takes : Writes before now (StreamTakes heading bytes stream after old.server.world new.server.world)
   pub lines : new.lines ≡ with_line conn (Some after) old.lines
   pub ended : has_ended ≡ after.ended
 
-unfoldable pub TakesOpen : Conn → Heading → List ℕ → FrontState → FrontState → Bool → Option (List ℕ) → Option (List ℕ) → Type 0
+unfoldable pub TakesOpen : Conn → Heading → List ℕ → FrontState → FrontState → Bool → Option (List ℕ)
+    → Option (List ℕ) → Type 0
 TakesOpen conn heading bytes old new has_ended before now =
-    (stream : Stream) → IsOpen conn old.lines stream → stream.ended ≡ false → HasStreamTaken conn heading bytes old new stream has_ended before now
+    (stream : Stream) → IsOpen conn old.lines stream → stream.ended ≡ false
+    → HasStreamTaken conn heading bytes old new stream has_ended before now
 
--- a connection took the bytes of an entry, and the replies were written; it stays the one of its number, and no other connection has changed
-pub record HasTaken (heading : Heading) (bytes : List ℕ) (was is : Connection) (old new : FrontState) (stream : Stream) (before now : Option (List ℕ)) : Type 0 where
+-- a connection took the bytes of an entry, and the replies were written; it stays the one of its number, and no other
+-- connection has changed
+pub record HasTaken (heading : Heading) (bytes : List ℕ) (was is : Connection) (old new : FrontState) (stream : Stream)
+    (before now : Option (List ℕ)) : Type 0 where
   pub after : Stream
   pub takes : Writes before now (ConnectionTakes heading bytes stream after old new)
   pub lines : new.lines ≡ with_line was.conn (Some after) old.lines
   pub same : is.conn ≡ was.conn
   pub ended : is.has_ended ≡ after.ended
 
-unfoldable pub Takes : Heading → List ℕ → Connection → Connection → FrontState → FrontState → Option (List ℕ) → Option (List ℕ) → Type 0
+unfoldable pub Takes : Heading → List ℕ → Connection → Connection → FrontState → FrontState → Option (List ℕ)
+    → Option (List ℕ) → Type 0
 Takes heading bytes was is old new before now =
     (stream : Stream) → IsLine was old.lines stream → HasTaken heading bytes was is old new stream before now
 
 -- an entry was answered, and the replies written; what is held of the connections is right afterwards, if it was before
-unfoldable pub TakesAsHeld : Heading → List ℕ → List Connection → List Connection → FrontState → FrontState → Option (List ℕ) → Option (List ℕ) → Type 0
+unfoldable pub TakesAsHeld : Heading → List ℕ → List Connection → List Connection → FrontState → FrontState
+    → Option (List ℕ) → Option (List ℕ) → Type 0
 TakesAsHeld heading bytes was are old new before now =
     AreOf was old.lines → Writes before now (IsEntryReplied heading bytes old new) × AreOf are new.lines
 
@@ -94,4 +104,5 @@ IsReady connection lines = (stream : Stream) × IsLine connection lines stream �
 -- and stays, after what was done with it; no other has changed
 unfoldable pub StaysReady : Connection → Connection → Lines → Lines → Type 0
 StaysReady was is old new =
-    (after : Stream) × (new ≡ with_line was.conn (Some after) old) × (is.conn ≡ was.conn) × (is.has_ended ≡ after.ended) × HasRoom (Some after)
+    (after : Stream) × (new ≡ with_line was.conn (Some after) old) × (is.conn ≡ was.conn)
+    × (is.has_ended ≡ after.ended) × HasRoom (Some after)

@@ -1,5 +1,6 @@
 -- What a connection is told by one answer after another: words that only contracts of private functions cite.
-use Rattle.std.specs.Prelude.{◌≡◌, ℕ, ℤ, ◌+◌, ◌≤◌, suc, ⊤, Bool, true, false, List, [], ◌∷◌, ◌++◌, length, Option, Some, None, Ok, Err}
+use Rattle.std.specs.Prelude.{◌≡◌, ℕ, ℤ, ◌+◌, ◌≤◌, suc, ⊤, Bool, true, false, List}
+use Rattle.std.specs.Prelude.{[], ◌∷◌, ◌++◌, length, Option, Some, None, Ok, Err}
 use Rattle.std.specs.Io.KnownBytes.{Appends}
 use Rattle.std.specs.List.{All}
 use Rattle.xa_http.specs.declared.fault.SessionFault.{SessionFault}
@@ -68,7 +69,8 @@ abbrev pub LeavesOff : Option SessionFault → Stream → Stream → Type 0
 LeavesOff None last after = after ≡ last
 LeavesOff (Some fault) last after = IsNext last (next.Fault fault) after
 
--- so much of what a stream held was answered: messages at its front, each at that moment, and after them the fault by which it ends, if that was reached
+-- so much of what a stream held was answered: messages at its front, each at that moment, and after them the fault by
+-- which it ends, if that was reached
 pub record AreTold (moment : ℤ) (old new : World) (stream after : Stream) (replies : List (List ℕ)) : Type 0 where
   pub messages : List Message
   pub fault : Option SessionFault
@@ -86,7 +88,8 @@ Stands progress.Waits stream = IsNext stream next.More stream
 Stands progress.Ended stream = stream.ended ≡ true
 
 -- a connection that held the stream was told the replies, and no other connection has changed
-pub record IsTold (conn : Conn) (moment : ℤ) (old new : FrontState) (stream : Stream) (is : Progress) (replies : List (List ℕ)) : Type 0 where
+pub record IsTold (conn : Conn) (moment : ℤ) (old new : FrontState) (stream : Stream) (is : Progress)
+    (replies : List (List ℕ)) : Type 0 where
   pub after : Stream
   pub told : AreTold moment old.server.world new.server.world stream after replies
   pub stands : Stands is after
@@ -94,14 +97,19 @@ pub record IsTold (conn : Conn) (moment : ℤ) (old new : FrontState) (stream : 
   pub lines : new.lines ≡ with_line conn (Some after) old.lines
 
 -- and the replies were written
-abbrev pub IsToldAndWritten : Conn → Heading → FrontState → FrontState → Stream → Progress → Option (List ℕ) → Option (List ℕ) → Type 0
+abbrev pub IsToldAndWritten : Conn → Heading → FrontState → FrontState → Stream → Progress → Option (List ℕ)
+    → Option (List ℕ) → Type 0
 IsToldAndWritten conn heading old new stream is before now =
-    (replies : List (List ℕ)) × IsTold conn heading.moment old new stream is replies × Appends before now (reply_entries heading.connection replies)
+    (replies : List (List ℕ)) × IsTold conn heading.moment old new stream is replies
+    × Appends before now (reply_entries heading.connection replies)
 
--- so a connection that was open, and whose session hadn't ended, was told what it holds, with the piece that came, if one did
-unfoldable pub HasTold : Conn → Heading → (Stream → Stream) → FrontState → FrontState → Progress → Option (List ℕ) → Option (List ℕ) → Type 0
+-- so a connection that was open, and whose session hadn't ended, was told what it holds, with the piece that came, if
+-- one did
+unfoldable pub HasTold : Conn → Heading → (Stream → Stream) → FrontState → FrontState → Progress → Option (List ℕ)
+    → Option (List ℕ) → Type 0
 HasTold conn heading with_piece old new is before now =
-    (stream : Stream) → IsOpen conn old.lines stream → stream.ended ≡ false → IsToldAndWritten conn heading old new (with_piece stream) is before now
+    (stream : Stream) → IsOpen conn old.lines stream → stream.ended ≡ false
+    → IsToldAndWritten conn heading old new (with_piece stream) is before now
 
 -- whether no more comes of a piece: its session has ended, or waits for the next
 abbrev pub progress_at : Bool → Progress
@@ -142,12 +150,14 @@ TakesPieces conn lines = (stream : Stream) × IsOpen conn lines stream × (strea
 
 -- calls have left it open, and its stream stands so; no other connection has changed
 unfoldable pub LeavesAt : Conn → Lines → Lines → Progress → Type 0
-LeavesAt conn old new is = (after : Stream) × IsOpen conn new after × Stands is after × (new ≡ with_line conn (Some after) old)
+LeavesAt conn old new is =
+    (after : Stream) × IsOpen conn new after × Stands is after × (new ≡ with_line conn (Some after) old)
 
 -- calls have left it open, with room for a piece
 unfoldable pub LeavesRoom : Conn → Lines → Lines → Type 0
 LeavesRoom conn old new =
-    (after : Stream) × IsOpen conn new after × (after.ended ≡ false) × HasRoom (Some after) × (new ≡ with_line conn (Some after) old)
+    (after : Stream) × IsOpen conn new after × (after.ended ≡ false) × HasRoom (Some after)
+    × (new ≡ with_line conn (Some after) old)
 
 -- how many bytes a connection holds
 abbrev pub bytes_in : Option Stream → ℕ

@@ -1,5 +1,6 @@
 -- The text of a transcript: entries, each of a line, a line feed, bytes, and a line feed.
-use Rattle.std.specs.Prelude.{◌≡◌, ◌≢◌, ◌<◌, ◌≤◌, ◌⊎◌, ⊤, ℕ, List, [], ◌∷◌, ◌++◌, length, codes, Option, Some, None, Result, Ok, Err}
+use Rattle.std.specs.Prelude.{◌≡◌, ◌≢◌, ◌<◌, ◌≤◌, ◌⊎◌, ⊤, ℕ, List, [], ◌∷◌, ◌++◌}
+use Rattle.std.specs.Prelude.{length, codes, Option, Some, None, Result, Ok, Err}
 use Rattle.std.specs.Io.KnownBytes.{Consumes, IsAtEnd}
 use Rattle.std.specs.List.{All}
 use Rattle.pdpd.specs.declared.heading.Heading.{Heading}
@@ -27,13 +28,16 @@ IsBody count bytes text = (length bytes ≡ count) × (text ≡ bytes ++ codes "
 
 -- the text of an entry
 abbrev pub IsEntry : Heading → List ℕ → List ℕ → Type 0
-IsEntry heading bytes text = (first : List ℕ) × (second : List ℕ) × IsHeading heading first × IsBody heading.count bytes second × (text ≡ first ++ second)
+IsEntry heading bytes text =
+    (first : List ℕ) × (second : List ℕ) × IsHeading heading first × IsBody heading.count bytes second
+    × (text ≡ first ++ second)
 
 -- the text, of which no more than `rest` follows, is no heading
 abbrev pub IsNoHeading : TranscriptFault → List ℕ → Option (List ℕ) → Type 0
 IsNoHeading fault.LongLine text rest = HasNoFeed text × (length text ≡ 65)
 IsNoHeading fault.CutLine text rest = IsLine text × (text ≢ []) × IsAtEnd rest
-IsNoHeading (fault.Heading wrong) text rest = (line : List ℕ) × IsLine line × (heading_of line ≡ Err wrong) × (text ≡ line ++ codes "\n")
+IsNoHeading (fault.Heading wrong) text rest =
+    (line : List ℕ) × IsLine line × (heading_of line ≡ Err wrong) × (text ≡ line ++ codes "\n")
 IsNoHeading _ text rest = ⊥
 
 -- the text is not so many bytes and a line feed
@@ -48,7 +52,8 @@ IsNoBody count _ text rest = ⊥
 abbrev pub IsNoEntry : TranscriptFault → List ℕ → Option (List ℕ) → Type 0
 IsNoEntry wrong text rest =
     IsNoHeading wrong text rest
-    ⊎ ((heading : Heading) × (first : List ℕ) × (second : List ℕ) × IsHeading heading first × IsNoBody heading.count wrong second rest × (text ≡ first ++ second))
+    ⊎ ((heading : Heading) × (first : List ℕ) × (second : List ℕ) × IsHeading heading first
+    × IsNoBody heading.count wrong second rest × (text ≡ first ++ second))
 
 -- how often a transcript is read from, in all; after that it ends as at a failed read
 abbrev pub most_reads : ℕ
@@ -60,8 +65,10 @@ TakesOrRejects is wrongs (Ok x) = is x
 TakesOrRejects is wrongs (Err (Malformed wrong)) = wrongs wrong
 TakesOrRejects is wrongs (Err _) = ⊤
 
--- a text was taken that is not what is read; `left` is what is known to be left of the transcript before, and `rest` afterwards
-abbrev pub Rejects : (TranscriptFault → List ℕ → Option (List ℕ) → Type 0) → Option (List ℕ) → Option (List ℕ) → TranscriptFault → Type 0
+-- a text was taken that is not what is read; `left` is what is known to be left of the transcript before, and
+-- `rest` afterwards
+abbrev pub Rejects : (TranscriptFault → List ℕ → Option (List ℕ) → Type 0) → Option (List ℕ) → Option (List ℕ)
+    → TranscriptFault → Type 0
 Rejects is_no left rest wrong = (text : List ℕ) × Consumes left rest text × is_no wrong text rest
 
 -- the text of the next entry was taken, or none is left

@@ -10,7 +10,7 @@ use xa_value::{TextRef, number_up_to};
 const MAX_CONNECTIONS: usize = 1_000_000;
 
 /// The limit of work for one message where PDPD_WORK isn't set: some 0.3 seconds, in which everybody else
-/// waits. The dearest honest ask measured takes 3,400,000.
+/// waits. The dearest honest ask measured takes 3,500,000.
 const WORK: usize = 150_000_000;
 
 /// How many bytes the body of a response may have where PDPD_REPLY isn't set: 16 MiB.
@@ -162,7 +162,8 @@ pub fn views_of(set: Option<&str>) -> Option<usize>
     }
 }
 
-/// For how many seconds a connection may give nothing, or take nothing, by what PDPD_IDLE is set to; 0 for ever.
+/// For how many seconds a connection may give nothing, or take nothing, by what PDPD_IDLE is set
+/// to; 0 for ever.
 pub fn idle_of(set: Option<&str>) -> Option<usize>
     ensures { result ≡ spec.idle_of (option_map (λ text. text.now) set.entry) }
 {

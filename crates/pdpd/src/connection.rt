@@ -14,7 +14,8 @@ use std::slice;
 use xa_records::Records;
 use xa_server::{Conn, Event, Front, Outcome};
 
-/// One of the connections of a transcript: each is open from the beginning on, and where it is closed another begins in its place.
+/// One of the connections of a transcript: each is open from the beginning on, and where it is
+/// closed another begins in its place.
 #[derive(Clone, Copy)]
 pub struct Connection {
     /// The connection of the front: it has the same number.
@@ -26,7 +27,8 @@ pub struct Connection {
 /// Makes one call, and gives its outcome. The one error is want of memory.
 #[tactic(auto, using(crate::proofs::ConnectionLemmas::one_outcome, crate::proofs::ConnectionLemmas::one_line))]
 fn outcome_of<R: Records>(front: &mut Front<R>, event: &Event<'_>) -> Result<Outcome, Exit>
-    ensures does { IfOk result (λ outcome. (R.custody front.new.server.records).sound → DoesEvent event.now (front_state R.custody front.old) outcome (front_state R.custody front.new)) }
+    ensures does { IfOk result (λ outcome. (R.custody front.new.server.records).sound
+        → DoesEvent event.now (front_state R.custody front.old) outcome (front_state R.custody front.new)) }
     ensures lines { IfOk result (λ outcome. DoesLines event.now front.old.lines outcome front.new.lines) }
     ensures sound { (R.custody front.new.server.records).sound → (R.custody front.old.server.records).sound }
     ensures err { IfErr result (λ exit. IsTrue (breaks_off exit)) }
@@ -43,7 +45,8 @@ fn outcome_of<R: Records>(front: &mut Front<R>, event: &Event<'_>) -> Result<Out
 pub fn begin<R: Records>(front: &mut Front<R>) -> Result<Connection, Exit>
     requires { HasFree front.old.lines }
     ensures begun { IfOk result (λ connection. IsBegun connection front.old.lines front.new.lines) }
-    ensures server { OnOk result ((R.custody front.new.server.records).sound → server_state R.custody front.new.server ≡ server_state R.custody front.old.server) }
+    ensures server { OnOk result ((R.custody front.new.server.records).sound
+        → server_state R.custody front.new.server ≡ server_state R.custody front.old.server) }
     ensures sound { (R.custody front.new.server.records).sound → (R.custody front.old.server.records).sound }
     ensures err { IfErr result (λ exit. IsTrue (breaks_off exit)) }
 {
@@ -64,7 +67,8 @@ pub fn begin<R: Records>(front: &mut Front<R>) -> Result<Connection, Exit>
 pub fn finish<R: Records>(front: &mut Front<R>, conn: Conn) -> Result<(), Exit>
     requires { IsOneOpen conn front.old.lines }
     ensures finished { OnOk result (front.new.lines ≡ with_line conn None front.old.lines) }
-    ensures server { OnOk result ((R.custody front.new.server.records).sound → server_state R.custody front.new.server ≡ server_state R.custody front.old.server) }
+    ensures server { OnOk result ((R.custody front.new.server.records).sound
+        → server_state R.custody front.new.server ≡ server_state R.custody front.old.server) }
     ensures sound { (R.custody front.new.server.records).sound → (R.custody front.old.server.records).sound }
     ensures err { IfErr result (λ exit. IsTrue (breaks_off exit)) }
 {
@@ -81,8 +85,10 @@ pub fn finish<R: Records>(front: &mut Front<R>, conn: Conn) -> Result<(), Exit>
 #[tactic(auto, using(crate::proofs::ConnectionLemmas::none_begun, crate::proofs::ConnectionLemmas::free_to, crate::proofs::ConnectionLemmas::one_more_begun, crate::proofs::ConnectionLemmas::all_begun))]
 pub fn open_all<R: Records>(alloc: Global, front: &mut Front<R>) -> Result<Vec<Connection>, Exit>
     requires { front.old.lines ≡ none_open }
-    ensures opened { IfOk result (λ connections. (front.new.lines ≡ all_open) × AreOf connections.items all_open) }
-    ensures server { OnOk result ((R.custody front.new.server.records).sound → server_state R.custody front.new.server ≡ server_state R.custody front.old.server) }
+    ensures opened { IfOk result (λ connections.
+        (front.new.lines ≡ all_open) × AreOf connections.items all_open) }
+    ensures server { OnOk result ((R.custody front.new.server.records).sound
+        → server_state R.custody front.new.server ≡ server_state R.custody front.old.server) }
     ensures sound { (R.custody front.new.server.records).sound → (R.custody front.old.server.records).sound }
     ensures err { IfErr result (λ exit. IsTrue (breaks_off exit)) }
 {

@@ -18,9 +18,10 @@ pub enum Exit {
     Failed,
     /// The command line asks for nothing that is done, or the token is malformed or can't be read.
     Usage,
-    /// That entry of the transcript, counted from 1, is malformed or cut. The replies to the entries before are written.
+    /// That entry of the transcript, counted from 1, is malformed or cut. The replies to the
+    /// entries before are written.
     Malformed { entry: u64, fault: TranscriptFault },
-    /// The store can't be opened.
+    /// The store can't be opened, can't go on, or can't be closed.
     Store,
     /// The socket or the clock failed.
     Socket,

@@ -1,4 +1,4 @@
-//! Why `pdpd serve` ends before its connections are served, as one line that says what to do.
+//! Why `pdpd serve` ends otherwise than with all its connections served, as one line that says what to do.
 ghost use Rattle.std.specs.Prelude.{◌≡◌, IsTrue};
 ghost use Rattle.pdpd.specs.Exit.{ends_serving};
 ghost use Rattle.pdpd.specs.Fault.{exit_of_fault};

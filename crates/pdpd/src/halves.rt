@@ -12,7 +12,8 @@ const LEAST_LOG: u64 = 56;
 /// The length of a file up to which it has no room for tables: one page.
 const MOST_BLANK: u64 = 4_096;
 
-/// Up to this byte a file's head says what it is: that it is SQLite's, and then by which version it is written.
+/// Up to this byte a file's head says what it is: that it is SQLite's, and then by which version it
+/// is written.
 const HEAD: u64 = 19;
 
 /// What is there of a store.
@@ -28,7 +29,8 @@ pub enum Halves {
     NoLog,
 }
 
-/// What is there of a store, by the length of its file, 0 where there is none, by that of its log, and by whether it has its commits in a log first.
+/// What is there of a store, by the length of its file, 0 where there is none, by that of its log,
+/// and by whether it has its commits in a log first.
 fn halves_of(file: u64, log: Option<u64>, is_logged: bool) -> Halves
     ensures { result ≡ halves_of file log is_logged }
 {
@@ -56,7 +58,8 @@ fn head_at(rt: &HostRuntime, path: &str) -> io::Result<Vec<u8>> {
     Ok(head)
 }
 
-/// Whether a file that begins so is one of SQLite whose commits are in a log first: its write version is 2 (SQLite's file format, 1.3).
+/// Whether a file that begins so is one of SQLite whose commits are in a log first: its write
+/// version is 2 (SQLite's file format, 1.3).
 fn is_logged(head: &[u8]) -> bool {
     head.starts_with(b"SQLite format 3\0") && head.last() == Some(&2) && head.len() as u64 == HEAD
 }

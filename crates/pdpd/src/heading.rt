@@ -61,7 +61,8 @@ fn moment_of(text: &[u8]) -> Option<Moment>
 /// The text before the first space, and the text after it.
 #[tactic(auto, using(crate::proofs::PartLemmas::no_space_more))]
 fn split_once_at_space(text: &[u8]) -> Option<(&[u8], &[u8])>
-    ensures { MatchOption result (parts_of text.now ≡ text.now ∷ []) (λ found. parts_of text.now ≡ found.0.now ∷ parts_of found.1.now) }
+    ensures { MatchOption result (parts_of text.now ≡ text.now ∷ [])
+        (λ found. parts_of text.now ≡ found.0.now ∷ parts_of found.1.now) }
 {
     for (i, byte) in text.iter().enumerate() {
         if *byte == b' ' {

@@ -13,7 +13,8 @@ pub const HELP: &str = "pdpd: policy administration and decisions (XACML 3.0), o
       It prints `listening ADDRESS` once connections are taken.
       PDPD_WORK in the environment limits the work for one message (0: no limit), PDPD_REPLY the
       bytes of its response, and PDPD_READING the bytes of policies that are read for it.
-      PDPD_VIEWS limits the memory for domains that are kept ready to decide, in bytes.
+      PDPD_VIEWS limits the memory for domains that are kept ready to decide, in bytes. PDPD_IDLE
+      ends a connection that gives or takes nothing for so many seconds.
   pdpd replay OPERATOR-TOKEN
       answers the transcript on standard input, over a store in memory.
   pdpd --help, pdpd --version

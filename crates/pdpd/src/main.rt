@@ -1,5 +1,5 @@
-//! `pdpd serve DATABASE ADDRESS TOKEN-FILE CONNECTIONS`: answers the messages of connections, over a store in a file; and
-//! `pdpd replay OPERATOR-TOKEN`: answers those of a transcript.
+//! `pdpd serve DATABASE ADDRESS TOKEN-FILE CONNECTIONS`: answers the messages of connections, over
+//! a store in a file; and `pdpd replay OPERATOR-TOKEN`: answers those of a transcript.
 #![tactic(auto)]
 
 ghost use Rattle.std.specs.Prelude.{◌≡◌, ◌⊎◌, ◌↔◌, Err, IsFalse, IsTrue, map, string_bytes};

@@ -1,5 +1,6 @@
 //! The bytes of a transcript that are read, and not yet taken.
-ghost use Rattle.std.specs.Prelude.{◌≡◌, ◌++◌, ◌∷◌, [], ◌==◌, IfOk, OnErr, OnOk, MatchOption, drop, length, take};
+ghost use Rattle.std.specs.Prelude.{◌≡◌, ◌++◌, ◌∷◌, [], ◌==◌, IfOk, OnErr};
+ghost use Rattle.std.specs.Prelude.{OnOk, MatchOption, drop, length, take};
 ghost use Rattle.std.specs.Io.KnownBytes.{Consumes, IsAtEnd, Keeps};
 
 use std::alloc::{AllocError, Global};
@@ -61,7 +62,8 @@ impl Piece {
 
     /// Takes the first byte, if there is one.
     pub fn take_first(&mut self) -> Option<u8>
-        ensures { MatchOption result ((self.old ≡ []) × (self.new ≡ [])) (λ byte. self.old ≡ byte ∷ self.new) }
+        ensures { MatchOption result ((self.old ≡ []) × (self.new ≡ []))
+            (λ byte. self.old ≡ byte ∷ self.new) }
     {
         if self.start == self.end {
             return None;

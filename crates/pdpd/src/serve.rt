@@ -1,5 +1,6 @@
 //! `pdpd serve`: connections, one after another.
-ghost use Rattle.std.specs.Prelude.{◌≡◌, ◌↔◌, IfErr, IfOk, MatchResult, OnOk, Err, None, Some, IsFalse, IsTrue};
+ghost use Rattle.std.specs.Prelude.{◌≡◌, ◌↔◌, IfErr, IfOk, MatchResult};
+ghost use Rattle.std.specs.Prelude.{OnOk, Err, None, Some, IsFalse, IsTrue};
 ghost use Rattle.std.specs.Net.Grammar.{IsSocketText, Parses};
 ghost use Rattle.sqlite.specs.Files.{over_files};
 ghost use Rattle.xa_server.specs.Driven.{known};
@@ -7,9 +8,11 @@ ghost use Rattle.xa_server.specs.Front.{FrontState, front_state};
 ghost use Rattle.xa_server.specs.Lines.{none_open};
 ghost use Rattle.xa_server.specs.Tally.{nothing_held};
 ghost use Rattle.xa_store.specs.KeeperReading.{custody_by};
-ghost use Rattle.pdpd.specs.declared.fault.Fault.TheVariants.{Address, Connection, Idle, Memory, Reading, Reply, Views, Work};
+ghost use Rattle.pdpd.specs.declared.fault.Fault.TheVariants.{Address, Connection, Idle, Memory};
+ghost use Rattle.pdpd.specs.declared.fault.Fault.TheVariants.{Reading, Reply, Views, Work};
 ghost use Rattle.pdpd.specs.Connections.{AreIsolated, IsConnectionServed};
-ghost use Rattle.pdpd.specs.Fault.{IsNoAddress, IsOfConnections, IsOfFiles, IsOfServing, IsOfSetting, fault_of_end, goes_on_after, is_of_network, is_passing, is_want_of_room};
+ghost use Rattle.pdpd.specs.Fault.{IsNoAddress, IsOfConnections, IsOfFiles, IsOfServing, IsOfSetting};
+ghost use Rattle.pdpd.specs.Fault.{fault_of_end, goes_on_after, is_of_network, is_passing, is_want_of_room};
 ghost use Rattle.pdpd.specs.Serving.{Serves, ServesOne};
 ghost use Rattle.pdpd.specs.Token.{IsOperator};
 
@@ -27,13 +30,16 @@ use std::time::Duration;
 use xa_records::Records;
 use xa_server::{Clock, Driven, Front, Reader, Writer, drive};
 
-/// How often in a row a connection may fail as it is taken: a peer that closed it first doesn't end the program.
+/// How often in a row a connection may fail as it is taken: a peer that closed it first doesn't end
+/// the program.
 const MAX_FAILURES: u32 = 1_000;
 
-/// How many milliseconds pass before a connection for which there was no room is taken again: 1,000 of them are ten seconds.
+/// How many milliseconds pass before a connection for which there was no room is taken again: 1,000
+/// of them are ten seconds.
 const PAUSE: u64 = 10;
 
-/// Whether the next connection may be taken after a failure of that kind: it was the peer's or the network's, not the listener's.
+/// Whether the next connection may be taken after a failure of that kind: it was the peer's or the
+/// network's, not the listener's.
 fn is_passing(kind: ErrorKind) -> bool
     ensures { result ≡ is_passing kind }
 {
@@ -49,7 +55,8 @@ fn is_passing(kind: ErrorKind) -> bool
     )
 }
 
-/// Whether a failure of that number was the network's: EPROTO, ENOPROTOOPT, EHOSTDOWN, ENONET or EOPNOTSUPP, which have no kind of their own.
+/// Whether a failure of that number was the network's: EPROTO, ENOPROTOOPT, EHOSTDOWN, ENONET or
+/// EOPNOTSUPP, which have no kind of their own.
 fn is_of_network(number: u32) -> bool
     ensures { result ≡ is_of_network number }
 {
@@ -73,7 +80,8 @@ fn number_of(error: &io::Error) -> u32 {
 
 /// Waits until the next connection may be taken after that failure, if it may.
 fn wait_after(rt: &HostRuntime, kind: ErrorKind, number: u32) -> Result<(), Fault>
-    ensures { MatchResult result (λ _. IsTrue (goes_on_after kind number)) (λ fault. (fault ≡ Connection) × IsFalse (goes_on_after kind number)) }
+    ensures { MatchResult result (λ _. IsTrue (goes_on_after kind number))
+        (λ fault. (fault ≡ Connection) × IsFalse (goes_on_after kind number)) }
 {
     if is_want_of_room(number) {
         thread::sleep(rt, Duration::from_millis(PAUSE));
@@ -100,7 +108,8 @@ fn next_connection(rt: &HostRuntime, listener: &TcpListener) -> Result<TcpStream
 
 /// Whether the next connection is served after one that ended so.
 fn after(driven: Driven) -> Result<(), Fault>
-    ensures after { MatchResult result (λ _. fault_of_end driven ≡ None) (λ fault. fault_of_end driven ≡ Some fault) }
+    ensures after { MatchResult result (λ _. fault_of_end driven ≡ None)
+        (λ fault. fault_of_end driven ≡ Some fault) }
     ensures err { IfErr result IsOfConnections }
 {
     match driven {
@@ -111,7 +120,8 @@ fn after(driven: Driven) -> Result<(), Fault>
     }
 }
 
-/// Lets replies go out at once, and sets how long a connection may give nothing, or take nothing, in seconds; 0 for ever. Such a read or write fails.
+/// Lets replies go out at once, and sets how long a connection may give nothing, or take nothing,
+/// in seconds; 0 for ever. Such a read or write fails.
 fn prepare(stream: &TcpStream, idle: usize) {
     // A reply that waits for the peer's acknowledgement comes later, and is no other.
     let _ = stream.set_nodelay(true);
@@ -124,7 +134,8 @@ fn prepare(stream: &TcpStream, idle: usize) {
     let _ = stream.set_write_timeout(Some(wait));
 }
 
-/// Serves a connection, each message at the clock's moment, until it ends (`xa_server`, `drive`). No other is open before, and none is afterwards.
+/// Serves a connection, each message at the clock's moment, until it ends (`xa_server`, `drive`).
+/// No other is open before, and none is afterwards.
 fn serve_connection<R: Records, I: Reader, W: Writer, C: Clock>(
     front: &mut Front<R>,
     reader: &mut I,
@@ -132,9 +143,12 @@ fn serve_connection<R: Records, I: Reader, W: Writer, C: Clock>(
     clock: &mut C,
 ) -> Result<(), Fault>
     requires { front.old.lines ≡ none_open }
-    ensures served { OnOk result ((R.custody front.new.server.records).sound → IsConnectionServed (front_state R.custody front.old) (front_state R.custody front.new)
-        (known None (I.remaining reader.old) (I.reads reader.old) (W.contents writer.old) (W.writes writer.old) (C.told clock.old) None)
-        (known None (I.remaining reader.new) (I.reads reader.new) (W.contents writer.new) (W.writes writer.new) (C.told clock.new) None)) }
+    ensures served { OnOk result ((R.custody front.new.server.records).sound
+        → IsConnectionServed (front_state R.custody front.old) (front_state R.custody front.new)
+        (known None (I.remaining reader.old) (I.reads reader.old) (W.contents writer.old)
+        (W.writes writer.old) (C.told clock.old) None)
+        (known None (I.remaining reader.new) (I.reads reader.new) (W.contents writer.new)
+        (W.writes writer.new) (C.told clock.new) None)) }
     ensures closed { front.new.lines ≡ none_open }
     ensures sound { (R.custody front.new.server.records).sound → (R.custody front.old.server.records).sound }
     ensures err { IfErr result IsOfConnections }
@@ -159,7 +173,8 @@ fn serve_next<R: Records, C: Clock>(
     idle: usize,
 ) -> Result<(), Fault>
     requires { front.old.lines ≡ none_open }
-    ensures served { OnOk result ((R.custody front.new.server.records).sound → ServesOne (front_state R.custody front.old) (front_state R.custody front.new)) }
+    ensures served { OnOk result ((R.custody front.new.server.records).sound
+        → ServesOne (front_state R.custody front.old) (front_state R.custody front.new)) }
     ensures closed { front.new.lines ≡ none_open }
     ensures sound { (R.custody front.new.server.records).sound → (R.custody front.old.server.records).sound }
     ensures err { IfErr result IsOfConnections }
@@ -169,7 +184,8 @@ fn serve_next<R: Records, C: Clock>(
     serve_connection(front, &mut &stream, &mut &stream, clock)
 }
 
-/// Serves that many connections, one after another. No more are taken once the last of them has come: who comes later is refused at once.
+/// Serves that many connections, one after another. No more are taken once the last of them has
+/// come: who comes later is refused at once.
 #[tactic(auto, using(crate::proofs::ServingLemmas::served_none, crate::proofs::ServingLemmas::served_one, crate::proofs::ServingLemmas::served_more, crate::proofs::ServingLemmas::served_last))]
 fn serve_connections<R: Records, C: Clock>(
     rt: &HostRuntime,
@@ -180,7 +196,8 @@ fn serve_connections<R: Records, C: Clock>(
     idle: usize,
 ) -> Result<(), Fault>
     requires { front.old.lines ≡ none_open }
-    ensures served { OnOk result ((R.custody front.new.server.records).sound → Serves connections (front_state R.custody front.old) (front_state R.custody front.new)) }
+    ensures served { OnOk result ((R.custody front.new.server.records).sound
+        → Serves connections (front_state R.custody front.old) (front_state R.custody front.new)) }
     ensures closed { front.new.lines ≡ none_open }
     ensures sound { (R.custody front.new.server.records).sound → (R.custody front.old.server.records).sound }
     ensures err { IfErr result IsOfConnections }
@@ -207,7 +224,9 @@ fn serve_at<R: Records>(
     idle: usize,
 ) -> Result<(), Fault>
     requires { front.old.lines ≡ none_open }
-    ensures served { OnOk result ((R.custody front.new.server.records).sound → Serves serving.now.connections (front_state R.custody front.old) (front_state R.custody front.new)) }
+    ensures served { OnOk result ((R.custody front.new.server.records).sound
+        → Serves serving.now.connections
+        (front_state R.custody front.old) (front_state R.custody front.new)) }
     ensures sound { (R.custody front.new.server.records).sound → (R.custody front.old.server.records).sound }
     ensures err { IfErr result IsOfServing }
 {
@@ -303,7 +322,8 @@ fn idle(rt: &HostRuntime) -> Result<usize, Fault>
     idle.ok_or(Fault::Idle)
 }
 
-/// The front of a server over the store in the file, for the operator whose token is the first line of the token file.
+/// The front of a server over the store in the file, for the operator whose token is the first line
+/// of the token file.
 fn front_of_files(
     rt: &HostRuntime,
     serving: &Serving<'_>,
@@ -325,8 +345,10 @@ fn front_of_files(
 /// socket.
 #[tactic(auto, using(crate::proofs::ServingLemmas::setting_not_address, crate::proofs::ServingLemmas::files_not_address, crate::proofs::ServingLemmas::serving_not_address, crate::proofs::ServingLemmas::address_found))]
 pub fn serve(rt: &HostRuntime, serving: &Serving<'_>) -> Result<Front<FileRecords>, Fault>
-    ensures served { IfOk result (λ front. (custody_by over_files front.server.records).sound → (old : FrontState) × IsOperator old.server.world.operator
-        × (old.server.tally ≡ nothing_held) × (old.lines ≡ none_open) × AreIsolated serving.now.connections old (front_state (custody_by over_files) front)) }
+    ensures served { IfOk result (λ front. (custody_by over_files front.server.records).sound
+        → (old : FrontState) × IsOperator old.server.world.operator × (old.server.tally ≡ nothing_held)
+        × (old.lines ≡ none_open)
+        × AreIsolated serving.now.connections old (front_state (custody_by over_files) front)) }
     ensures address { (result ≡ Err Address) ↔ IsNoAddress serving.now.address }
 {
     let address = address_of(serving.address.as_str())?;

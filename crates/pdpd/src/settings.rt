@@ -55,7 +55,8 @@ fn with_reading<R: Records>(server: Server<R>, bytes: usize) -> Server<R>
     server.with_reading(bytes as u64)
 }
 
-/// A server over the keeper, for that operator and by these settings, and its connections, none of which is open.
+/// A server over the keeper, for that operator and by these settings, and its connections, none of
+/// which is open.
 fn front_over<R: Records + Drop>(
     alloc: Global,
     records: R,

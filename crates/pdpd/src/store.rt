@@ -66,8 +66,8 @@ fn fault_of_tables(error: OpenError) -> Fault
     }
 }
 
-/// Tells, by a line on standard error, of a file in which more stands than the program's tables, or other tables: it is served, but nothing is proved of
-/// what is kept there.
+/// Tells, by a line on standard error, of a file in which more stands than the program's tables, or
+/// other tables: it is served, but nothing is proved of what is kept there.
 fn tell_of_tables(rt: &HostRuntime, path: &str, are_ours: bool) {
     if !are_ours {
         let _ = eprintln!(rt;
@@ -85,7 +85,8 @@ fn tell_of_log(rt: &HostRuntime, path: &str) {
     );
 }
 
-/// Looks whether both halves of a store are there, its file and its log, or neither. None is begun over a half.
+/// Looks whether both halves of a store are there, its file and its log, or neither. None is begun
+/// over a half.
 fn look_at_halves(rt: &HostRuntime, path: &str) -> Result<(), Fault>
     ensures { IfErr result IsOfStore }
 {
@@ -114,7 +115,8 @@ fn tell_of_readers(rt: &HostRuntime, path: &str) {
     }
 }
 
-/// Makes the file, which its owner alone can read, where it isn't there: SQLite gives its log the same mode. Where it can't be made, opening it says why.
+/// Makes the file, which its owner alone can read, where it isn't there: SQLite gives its log the
+/// same mode. Where it can't be made, opening it says why.
 fn make_file(rt: &HostRuntime, path: &str) {
     // As names these are refused below.
     if path == ":memory:" || path.starts_with("file:") {
@@ -133,10 +135,12 @@ pub type FileRecords = SqlRecords<FileStore<File>>;
 /// What keeps domains in memory.
 pub type MemoryRecords = SqlRecords<MemStore>;
 
-/// The keeper over the file, which is made where it isn't there. A line on standard error tells of tables of which nothing is proved, of a log that isn't
-/// there, and of a file that others can read.
+/// The keeper over the file, which is made where it isn't there. A line on standard error tells
+/// of tables of which nothing is proved, of a log that isn't there, and of a file that others
+/// can read.
 pub fn records_in_file(rt: &HostRuntime, path: &str) -> Result<FileRecords, Fault>
-    ensures sound { IfOk result (λ records. IsTrue records.ours → IsTrue (file_state records.conn).is_open → IsSound over_files records) }
+    ensures sound { IfOk result (λ records.
+        IsTrue records.ours → IsTrue (file_state records.conn).is_open → IsSound over_files records) }
     ensures err { IfErr result IsOfStore }
 {
     look_at_halves(rt, path)?;
@@ -155,7 +159,8 @@ pub fn records_in_file(rt: &HostRuntime, path: &str) -> Result<FileRecords, Faul
     }
 }
 
-/// Closes the file of a keeper: its log is written back into it, so that the store is this one file, and a log that is empty.
+/// Closes the file of a keeper: its log is written back into it, so that the store is this one
+/// file, and a log that is empty.
 pub fn close_records(records: FileRecords) -> Result<(), Fault>
     ensures { IfErr result (λ e. e ≡ fault.Store Unclosed) }
 {

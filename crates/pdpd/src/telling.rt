@@ -5,7 +5,8 @@ ghost use Rattle.std.specs.List.{All};
 ghost use Rattle.xa_server.specs.declared.front_error.FrontError.TheVariants as front;
 ghost use Rattle.pdpd.specs.Entry.{reply_entries};
 ghost use Rattle.pdpd.specs.Exit.{breaks_off};
-ghost use Rattle.pdpd.specs.Telling.{ArePieceAndAnswers, HasAnswered, IsAnswer, after_answer, after_none, answers_behind, progress_after, progress_of, replies_told, reply_told};
+ghost use Rattle.pdpd.specs.Telling.{ArePieceAndAnswers, HasAnswered, IsAnswer, after_answer, after_none};
+ghost use Rattle.pdpd.specs.Telling.{answers_behind, progress_after, progress_of, replies_told, reply_told};
 ghost use Rattle.pdpd.specs.declared.exit.Exit.TheVariants.{Memory};
 ghost use Rattle.pdpd.specs.declared.telling.Progress.TheVariants.{Answered};
 
@@ -62,7 +63,8 @@ fn exit_of_want(error: FrontError) -> Exit
 /// The outcomes behind that of a piece, where there was memory for it.
 pub fn answers_behind(outcomes: &[Outcome]) -> Result<&[Outcome], Exit>
     requires { ArePieceAndAnswers outcomes.now }
-    ensures behind { MatchResult result (λ answers. answers_behind outcomes.now ≡ Some answers.now) (λ exit. exit ≡ Memory) }
+    ensures behind { MatchResult result
+        (λ answers. answers_behind outcomes.now ≡ Some answers.now) (λ exit. exit ≡ Memory) }
     ensures answers { IfOk result (λ answers. All IsAnswer answers.now) }
 {
     let Some((piece, answers)) = outcomes.split_first() else {
@@ -85,7 +87,9 @@ fn write_outcome<W: Write>(
     outcome: &Outcome,
 ) -> Result<Progress, Exit>
     requires { IsAnswer outcome.now }
-    ensures written { OnOk result (Appends (W.contents writer.old) (W.contents writer.new) (reply_entries connection (reply_told outcome.now))) }
+    ensures written { OnOk result
+        (Appends (W.contents writer.old) (W.contents writer.new)
+        (reply_entries connection (reply_told outcome.now))) }
     ensures progress { IfOk result (λ is. is ≡ progress_after was outcome.now) }
     ensures answered { OnOk result (HasAnswered outcome.now) }
     ensures err { IfErr result (λ exit. IsTrue (breaks_off exit)) }
@@ -111,7 +115,9 @@ pub fn write_outcomes<W: Write>(
     outcomes: &[Outcome],
 ) -> Result<Progress, Exit>
     requires { All IsAnswer outcomes.now }
-    ensures written { OnOk result (Appends (W.contents writer.old) (W.contents writer.new) (reply_entries connection (replies_told outcomes.now))) }
+    ensures written { OnOk result
+        (Appends (W.contents writer.old) (W.contents writer.new)
+        (reply_entries connection (replies_told outcomes.now))) }
     ensures progress { IfOk result (λ is. is ≡ progress_of Answered outcomes.now) }
     ensures answered { OnOk result (All HasAnswered outcomes.now) }
     ensures err { IfErr result (λ exit. IsTrue (breaks_off exit)) }

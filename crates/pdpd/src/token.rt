@@ -36,7 +36,8 @@ fn first_line(text: &[u8]) -> &[u8]
 /// The digest of the token in the first line of a text.
 fn operator_in(text: &[u8]) -> Result<Digest, Fault>
     ensures { let line = first_line text.now in
-        MatchResult result (λ operator. (operator ≡ sha256 line) × IsTrue (is_token line)) (λ fault. (fault ≡ TokenBad) × IsFalse (is_token line)) }
+        MatchResult result (λ operator. (operator ≡ sha256 line) × IsTrue (is_token line))
+        (λ fault. (fault ≡ TokenBad) × IsFalse (is_token line)) }
 {
     let token = first_line(text);
     if is_token(token) {
@@ -85,7 +86,8 @@ fn lets_others_read(file: &impl OpenFile) -> bool {
     }
 }
 
-/// The digest of the operator's token, which is the first line of the file. A line on standard error tells of a file that others can read.
+/// The digest of the operator's token, which is the first line of the file. A line on standard
+/// error tells of a file that others can read.
 pub fn operator_of_file(rt: &HostRuntime, path: &str) -> Result<Digest, Fault>
     ensures operator { IfOk result IsOperator }
     ensures err { IfErr result IsOfToken }

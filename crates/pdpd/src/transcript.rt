@@ -4,8 +4,10 @@ ghost use Rattle.std.specs.Io.KnownBytes.{IsAtEnd, Keeps};
 ghost use Rattle.pdpd.specs.declared.exit.Exit.TheVariants.{Usage};
 ghost use Rattle.pdpd.specs.declared.transcript.ReadFault.TheVariants.{Failed};
 ghost use Rattle.pdpd.specs.Exit.{exit_of_read};
-ghost use Rattle.pdpd.specs.Reading.{Adds, IsOfReader, TakesBody, TakesByte, TakesBytes, TakesHeading, TakesLine, remaining_of};
-ghost use Rattle.pdpd.specs.Transcript.{IsNoBody, IsNoEntry, IsNoHeading, Rejects, TakesEntry, TakesOrRejects, most_reads};
+ghost use Rattle.pdpd.specs.Reading.{Adds, IsOfReader, TakesBody, TakesByte};
+ghost use Rattle.pdpd.specs.Reading.{TakesBytes, TakesHeading, TakesLine, remaining_of};
+ghost use Rattle.pdpd.specs.Transcript.{IsNoBody, IsNoEntry, IsNoHeading, Rejects};
+ghost use Rattle.pdpd.specs.Transcript.{TakesEntry, TakesOrRejects, most_reads};
 
 use crate::exit::Exit;
 use crate::heading::{Heading, heading_of};
@@ -17,7 +19,8 @@ use std::io::{self, ErrorKind, Read};
 /// The most bytes of an entry's line, without its line feed.
 const MAX_LINE_BYTES: usize = 64;
 
-/// How often a transcript is read from, in all: some minutes of single bytes or of interrupted reads. One read more counts as a failed read.
+/// How often a transcript is read from, in all: some minutes of single bytes or of interrupted
+/// reads. One read more counts as a failed read.
 const MAX_READS: u64 = 1_000_000_000;
 
 /// Why no further entry is read.
@@ -59,7 +62,8 @@ impl<R: Read> Transcript<R> {
     pub fn new(alloc: Global, reader: R) -> Result<Transcript<R>, AllocError>
     where
         R: Drop,
-        ensures remaining { IfOk result (λ transcript. remaining_of R.remaining transcript ≡ R.remaining reader) }
+        ensures remaining { IfOk result (λ transcript.
+            remaining_of R.remaining transcript ≡ R.remaining reader) }
         ensures reads { IfOk result (λ transcript. transcript.reads_left ≡ most_reads) }
     {
         Ok(Transcript {
@@ -69,9 +73,11 @@ impl<R: Read> Transcript<R> {
         })
     }
 
-    /// Reads on, where all that was read is taken. Afterwards the piece is empty only at the transcript's end. Each read is counted, also one that is interrupted.
+    /// Reads on, where all that was read is taken. Afterwards the piece is empty only at the
+    /// transcript's end. Each read is counted, also one that is interrupted.
     fn read_on(&mut self) -> Result<(), ReadFault>
-        ensures keeps { OnOk result (Keeps (remaining_of R.remaining self.old) (remaining_of R.remaining self.new)) }
+        ensures keeps { OnOk result
+            (Keeps (remaining_of R.remaining self.old) (remaining_of R.remaining self.new)) }
         ensures end { OnOk result (self.new.piece ≡ [] → IsAtEnd (remaining_of R.remaining self.new)) }
         ensures fewer { self.new.reads_left ≤ self.old.reads_left }
         ensures counted { OnOk result (self.old.piece ≡ [] → self.new.reads_left < self.old.reads_left) }
@@ -94,7 +100,8 @@ impl<R: Read> Transcript<R> {
 
     /// The next byte, if the transcript goes on.
     fn next_byte(&mut self) -> Result<Option<u8>, ReadFault>
-        ensures byte { IfOk result (TakesByte (remaining_of R.remaining self.old) (remaining_of R.remaining self.new)) }
+        ensures byte { IfOk result
+            (TakesByte (remaining_of R.remaining self.old) (remaining_of R.remaining self.new)) }
         ensures err { IfErr result IsOfReader }
     {
         self.read_on()?;
@@ -103,7 +110,9 @@ impl<R: Read> Transcript<R> {
 
     /// Moves at most `most` bytes of the transcript to the end of `bytes`, if it goes on. Whether it does.
     fn append_to(&mut self, bytes: &mut Vec<u8>, most: usize) -> Result<bool, ReadFault>
-        ensures added { IfOk result (Adds most (remaining_of R.remaining self.old) (remaining_of R.remaining self.new) bytes.old.items bytes.new.items) }
+        ensures added { IfOk result
+            (Adds most (remaining_of R.remaining self.old) (remaining_of R.remaining self.new)
+            bytes.old.items bytes.new.items) }
         ensures err { IfErr result IsOfReader }
     {
         self.read_on()?;
@@ -114,7 +123,8 @@ impl<R: Read> Transcript<R> {
 
     /// The line before the next entry, in place of what `line` holds. Whether there is one.
     fn line(&mut self, line: &mut Vec<u8>) -> Result<bool, ReadFault>
-        ensures { let left = remaining_of R.remaining self.old in let rest = remaining_of R.remaining self.new in
+        ensures { let left = remaining_of R.remaining self.old in
+            let rest = remaining_of R.remaining self.new in
             TakesOrRejects (TakesLine left rest line.new.items) (Rejects IsNoHeading left rest) result }
     {
         line.clear();
@@ -131,7 +141,8 @@ impl<R: Read> Transcript<R> {
 
     /// The heading of the next entry, if there is one. Its line takes the place of what `line` holds.
     fn heading(&mut self, line: &mut Vec<u8>) -> Result<Option<Heading>, ReadFault>
-        ensures { let left = remaining_of R.remaining self.old in let rest = remaining_of R.remaining self.new in
+        ensures { let left = remaining_of R.remaining self.old in
+            let rest = remaining_of R.remaining self.new in
             TakesOrRejects (TakesHeading left rest) (Rejects IsNoHeading left rest) result }
     {
         if !self.line(line)? {
@@ -145,8 +156,10 @@ impl<R: Read> Transcript<R> {
 
     /// That many bytes, in place of what `bytes` holds.
     fn take(&mut self, count: usize, bytes: &mut Vec<u8>) -> Result<(), ReadFault>
-        ensures { let left = remaining_of R.remaining self.old in let rest = remaining_of R.remaining self.new in
-            TakesOrRejects (λ _. TakesBytes left rest count bytes.new.items) (Rejects (IsNoBody count) left rest) result }
+        ensures { let left = remaining_of R.remaining self.old in
+            let rest = remaining_of R.remaining self.new in
+            TakesOrRejects (λ _. TakesBytes left rest count bytes.new.items)
+            (Rejects (IsNoBody count) left rest) result }
     {
         bytes.clear();
         while bytes.len() < count {
@@ -159,8 +172,10 @@ impl<R: Read> Transcript<R> {
 
     /// The bytes of an entry, in place of what `bytes` holds, and the line feed after them.
     fn body(&mut self, count: usize, bytes: &mut Vec<u8>) -> Result<(), ReadFault>
-        ensures { let left = remaining_of R.remaining self.old in let rest = remaining_of R.remaining self.new in
-            TakesOrRejects (λ _. TakesBody left rest count bytes.new.items) (Rejects (IsNoBody count) left rest) result }
+        ensures { let left = remaining_of R.remaining self.old in
+            let rest = remaining_of R.remaining self.new in
+            TakesOrRejects (λ _. TakesBody left rest count bytes.new.items)
+            (Rejects (IsNoBody count) left rest) result }
     {
         self.take(count, bytes)?;
         match self.next_byte()? {
@@ -172,7 +187,8 @@ impl<R: Read> Transcript<R> {
 
     /// The heading of the next entry, if there is one, and its bytes in place of what `bytes` holds.
     pub fn entry(&mut self, bytes: &mut Vec<u8>) -> Result<Option<Heading>, ReadFault>
-        ensures { let left = remaining_of R.remaining self.old in let rest = remaining_of R.remaining self.new in
+        ensures { let left = remaining_of R.remaining self.old in
+            let rest = remaining_of R.remaining self.new in
             TakesOrRejects (TakesEntry left rest bytes.new.items) (Rejects IsNoEntry left rest) result }
     {
         let Some(heading) = self.heading(bytes)? else {

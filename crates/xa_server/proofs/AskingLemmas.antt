@@ -12,7 +12,6 @@ use Rattle.xa_decide.specs.Asked.{asks_policies}
 use Rattle.xa_decide.specs.Decision as decision
 use Rattle.xa_decide.specs.Decision.{Viewed}
 use Rattle.xa_decide.specs.Timeless.{is_timeless_answer}
-use Rattle.xa_http.specs.declared.command.DomainCommand.TheVariants as domain
 use Rattle.xa_notation.specs.declared.notation_error.NotationError.TheVariants.{NotJson}
 use Rattle.xa_records.specs.declared.refusal.Refusal.TheVariants.{Absent}
 use Rattle.xa_records.specs.DomainState.{DomainState}
@@ -25,7 +24,7 @@ use Rattle.xa_server.specs.declared.stop.Stop.{Stop}
 use Rattle.xa_server.specs.declared.stop.Stop.TheVariants.{Code, Failed}
 use Rattle.xa_server.specs.Gates.{opened_by, opened_of}
 use Rattle.xa_server.specs.Handling.{Answers, IsFresh, IsNoted, IsResponseReply, Shows, key_opened, key_within, reply_told, response_told, view_told, worked_in}
-use Rattle.xa_server.specs.Machine.{by_domain_command, response_to}
+use Rattle.xa_server.specs.Machine.{response_to, told}
 use Rattle.xa_server.specs.Replies.{decision_reply}
 use Rattle.xa_server.specs.Tally.{Tally}
 use Rattle.xa_server.specs.ValidCache.{AreValid, response_body_at}
@@ -95,17 +94,17 @@ absent_worked None body moment code is = refl
 absent_worked (Some state) body moment code is = absurd cc
 
 -- the machine tells the same
-machine_tells : (state : Option DomainState) (body : List ℕ) (moment : ℤ) → by_domain_command domain.Decide body moment state ≡ (reply_told body moment state >>= λ bytes. Ok (bytes, state))
+machine_tells : (state : Option DomainState) (body : List ℕ) (moment : ℤ) → told (response_to body moment) state ≡ (reply_told body moment state >>= λ bytes. Ok (bytes, state))
 unfolding response_to response_of
 machine_tells None body moment = refl
 machine_tells (Some state) body moment = by_answer (decision.answer (view_of state) body moment) refl where
   by_answer : (answered : Option decision.Answered) → decision.answer (view_of state) body moment ≡ answered
-      → by_domain_command domain.Decide body moment (Some state) ≡ (reply_told body moment (Some state) >>= λ bytes. Ok (bytes, Some state))
+      → told (response_to body moment) (Some state) ≡ (reply_told body moment (Some state) >>= λ bytes. Ok (bytes, Some state))
   by_answer None e = rw e refl
   by_answer (Some answered) e = rw e refl
 
 pub answers : (old new : Kept) (name body : List ℕ) (moment : ℤ) (result : Result (List ℕ) Stop) → Shows old new result (reply_told body moment (state_of name old))
-    → Answers old new name result (by_domain_command domain.Decide body moment (state_of name old))
+    → Answers old new name result (told (response_to body moment) (state_of name old))
 answers old new name body moment (Ok bytes) (meant, same) =
     (state_of name old, machine_tells (state_of name old) body moment ∙ ap (λ told. told >>= λ bs. Ok (bs, state_of name old)) meant, stays old new name same)
 answers old new name body moment (Err (Code code)) (meant, same) =
@@ -183,10 +182,10 @@ hit kept name body decided moment opened tally opens valid held = by_gate (domai
 -- the reply by it is the machine's
 pub hit_reply : (kept : Kept) (name body : List ℕ) (moment : ℤ) (opened : Opened) (tally : Tally) (reply : List ℕ) → opened_of name kept ≡ Some opened → AreValid kept tally.held
     → Some reply ≡ option_map decision_reply (body_held (key_opened opened body) body tally)
-    → Answers kept kept name (Ok reply) (by_domain_command domain.Decide body moment (state_of name kept))
+    → Answers kept kept name (Ok reply) (told (response_to body moment) (state_of name kept))
 hit_reply kept name body moment opened tally reply opens valid is = by_held (body_held (key_opened opened body) body tally) refl is where
   by_held : (held : Option (List ℕ)) → body_held (key_opened opened body) body tally ≡ held → Some reply ≡ option_map decision_reply held
-      → Answers kept kept name (Ok reply) (by_domain_command domain.Decide body moment (state_of name kept))
+      → Answers kept kept name (Ok reply) (told (response_to body moment) (state_of name kept))
   by_held None e is = absurd cc
   by_held (Some decided) e is =
       let same : reply ≡ decision_reply decided = cc in

@@ -9,6 +9,7 @@ use Rattle.xa_http.specs.declared.route.RouteFault.{RouteFault}
 use Rattle.xa_http.specs.Routes.{route_of}
 use Rattle.xa_records.specs.Kept.{IsChanged, Kept}
 use Rattle.xa_server.specs.Crash.{IfSent, IsStepMade}
+use Rattle.xa_server.specs.declared.received.Received.{Received}
 use Rattle.xa_server.specs.declared.replies.Reply.{Reply}
 use Rattle.xa_server.specs.declared.stop.Stop.{Stop}
 use Rattle.xa_server.specs.declared.stop.Stop.TheVariants.{Code, Failed}
@@ -17,24 +18,24 @@ use Rattle.xa_server.specs.Machine.{Answer, answer, reply_and_state, step}
 use Rattle.xa_server.specs.Served.{state}
 use Rattle.xa_server.specs.Stop.{stop_of_route}
 use Rattle.xa_server.specs.World.{World}
+use Rattle.xa_server.proofs.ServedLemmas.{world_of}
 
 module _ (before after : Kept → Type 0) where
   -- a message that makes no change, whichever domain it is of
-  pub no_more_route : (operator : List ℕ) (old : Kept) (named : Option (List ℕ)) (message : Message) (moment : ℤ) (route : Route) → LeavesNoMore before after
-      → LeavesRoute before after operator old named message moment route
-  no_more_route operator old None message moment route less = less
-  no_more_route operator old (Some name) message moment route less = λ left may. inl (less left may)
+  pub no_more_route : (received : Received) (old : Kept) (named : Option (List ℕ)) (route : Route) → LeavesNoMore before after → LeavesRoute before after received old named route
+  no_more_route received old None route less = less
+  no_more_route received old (Some name) route less = λ left may. inl (less left may)
 
-  pub no_more : (operator : List ℕ) (old : Kept) (named : Option (List ℕ)) (message : Message) (moment : ℤ) → LeavesNoMore before after → LeavesMessage before after operator old named message moment
-  no_more operator old None message moment less = less
-  no_more operator old (Some name) message moment less = λ left may. inl (less left may)
+  pub no_more : (received : Received) (old : Kept) (named : Option (List ℕ)) → LeavesNoMore before after → LeavesMessage before after received old named
+  no_more received old None less = less
+  no_more received old (Some name) less = λ left may. inl (less left may)
 
   -- what the message asks for
-  pub asked_left : (operator : List ℕ) (old : Kept) (named : Option (List ℕ)) (message : Message) (moment : ℤ) (route : Route) → route_of message ≡ Ok route
-      → LeavesRoute before after operator old named message moment route → LeavesMessage before after operator old named message moment
+  pub asked_left : (received : Received) (old : Kept) (named : Option (List ℕ)) (route : Route) → route_of received.message.now ≡ Ok route
+      → LeavesRoute before after received old named route → LeavesMessage before after received old named
   unfolding answer
-  asked_left operator old None message moment route asks leaves = leaves
-  asked_left operator old (Some name) message moment route asks leaves = rw asks leaves
+  asked_left received old None route asks leaves = leaves
+  asked_left received old (Some name) route asks leaves = rw asks leaves
 
 -- what the answer changes is the machine's step
 step_made : (old : World) (left : Kept) (name : List ℕ) (message : Message) (moment : ℤ) (meant : Answer) → answer old.operator (state name old) message moment ≡ meant
@@ -44,12 +45,14 @@ step_made old left name message moment (Ok (bytes, after)) is made = subst (IsCh
 step_made old left name message moment (Err code) is made = absurd made
 
 -- what a message leaves is what its step leaves
-pub step_left : (before after : Kept → Type 0) (old : World) (named : Option (List ℕ)) (message : Message) (moment : ℤ)
-    → LeavesMessage before after old.operator old.kept named message moment → (left : Kept) → after left → before left ⊎ IsStepMade old left moment message named
-step_left before after old None message moment leaves left may = inl (leaves left may)
-step_left before after old (Some name) message moment leaves left may = elim (leaves left may) [
+pub step_left : (before after : Kept → Type 0) (received : Received) (kept : Kept) (named : Option (List ℕ)) → LeavesMessage before after received kept named
+    → (left : Kept) → after left → before left ⊎ IsStepMade (world_of received kept) left received.moment received.message.now named
+step_left before after received kept None leaves left may = inl (leaves left may)
+step_left before after received kept (Some name) leaves left may = elim (leaves left may) [
   | inl less ↦ inl less
-  | inr made ↦ inr (step_made old left name message moment (answer old.operator (state name old) message moment) refl made)
+  | inr made ↦ inr (
+      step_made (world_of received kept) left name received.message.now received.moment
+      (answer received.operator (state name (world_of received kept)) received.message.now received.moment) refl made)
 ]
 
 -- a message that didn't fail is the only one whose reply is sent

@@ -1,11 +1,11 @@
 -- What one message does, by its owner.
-use Rattle.std.proofs.Common.{◌≡◌, ℕ, ℤ, List, [], ◌∷◌, ◌++◌, Option, Some, None, Result, Ok, Err, inl, inr, refl, ap, sym, ◌∙◌, subst}
+use Rattle.std.proofs.Common.{◌≡◌, ℕ, List, [], ◌∷◌, ◌++◌, Option, Some, None, Result, Ok, Err, inl, inr, refl, ap, sym, ◌∙◌, subst}
 use Rattle.std.specs.Prelude.{OnErr}
-use Rattle.xa_http.specs.declared.message.Message.{Message}
 use Rattle.xa_records.specs.declared.refusal.Failure.TheVariants.{Memory, Store}
-use Rattle.xa_records.specs.Kept.{IsChanged, Kept}
+use Rattle.xa_records.specs.Kept.{IsChanged, Kept, state_of}
 use Rattle.xa_server.specs.Alone.{Event}
 use Rattle.xa_server.specs.declared.error_code.ErrorCode.{ErrorCode}
+use Rattle.xa_server.specs.declared.received.Received.{Received}
 use Rattle.xa_server.specs.declared.replies.Reply.{Reply}
 use Rattle.xa_server.specs.declared.stop.Stop.{Stop}
 use Rattle.xa_server.specs.declared.stop.Stop.TheVariants.{Code, Failed}
@@ -13,7 +13,7 @@ use Rattle.xa_server.specs.ErrorCode.{error_reply}
 use Rattle.xa_server.specs.Handling.{AnswersMessage, Counts, IsReplyOf}
 use Rattle.xa_server.specs.Machine.{Answer, general_reply, reply_and_state, reply_or_error, step}
 use Rattle.xa_server.specs.Owner.{owner}
-use Rattle.xa_server.specs.Served.{CountsReply, IsRun, IsSent, IsServed, state}
+use Rattle.xa_server.specs.Served.{CountsReply, IsRun, IsSent, IsServed}
 use Rattle.xa_server.specs.World.{World}
 use Rattle.xa_server.proofs.GrowthLemmas.{stays}
 
@@ -24,55 +24,60 @@ over operator kept = record { operator = operator; kept = kept }
 unmoved : (old new : World) → new.kept ≡ old.kept → new.operator ≡ old.operator → new ≡ old
 unmoved old new kept operator = ap (over new.operator) kept ∙ ap (λ (o : List ℕ). over o old.kept) operator
 
+-- the domains at which a message was received, with the operator
+abbrev pub world_of : Received → Kept → World
+world_of received kept = over received.operator kept
+
 -- a message that was answered with success, by its owner
-sent : (old new : World) (named : Option (List ℕ)) (message : Message) (moment : ℤ) (bytes : List ℕ)
-    → AnswersMessage old.operator old.kept new.kept named message moment (Ok bytes) → new.operator ≡ old.operator → IsSent old new moment message bytes named
+sent : (received : Received) (old : Kept) (new : World) (named : Option (List ℕ)) (bytes : List ℕ)
+    → AnswersMessage received old new.kept named (Ok bytes) → new.operator ≡ received.operator → IsSent (world_of received old) new received.moment received.message.now bytes named
 unfolding general_reply step
-sent old new None message moment bytes answered operator =
-    record { reply = sym (ap reply_or_error answered.0); same = unmoved old new answered.1 operator }
-sent old new (Some name) message moment bytes (after, meant, changed) operator = record {
-  reply = sym (ap (λ a. (reply_and_state (state name old) a).0) meant);
-  next = subst (IsChanged old.kept new.kept name) (sym (ap (λ a. (reply_and_state (state name old) a).1) meant)) changed;
-  error_answer = subst (λ (a : Answer). OnErr a (new ≡ old)) (sym meant) tt;
+sent received old new None bytes answered operator =
+    record { reply = sym (ap reply_or_error answered.0); same = unmoved (world_of received old) new answered.1 operator }
+sent received old new (Some name) bytes (after, meant, changed) operator = record {
+  reply = sym (ap (λ a. (reply_and_state (state_of name old) a).0) meant);
+  next = subst (IsChanged old new.kept name) (sym (ap (λ a. (reply_and_state (state_of name old) a).1) meant)) changed;
+  error_answer = subst (λ (a : Answer). OnErr a (new ≡ world_of received old)) (sym meant) tt;
   operator = operator;
 }
 
 -- by an error answer
-turned_away : (old new : World) (named : Option (List ℕ)) (message : Message) (moment : ℤ) (code : ErrorCode)
-    → AnswersMessage old.operator old.kept new.kept named message moment (Err (Code code)) → new.operator ≡ old.operator
-    → IsSent old new moment message (error_reply code) named
+turned_away : (received : Received) (old : Kept) (new : World) (named : Option (List ℕ)) (code : ErrorCode)
+    → AnswersMessage received old new.kept named (Err (Code code)) → new.operator ≡ received.operator
+    → IsSent (world_of received old) new received.moment received.message.now (error_reply code) named
 unfolding general_reply step
-turned_away old new None message moment code answered operator =
-    record { reply = sym (ap reply_or_error answered.0); same = unmoved old new answered.1 operator }
-turned_away old new (Some name) message moment code answered operator = record {
-  reply = sym (ap (λ a. (reply_and_state (state name old) a).0) answered.0);
-  next = subst (IsChanged old.kept new.kept name) (sym (ap (λ a. (reply_and_state (state name old) a).1) answered.0)) (stays old.kept new.kept name answered.1);
-  error_answer = subst (λ (a : Answer). OnErr a (new ≡ old)) (sym answered.0) (unmoved old new answered.1 operator);
+turned_away received old new None code answered operator =
+    record { reply = sym (ap reply_or_error answered.0); same = unmoved (world_of received old) new answered.1 operator }
+turned_away received old new (Some name) code answered operator = record {
+  reply = sym (ap (λ a. (reply_and_state (state_of name old) a).0) answered.0);
+  next = subst (IsChanged old new.kept name) (sym (ap (λ a. (reply_and_state (state_of name old) a).1) answered.0)) (stays old new.kept name answered.1);
+  error_answer = subst (λ (a : Answer). OnErr a (new ≡ world_of received old)) (sym answered.0) (unmoved (world_of received old) new answered.1 operator);
   operator = operator;
 }
 
 -- without success nothing has changed
-kept_so : (old new : World) (named : Option (List ℕ)) (message : Message) (moment : ℤ) (stop : Stop)
-    → AnswersMessage old.operator old.kept new.kept named message moment (Err stop) → new.kept ≡ old.kept
-kept_so old new None message moment (Code code) answered = answered.1
-kept_so old new None message moment (Failed failure) answered = answered
-kept_so old new (Some name) message moment (Code code) answered = answered.1
-kept_so old new (Some name) message moment (Failed failure) answered = answered
+kept_so : (received : Received) (old new : Kept) (named : Option (List ℕ)) (stop : Stop) → AnswersMessage received old new named (Err stop) → new ≡ old
+kept_so received old new None (Code code) answered = answered.1
+kept_so received old new None (Failed failure) answered = answered
+kept_so received old new (Some name) (Code code) answered = answered.1
+kept_so received old new (Some name) (Failed failure) answered = answered
 
 -- what goes back for a message is what serving it gives
-pub served : (old new : World) (message : Message) (moment : ℤ) (result : Result (List ℕ) Stop) (reply : Reply)
-    → AnswersMessage old.operator old.kept new.kept (owner message) message moment result → IsReplyOf result reply
-    → new.operator ≡ old.operator → IsServed old new moment message reply
-served old new message moment (Ok bytes) reply answered is operator =
-    subst (λ r. IsServed old new moment message r) (sym is) (sent old new (owner message) message moment bytes answered operator)
-served old new message moment (Err (Failed failure)) reply answered is operator =
-    subst (λ r. IsServed old new moment message r) (sym is)
-    (unmoved old new (kept_so old new (owner message) message moment (Failed failure) answered) operator)
-served old new message moment (Err (Code code)) reply answered (inl is) operator =
-    subst (λ r. IsServed old new moment message r) (sym is) (turned_away old new (owner message) message moment code answered operator)
-served old new message moment (Err (Code code)) reply answered (inr is) operator =
-    subst (λ r. IsServed old new moment message r) (sym is)
-    (unmoved old new (kept_so old new (owner message) message moment (Code code) answered) operator)
+pub served : (received : Received) (old : Kept) (new : World) (result : Result (List ℕ) Stop) (reply : Reply)
+    → AnswersMessage received old new.kept (owner received.message.now) result → IsReplyOf result reply
+    → new.operator ≡ received.operator → IsServed (world_of received old) new received.moment received.message.now reply
+served received old new (Ok bytes) reply answered is operator =
+    subst (λ r. IsServed (world_of received old) new received.moment received.message.now r) (sym is)
+    (sent received old new (owner received.message.now) bytes answered operator)
+served received old new (Err (Failed failure)) reply answered is operator =
+    subst (λ r. IsServed (world_of received old) new received.moment received.message.now r) (sym is)
+    (unmoved (world_of received old) new (kept_so received old new.kept (owner received.message.now) (Failed failure) answered) operator)
+served received old new (Err (Code code)) reply answered (inl is) operator =
+    subst (λ r. IsServed (world_of received old) new received.moment received.message.now r) (sym is)
+    (turned_away received old new (owner received.message.now) code answered operator)
+served received old new (Err (Code code)) reply answered (inr is) operator =
+    subst (λ r. IsServed (world_of received old) new received.moment received.message.now r) (sym is)
+    (unmoved (world_of received old) new (kept_so received old new.kept (owner received.message.now) (Code code) answered) operator)
 
 -- the keeper's count, by what goes back
 pub counted : (old new : ℕ) (result : Result (List ℕ) Stop) (reply : Reply) → Counts old new result → IsReplyOf result reply → CountsReply old new reply

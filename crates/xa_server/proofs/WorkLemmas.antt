@@ -7,7 +7,6 @@ use Rattle.xa_value.specs.declared.or_memory.OrMemory.{OrMemory}
 use Rattle.xa_value.specs.declared.or_memory.OrMemory.TheVariants as or_memory
 use Rattle.xa_value.specs.Gives.{Gives}
 use Rattle.xa_http.specs.declared.route.RouteFault.{RouteFault}
-use Rattle.xa_http.specs.declared.message.Message.{Message}
 use Rattle.xa_http.specs.declared.route.Route.{Route}
 use Rattle.xa_http.specs.Routes.{route_of}
 use Rattle.xa_records.specs.declared.gate.Gate.{Gate}
@@ -18,6 +17,7 @@ use Rattle.xa_records.specs.Readings.{gate_of, gate_of_domain}
 use Rattle.xa_server.specs.Alone.{Event}
 use Rattle.xa_server.specs.declared.replies.Reply.{Reply}
 use Rattle.xa_server.specs.declared.opened.Opened.{Opened}
+use Rattle.xa_server.specs.declared.received.Received.{Received}
 use Rattle.xa_server.specs.declared.stop.Stop.{Stop}
 use Rattle.xa_server.specs.declared.stop.Stop.TheVariants.{Code, Failed}
 use Rattle.xa_server.specs.Gates.{opened_by, opened_of}
@@ -59,14 +59,15 @@ domain_opened kept name opened opens = by_domain (get kept.domains name) refl wh
 
 -- ---- what the message asks for
 
-pub asked_work : (kept : Kept) (message : Message) (moment : ℤ) (route : Route) (result : Result (List ℕ) Stop) (old new : Tally) → route_of message ≡ Ok route
-    → WorksRoute kept message moment route result old new → WorksMessage kept message moment result old new
-asked_work kept message moment route result old new asks work = rw asks work
+pub asked_work : (received : Received) (kept : Kept) (route : Route) (result : Result (List ℕ) Stop) (old new : Tally) → route_of received.message.now ≡ Ok route
+    → WorksRoute received kept route result old new → WorksMessage received kept result old new
+asked_work received kept route result old new asks work = rw asks work
 
-pub unasked_work : (kept : Kept) (message : Message) (moment : ℤ) (error : OrMemory RouteFault) (tally : Tally) → Gives {X = Route} (Err error) (route_of message)
-    → WorksMessage kept message moment (Err (stop_of_route error)) tally tally
-unasked_work kept message moment or_memory.Memory tally gives = failed (domain_of_message kept message (route_of message)) message.body moment Memory tally
-unasked_work kept message moment (or_memory.Error fault) tally gives = rw gives refl
+pub unasked_work : (received : Received) (kept : Kept) (error : OrMemory RouteFault) (tally : Tally) → Gives {X = Route} (Err error) (route_of received.message.now)
+    → WorksMessage received kept (Err (stop_of_route error)) tally tally
+unasked_work received kept or_memory.Memory tally gives =
+    failed (domain_of_message kept received.message.now (route_of received.message.now)) received.message.now.body received.moment Memory tally
+unasked_work received kept (or_memory.Error fault) tally gives = rw gives refl
 
 -- ---- what goes back
 

@@ -8,7 +8,6 @@ use Rattle.xa_notation.specs.declared.notation_error.NotationError.{NotationErro
 use Rattle.xa_notation.specs.declared.notation_error.NotationError.TheVariants.{NotJson}
 use Rattle.xa_records.specs.declared.refusal.Refusal.TheVariants.{Absent}
 use Rattle.xa_decide.specs.declared.decision.Responded.{Responded}
-use Rattle.xa_http.specs.declared.message.Message.{Message}
 use Rattle.xa_http.specs.declared.route.Route.{Route}
 use Rattle.xa_http.specs.Routes.{route_of}
 use Rattle.xa_records.specs.declared.refusal.Failure.TheVariants.{Memory, Store}
@@ -19,6 +18,7 @@ use Rattle.xa_server.specs.declared.ask.Ask.{Ask}
 use Rattle.xa_server.specs.declared.error_code.ErrorCode.{ErrorCode}
 use Rattle.xa_server.specs.declared.error_code.ErrorCode.TheVariants as error
 use Rattle.xa_server.specs.declared.opened.Opened.{Opened}
+use Rattle.xa_server.specs.declared.received.Received.{Received}
 use Rattle.xa_server.specs.declared.ready.Ready.{Ready}
 use Rattle.xa_server.specs.declared.stop.Stop.{Stop}
 use Rattle.xa_server.specs.declared.stop.Stop.TheVariants.{Code, Failed}
@@ -70,18 +70,19 @@ admitted_by for_decisions state shown = do
   permitted role for_decisions
 
 -- a message that asks for this was answered, by the domain that its path names, if it names one
-abbrev pub AnswersRoute : List ℕ → Kept → Kept → Option (List ℕ) → Message → ℤ → Route → Result (List ℕ) Stop → Type 0
-AnswersRoute operator old new None message moment route result =
-    Shows old new result (general_by_route operator (names_of old) message route)
-AnswersRoute operator old new (Some name) message moment route result =
-    Answers old new name result (by_route operator (state_of name old) message moment route)
+abbrev pub AnswersRoute : Received → Kept → Kept → Option (List ℕ) → Route → Result (List ℕ) Stop → Type 0
+AnswersRoute received old new None route result =
+    Shows old new result (general_by_route received.operator (names_of old) received.message.now route)
+AnswersRoute received old new (Some name) route result =
+    Answers old new name result
+    (by_route received.operator (state_of name old) received.message.now received.moment route)
 
 -- a message was answered
-abbrev pub AnswersMessage : List ℕ → Kept → Kept → Option (List ℕ) → Message → ℤ → Result (List ℕ) Stop → Type 0
-AnswersMessage operator old new None message moment result =
-    Shows old new result (general_answer operator (names_of old) message)
-AnswersMessage operator old new (Some name) message moment result =
-    Answers old new name result (answer operator (state_of name old) message moment)
+abbrev pub AnswersMessage : Received → Kept → Kept → Option (List ℕ) → Result (List ℕ) Stop → Type 0
+AnswersMessage received old new None result =
+    Shows old new result (general_answer received.operator (names_of old) received.message.now)
+AnswersMessage received old new (Some name) result =
+    Answers old new name result (answer received.operator (state_of name old) received.message.now received.moment)
 
 -- the keeper has counted one more failure for want of storage, where that is why, and else none
 abbrev pub Counts : {X : Type 0} → ℕ → ℕ → Result X Stop → Type 0
@@ -199,13 +200,14 @@ WorksOf (Some domain) body moment result old new =
     IsAsked (key_in domain body) (body_held (key_in domain body) body old)
     (worked_out domain.state body moment) result old new
 
-abbrev pub WorksRoute : Kept → Message → ℤ → Route → Result (List ℕ) Stop → Tally → Tally → Type 0
-WorksRoute kept message moment route result old new =
-    WorksOf (domain_of_route kept message route) message.body moment result old new
+abbrev pub WorksRoute : Received → Kept → Route → Result (List ℕ) Stop → Tally → Tally → Type 0
+WorksRoute received kept route result old new =
+    WorksOf (domain_of_route kept received.message.now route) received.message.now.body received.moment result old new
 
-abbrev pub WorksMessage : Kept → Message → ℤ → Result (List ℕ) Stop → Tally → Tally → Type 0
-WorksMessage kept message moment result old new =
-    WorksOf (domain_of_message kept message (route_of message)) message.body moment result old new
+abbrev pub WorksMessage : Received → Kept → Result (List ℕ) Stop → Tally → Tally → Type 0
+WorksMessage received kept result old new =
+    WorksOf (domain_of_message kept received.message.now (route_of received.message.now)) received.message.now.body
+    received.moment result old new
 
 -- ---- what a crash may leave
 
@@ -230,17 +232,18 @@ abbrev pub LeavesAnswer : (Kept → Type 0) → (Kept → Type 0) → Kept → L
 LeavesAnswer before after old name meant = (left : Kept) → after left → before left ⊎ IsAnswerMade old left name meant
 
 -- after a message that asks for this
-abbrev pub LeavesRoute : (Kept → Type 0) → (Kept → Type 0) → List ℕ → Kept → Option (List ℕ) → Message → ℤ → Route
-    → Type 0
-LeavesRoute before after operator old None message moment route = LeavesNoMore before after
-LeavesRoute before after operator old (Some name) message moment route =
-    LeavesAnswer before after old name (by_route operator (state_of name old) message moment route)
+abbrev pub LeavesRoute : (Kept → Type 0) → (Kept → Type 0) → Received → Kept → Option (List ℕ) → Route → Type 0
+LeavesRoute before after received old None route = LeavesNoMore before after
+LeavesRoute before after received old (Some name) route =
+    LeavesAnswer before after old name
+    (by_route received.operator (state_of name old) received.message.now received.moment route)
 
 -- after a message
-abbrev pub LeavesMessage : (Kept → Type 0) → (Kept → Type 0) → List ℕ → Kept → Option (List ℕ) → Message → ℤ → Type 0
-LeavesMessage before after operator old None message moment = LeavesNoMore before after
-LeavesMessage before after operator old (Some name) message moment =
-    LeavesAnswer before after old name (answer operator (state_of name old) message moment)
+abbrev pub LeavesMessage : (Kept → Type 0) → (Kept → Type 0) → Received → Kept → Option (List ℕ) → Type 0
+LeavesMessage before after received old None = LeavesNoMore before after
+LeavesMessage before after received old (Some name) =
+    LeavesAnswer before after old name
+    (answer received.operator (state_of name old) received.message.now received.moment)
 
 -- ---- what is done for a message
 

@@ -86,10 +86,6 @@ admitted for_decisions state message = do
   role ← ok_or (role_shown domain.tokens message) Unauthorized
   permitted role for_decisions
 
-abbrev pub is_decision : DomainCommand → Bool
-is_decision domain.Decide = true
-is_decision _ = false
-
 -- ---- 400, then 404 and 409
 
 -- what a body says, or its fault
@@ -124,7 +120,7 @@ by_operator_command operator.PutToken body state =
 by_operator_command operator.DropToken body state =
     or_body_fault (old_token_of body) >>= (λ token. changed done_reply (within (token_dropped (sha256 token))) state)
 
--- ---- what is asked for in a domain
+-- ---- a decision
 
 -- the response to a request, at a moment
 unfoldable pub response_to : List ℕ → ℤ → DomainState → Result (List ℕ) ErrorCode
@@ -133,24 +129,25 @@ response_to body moment state =
     (option_map (λ answered. decision_reply (decision.body_of answered)) (decision.answer (view_of state) body moment))
     (Body NotJson)
 
+-- ---- what else is asked for in a domain
+
 -- an upload of what was there is no creation
 abbrev pub upload_reply : Upload → List ℕ
 upload_reply New = created_reply
 upload_reply Same = done_reply
 
-abbrev pub by_domain_command : DomainCommand → List ℕ → ℤ → Option DomainState → Answer
-by_domain_command domain.Decide body moment state = told (response_to body moment) state
-by_domain_command domain.Upload body moment state =
+abbrev pub by_domain_command : DomainCommand → List ℕ → Option DomainState → Answer
+by_domain_command domain.Upload body state =
     or_body_fault (document_of body)
     >>= (λ parsed.
     changed (upload_reply (upload_of (key_of parsed) state)) (within (uploaded (key_of parsed) body)) state)
-by_domain_command domain.List body moment state =
+by_domain_command domain.List body state =
     told (λ kept. Ok (json_reply (listing_body (listing_of_state kept)))) state
-by_domain_command domain.SetRoot body moment state =
+by_domain_command domain.SetRoot body state =
     or_body_fault (root_of body) >>= (λ root. changed done_reply (within (root_set root)) state)
-by_domain_command domain.SetSource body moment state =
+by_domain_command domain.SetSource body state =
     or_body_fault (rows_of body) >>= (λ rows. changed done_reply (within (source_set rows)) state)
-by_domain_command domain.Source body moment state = told (λ kept. Ok (json_reply (rows_body kept.source))) state
+by_domain_command domain.Source body state = told (λ kept. Ok (json_reply (rows_body kept.source))) state
 
 -- ---- what is asked for of one document
 
@@ -172,9 +169,12 @@ by_route operator state message moment to.Domains = Err NoRoute
 by_route operator state message moment (to.Operator name command) = do
   _ ← by_operator operator message
   by_operator_command command message.body state
+by_route operator state message moment (to.Decide name) = do
+  _ ← admitted true state message
+  told (response_to message.body moment) state
 by_route operator state message moment (to.Domain name command) = do
-  _ ← admitted (is_decision command) state message
-  by_domain_command command message.body moment state
+  _ ← admitted false state message
+  by_domain_command command message.body state
 by_route operator state message moment (to.Document name parts command) = do
   _ ← admitted false state message
   key ← ok_or (key_of_parts parts) (Refused Absent)
@@ -201,6 +201,7 @@ general_by_route operator names message to.Domains =
     by_operator operator message >>= (λ _. Ok (json_reply (names_body names)))
 general_by_route operator names message (to.Operator name command) =
     by_operator operator message >>= (λ _. Err BadDomain)
+general_by_route operator names message (to.Decide name) = Err Unauthorized
 general_by_route operator names message (to.Domain name command) = Err Unauthorized
 general_by_route operator names message (to.Document name parts command) = Err Unauthorized
 

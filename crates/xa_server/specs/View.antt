@@ -6,6 +6,7 @@ use Rattle.xa_notation.specs.declared.notation_error.NotationError.{NotationErro
 use Rattle.xa_notation.specs.Document.{document_of}
 use Rattle.xa_link.specs.declared.active.Active.{Active}
 use Rattle.xa_decide.specs.Decision.{Viewed, view_by}
+use Rattle.xa_decide.specs.Reading.{reading_for}
 use Rattle.xa_records.specs.declared.active_text.ActiveText.{ActiveText}
 use Rattle.xa_records.specs.declared.kept_view.KeptView.{KeptView}
 use Rattle.xa_records.specs.DomainState.{DomainState}
@@ -22,8 +23,15 @@ active_if text (Ok parsed) = Some (active_document text parsed)
 active_if text (Err _) = None
 
 -- each active text is read anew
+abbrev pub active_of : List ActiveText → List Active
+active_of texts = filter_map (λ one. active_if one.text (document_of one.text)) texts
+
 abbrev pub viewed : KeptView → Viewed
-viewed kept = view_by (filter_map (λ one. active_if one.text (document_of one.text)) kept.texts) kept.root kept.source
+viewed kept = view_by (active_of kept.texts) kept.root kept.source
+
+-- how many bytes of the texts are read for that
+abbrev pub read_for : KeptView → ℕ
+read_for kept = reading_for (active_of kept.texts) kept.root
 
 -- what decides in a domain of that state
 abbrev pub view_of : DomainState → Viewed

@@ -7,7 +7,6 @@ use Rattle.xa_cache.specs.declared.key.Key.{Key}
 use Rattle.xa_decide.specs.Decision as decision
 use Rattle.xa_decide.specs.Decision.{Viewed}
 use Rattle.xa_decide.specs.Timeless.{is_timeless_answer}
-use Rattle.xa_http.specs.declared.command.DomainCommand.TheVariants as domain
 use Rattle.xa_http.specs.declared.message.Message.{Message}
 use Rattle.xa_http.specs.declared.route.Route.{Route}
 use Rattle.xa_http.specs.declared.route.Route.TheVariants as to
@@ -40,7 +39,7 @@ domain_asked kept message name =
 
 -- the domain of which that route asks for a decision
 abbrev pub domain_of_route : Kept → Message → Route → Option Domain
-domain_of_route kept message (to.Domain part domain.Decide) = option_and_then (domain_asked kept message) (name_if part)
+domain_of_route kept message (to.Decide part) = option_and_then (domain_asked kept message) (name_if part)
 domain_of_route kept message _ = None
 
 abbrev pub domain_of_message : Kept → Message → Result Route RouteFault → Option Domain

@@ -1,22 +1,22 @@
 //! Who may ask: 401 and 403.
-ghost use Rattle.std.specs.Prelude.{◌≡◌, true, Some};
+ghost use Rattle.std.specs.Prelude.{◌≡◌, true, false, Some};
 ghost use Rattle.xa_records.specs.Kept.{state_of};
 ghost use Rattle.xa_records.specs.Readings.{gate_of};
 ghost use Rattle.xa_server.specs.Gates.{opened_of};
 ghost use Rattle.xa_server.specs.Handling.{OnlyReads, Opens, Shows, admitted_by};
-ghost use Rattle.xa_server.specs.Machine.{admitted, by_operator, digest_shown, is_decision, permitted};
+ghost use Rattle.xa_server.specs.Machine.{admitted, by_operator, digest_shown, permitted};
 ghost use Rattle.xa_server.specs.Stock.{AllStand};
-ghost use Rattle.xa_server.specs.Tokens.{role_in};
 
 use crate::authorization::token_in;
 use crate::error_code::ErrorCode;
+use crate::gates::role_in;
 use crate::opened::Opened;
 use crate::resources::Resources;
 use crate::stop::Stop;
 use std::alloc::Global;
-use xa_http::{DomainCommand, Message};
+use xa_http::Message;
 use xa_notation::Role;
-use xa_records::{Digest, Gate, Records, Token};
+use xa_records::{Digest, Gate, Records};
 use xa_value::Text;
 
 /// The digest of the token that the message shows.
@@ -39,18 +39,6 @@ pub(crate) fn by_operator(operator: Digest, message: &Message) -> Result<(), Err
     }
 }
 
-/// The role of the token of that digest, among these.
-pub(crate) fn role_in(tokens: &[Token], digest: &Digest) -> Option<Role>
-    ensures { result ≡ role_in digest.now tokens.now }
-{
-    for token in tokens {
-        if token.digest == *digest {
-            return Some(token.role);
-        }
-    }
-    None
-}
-
 /// Nothing more where the role may ask for that.
 fn permission(role: Role, for_decisions: bool) -> Result<(), ErrorCode>
     ensures { result ≡ permitted role for_decisions }
@@ -59,13 +47,6 @@ fn permission(role: Role, for_decisions: bool) -> Result<(), ErrorCode>
         Role::Ask if !for_decisions => Err(ErrorCode::Forbidden),
         Role::Ask | Role::Admin => Ok(()),
     }
-}
-
-/// Whether decisions are asked for.
-pub(crate) fn is_decision(command: DomainCommand) -> bool
-    ensures { result ≡ is_decision command }
-{
-    matches!(command, DomainCommand::Decide)
 }
 
 /// The domain's gate where the domain is there, and the digest is that of one of its tokens, whose role
@@ -78,7 +59,10 @@ fn gate_opened<R: Records>(
     for_decisions: bool,
     digest: &Digest,
 ) -> Result<Gate, Stop>
-    ensures tells { (R.custody records.new).sound → Opens (R.custody records.old).kept (R.custody records.new).kept (gate_of name.now (R.custody records.old).kept) result (admitted_by for_decisions (state_of name.now (R.custody records.old).kept) (Some digest.now)) }
+    ensures tells { (R.custody records.new).sound
+        → Opens (R.custody records.old).kept (R.custody records.new).kept
+        (gate_of name.now (R.custody records.old).kept) result
+        (admitted_by for_decisions (state_of name.now (R.custody records.old).kept) (Some digest.now)) }
     ensures keeper { OnlyReads (R.custody records.old) (R.custody records.new) result }
 {
     let gate = records.gate(alloc, name)?;
@@ -89,19 +73,20 @@ fn gate_opened<R: Records>(
 }
 
 /// Nothing more where the domain is there, and the message shows one of its tokens, whose role may ask
-/// for that.
+/// for more than decisions.
 pub(crate) fn admission<R: Records>(
     alloc: Global,
     records: &mut R,
     name: &Text,
-    for_decisions: bool,
     message: &Message,
 ) -> Result<(), Stop>
-    ensures tells { (R.custody records.new).sound → Shows (R.custody records.old).kept (R.custody records.new).kept result (admitted for_decisions (state_of name.now (R.custody records.old).kept) message.now) }
+    ensures tells { (R.custody records.new).sound
+        → Shows (R.custody records.old).kept (R.custody records.new).kept result
+        (admitted false (state_of name.now (R.custody records.old).kept) message.now) }
     ensures keeper { OnlyReads (R.custody records.old) (R.custody records.new) result }
 {
     let digest = digest_shown(message).ok_or(ErrorCode::Unauthorized)?;
-    gate_opened(alloc, records, name, for_decisions, &digest)?;
+    gate_opened(alloc, records, name, false, &digest)?;
     Ok(())
 }
 
@@ -116,8 +101,12 @@ pub(crate) fn admitting_domain<R: Records>(
     name: &Text,
     message: &Message,
 ) -> Result<Opened, Stop>
-    ensures tells { AllStand (R.custody records.old).kept resources.old → (R.custody records.new).sound → Opens (R.custody records.old).kept (R.custody records.new).kept (opened_of name.now (R.custody records.old).kept) result (admitted true (state_of name.now (R.custody records.old).kept) message.now) }
-    ensures stands { AllStand (R.custody records.old).kept resources.old → (R.custody records.new).sound → AllStand (R.custody records.old).kept resources.new }
+    ensures tells { AllStand (R.custody records.old).kept resources.old → (R.custody records.new).sound
+        → Opens (R.custody records.old).kept (R.custody records.new).kept
+        (opened_of name.now (R.custody records.old).kept) result
+        (admitted true (state_of name.now (R.custody records.old).kept) message.now) }
+    ensures stands { AllStand (R.custody records.old).kept resources.old → (R.custody records.new).sound
+        → AllStand (R.custody records.old).kept resources.new }
     ensures tally { resources.new.tally ≡ resources.old.tally }
     ensures room { resources.new.room ≡ resources.old.room }
     ensures keeper { OnlyReads (R.custody records.old) (R.custody records.new) result }

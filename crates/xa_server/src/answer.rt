@@ -1,18 +1,17 @@
 //! The answer to one message: the questions in their order, and then what the message asks for.
-ghost use Rattle.std.specs.Prelude.{◌≡◌, ◌≢◌, ℕ, ℤ, IsTrue, List, Some};
-ghost use Rattle.xa_http.specs.declared.command.DomainCommand.TheVariants as in_domain;
+ghost use Rattle.std.specs.Prelude.{IsTrue};
 ghost use Rattle.xa_http.specs.Routes.{named_by};
 ghost use Rattle.xa_http.specs.declared.route.Route.TheVariants as to;
 ghost use Rattle.xa_records.specs.DomainName.{is_domain_name};
-ghost use Rattle.xa_records.specs.Kept.{state_of};
-ghost use Rattle.xa_server.specs.Handling.{Answers, AnswersMessage, AnswersRoute, HandlesChange, Keeping, LeavesAnswer, LeavesMessage, LeavesRoute, OnlyForgets, OnlyReads, Sharing, WorksMessage, WorksOf, WorksRoute};
+ghost use Rattle.xa_server.specs.Handling.{AnswersMessage, AnswersRoute, HandlesChange};
+ghost use Rattle.xa_server.specs.Handling.{Keeping, LeavesMessage, LeavesRoute, OnlyForgets};
+ghost use Rattle.xa_server.specs.Handling.{OnlyReads, Sharing, WorksMessage, WorksRoute};
 ghost use Rattle.xa_server.specs.Machine.{by_document_command, by_domain_command, by_operator_command};
 ghost use Rattle.xa_server.specs.Owner.{name_if, owner};
 ghost use Rattle.xa_server.specs.Stock.{AllStand};
-ghost use Rattle.xa_server.specs.Work.{domain_asked};
 ghost use Rattle.std.specs.Option.{option_and_then};
 
-use crate::admission::{admission, admitting_domain, by_operator, is_decision};
+use crate::admission::{admission, admitting_domain, by_operator};
 use crate::ask::Ask;
 use crate::asking::decide;
 use crate::changes::{
@@ -22,15 +21,14 @@ use crate::document_key::key_of_parts;
 use crate::error_code::ErrorCode;
 use crate::name::name_if;
 use crate::readings::{domains, list, show, source};
+use crate::received::Received;
 use crate::resources::Resources;
 use crate::stop::Stop;
 use std::alloc::Global;
-use xa_http::{
-    DocumentCommand, DocumentParts, DomainCommand, Message, OperatorCommand, Route, Routes,
-};
+use xa_http::{DocumentCommand, DocumentParts, DomainCommand, OperatorCommand, Route, Routes};
 use xa_policy::DocumentKey;
-use xa_records::{Digest, Records, Refusal};
-use xa_value::{Items, Moment, Text};
+use xa_records::{Records, Refusal};
+use xa_value::{Items, Text};
 
 /// Does what the operator asks for of a domain.
 fn by_operator_command<R: Records>(
@@ -41,7 +39,8 @@ fn by_operator_command<R: Records>(
     body: &[u8],
 ) -> Result<Items<u8>, Stop>
     requires { IsTrue (is_domain_name name.now) }
-    ensures { HandlesChange (R.custody records.old) (R.custody records.new) name.now result (by_operator_command command body.now) }
+    ensures { HandlesChange (R.custody records.old) (R.custody records.new) name.now result
+        (by_operator_command command body.now) }
 {
     match command {
         OperatorCommand::Create => create(alloc, records, name),
@@ -51,7 +50,7 @@ fn by_operator_command<R: Records>(
     }
 }
 
-/// Does what is asked for in a domain, unless that is a decision.
+/// Does what is asked for in a domain.
 fn by_domain_command<R: Records>(
     alloc: Global,
     records: &mut R,
@@ -59,12 +58,10 @@ fn by_domain_command<R: Records>(
     command: DomainCommand,
     body: &[u8],
 ) -> Result<Items<u8>, Stop>
-    requires { command ≢ in_domain.Decide }
-    ensures answers { (moment : ℤ) → (R.custody records.new).sound → Answers (R.custody records.old).kept (R.custody records.new).kept name.now result (by_domain_command command body.now moment (state_of name.now (R.custody records.old).kept)) }
-    ensures keeper { Keeping (R.custody records.old) (R.custody records.new) result ((moment : ℤ) → LeavesAnswer (R.custody records.old).may_leave (R.custody records.new).may_leave (R.custody records.old).kept name.now (by_domain_command command body.now moment (state_of name.now (R.custody records.old).kept))) }
+    ensures { HandlesChange (R.custody records.old) (R.custody records.new) name.now result
+        (by_domain_command command body.now) }
 {
     match command {
-        DomainCommand::Decide => unreachable!(),
         DomainCommand::Upload => upload(alloc, records, name, body),
         DomainCommand::List => list(alloc, records, name),
         DomainCommand::SetRoot => set_root(alloc, records, name, body),
@@ -81,7 +78,8 @@ fn by_document_command<R: Records>(
     command: DocumentCommand,
     key: &DocumentKey,
 ) -> Result<Items<u8>, Stop>
-    ensures { HandlesChange (R.custody records.old) (R.custody records.new) name.now result (by_document_command command key.now) }
+    ensures { HandlesChange (R.custody records.old) (R.custody records.new) name.now result
+        (by_document_command command key.now) }
 {
     match command {
         DocumentCommand::Show => show(alloc, records, name, key),
@@ -96,103 +94,95 @@ fn by_document_command<R: Records>(
 #[tactic(auto, using(crate::proofs::GateLemmas::changed_stands))]
 fn operator_route<R: Records>(
     alloc: Global,
-    operator: Digest,
     resources: &mut Resources,
     records: &mut R,
-    message: &Message,
+    received: &Received<'_>,
     domain: Items<u8>,
     command: OperatorCommand,
 ) -> Result<Items<u8>, Stop>
-    ensures answers { (moment : ℤ) → (R.custody records.new).sound → AnswersRoute operator (R.custody records.old).kept (R.custody records.new).kept (name_if domain) message.now moment (to.Operator domain command) result }
+    ensures answers { (R.custody records.new).sound
+        → AnswersRoute received.now (R.custody records.old).kept (R.custody records.new).kept (name_if domain)
+        (to.Operator domain command) result }
     ensures shared { OnlyForgets (R.custody records.old) (R.custody records.new) resources.old resources.new }
-    ensures keeper { Keeping (R.custody records.old) (R.custody records.new) result ((moment : ℤ) → LeavesRoute (R.custody records.old).may_leave (R.custody records.new).may_leave operator (R.custody records.old).kept (name_if domain) message.now moment (to.Operator domain command)) }
+    ensures keeper { Keeping (R.custody records.old) (R.custody records.new) result
+        (LeavesRoute (R.custody records.old).may_leave (R.custody records.new).may_leave received.now
+        (R.custody records.old).kept (name_if domain) (to.Operator domain command)) }
 {
-    by_operator(operator, message)?;
+    by_operator(received.operator, received.message)?;
     let name = name_if(domain).ok_or(ErrorCode::BadDomain)?;
     resources.forget(&name);
-    by_operator_command(alloc, records, &name, command, message.body.as_slice())
+    by_operator_command(
+        alloc,
+        records,
+        &name,
+        command,
+        received.message.body.as_slice(),
+    )
 }
 
-/// Answers a message that asks for a decision in the domain.
+/// Answers a message that asks for a decision in a domain.
 #[tactic(auto, using(crate::proofs::GateLemmas::same_stands))]
-fn ask_reply<R: Records>(
+fn decision_route<R: Records>(
     alloc: Global,
     resources: &mut Resources,
     records: &mut R,
-    name: &Text,
-    message: &Message,
-    moment: Moment,
+    received: &Received<'_>,
+    domain: Items<u8>,
 ) -> Result<Items<u8>, Stop>
-    ensures answers { (operator part : List ℕ) → AllStand (R.custody records.old).kept resources.old → (R.custody records.new).sound → AnswersRoute operator (R.custody records.old).kept (R.custody records.new).kept (Some name.now) message.now moment (to.Domain part in_domain.Decide) result }
-    ensures shared { Sharing (R.custody records.old) (R.custody records.new) resources.old resources.new result (WorksOf (domain_asked (R.custody records.old).kept message.now name.now) message.now.body moment result resources.old.tally resources.new.tally) }
+    ensures answers { AllStand (R.custody records.old).kept resources.old → (R.custody records.new).sound
+        → AnswersRoute received.now (R.custody records.old).kept (R.custody records.new).kept (name_if domain)
+        (to.Decide domain) result }
+    ensures shared { Sharing (R.custody records.old) (R.custody records.new)
+        resources.old resources.new result
+        (WorksRoute received.now (R.custody records.old).kept
+        (to.Decide domain) result resources.old.tally resources.new.tally) }
     ensures keeper { OnlyReads (R.custody records.old) (R.custody records.new) result }
 {
-    let opened = admitting_domain(alloc, resources, records, name, message)?;
+    let name = name_if(domain).ok_or(ErrorCode::Unauthorized)?;
+    let opened = admitting_domain(alloc, resources, records, &name, received.message)?;
     let ask = Ask {
-        name,
+        name: &name,
         opened,
-        moment,
+        moment: received.moment,
     };
-    decide(alloc, resources, records, &ask, message.body.as_slice())
+    decide(
+        alloc,
+        resources,
+        records,
+        &ask,
+        received.message.body.as_slice(),
+    )
 }
 
-/// Answers a message to one of a domain's paths that asks for no decision. Once it is let in the
-/// domain's gate is forgotten, since it may change.
+/// Answers a message that asks for something else in a domain. Once it is let in the domain's gate is
+/// forgotten, since it may change.
 #[tactic(auto, using(crate::proofs::GateLemmas::changed_stands))]
-fn administration_reply<R: Records>(
-    alloc: Global,
-    resources: &mut Resources,
-    records: &mut R,
-    name: &Text,
-    message: &Message,
-    command: DomainCommand,
-) -> Result<Items<u8>, Stop>
-    requires { command ≢ in_domain.Decide }
-    ensures answers { (operator part : List ℕ) (moment : ℤ) → (R.custody records.new).sound → AnswersRoute operator (R.custody records.old).kept (R.custody records.new).kept (Some name.now) message.now moment (to.Domain part command) result }
-    ensures shared { OnlyForgets (R.custody records.old) (R.custody records.new) resources.old resources.new }
-    ensures keeper { Keeping (R.custody records.old) (R.custody records.new) result ((operator part : List ℕ) (moment : ℤ) → LeavesRoute (R.custody records.old).may_leave (R.custody records.new).may_leave operator (R.custody records.old).kept (Some name.now) message.now moment (to.Domain part command)) }
-{
-    admission(alloc, records, name, is_decision(command), message)?;
-    resources.forget(name);
-    by_domain_command(alloc, records, name, command, message.body.as_slice())
-}
-
-/// Answers a message to one of the paths of the domain of that name.
-fn named_domain_route<R: Records>(
-    alloc: Global,
-    resources: &mut Resources,
-    records: &mut R,
-    name: &Text,
-    message: &Message,
-    moment: Moment,
-    command: DomainCommand,
-) -> Result<Items<u8>, Stop>
-    ensures answers { (operator part : List ℕ) → name_if part ≡ Some name.now → AllStand (R.custody records.old).kept resources.old → (R.custody records.new).sound → AnswersRoute operator (R.custody records.old).kept (R.custody records.new).kept (name_if part) message.now moment (to.Domain part command) result }
-    ensures shared { Sharing (R.custody records.old) (R.custody records.new) resources.old resources.new result ((part : List ℕ) → name_if part ≡ Some name.now → WorksRoute (R.custody records.old).kept message.now moment (to.Domain part command) result resources.old.tally resources.new.tally) }
-    ensures keeper { Keeping (R.custody records.old) (R.custody records.new) result ((operator part : List ℕ) → name_if part ≡ Some name.now → LeavesRoute (R.custody records.old).may_leave (R.custody records.new).may_leave operator (R.custody records.old).kept (name_if part) message.now moment (to.Domain part command)) }
-{
-    match command {
-        DomainCommand::Decide => ask_reply(alloc, resources, records, name, message, moment),
-        _ => administration_reply(alloc, resources, records, name, message, command),
-    }
-}
-
-/// Answers a message to one of a domain's paths.
 fn domain_route<R: Records>(
     alloc: Global,
     resources: &mut Resources,
     records: &mut R,
-    message: &Message,
-    moment: Moment,
+    received: &Received<'_>,
     domain: Items<u8>,
     command: DomainCommand,
 ) -> Result<Items<u8>, Stop>
-    ensures answers { (operator : List ℕ) → AllStand (R.custody records.old).kept resources.old → (R.custody records.new).sound → AnswersRoute operator (R.custody records.old).kept (R.custody records.new).kept (name_if domain) message.now moment (to.Domain domain command) result }
-    ensures shared { Sharing (R.custody records.old) (R.custody records.new) resources.old resources.new result (WorksRoute (R.custody records.old).kept message.now moment (to.Domain domain command) result resources.old.tally resources.new.tally) }
-    ensures keeper { Keeping (R.custody records.old) (R.custody records.new) result ((operator : List ℕ) → LeavesRoute (R.custody records.old).may_leave (R.custody records.new).may_leave operator (R.custody records.old).kept (name_if domain) message.now moment (to.Domain domain command)) }
+    ensures answers { (R.custody records.new).sound
+        → AnswersRoute received.now (R.custody records.old).kept (R.custody records.new).kept (name_if domain)
+        (to.Domain domain command) result }
+    ensures shared { OnlyForgets (R.custody records.old) (R.custody records.new) resources.old resources.new }
+    ensures keeper { Keeping (R.custody records.old) (R.custody records.new) result
+        (LeavesRoute (R.custody records.old).may_leave (R.custody records.new).may_leave received.now
+        (R.custody records.old).kept (name_if domain) (to.Domain domain command)) }
 {
     let name = name_if(domain).ok_or(ErrorCode::Unauthorized)?;
-    named_domain_route(alloc, resources, records, &name, message, moment, command)
+    admission(alloc, records, &name, received.message)?;
+    resources.forget(&name);
+    by_domain_command(
+        alloc,
+        records,
+        &name,
+        command,
+        received.message.body.as_slice(),
+    )
 }
 
 /// Answers a message to the path of a document. Once it is let in the domain's gate is forgotten, since
@@ -202,17 +192,21 @@ fn document_route<R: Records>(
     alloc: Global,
     resources: &mut Resources,
     records: &mut R,
-    message: &Message,
+    received: &Received<'_>,
     domain: Items<u8>,
     parts: DocumentParts,
     command: DocumentCommand,
 ) -> Result<Items<u8>, Stop>
-    ensures answers { (operator : List ℕ) (moment : ℤ) → (R.custody records.new).sound → AnswersRoute operator (R.custody records.old).kept (R.custody records.new).kept (name_if domain) message.now moment (to.Document domain parts command) result }
+    ensures answers { (R.custody records.new).sound
+        → AnswersRoute received.now (R.custody records.old).kept (R.custody records.new).kept (name_if domain)
+        (to.Document domain parts command) result }
     ensures shared { OnlyForgets (R.custody records.old) (R.custody records.new) resources.old resources.new }
-    ensures keeper { Keeping (R.custody records.old) (R.custody records.new) result ((operator : List ℕ) (moment : ℤ) → LeavesRoute (R.custody records.old).may_leave (R.custody records.new).may_leave operator (R.custody records.old).kept (name_if domain) message.now moment (to.Document domain parts command)) }
+    ensures keeper { Keeping (R.custody records.old) (R.custody records.new) result
+        (LeavesRoute (R.custody records.old).may_leave (R.custody records.new).may_leave received.now
+        (R.custody records.old).kept (name_if domain) (to.Document domain parts command)) }
 {
     let name = name_if(domain).ok_or(ErrorCode::Unauthorized)?;
-    admission(alloc, records, &name, false, message)?;
+    admission(alloc, records, &name, received.message)?;
     let key = key_of_parts(parts).ok_or(ErrorCode::Refused(Refusal::Absent))?;
     resources.forget(&name);
     by_document_command(alloc, records, &name, command, &key)
@@ -221,35 +215,39 @@ fn document_route<R: Records>(
 /// Answers a message that asks for this.
 fn answer_route<R: Records>(
     alloc: Global,
-    operator: Digest,
     resources: &mut Resources,
     records: &mut R,
-    message: &Message,
-    moment: Moment,
+    received: &Received<'_>,
     route: Route,
 ) -> Result<Items<u8>, Stop>
-    ensures answers { AllStand (R.custody records.old).kept resources.old → (R.custody records.new).sound → AnswersRoute operator (R.custody records.old).kept (R.custody records.new).kept (option_and_then name_if (named_by route)) message.now moment route result }
-    ensures shared { Sharing (R.custody records.old) (R.custody records.new) resources.old resources.new result (WorksRoute (R.custody records.old).kept message.now moment route result resources.old.tally resources.new.tally) }
-    ensures keeper { Keeping (R.custody records.old) (R.custody records.new) result (LeavesRoute (R.custody records.old).may_leave (R.custody records.new).may_leave operator (R.custody records.old).kept (option_and_then name_if (named_by route)) message.now moment route) }
+    ensures answers { AllStand (R.custody records.old).kept resources.old → (R.custody records.new).sound
+        → AnswersRoute received.now (R.custody records.old).kept (R.custody records.new).kept
+        (option_and_then name_if (named_by route)) route result }
+    ensures shared { Sharing (R.custody records.old) (R.custody records.new)
+        resources.old resources.new result
+        (WorksRoute received.now
+        (R.custody records.old).kept route result resources.old.tally resources.new.tally) }
+    ensures keeper { Keeping (R.custody records.old) (R.custody records.new) result
+        (LeavesRoute (R.custody records.old).may_leave (R.custody records.new).may_leave received.now
+        (R.custody records.old).kept (option_and_then name_if (named_by route)) route) }
 {
     match route {
         Route::Domains => {
-            by_operator(operator, message)?;
+            by_operator(received.operator, received.message)?;
             domains(alloc, records)
         }
         Route::Operator { domain, command } => {
-            operator_route(
-                alloc, operator, resources, records, message, domain, command,
-            )
+            operator_route(alloc, resources, records, received, domain, command)
         }
+        Route::Decide { domain } => decision_route(alloc, resources, records, received, domain),
         Route::Domain { domain, command } => {
-            domain_route(alloc, resources, records, message, moment, domain, command)
+            domain_route(alloc, resources, records, received, domain, command)
         }
         Route::Document {
             domain,
             parts,
             command,
-        } => document_route(alloc, resources, records, message, domain, parts, command),
+        } => document_route(alloc, resources, records, received, domain, parts, command),
     }
 }
 
@@ -257,16 +255,21 @@ fn answer_route<R: Records>(
 pub(crate) fn answer<R: Records>(
     alloc: Global,
     routes: &Routes,
-    operator: Digest,
     resources: &mut Resources,
     records: &mut R,
-    moment: Moment,
-    message: &Message,
+    received: &Received<'_>,
 ) -> Result<Items<u8>, Stop>
-    ensures answers { AllStand (R.custody records.old).kept resources.old → (R.custody records.new).sound → AnswersMessage operator (R.custody records.old).kept (R.custody records.new).kept (owner message.now) message.now moment result }
-    ensures shared { Sharing (R.custody records.old) (R.custody records.new) resources.old resources.new result (WorksMessage (R.custody records.old).kept message.now moment result resources.old.tally resources.new.tally) }
-    ensures keeper { Keeping (R.custody records.old) (R.custody records.new) result (LeavesMessage (R.custody records.old).may_leave (R.custody records.new).may_leave operator (R.custody records.old).kept (owner message.now) message.now moment) }
+    ensures answers { AllStand (R.custody records.old).kept resources.old → (R.custody records.new).sound
+        → AnswersMessage received.now (R.custody records.old).kept (R.custody records.new).kept
+        (owner received.now.message.now) result }
+    ensures shared { Sharing (R.custody records.old) (R.custody records.new)
+        resources.old resources.new result
+        (WorksMessage received.now
+        (R.custody records.old).kept result resources.old.tally resources.new.tally) }
+    ensures keeper { Keeping (R.custody records.old) (R.custody records.new) result
+        (LeavesMessage (R.custody records.old).may_leave (R.custody records.new).may_leave received.now
+        (R.custody records.old).kept (owner received.now.message.now)) }
 {
-    let route = routes.route(alloc, message)?;
-    answer_route(alloc, operator, resources, records, message, moment, route)
+    let route = routes.route(alloc, received.message)?;
+    answer_route(alloc, resources, records, received, route)
 }

@@ -4,7 +4,8 @@ ghost use Rattle.xa_http.specs.Stream.{Stream};
 ghost use Rattle.xa_server.specs.Driven.{KeepsOpen, known};
 ghost use Rattle.xa_server.specs.declared.answering.Turn.TheVariants as turn;
 ghost use Rattle.xa_server.specs.declared.driven.Driven.TheVariants as driven;
-ghost use Rattle.xa_server.specs.Driving.{AnswersOne, IsAnsweredAt, IsAnsweredNow, IsAsked, IsHeldAnswered, IsSentAs, IsTurn, PlaysOne, answer_of};
+ghost use Rattle.xa_server.specs.Driving.{AnswersOne, IsAnsweredAt, IsAnsweredNow, IsAsked};
+ghost use Rattle.xa_server.specs.Driving.{IsHeldAnswered, IsSentAs, IsTurn, PlaysOne, answer_of};
 ghost use Rattle.xa_server.specs.Fronting.{DoesLines};
 ghost use Rattle.xa_server.specs.Lines.{IsOpen, line_at};
 ghost use Rattle.xa_server.specs.Transfers.{ReadEnd};
@@ -39,8 +40,11 @@ pub(crate) fn play_one<F: Multiplexer>(
     front: &mut F,
     event: &Event<'_>,
 ) -> Result<Outcome, AllocError>
-    ensures played { F.is_sound front.new → PlaysOne event.now (F.state front.old) (F.state front.new) (F.had_memory front.old) (F.had_memory front.new) result }
-    ensures lines { MatchResult result (λ outcome. DoesLines event.now (F.state front.old).lines outcome (F.state front.new).lines)
+    ensures played { F.is_sound front.new
+        → PlaysOne event.now (F.state front.old) (F.state front.new)
+        (F.had_memory front.old) (F.had_memory front.new) result }
+    ensures lines { MatchResult result
+        (λ outcome. DoesLines event.now (F.state front.old).lines outcome (F.state front.new).lines)
         (λ _. (F.state front.new).lines ≡ (F.state front.old).lines) }
     ensures said { F.said front.new ≡ F.said front.old }
     ensures sound { F.is_sound front.new → F.is_sound front.old }
@@ -69,7 +73,9 @@ fn play_answer<F: Multiplexer>(
     conn: Conn,
     moment: Moment,
 ) -> Result<Option<Answer>, FrontError>
-    ensures answered { F.is_sound front.new → AnswersOne conn moment (F.state front.old) (F.state front.new) (F.had_memory front.old) (F.had_memory front.new) result }
+    ensures answered { F.is_sound front.new
+        → AnswersOne conn moment (F.state front.old) (F.state front.new)
+        (F.had_memory front.old) (F.had_memory front.new) result }
     ensures stays_open { KeepsOpen conn (F.state front.old).lines (F.state front.new).lines }
     ensures said { F.said front.new ≡ F.said front.old }
     ensures sound { F.is_sound front.new → F.is_sound front.old }
@@ -99,7 +105,8 @@ fn is_shut<F: Multiplexer>(front: &mut F, reply: &Reply) -> bool
 
 /// Sends the reply of an answer.
 fn send_answer<F: Multiplexer, W: Writer>(front: &mut F, writer: &mut W, answer: &Answer) -> Turn
-    ensures sent { IsSentAs result (Some answer.now) (W.contents writer.old) (W.contents writer.new) (W.writes writer.old) (W.writes writer.new) (F.said front.old) (F.said front.new) }
+    ensures sent { IsSentAs result (Some answer.now) (W.contents writer.old) (W.contents writer.new)
+        (W.writes writer.old) (W.writes writer.new) (F.said front.old) (F.said front.new) }
     ensures shut { result ≡ turn.Ends driven.Shut → F.goes_on front.new ≡ false }
     ensures same { F.state front.new ≡ F.state front.old }
     ensures memory { F.had_memory front.new ≡ F.had_memory front.old }
@@ -125,8 +132,10 @@ fn answer_at<F: Multiplexer, W: Writer>(
     moment: Moment,
     writer: &mut W,
 ) -> Turn
-    ensures answered { F.is_sound front.new → IsAnsweredAt result conn moment (F.state front.old) (F.state front.new) (F.had_memory front.old) (F.had_memory front.new)
-        (W.contents writer.old) (W.contents writer.new) (W.writes writer.old) (W.writes writer.new) (F.said front.old) (F.said front.new) }
+    ensures answered { F.is_sound front.new
+        → IsAnsweredAt result conn moment (F.state front.old) (F.state front.new)
+        (F.had_memory front.old) (F.had_memory front.new) (W.contents writer.old) (W.contents writer.new)
+        (W.writes writer.old) (W.writes writer.new) (F.said front.old) (F.said front.new) }
     ensures stays_open { KeepsOpen conn (F.state front.old).lines (F.state front.new).lines }
     ensures shut { result ≡ turn.Ends driven.Shut → F.goes_on front.new ≡ false }
     ensures sound { F.is_sound front.new → F.is_sound front.old }
@@ -146,8 +155,11 @@ fn answer_message<F: Multiplexer, W: Writer, C: Clock>(
     writer: &mut W,
     clock: &mut C,
 ) -> Turn
-    ensures answered { F.is_sound front.new → IsAnsweredNow result conn (F.state front.old) (F.state front.new) (F.had_memory front.old) (F.had_memory front.new)
-        (W.contents writer.old) (W.contents writer.new) (W.writes writer.old) (W.writes writer.new) (C.told clock.old) (C.told clock.new) (F.said front.old) (F.said front.new) }
+    ensures answered { F.is_sound front.new
+        → IsAnsweredNow result conn (F.state front.old) (F.state front.new)
+        (F.had_memory front.old) (F.had_memory front.new) (W.contents writer.old) (W.contents writer.new)
+        (W.writes writer.old) (W.writes writer.new) (C.told clock.old) (C.told clock.new)
+        (F.said front.old) (F.said front.new) }
     ensures stays_open { KeepsOpen conn (F.state front.old).lines (F.state front.new).lines }
     ensures shut { result ≡ turn.Ends driven.Shut → F.goes_on front.new ≡ false }
     ensures sound { F.is_sound front.new → F.is_sound front.old }
@@ -160,8 +172,10 @@ fn answer_message<F: Multiplexer, W: Writer, C: Clock>(
 
 /// Answers the fault by which the stream of a connection ends, and sends the reply. No moment is in it.
 fn answer_fault<F: Multiplexer, W: Writer>(front: &mut F, conn: Conn, writer: &mut W) -> Turn
-    ensures answered { F.is_sound front.new → IsAnsweredAt result conn (pos 0) (F.state front.old) (F.state front.new) (F.had_memory front.old) (F.had_memory front.new)
-        (W.contents writer.old) (W.contents writer.new) (W.writes writer.old) (W.writes writer.new) (F.said front.old) (F.said front.new) }
+    ensures answered { F.is_sound front.new
+        → IsAnsweredAt result conn (pos 0) (F.state front.old) (F.state front.new)
+        (F.had_memory front.old) (F.had_memory front.new) (W.contents writer.old) (W.contents writer.new)
+        (W.writes writer.old) (W.writes writer.new) (F.said front.old) (F.said front.new) }
     ensures stays_open { KeepsOpen conn (F.state front.old).lines (F.state front.new).lines }
     ensures shut { result ≡ turn.Ends driven.Shut → F.goes_on front.new ≡ false }
     ensures sound { F.is_sound front.new → F.is_sound front.old }
@@ -181,11 +195,14 @@ fn answer_next<F: Multiplexer, W: Writer, C: Clock>(
     writer: &mut W,
     clock: &mut C,
 ) -> Turn
-    ensures turn { F.is_sound front.new → (stream : Stream) (left : Option (List ℕ)) (reads : Option (List ReadEnd))
+    ensures turn { F.is_sound front.new
+        → (stream : Stream) (left : Option (List ℕ)) (reads : Option (List ReadEnd))
         → IsOpen conn (F.state front.old).lines stream
         → IsTurn result conn (F.state front.old) (F.state front.new) stream
-        (known (F.had_memory front.old) left reads (W.contents writer.old) (W.writes writer.old) (C.told clock.old) (F.said front.old))
-        (known (F.had_memory front.new) left reads (W.contents writer.new) (W.writes writer.new) (C.told clock.new) (F.said front.new)) }
+        (known (F.had_memory front.old) left reads (W.contents writer.old) (W.writes writer.old)
+        (C.told clock.old) (F.said front.old))
+        (known (F.had_memory front.new) left reads (W.contents writer.new) (W.writes writer.new)
+        (C.told clock.new) (F.said front.new)) }
     ensures stays_open { KeepsOpen conn (F.state front.old).lines (F.state front.new).lines }
     ensures shut { result ≡ turn.Ends driven.Shut → F.goes_on front.new ≡ false }
     ensures sound { F.is_sound front.new → F.is_sound front.old }
@@ -209,9 +226,12 @@ pub(crate) fn answer_held<F: Multiplexer, W: Writer, C: Clock>(
     clock: &mut C,
 ) -> Option<Driven>
     ensures held { F.is_sound front.new → (left : Option (List ℕ)) (reads : Option (List ReadEnd))
-        → IsHeldAnswered result (line_at conn (F.state front.old).lines) conn (F.state front.old) (F.state front.new)
-        (known (F.had_memory front.old) left reads (W.contents writer.old) (W.writes writer.old) (C.told clock.old) (F.said front.old))
-        (known (F.had_memory front.new) left reads (W.contents writer.new) (W.writes writer.new) (C.told clock.new) (F.said front.new)) }
+        → IsHeldAnswered result (line_at conn (F.state front.old).lines) conn
+        (F.state front.old) (F.state front.new)
+        (known (F.had_memory front.old) left reads (W.contents writer.old) (W.writes writer.old)
+        (C.told clock.old) (F.said front.old))
+        (known (F.had_memory front.new) left reads (W.contents writer.new) (W.writes writer.new)
+        (C.told clock.new) (F.said front.new)) }
     ensures stays_open { KeepsOpen conn (F.state front.old).lines (F.state front.new).lines }
     ensures shut { result ≡ Some driven.Shut → F.goes_on front.new ≡ false }
     ensures sound { F.is_sound front.new → F.is_sound front.old }

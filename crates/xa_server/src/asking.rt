@@ -3,14 +3,15 @@
 //! doesn't ask the policies is answered without what decides, where that isn't ready.
 ghost use Rattle.std.specs.Prelude.{◌≡◌, ◌-◌, length, Some, IfOk, IfSome, OnErr};
 ghost use Rattle.xa_decide.specs.Asked.{asks_policies};
-ghost use Rattle.xa_http.specs.declared.command.DomainCommand.TheVariants as domain;
 ghost use Rattle.std.specs.Option.{ok_or};
 ghost use Rattle.xa_records.specs.declared.refusal.Refusal.TheVariants.{Absent};
 ghost use Rattle.xa_records.specs.Kept.{state_of};
 ghost use Rattle.xa_server.specs.declared.error_code.ErrorCode.TheVariants.{Refused};
 ghost use Rattle.xa_records.specs.Readings.{view_of};
-ghost use Rattle.xa_server.specs.Handling.{Answers, IfLetIn, IsAsked, IsFresh, IsResponse, IsResponseReply, MakesReady, OnlyReads, Shows, key_asked, key_within, reply_asked, response_asked, view_told, worked_asked};
-ghost use Rattle.xa_server.specs.Machine.{by_domain_command};
+ghost use Rattle.xa_server.specs.Handling.{Answers, IfLetIn, IsAsked, IsFresh, IsResponse, IsResponseReply};
+ghost use Rattle.xa_server.specs.Handling.{MakesReady, OnlyReads, Shows, key_asked, key_within};
+ghost use Rattle.xa_server.specs.Handling.{reply_asked, response_asked, view_told, worked_asked};
+ghost use Rattle.xa_server.specs.Machine.{response_to, told};
 ghost use Rattle.xa_server.specs.Stock.{AllStand};
 ghost use Rattle.xa_server.specs.View.{AreKeyed, nothing_viewed};
 ghost use Rattle.xa_server.specs.Views.{added, bytes_of_tree, bytes_of_view};
@@ -35,7 +36,9 @@ use xa_value::{Items, Moment, Text};
 
 /// What is kept of the domain that decides there, with texts that are documents of their keys.
 fn kept_view<R: Records>(alloc: Global, records: &mut R, name: &Text) -> Result<KeptView, Stop>
-    ensures tells { (R.custody records.new).sound → Shows (R.custody records.old).kept (R.custody records.new).kept result (ok_or (view_of name.now (R.custody records.old).kept) (Refused Absent)) }
+    ensures tells { (R.custody records.new).sound
+        → Shows (R.custody records.old).kept (R.custody records.new).kept result
+        (ok_or (view_of name.now (R.custody records.old).kept) (Refused Absent)) }
     ensures keyed { (R.custody records.new).sound → IfOk result (λ kept. AreKeyed kept.texts) }
     ensures keeper { OnlyReads (R.custody records.old) (R.custody records.new) result }
 {
@@ -58,8 +61,13 @@ fn ready_view<R: Records>(
     ask: &Ask<'_>,
     limits: Limits,
 ) -> Result<Ready, Stop>
-    ensures tells { (R.custody records.new).sound → MakesReady (R.custody records.old).kept (R.custody records.new).kept ask.now.opened.epoch result (view_told (state_of ask.now.name.now (R.custody records.old).kept)) }
-    ensures estimate { (R.custody records.new).sound → IfOk result (λ ready. IfSome (view_of ask.now.name.now (R.custody records.old).kept) (λ kept. ready.bytes ≡ added (bytes_of_view (reader.old.left - reader.new.left) (length kept.source)) (bytes_of_tree ready.view))) }
+    ensures tells { (R.custody records.new).sound
+        → MakesReady (R.custody records.old).kept (R.custody records.new).kept ask.now.opened.epoch result
+        (view_told (state_of ask.now.name.now (R.custody records.old).kept)) }
+    ensures estimate { (R.custody records.new).sound
+        → IfOk result (λ ready. IfSome (view_of ask.now.name.now (R.custody records.old).kept)
+        (λ kept. ready.bytes ≡ added (bytes_of_view (reader.old.left - reader.new.left) (length kept.source))
+        (bytes_of_tree ready.view))) }
     ensures keeper { OnlyReads (R.custody records.old) (R.custody records.new) result }
 {
     let kept = kept_view(alloc, records, ask.name)?;
@@ -84,7 +92,9 @@ fn ready_within<R: Records>(
     records: &mut R,
     ask: &Ask<'_>,
 ) -> Result<Ready, Stop>
-    ensures tells { (R.custody records.new).sound → MakesReady (R.custody records.old).kept (R.custody records.new).kept ask.now.opened.epoch result (view_told (state_of ask.now.name.now (R.custody records.old).kept)) }
+    ensures tells { (R.custody records.new).sound
+        → MakesReady (R.custody records.old).kept (R.custody records.new).kept ask.now.opened.epoch result
+        (view_told (state_of ask.now.name.now (R.custody records.old).kept)) }
     ensures keeper { OnlyReads (R.custody records.old) (R.custody records.new) result }
 {
     let opened = ask.opened;
@@ -123,7 +133,8 @@ fn reply_by(
 ) -> Result<Items<u8>, Stop>
     requires { key ≡ key_within (key_asked ask.now body.now) }
     ensures tells { IsResponseReply (response_asked view.now ask.now body.now) result }
-    ensures works { IsFresh (key_asked ask.now body.now) (response_asked view.now ask.now body.now) result decisions.old decisions.new }
+    ensures works { IsFresh (key_asked ask.now body.now)
+        (response_asked view.now ask.now body.now) result decisions.old decisions.new }
 {
     let responded = response_by(alloc, view, body, ask.moment)?;
     let reply = decision_reply(alloc, responded.body.as_slice())?;
@@ -144,9 +155,14 @@ fn reply_by_kept<R: Records>(
     body: &RequestBody<'_>,
 ) -> Result<Items<u8>, Stop>
     requires { key ≡ key_within (key_asked ask.now body.now) }
-    ensures tells { (R.custody records.new).sound → Shows (R.custody records.old).kept (R.custody records.new).kept result (reply_asked (R.custody records.old).kept ask.now body.now) }
-    ensures works { (R.custody records.new).sound → IsFresh (key_asked ask.now body.now) (worked_asked (R.custody records.old).kept ask.now body.now) result resources.old.tally resources.new.tally }
-    ensures stands { IfLetIn (R.custody records.old) (R.custody records.new) ask.now resources.old (AllStand (R.custody records.old).kept resources.new) }
+    ensures tells { (R.custody records.new).sound
+        → Shows (R.custody records.old).kept (R.custody records.new).kept result
+        (reply_asked (R.custody records.old).kept ask.now body.now) }
+    ensures works { (R.custody records.new).sound
+        → IsFresh (key_asked ask.now body.now) (worked_asked (R.custody records.old).kept ask.now body.now)
+        result resources.old.tally resources.new.tally }
+    ensures stands { IfLetIn (R.custody records.old) (R.custody records.new) ask.now resources.old
+        (AllStand (R.custody records.old).kept resources.new) }
     ensures room { OnErr result (resources.new.room ≡ resources.old.room) }
     ensures keeper { OnlyReads (R.custody records.old) (R.custody records.new) result }
 {
@@ -173,7 +189,8 @@ fn reply_without_policies(
 ) -> Result<Items<u8>, Stop>
     requires { key ≡ key_within (key_asked ask.now body.now) }
     ensures tells { IsResponseReply (response_asked nothing_viewed ask.now body.now) result }
-    ensures works { IsFresh (key_asked ask.now body.now) (response_asked nothing_viewed ask.now body.now) result decisions.old decisions.new }
+    ensures works { IsFresh (key_asked ask.now body.now)
+        (response_asked nothing_viewed ask.now body.now) result decisions.old decisions.new }
 {
     let nothing = limits.of_view(View::of_nothing(alloc)?);
     reply_by(alloc, decisions, ask, key, &nothing, body)
@@ -190,9 +207,14 @@ fn reply_without_view<R: Records>(
     body: &RequestBody<'_>,
 ) -> Result<Items<u8>, Stop>
     requires { key ≡ key_within (key_asked ask.now body.now) }
-    ensures tells { IfLetIn (R.custody records.old) (R.custody records.new) ask.now resources.old (Shows (R.custody records.old).kept (R.custody records.new).kept result (reply_asked (R.custody records.old).kept ask.now body.now)) }
-    ensures works { IfLetIn (R.custody records.old) (R.custody records.new) ask.now resources.old (IsFresh (key_asked ask.now body.now) (worked_asked (R.custody records.old).kept ask.now body.now) result resources.old.tally resources.new.tally) }
-    ensures stands { IfLetIn (R.custody records.old) (R.custody records.new) ask.now resources.old (AllStand (R.custody records.old).kept resources.new) }
+    ensures tells { IfLetIn (R.custody records.old) (R.custody records.new) ask.now resources.old
+        (Shows (R.custody records.old).kept (R.custody records.new).kept result
+        (reply_asked (R.custody records.old).kept ask.now body.now)) }
+    ensures works { IfLetIn (R.custody records.old) (R.custody records.new) ask.now resources.old
+        (IsFresh (key_asked ask.now body.now) (worked_asked (R.custody records.old).kept ask.now body.now)
+        result resources.old.tally resources.new.tally) }
+    ensures stands { IfLetIn (R.custody records.old) (R.custody records.new) ask.now resources.old
+        (AllStand (R.custody records.old).kept resources.new) }
     ensures room { OnErr result (resources.new.room ≡ resources.old.room) }
     ensures keeper { OnlyReads (R.custody records.old) (R.custody records.new) result }
 {
@@ -214,9 +236,14 @@ fn fresh_reply<R: Records>(
     body: &RequestBody<'_>,
 ) -> Result<Items<u8>, Stop>
     requires { key ≡ key_within (key_asked ask.now body.now) }
-    ensures tells { IfLetIn (R.custody records.old) (R.custody records.new) ask.now resources.old (Shows (R.custody records.old).kept (R.custody records.new).kept result (reply_asked (R.custody records.old).kept ask.now body.now)) }
-    ensures works { IfLetIn (R.custody records.old) (R.custody records.new) ask.now resources.old (IsFresh (key_asked ask.now body.now) (worked_asked (R.custody records.old).kept ask.now body.now) result resources.old.tally resources.new.tally) }
-    ensures stands { IfLetIn (R.custody records.old) (R.custody records.new) ask.now resources.old (AllStand (R.custody records.old).kept resources.new) }
+    ensures tells { IfLetIn (R.custody records.old) (R.custody records.new) ask.now resources.old
+        (Shows (R.custody records.old).kept (R.custody records.new).kept result
+        (reply_asked (R.custody records.old).kept ask.now body.now)) }
+    ensures works { IfLetIn (R.custody records.old) (R.custody records.new) ask.now resources.old
+        (IsFresh (key_asked ask.now body.now) (worked_asked (R.custody records.old).kept ask.now body.now)
+        result resources.old.tally resources.new.tally) }
+    ensures stands { IfLetIn (R.custody records.old) (R.custody records.new) ask.now resources.old
+        (AllStand (R.custody records.old).kept resources.new) }
     ensures room { OnErr result (resources.new.room ≡ resources.old.room) }
     ensures keeper { OnlyReads (R.custody records.old) (R.custody records.new) result }
 {
@@ -239,9 +266,14 @@ fn read_reply<R: Records>(
     body: &[u8],
 ) -> Result<Items<u8>, Stop>
     requires { key ≡ key_within (key_asked ask.now body.now) }
-    ensures tells { IfLetIn (R.custody records.old) (R.custody records.new) ask.now resources.old (Shows (R.custody records.old).kept (R.custody records.new).kept result (reply_asked (R.custody records.old).kept ask.now body.now)) }
-    ensures works { IfLetIn (R.custody records.old) (R.custody records.new) ask.now resources.old (IsFresh (key_asked ask.now body.now) (worked_asked (R.custody records.old).kept ask.now body.now) result resources.old.tally resources.new.tally) }
-    ensures stands { IfLetIn (R.custody records.old) (R.custody records.new) ask.now resources.old (AllStand (R.custody records.old).kept resources.new) }
+    ensures tells { IfLetIn (R.custody records.old) (R.custody records.new) ask.now resources.old
+        (Shows (R.custody records.old).kept (R.custody records.new).kept result
+        (reply_asked (R.custody records.old).kept ask.now body.now)) }
+    ensures works { IfLetIn (R.custody records.old) (R.custody records.new) ask.now resources.old
+        (IsFresh (key_asked ask.now body.now) (worked_asked (R.custody records.old).kept ask.now body.now)
+        result resources.old.tally resources.new.tally) }
+    ensures stands { IfLetIn (R.custody records.old) (R.custody records.new) ask.now resources.old
+        (AllStand (R.custody records.old).kept resources.new) }
     ensures room { OnErr result (resources.new.room ≡ resources.old.room) }
     ensures keeper { OnlyReads (R.custody records.old) (R.custody records.new) result }
 {
@@ -259,10 +291,19 @@ pub(crate) fn decide<R: Records>(
     ask: &Ask<'_>,
     body: &[u8],
 ) -> Result<Items<u8>, Stop>
-    ensures answers { IfLetIn (R.custody records.old) (R.custody records.new) ask.now resources.old (Answers (R.custody records.old).kept (R.custody records.new).kept ask.now.name.now result (by_domain_command domain.Decide body.now ask.now.moment (state_of ask.now.name.now (R.custody records.old).kept))) }
-    ensures same { IfLetIn (R.custody records.old) (R.custody records.new) ask.now resources.old ((R.custody records.new).kept ≡ (R.custody records.old).kept) }
-    ensures works { IfLetIn (R.custody records.old) (R.custody records.new) ask.now resources.old (IsAsked (key_asked ask.now body.now) (body_held (key_asked ask.now body.now) body.now resources.old.tally) (worked_asked (R.custody records.old).kept ask.now body.now) result resources.old.tally resources.new.tally) }
-    ensures stands { IfLetIn (R.custody records.old) (R.custody records.new) ask.now resources.old (AllStand (R.custody records.old).kept resources.new) }
+    ensures answers { IfLetIn (R.custody records.old) (R.custody records.new) ask.now resources.old
+        (Answers (R.custody records.old).kept (R.custody records.new).kept ask.now.name.now result
+        (told (response_to body.now ask.now.moment)
+        (state_of ask.now.name.now (R.custody records.old).kept))) }
+    ensures same { IfLetIn (R.custody records.old) (R.custody records.new) ask.now resources.old
+        ((R.custody records.new).kept ≡ (R.custody records.old).kept) }
+    ensures works { IfLetIn (R.custody records.old) (R.custody records.new) ask.now resources.old
+        (IsAsked (key_asked ask.now body.now)
+        (body_held (key_asked ask.now body.now) body.now resources.old.tally)
+        (worked_asked (R.custody records.old).kept ask.now body.now) result
+        resources.old.tally resources.new.tally) }
+    ensures stands { IfLetIn (R.custody records.old) (R.custody records.new) ask.now resources.old
+        (AllStand (R.custody records.old).kept resources.new) }
     ensures room { OnErr result (resources.new.room ≡ resources.old.room) }
     ensures keeper { OnlyReads (R.custody records.old) (R.custody records.new) result }
 {

@@ -45,7 +45,8 @@ fn is_authorization(field: &Field) -> bool
 
 /// The value of the one Authorization field.
 fn authorization_of(fields: &[Field]) -> Option<&[u8]>
-    ensures { option_map (λ value. value.now) result ≡ the_only (values_of (codes "Authorization") fields.now) }
+    ensures { option_map (λ value. value.now) result
+        ≡ the_only (values_of (codes "Authorization") fields.now) }
 {
     let mut found: Option<&[u8]> = None;
     for field in fields {

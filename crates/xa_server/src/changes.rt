@@ -6,7 +6,8 @@ ghost use Rattle.xa_http.specs.declared.command.OperatorCommand.TheVariants as o
 ghost use Rattle.xa_notation.specs.Bodies.{root_of};
 ghost use Rattle.xa_notation.specs.Document.{document_of};
 ghost use Rattle.xa_decide.specs.Rows.{rows_of};
-ghost use Rattle.xa_records.specs.Changes.{activity_set, created, removed, root_set, source_set, upload_of, uploaded, within};
+ghost use Rattle.xa_records.specs.Changes.{activity_set, created, removed, root_set};
+ghost use Rattle.xa_records.specs.Changes.{source_set, upload_of, uploaded, within};
 ghost use Rattle.xa_records.specs.DomainName.{is_domain_name};
 ghost use Rattle.xa_records.specs.DomainState.{key_of};
 ghost use Rattle.xa_server.specs.Handling.{HandlesChange, by_body};
@@ -29,7 +30,8 @@ pub(crate) fn create<R: Records>(
     name: &Text,
 ) -> Result<Items<u8>, Stop>
     requires { IsTrue (is_domain_name name.now) }
-    ensures { HandlesChange (R.custody records.old) (R.custody records.new) name.now result (changed created_reply created) }
+    ensures { HandlesChange (R.custody records.old) (R.custody records.new) name.now result
+        (changed created_reply created) }
 {
     let reply = created_reply(alloc)?;
     records.create(alloc, name)?;
@@ -42,7 +44,8 @@ pub(crate) fn remove<R: Records>(
     records: &mut R,
     name: &Text,
 ) -> Result<Items<u8>, Stop>
-    ensures { HandlesChange (R.custody records.old) (R.custody records.new) name.now result (changed done_reply removed) }
+    ensures { HandlesChange (R.custody records.old) (R.custody records.new) name.now result
+        (changed done_reply removed) }
 {
     let reply = done_reply(alloc)?;
     records.remove(alloc, name)?;
@@ -56,7 +59,8 @@ pub(crate) fn put_token<R: Records>(
     name: &Text,
     body: &[u8],
 ) -> Result<Items<u8>, Stop>
-    ensures { HandlesChange (R.custody records.old) (R.custody records.new) name.now result (by_operator_command operator.PutToken body.now) }
+    ensures { HandlesChange (R.custody records.old) (R.custody records.new) name.now result
+        (by_operator_command operator.PutToken body.now) }
 {
     let new = read_new_token(alloc, body)?;
     let reply = done_reply(alloc)?;
@@ -72,7 +76,8 @@ pub(crate) fn drop_token<R: Records>(
     name: &Text,
     body: &[u8],
 ) -> Result<Items<u8>, Stop>
-    ensures { HandlesChange (R.custody records.old) (R.custody records.new) name.now result (by_operator_command operator.DropToken body.now) }
+    ensures { HandlesChange (R.custody records.old) (R.custody records.new) name.now result
+        (by_operator_command operator.DropToken body.now) }
 {
     let token = read_old_token(alloc, body)?;
     let reply = done_reply(alloc)?;
@@ -99,7 +104,9 @@ pub(crate) fn upload<R: Records>(
     name: &Text,
     body: &[u8],
 ) -> Result<Items<u8>, Stop>
-    ensures { HandlesChange (R.custody records.old) (R.custody records.new) name.now result (by_body (λ parsed state. changed (upload_reply (upload_of (key_of parsed) state)) (within (uploaded (key_of parsed) body.now)) state) (document_of body.now)) }
+    ensures { HandlesChange (R.custody records.old) (R.custody records.new) name.now result
+        (by_body (λ parsed state. changed (upload_reply (upload_of (key_of parsed) state))
+        (within (uploaded (key_of parsed) body.now)) state) (document_of body.now)) }
 {
     let parsed = Parsed::read(alloc, body)?;
     let key = key_of(&parsed)?;
@@ -118,7 +125,8 @@ pub(crate) fn set_root<R: Records>(
     name: &Text,
     body: &[u8],
 ) -> Result<Items<u8>, Stop>
-    ensures { HandlesChange (R.custody records.old) (R.custody records.new) name.now result (by_body (λ root. changed done_reply (within (root_set root))) (root_of body.now)) }
+    ensures { HandlesChange (R.custody records.old) (R.custody records.new) name.now result
+        (by_body (λ root. changed done_reply (within (root_set root))) (root_of body.now)) }
 {
     let root = read_root(alloc, body)?;
     let reply = done_reply(alloc)?;
@@ -133,7 +141,8 @@ pub(crate) fn set_source<R: Records>(
     name: &Text,
     body: &[u8],
 ) -> Result<Items<u8>, Stop>
-    ensures { HandlesChange (R.custody records.old) (R.custody records.new) name.now result (by_body (λ rows. changed done_reply (within (source_set rows))) (rows_of body.now)) }
+    ensures { HandlesChange (R.custody records.old) (R.custody records.new) name.now result
+        (by_body (λ rows. changed done_reply (within (source_set rows))) (rows_of body.now)) }
 {
     let rows = read_rows(alloc, body)?;
     let reply = done_reply(alloc)?;
@@ -148,7 +157,8 @@ pub(crate) fn delete<R: Records>(
     name: &Text,
     key: &DocumentKey,
 ) -> Result<Items<u8>, Stop>
-    ensures { HandlesChange (R.custody records.old) (R.custody records.new) name.now result (by_document_command document.Delete key.now) }
+    ensures { HandlesChange (R.custody records.old) (R.custody records.new) name.now result
+        (by_document_command document.Delete key.now) }
 {
     let reply = done_reply(alloc)?;
     records.delete(alloc, name, key)?;
@@ -163,7 +173,8 @@ pub(crate) fn set_active<R: Records>(
     key: &DocumentKey,
     active: bool,
 ) -> Result<Items<u8>, Stop>
-    ensures { HandlesChange (R.custody records.old) (R.custody records.new) name.now result (changed done_reply (within (activity_set key.now active))) }
+    ensures { HandlesChange (R.custody records.old) (R.custody records.new) name.now result
+        (changed done_reply (within (activity_set key.now active))) }
 {
     let reply = done_reply(alloc)?;
     records.set_active(alloc, name, key, active)?;

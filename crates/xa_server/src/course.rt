@@ -36,7 +36,9 @@ fn piece_of(outcome: Outcome) -> Result<(), FrontError>
 /// Puts a piece to an open connection.
 #[tactic(auto, using(crate::proofs::OpenLemmas::open_kept, crate::proofs::OpenLemmas::piece_keeps))]
 fn play_piece<F: Multiplexer>(front: &mut F, conn: Conn, piece: &[u8]) -> Result<(), FrontError>
-    ensures fed { F.is_sound front.new → FeedsOne conn piece.now (F.state front.old) (F.state front.new) (F.had_memory front.old) (F.had_memory front.new) result }
+    ensures fed { F.is_sound front.new
+        → FeedsOne conn piece.now (F.state front.old) (F.state front.new)
+        (F.had_memory front.old) (F.had_memory front.new) result }
     ensures stays_open { KeepsOpen conn (F.state front.old).lines (F.state front.new).lines }
     ensures said { F.said front.new ≡ F.said front.old }
     ensures sound { F.is_sound front.new → F.is_sound front.old }
@@ -58,10 +60,13 @@ fn read_on<F: Multiplexer, I: Reader, W: Writer, C: Clock>(
     clock: &mut C,
     piece: &mut [u8; PIECE_BYTES],
 ) -> Option<Driven>
-    ensures read { F.is_sound front.new → (stream : Stream) → IsOpen conn (F.state front.old).lines stream → IsWaiting stream
+    ensures read { F.is_sound front.new → (stream : Stream) → IsOpen conn (F.state front.old).lines stream
+        → IsWaiting stream
         → IsRead result conn (F.state front.old) (F.state front.new) stream
-        (known (F.had_memory front.old) (I.remaining reader.old) (I.reads reader.old) (W.contents writer.old) (W.writes writer.old) (C.told clock.old) (F.said front.old))
-        (known (F.had_memory front.new) (I.remaining reader.new) (I.reads reader.new) (W.contents writer.new) (W.writes writer.new) (C.told clock.new) (F.said front.new)) }
+        (known (F.had_memory front.old) (I.remaining reader.old) (I.reads reader.old) (W.contents writer.old)
+        (W.writes writer.old) (C.told clock.old) (F.said front.old))
+        (known (F.had_memory front.new) (I.remaining reader.new) (I.reads reader.new) (W.contents writer.new)
+        (W.writes writer.new) (C.told clock.new) (F.said front.new)) }
     ensures stays_open { KeepsOpen conn (F.state front.old).lines (F.state front.new).lines }
     ensures shut { result ≡ Some driven.Shut → F.goes_on front.new ≡ false }
     ensures sound { F.is_sound front.new → F.is_sound front.old }
@@ -91,9 +96,13 @@ pub fn drive<F: Multiplexer, I: Reader, W: Writer, C: Clock>(
     writer: &mut W,
     clock: &mut C,
 ) -> Driven
-    ensures connection { F.is_sound front.new → IsConnection result (line_at conn (F.state front.old).lines) conn (F.state front.old) (F.state front.new)
-        (known (F.had_memory front.old) (I.remaining reader.old) (I.reads reader.old) (W.contents writer.old) (W.writes writer.old) (C.told clock.old) (F.said front.old))
-        (known (F.had_memory front.new) (I.remaining reader.new) (I.reads reader.new) (W.contents writer.new) (W.writes writer.new) (C.told clock.new) (F.said front.new)) }
+    ensures connection { F.is_sound front.new
+        → IsConnection result (line_at conn (F.state front.old).lines) conn
+        (F.state front.old) (F.state front.new)
+        (known (F.had_memory front.old) (I.remaining reader.old) (I.reads reader.old) (W.contents writer.old)
+        (W.writes writer.old) (C.told clock.old) (F.said front.old))
+        (known (F.had_memory front.new) (I.remaining reader.new) (I.reads reader.new) (W.contents writer.new)
+        (W.writes writer.new) (C.told clock.new) (F.said front.new)) }
     ensures stays_open { KeepsOpen conn (F.state front.old).lines (F.state front.new).lines }
     ensures shut { result ≡ driven.Shut → F.goes_on front.new ≡ false }
     ensures sound { F.is_sound front.new → F.is_sound front.old }

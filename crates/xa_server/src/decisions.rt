@@ -73,7 +73,8 @@ impl Decisions {
         key: &Key,
         most: u64,
     ) -> Result<Option<Items<u8>>, AllocError>
-        ensures found { IfOk result (λ reply. reply ≡ option_map decision_reply (found key.now self.old.held)) }
+        ensures found { IfOk result (λ reply.
+            reply ≡ option_map decision_reply (found key.now self.old.held)) }
         ensures moves { IsLookedUp (found key.now self.old.held) key.now self.old self.new }
     {
         match self.cache.look(key) {

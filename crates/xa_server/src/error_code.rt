@@ -1,6 +1,7 @@
 //! The error answers: why a message is turned away, and the bytes of that reply.
 ghost use Rattle.std.specs.Prelude.{◌≡◌, IfOk};
-ghost use Rattle.xa_server.specs.ErrorCode.{code_of_route_fault, code_of_session_fault, error_body, error_reply, extra_of, row_of};
+ghost use Rattle.xa_server.specs.ErrorCode.{code_of_route_fault, code_of_session_fault};
+ghost use Rattle.xa_server.specs.ErrorCode.{error_body, error_reply, extra_of, row_of};
 ghost use Rattle.xa_server.specs.declared.error_code.ErrorCode.TheVariants as code;
 
 use http::StatusCode;

@@ -4,7 +4,10 @@ ghost use Rattle.xa_http.specs.declared.session.Look.TheVariants as look;
 ghost use Rattle.xa_http.specs.Messages.{IsLook};
 ghost use Rattle.xa_server.specs.Front.{IsPlayed, front_state, server_state};
 ghost use Rattle.xa_server.specs.FrontLaws.{LinesAreStreams};
-ghost use Rattle.xa_server.specs.Fronting.{Answers, AnswersIn, AnswersNext, CountsAnswer, CountsOutcome, CountsOutcomes, DoesEvent, DoesLines, IfAllSent, IfAnswerSent, IfOutcomeSent, IsFaultGiven, LeavesAnswer, PlaysLines, TakesIn, TakesLine, TakesNext};
+ghost use Rattle.xa_server.specs.Fronting.{Answers, AnswersIn, AnswersNext, CountsAnswer};
+ghost use Rattle.xa_server.specs.Fronting.{CountsOutcome, CountsOutcomes, DoesEvent, DoesLines};
+ghost use Rattle.xa_server.specs.Fronting.{IfAllSent, IfAnswerSent, IfOutcomeSent, IsFaultGiven};
+ghost use Rattle.xa_server.specs.Fronting.{LeavesAnswer, PlaysLines, TakesIn, TakesLine, TakesNext};
 ghost use Rattle.xa_server.specs.Lines.{IsClosed, IsHeld, IsLooked, IsOpened, held_at, line_at, none_open};
 ghost use Rattle.xa_server.specs.World.{world};
 
@@ -43,7 +46,8 @@ impl<R: Records> Model for Front<R> {
 impl<R: Records> Front<R> {
     /// A front over the server, with no connection open. Without memory the server is handed back.
     pub fn new(alloc: Global, server: Server<R>) -> Result<Front<R>, AllocFailed<Server<R>>>
-        ensures { MatchResult result (λ front. (front.server ≡ server) × (front.lines ≡ none_open)) (λ failed. failed.value ≡ server) }
+        ensures { MatchResult result (λ front. (front.server ≡ server) × (front.lines ≡ none_open))
+            (λ failed. failed.value ≡ server) }
     {
         let Ok(lines) = Lines::new(alloc) else {
             return Err(AllocFailed { value: server });
@@ -93,15 +97,22 @@ impl<R: Records> Front<R> {
     /// message is cut off, or for the reply to the fault, nothing has changed. The reply to a fault is
     /// the same at every moment.
     pub fn answer(&mut self, conn: Conn, moment: Moment) -> Result<Option<Answer>, FrontError>
-        ensures answered { (R.custody self.new.server.records).sound → Answers conn moment (front_state R.custody self.old) (front_state R.custody self.new) result }
+        ensures answered { (R.custody self.new.server.records).sound
+            → Answers conn moment (front_state R.custody self.old) (front_state R.custody self.new) result }
         ensures line { TakesLine conn self.old.lines self.new.lines result }
         ensures err { OnErr result (self.new ≡ self.old) }
-        ensures sound { (R.custody self.new.server.records).sound → (R.custody self.old.server.records).sound }
-        ensures clean { (R.custody self.new.server.records).clean → (R.custody self.old.server.records).clean }
-        ensures stays { (R.custody self.new.server.records).clean → (R.custody self.old.server.records).sound → IfAnswerSent result (R.custody self.new.server.records).sound }
-        ensures crash { (R.custody self.new.server.records).clean → (R.custody self.old.server.records).sound →
-            LeavesAnswer (R.custody self.old.server.records).may_leave (R.custody self.new.server.records).may_leave (world R.custody self.old.server) moment (line_at conn self.old.lines) }
-        ensures counts { CountsAnswer (R.custody self.old.server.records).faults (R.custody self.new.server.records).faults result }
+        ensures sound { (R.custody self.new.server.records).sound
+            → (R.custody self.old.server.records).sound }
+        ensures clean { (R.custody self.new.server.records).clean
+            → (R.custody self.old.server.records).clean }
+        ensures stays { (R.custody self.new.server.records).clean → (R.custody self.old.server.records).sound
+            → IfAnswerSent result (R.custody self.new.server.records).sound }
+        ensures crash { (R.custody self.new.server.records).clean → (R.custody self.old.server.records).sound
+            → LeavesAnswer
+            (R.custody self.old.server.records).may_leave (R.custody self.new.server.records).may_leave
+            (world R.custody self.old.server) moment (line_at conn self.old.lines) }
+        ensures counts { CountsAnswer
+            (R.custody self.old.server.records).faults (R.custody self.new.server.records).faults result }
     {
         match self.lines.lines.get_mut(conn.number) {
             Some(line) => answer_line(self.alloc, &mut self.server, line, moment),
@@ -137,14 +148,20 @@ impl<R: Records> Front<R> {
     /// refused messages had never come. What becomes of the connections doesn't depend on the keeper.
     /// Room for all outcomes is taken first, and without it nothing is done.
     pub fn play(&mut self, events: &[Event<'_>]) -> Result<Vec<Outcome>, AllocError>
-        ensures played { IfOk result (λ outcomes. (R.custody self.new.server.records).sound →
-            IsPlayed (front_state R.custody self.old) (front_state R.custody self.new) events.now outcomes.items) }
-        ensures lines { IfOk result (λ outcomes. PlaysLines events.now outcomes.items self.old.lines self.new.lines) }
-        ensures sound { (R.custody self.new.server.records).sound → (R.custody self.old.server.records).sound }
-        ensures clean { (R.custody self.new.server.records).clean → (R.custody self.old.server.records).clean }
-        ensures stays { IfOk result (λ outcomes. (R.custody self.new.server.records).clean → (R.custody self.old.server.records).sound →
-            IfAllSent outcomes.items (R.custody self.new.server.records).sound) }
-        ensures counts { IfOk result (λ outcomes. CountsOutcomes (R.custody self.old.server.records).faults (R.custody self.new.server.records).faults outcomes.items) }
+        ensures played { IfOk result (λ outcomes. (R.custody self.new.server.records).sound
+            → IsPlayed (front_state R.custody self.old) (front_state R.custody self.new)
+            events.now outcomes.items) }
+        ensures lines { IfOk result (λ outcomes.
+            PlaysLines events.now outcomes.items self.old.lines self.new.lines) }
+        ensures sound { (R.custody self.new.server.records).sound
+            → (R.custody self.old.server.records).sound }
+        ensures clean { (R.custody self.new.server.records).clean
+            → (R.custody self.old.server.records).clean }
+        ensures stays { IfOk result (λ outcomes.
+            (R.custody self.new.server.records).clean → (R.custody self.old.server.records).sound
+            → IfAllSent outcomes.items (R.custody self.new.server.records).sound) }
+        ensures counts { IfOk result (λ outcomes. CountsOutcomes (R.custody self.old.server.records).faults
+            (R.custody self.new.server.records).faults outcomes.items) }
         ensures err { OnErr result (self.new ≡ self.old) }
     {
         let mut outcomes = Vec::with_capacity(self.alloc, events.len())?;
@@ -157,12 +174,17 @@ impl<R: Records> Front<R> {
 
     /// Makes one call.
     fn outcome(&mut self, event: &Event<'_>) -> Outcome
-        ensures does { (R.custody self.new.server.records).sound → DoesEvent event.now (front_state R.custody self.old) result (front_state R.custody self.new) }
+        ensures does { (R.custody self.new.server.records).sound
+            → DoesEvent event.now (front_state R.custody self.old) result (front_state R.custody self.new) }
         ensures lines { DoesLines event.now self.old.lines result self.new.lines }
-        ensures sound { (R.custody self.new.server.records).sound → (R.custody self.old.server.records).sound }
-        ensures clean { (R.custody self.new.server.records).clean → (R.custody self.old.server.records).clean }
-        ensures stays { (R.custody self.new.server.records).clean → (R.custody self.old.server.records).sound → IfOutcomeSent result (R.custody self.new.server.records).sound }
-        ensures counts { CountsOutcome (R.custody self.old.server.records).faults (R.custody self.new.server.records).faults result }
+        ensures sound { (R.custody self.new.server.records).sound
+            → (R.custody self.old.server.records).sound }
+        ensures clean { (R.custody self.new.server.records).clean
+            → (R.custody self.old.server.records).clean }
+        ensures stays { (R.custody self.new.server.records).clean → (R.custody self.old.server.records).sound
+            → IfOutcomeSent result (R.custody self.new.server.records).sound }
+        ensures counts { CountsOutcome
+            (R.custody self.old.server.records).faults (R.custody self.new.server.records).faults result }
     {
         match event {
             Event::Begin => Outcome::Begun(self.open()),
@@ -180,15 +202,20 @@ fn answer_line<R: Records>(
     line: &mut Option<Session>,
     moment: Moment,
 ) -> Result<Option<Answer>, FrontError>
-    ensures answered { (R.custody server.new.records).sound → AnswersIn moment (server_state R.custody server.old) (server_state R.custody server.new) line.old line.new result }
+    ensures answered { (R.custody server.new.records).sound
+        → AnswersIn moment
+        (server_state R.custody server.old) (server_state R.custody server.new) line.old line.new result }
     ensures line { TakesIn line.old line.new result }
     ensures err { OnErr result ((server.new ≡ server.old) × (line.new ≡ line.old)) }
     ensures sound { (R.custody server.new.records).sound → (R.custody server.old.records).sound }
     ensures clean { (R.custody server.new.records).clean → (R.custody server.old.records).clean }
-    ensures stays { (R.custody server.new.records).clean → (R.custody server.old.records).sound → IfAnswerSent result (R.custody server.new.records).sound }
-    ensures crash { (R.custody server.new.records).clean → (R.custody server.old.records).sound →
-        LeavesAnswer (R.custody server.old.records).may_leave (R.custody server.new.records).may_leave (world R.custody server.old) moment line.old }
-    ensures counts { CountsAnswer (R.custody server.old.records).faults (R.custody server.new.records).faults result }
+    ensures stays { (R.custody server.new.records).clean → (R.custody server.old.records).sound
+        → IfAnswerSent result (R.custody server.new.records).sound }
+    ensures crash { (R.custody server.new.records).clean → (R.custody server.old.records).sound
+        → LeavesAnswer (R.custody server.old.records).may_leave (R.custody server.new.records).may_leave
+        (world R.custody server.old) moment line.old }
+    ensures counts { CountsAnswer
+        (R.custody server.old.records).faults (R.custody server.new.records).faults result }
 {
     match line {
         Some(session) => answer_next(alloc, server, session, moment),
@@ -204,15 +231,20 @@ fn answer_next<R: Records>(
     session: &mut Session,
     moment: Moment,
 ) -> Result<Option<Answer>, FrontError>
-    ensures answered { (R.custody server.new.records).sound → AnswersNext moment (server_state R.custody server.old) (server_state R.custody server.new) session.old session.new result }
+    ensures answered { (R.custody server.new.records).sound
+        → AnswersNext moment (server_state R.custody server.old) (server_state R.custody server.new)
+        session.old session.new result }
     ensures stream { TakesNext session.old session.new result }
     ensures err { OnErr result ((server.new ≡ server.old) × (session.new ≡ session.old)) }
     ensures sound { (R.custody server.new.records).sound → (R.custody server.old.records).sound }
     ensures clean { (R.custody server.new.records).clean → (R.custody server.old.records).clean }
-    ensures stays { (R.custody server.new.records).clean → (R.custody server.old.records).sound → IfAnswerSent result (R.custody server.new.records).sound }
-    ensures crash { (R.custody server.new.records).clean → (R.custody server.old.records).sound →
-        LeavesAnswer (R.custody server.old.records).may_leave (R.custody server.new.records).may_leave (world R.custody server.old) moment (Some session.old) }
-    ensures counts { CountsAnswer (R.custody server.old.records).faults (R.custody server.new.records).faults result }
+    ensures stays { (R.custody server.new.records).clean → (R.custody server.old.records).sound
+        → IfAnswerSent result (R.custody server.new.records).sound }
+    ensures crash { (R.custody server.new.records).clean → (R.custody server.old.records).sound
+        → LeavesAnswer (R.custody server.old.records).may_leave (R.custody server.new.records).may_leave
+        (world R.custody server.old) moment (Some session.old) }
+    ensures counts { CountsAnswer
+        (R.custody server.old.records).faults (R.custody server.new.records).faults result }
 {
     match session.look()? {
         Look::Message => answer_message(server, session, moment),
@@ -229,15 +261,20 @@ fn answer_message<R: Records>(
     moment: Moment,
 ) -> Result<Option<Answer>, FrontError>
     requires { IsLook session.old look.Message }
-    ensures answered { (R.custody server.new.records).sound → AnswersNext moment (server_state R.custody server.old) (server_state R.custody server.new) session.old session.new result }
+    ensures answered { (R.custody server.new.records).sound
+        → AnswersNext moment (server_state R.custody server.old) (server_state R.custody server.new)
+        session.old session.new result }
     ensures stream { TakesNext session.old session.new result }
     ensures err { OnErr result ((server.new ≡ server.old) × (session.new ≡ session.old)) }
     ensures sound { (R.custody server.new.records).sound → (R.custody server.old.records).sound }
     ensures clean { (R.custody server.new.records).clean → (R.custody server.old.records).clean }
-    ensures stays { (R.custody server.new.records).clean → (R.custody server.old.records).sound → IfAnswerSent result (R.custody server.new.records).sound }
-    ensures crash { (R.custody server.new.records).clean → (R.custody server.old.records).sound →
-        LeavesAnswer (R.custody server.old.records).may_leave (R.custody server.new.records).may_leave (world R.custody server.old) moment (Some session.old) }
-    ensures counts { CountsAnswer (R.custody server.old.records).faults (R.custody server.new.records).faults result }
+    ensures stays { (R.custody server.new.records).clean → (R.custody server.old.records).sound
+        → IfAnswerSent result (R.custody server.new.records).sound }
+    ensures crash { (R.custody server.new.records).clean → (R.custody server.old.records).sound
+        → LeavesAnswer (R.custody server.old.records).may_leave (R.custody server.new.records).may_leave
+        (world R.custody server.old) moment (Some session.old) }
+    ensures counts { CountsAnswer
+        (R.custody server.old.records).faults (R.custody server.new.records).faults result }
 {
     let Next::Message(message) = session.next()? else {
         unreachable!()

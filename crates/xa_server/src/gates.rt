@@ -2,18 +2,31 @@
 ghost use Rattle.std.specs.Prelude.{◌≡◌, ◌⊎◌, [], IfOk, None, bytes_eq};
 ghost use Rattle.std.specs.Map.{lookup};
 ghost use Rattle.xa_server.specs.Gates.{opened_in, used, with_gate, without_gate};
+ghost use Rattle.xa_server.specs.Tokens.{role_in};
 
-use crate::admission::role_in;
 use crate::opened::Opened;
 use lru::LruCache;
 use std::alloc::{AllocError, Global};
 use std::marker::Model;
 use std::num::NonZeroUsize;
-use xa_records::{Digest, Gate};
+use xa_notation::Role;
+use xa_records::{Digest, Gate, Token};
 use xa_value::Text;
 
 /// The most gates that are remembered.
 const MAX_GATES: usize = 512;
+
+/// The role of the token of that digest, among these.
+pub(crate) fn role_in(tokens: &[Token], digest: &Digest) -> Option<Role>
+    ensures { result ≡ role_in digest.now tokens.now }
+{
+    for token in tokens {
+        if token.digest == *digest {
+            return Some(token.role);
+        }
+    }
+    None
+}
 
 /// Gates that are remembered, each under its domain's name.
 #[derive(Drop)]

@@ -27,6 +27,7 @@ mod opened;
 mod reader;
 mod readings;
 mod ready;
+mod received;
 mod replies;
 mod resources;
 mod sending;

@@ -1,9 +1,11 @@
 //! What a connection is driven on.
-ghost use Rattle.std.specs.Prelude.{◌≡◌, [], ◌∷◌, Bool, false, List, map, MatchResult, None, OnErr, IfOk, Option};
+ghost use Rattle.std.specs.Prelude.{◌≡◌, [], ◌∷◌, Bool, false, List, map};
+ghost use Rattle.std.specs.Prelude.{MatchResult, None, OnErr, IfOk, Option};
 ghost use Rattle.xa_server.specs.Front.{FrontState, IsPlayed, front_state};
 ghost use Rattle.xa_server.specs.Fronting.{PlaysLines};
 ghost use Rattle.xa_server.specs.Lines.{IsLooked, held_at};
-ghost use Rattle.xa_server.specs.Multiplexer.{front_goes_on, front_is_sound, found_memory, outcome_found_memory};
+ghost use Rattle.xa_server.specs.Multiplexer.{front_goes_on, front_is_sound};
+ghost use Rattle.xa_server.specs.Multiplexer.{found_memory, outcome_found_memory};
 ghost use Rattle.xa_server.specs.Transfers.{Grows};
 
 use crate::event::{Event, Outcome};
@@ -56,12 +58,15 @@ pub trait Multiplexer {
 
     /// Plays the events, one after another. Without memory for all outcomes nothing is done.
     fn play(&mut self, events: &[Event<'_>]) -> Result<Vec<Outcome>, AllocError>
-        ensures played { IfOk result (λ outcomes. is_sound self.new → IsPlayed (state self.old) (state self.new) events.now outcomes.items) }
-        ensures lines { IfOk result (λ outcomes. PlaysLines events.now outcomes.items (state self.old).lines (state self.new).lines) }
+        ensures played { IfOk result (λ outcomes.
+            is_sound self.new → IsPlayed (state self.old) (state self.new) events.now outcomes.items) }
+        ensures lines { IfOk result (λ outcomes.
+            PlaysLines events.now outcomes.items (state self.old).lines (state self.new).lines) }
         ensures err { OnErr result (state self.new ≡ state self.old) }
         ensures sound { is_sound self.new → is_sound self.old }
         ensures memory { MatchResult result
-            (λ outcomes. Grows (had_memory self.old) (had_memory self.new) (map outcome_found_memory outcomes.items))
+            (λ outcomes.
+            Grows (had_memory self.old) (had_memory self.new) (map outcome_found_memory outcomes.items))
             (λ _. Grows (had_memory self.old) (had_memory self.new) (false ∷ [])) }
         ensures said { said self.new ≡ said self.old };
 }

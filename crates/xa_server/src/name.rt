@@ -2,7 +2,6 @@
 ghost use Rattle.std.specs.Prelude.{◌≡◌};
 ghost use Rattle.xa_server.specs.Owner.{name_if};
 
-use crate::document_key::text_if;
 use xa_records::is_domain_name;
 use xa_value::{Items, Text};
 
@@ -12,7 +11,7 @@ pub(crate) fn name_if(part: Items<u8>) -> Option<Text>
     ensures { result ≡ name_if part }
 {
     if is_domain_name(part.as_slice()) {
-        text_if(part)
+        Text::from_utf8(part)
     } else {
         None
     }

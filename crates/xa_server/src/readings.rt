@@ -28,7 +28,8 @@ pub(crate) fn list<R: Records>(
     records: &mut R,
     name: &Text,
 ) -> Result<Items<u8>, Stop>
-    ensures { HandlesReading (R.custody records.old) (R.custody records.new) name.now result (told (λ kept. Ok (json_reply (listing_body (listing_of_state kept))))) }
+    ensures { HandlesReading (R.custody records.old) (R.custody records.new) name.now result
+        (told (λ kept. Ok (json_reply (listing_body (listing_of_state kept))))) }
 {
     let documents = records.list(alloc, name)?.ok_or(ABSENT)?;
     let body = write_listing(alloc, documents.as_slice())?;
@@ -42,7 +43,8 @@ pub(crate) fn source<R: Records>(
     records: &mut R,
     name: &Text,
 ) -> Result<Items<u8>, Stop>
-    ensures { HandlesReading (R.custody records.old) (R.custody records.new) name.now result (told (λ kept. Ok (json_reply (rows_body kept.source)))) }
+    ensures { HandlesReading (R.custody records.old) (R.custody records.new) name.now result
+        (told (λ kept. Ok (json_reply (rows_body kept.source)))) }
 {
     let kept = records.view(alloc, name)?.ok_or(ABSENT)?;
     let body = write_rows(alloc, kept.source.as_slice())?;
@@ -57,7 +59,8 @@ pub(crate) fn show<R: Records>(
     name: &Text,
     key: &DocumentKey,
 ) -> Result<Items<u8>, Stop>
-    ensures { HandlesReading (R.custody records.old) (R.custody records.new) name.now result (by_document_command document.Show key.now) }
+    ensures { HandlesReading (R.custody records.old) (R.custody records.new) name.now result
+        (by_document_command document.Show key.now) }
 {
     let text = records.document(alloc, name, key)?.ok_or(ABSENT)?;
     Ok(json_reply(alloc, text.as_slice())?)
@@ -65,7 +68,9 @@ pub(crate) fn show<R: Records>(
 
 /// The names of all domains. What this costs grows with their number.
 pub(crate) fn domains<R: Records>(alloc: Global, records: &mut R) -> Result<Items<u8>, Stop>
-    ensures tells { (R.custody records.new).sound → Shows (R.custody records.old).kept (R.custody records.new).kept result (Ok (json_reply (names_body (names_of (R.custody records.old).kept)))) }
+    ensures tells { (R.custody records.new).sound
+        → Shows (R.custody records.old).kept (R.custody records.new).kept result
+        (Ok (json_reply (names_body (names_of (R.custody records.old).kept)))) }
     ensures keeper { OnlyReads (R.custody records.old) (R.custody records.new) result }
 {
     let names = records.domains(alloc)?;

@@ -12,8 +12,8 @@ const VIEW_BYTES: usize = 524_288;
 /// The bytes that a row of attributes takes beside its texts.
 const ROW_BYTES: usize = 512;
 
-/// The bytes that a document takes for each byte of its text: by its shape 1 to 6.4, as they were
-/// measured (`bench/views`).
+/// The bytes that a document takes for each byte of its text: by its shape 0.6 to 6.4, as they were
+/// measured (`bench/views.py`).
 const BYTES_OF_A_TEXT_BYTE: usize = 8;
 
 /// The bytes that a place of the linked tree takes: a set's list has room for its children and no more.

@@ -1,6 +1,7 @@
 //! The replies of a server: bytes that it sent, or a refusal and its fixed 503.
 ghost use Rattle.std.specs.Prelude.{◌≡◌, IfOk};
-ghost use Rattle.xa_server.specs.Replies.{bytes_of, created_reply, decision_reply, done_reply, json_reply, unavailable_reply};
+ghost use Rattle.xa_server.specs.Replies.{bytes_of, created_reply, decision_reply};
+ghost use Rattle.xa_server.specs.Replies.{done_reply, json_reply, unavailable_reply};
 
 use http::StatusCode;
 use std::alloc::{AllocError, Global};
@@ -13,7 +14,8 @@ use xa_value::Items;
 pub enum Reply {
     /// The bytes of the reply.
     Sent(Items<u8>),
-    /// No answer of its own, for want of memory or because the storage failed; nothing has changed.
+    /// No answer of its own; nothing has changed. `Store`: the storage failed. `Memory`: there was none, or a
+    /// limit of the server's was reached (`Server::with_limit`, `with_reply_limit`, `with_reading`).
     Refused(Failure),
 }
 

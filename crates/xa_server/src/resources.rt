@@ -70,7 +70,11 @@ impl Resources {
 
     /// From now on with these limits. The views that were kept had others; none is kept yet.
     pub(crate) fn limit(&mut self, limits: Limits)
-        ensures { self.new ≡ record { tally = self.old.tally; room = record { views = []; most = self.old.room.most; bytes = self.old.room.bytes }; gates = self.old.gates } }
+        ensures { self.new ≡ record {
+          tally = self.old.tally;
+          room = record { views = []; most = self.old.room.most; bytes = self.old.room.bytes };
+          gates = self.old.gates;
+        } }
     {
         self.views.clear();
         self.texts.unread.clear();

@@ -10,8 +10,11 @@ use std::io::ErrorKind;
 #[tactic(auto, using(crate::proofs::SendingLemmas::took_none, crate::proofs::SendingLemmas::took_some, crate::proofs::SendingLemmas::interrupted, crate::proofs::SendingLemmas::failed))]
 fn send_some<W: Writer>(writer: &mut W, bytes: &[u8]) -> Option<usize>
     requires { 0 < length bytes.now }
-    ensures sent { MatchOption result (SendsNone (W.contents writer.old) (W.contents writer.new) (W.writes writer.old) (W.writes writer.new))
-        (λ count. SendsSome bytes.now count (W.contents writer.old) (W.contents writer.new) (W.writes writer.old) (W.writes writer.new)) }
+    ensures sent { MatchOption result
+        (SendsNone (W.contents writer.old) (W.contents writer.new)
+        (W.writes writer.old) (W.writes writer.new))
+        (λ count. SendsSome bytes.now count (W.contents writer.old) (W.contents writer.new)
+        (W.writes writer.old) (W.writes writer.new)) }
     ensures within { IfSome result (λ count. count ≤ length bytes.now) }
 {
     match writer.send(bytes) {
@@ -25,7 +28,8 @@ fn send_some<W: Writer>(writer: &mut W, bytes: &[u8]) -> Option<usize>
 /// Lets the writer hold none of its bytes back any more. Whether that went well.
 #[tactic(auto, using(crate::proofs::SendingLemmas::unflushed_so))]
 fn flush<W: Writer>(writer: &mut W) -> bool
-    ensures { IsFlushed result (W.contents writer.old) (W.contents writer.new) (W.writes writer.old) (W.writes writer.new) }
+    ensures { IsFlushed result (W.contents writer.old) (W.contents writer.new)
+        (W.writes writer.old) (W.writes writer.new) }
 {
     match writer.deliver() {
         Ok(()) => true,
@@ -37,7 +41,8 @@ fn flush<W: Writer>(writer: &mut W) -> bool
 /// from their front may have been sent.
 #[tactic(auto, using(crate::proofs::SendingLemmas::nothing_sent))]
 pub(crate) fn send_whole<W: Writer>(writer: &mut W, bytes: &[u8]) -> bool
-    ensures { IsWritten result bytes.now (W.contents writer.old) (W.contents writer.new) (W.writes writer.old) (W.writes writer.new) }
+    ensures { IsWritten result bytes.now (W.contents writer.old) (W.contents writer.new)
+        (W.writes writer.old) (W.writes writer.new) }
 {
     let mut sent = 0;
     for _tried in 0..u64::MAX {

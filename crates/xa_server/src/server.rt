@@ -5,6 +5,7 @@ ghost use Rattle.xa_server.specs.Handling.{IsReplyOf};
 
 use crate::answer::answer;
 use crate::limits::Limits;
+use crate::received::Received;
 use crate::replies::Reply;
 use crate::resources::Resources;
 use crate::stop::Stop;
@@ -64,7 +65,10 @@ impl<R: Records> Server<R> {
     /// A server over the keeper, with the digest of the operator's token. Without memory the keeper is
     /// handed back.
     pub fn new(alloc: Global, records: R, operator: Digest) -> Result<Server<R>, AllocFailed<R>>
-        ensures { MatchResult result (λ server. (server.records ≡ records) × (server.operator ≡ operator) × (server.tally ≡ nothing_held)) (λ failed. failed.value ≡ records) }
+        ensures { MatchResult result
+            (λ server.
+            (server.records ≡ records) × (server.operator ≡ operator) × (server.tally ≡ nothing_held))
+            (λ failed. failed.value ≡ records) }
     {
         let Ok(routes) = Routes::new(alloc) else {
             return Err(AllocFailed { value: records });
@@ -203,22 +207,32 @@ impl<R: Records> Server<R> {
     /// its machine leaves it and all others as they were, whatever became of it; once a reply of its own
     /// is there, the keeper is sound as before.
     pub fn serve(&mut self, moment: Moment, message: &Message) -> Reply
-        ensures served { (R.custody self.new.records).sound → IsServed (world R.custody self.old) (world R.custody self.new) moment message.now result }
+        ensures served { (R.custody self.new.records).sound
+            → IsServed (world R.custody self.old) (world R.custody self.new) moment message.now result }
         ensures sound { (R.custody self.new.records).sound → (R.custody self.old.records).sound }
         ensures clean { (R.custody self.new.records).clean → (R.custody self.old.records).clean }
-        ensures stays { (R.custody self.new.records).clean → (R.custody self.old.records).sound → IfSent result (R.custody self.new.records).sound }
-        ensures crash { (R.custody self.new.records).clean → (R.custody self.old.records).sound → LeavesStep (R.custody self.old.records).may_leave (R.custody self.new.records).may_leave (world R.custody self.old) moment message.now }
-        ensures counts { CountsReply (R.custody self.old.records).faults (R.custody self.new.records).faults result }
-        ensures work { (R.custody self.new.records).sound → IsWork (R.custody self.old.records).kept moment message.now result self.old.tally self.new.tally }
+        ensures stays { (R.custody self.new.records).clean → (R.custody self.old.records).sound
+            → IfSent result (R.custody self.new.records).sound }
+        ensures crash { (R.custody self.new.records).clean → (R.custody self.old.records).sound
+            → LeavesStep (R.custody self.old.records).may_leave (R.custody self.new.records).may_leave
+            (world R.custody self.old) moment message.now }
+        ensures counts { CountsReply
+            (R.custody self.old.records).faults (R.custody self.new.records).faults result }
+        ensures work { (R.custody self.new.records).sound
+            → IsWork (R.custody self.old.records).kept moment message.now result
+            self.old.tally self.new.tally }
     {
+        let received = Received {
+            operator: self.operator,
+            message,
+            moment,
+        };
         let answered = answer(
             self.alloc,
             &self.routes,
-            self.operator,
             &mut self.resources,
             &mut self.records,
-            moment,
-            message,
+            &received,
         );
         reply_of(self.alloc, answered)
     }
@@ -227,10 +241,16 @@ impl<R: Records> Server<R> {
     /// domain's replies are those of its own machine, used by it alone; with refusals, as if the refused
     /// messages had never come. Room for all replies is taken first, and without it nothing is answered.
     pub fn run(&mut self, events: &[(Moment, Message)]) -> Result<Vec<Reply>, AllocError>
-        ensures headline { IfOk result (λ replies. (R.custody self.new.records).sound → IsIsolated (world R.custody self.old) (world R.custody self.new) events.now replies.items) }
-        ensures beside_refusals { IfOk result (λ replies. (R.custody self.new.records).sound → IsIsolatedBesideRefusals (world R.custody self.old) (world R.custody self.new) events.now replies.items) }
-        ensures run { IfOk result (λ replies. (R.custody self.new.records).sound → IsRun (world R.custody self.old) events.now replies.items (world R.custody self.new)) }
-        ensures work { IfOk result (λ replies. (R.custody self.new.records).sound → IsWorkOfRun (world R.custody self.old) self.old.tally events.now replies.items (world R.custody self.new) self.new.tally) }
+        ensures headline { IfOk result (λ replies. (R.custody self.new.records).sound
+            → IsIsolated (world R.custody self.old) (world R.custody self.new) events.now replies.items) }
+        ensures beside_refusals { IfOk result (λ replies. (R.custody self.new.records).sound
+            → IsIsolatedBesideRefusals (world R.custody self.old) (world R.custody self.new)
+            events.now replies.items) }
+        ensures run { IfOk result (λ replies. (R.custody self.new.records).sound
+            → IsRun (world R.custody self.old) events.now replies.items (world R.custody self.new)) }
+        ensures work { IfOk result (λ replies. (R.custody self.new.records).sound
+            → IsWorkOfRun (world R.custody self.old) self.old.tally events.now replies.items
+            (world R.custody self.new) self.new.tally) }
         ensures sound { (R.custody self.new.records).sound → (R.custody self.old.records).sound }
         ensures err { OnErr result (self.new ≡ self.old) }
     {

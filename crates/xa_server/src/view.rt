@@ -1,6 +1,7 @@
 //! What decides in a domain, by what is kept of it.
-ghost use Rattle.std.specs.Prelude.{◌≡◌, map, IfOk};
-ghost use Rattle.xa_server.specs.View.{AreKeyed, active_by_key, viewed};
+ghost use Rattle.std.specs.Prelude.{◌≡◌, ◌+◌, ◌<◌, false, map, true, IfOk};
+ghost use Rattle.xa_decide.specs.Reading.{IsNotTooLarge};
+ghost use Rattle.xa_server.specs.View.{AreKeyed, active_by_key, read_for, viewed};
 
 use std::alloc::{AllocError, Global};
 use xa_decide::View;
@@ -43,7 +44,11 @@ pub(crate) fn view_of_kept(
     reader: &mut TextReader<'_>,
     kept: KeptView,
 ) -> Result<View, AllocError>
-    ensures { AreKeyed kept.texts → IfOk result (λ view. view ≡ viewed kept) }
+    ensures value { AreKeyed kept.texts → IfOk result (λ view. view ≡ viewed kept) }
+    ensures read { AreKeyed kept.texts
+        → IfOk result (λ view. IsNotTooLarge view.tree → reader.old.left ≡ reader.new.left + read_for kept) }
+    ensures refused { AreKeyed kept.texts → reader.old.is_spent ≡ false → reader.new.is_spent ≡ true
+        → reader.old.left < read_for kept }
 {
     let KeptView {
         texts,

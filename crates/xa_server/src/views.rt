@@ -1,7 +1,9 @@
 //! The views that are kept ready: of each domain at most one, under its number.
-ghost use Rattle.std.specs.Prelude.{◌≡◌, ◌≤◌, ◌-◌, ◌^◌, true, false, [], take, min, nat_eq, nat_le, option_map, IfOk};
+ghost use Rattle.std.specs.Prelude.{◌≡◌, ◌≤◌, ◌-◌, ◌^◌, true, false, [], take};
+ghost use Rattle.std.specs.Prelude.{min, nat_eq, nat_le, option_map, IfOk};
 ghost use Rattle.std.specs.Map.{remove_entry};
-ghost use Rattle.xa_server.specs.Views.{fitting, in_front, shortened, touched, view_ready, with_view, without};
+ghost use Rattle.xa_server.specs.Views.{fitting, in_front, shortened, touched};
+ghost use Rattle.xa_server.specs.Views.{view_ready, with_view, without};
 
 use crate::ready::Ready;
 use lru::LruCache;

@@ -13,7 +13,7 @@ use Rattle.xa_server.proofs.answer.answer.Goals as goal
 pub returns-in_err-route-clause-answers : goal.returns-in_err-route-clause-answers
 returns-in_err-route-clause-answers g c = λ stand sound.
     let stopped : c.from_residual.result ≡ Err (stop_of_route c.in_err-route.field-0.0) = search rules in
-    rw stopped (unasked _ _ (owner c.args.message.now) _ _ c.in_err-route.field-0.0 c.in_err-route.ensures.route)
+    rw stopped (unasked c.args.received.now _ (owner c.args.received.now.message.now) c.in_err-route.field-0.0 c.in_err-route.ensures.route)
 
 pub returns-in_err-route-clause-shared : goal.returns-in_err-route-clause-shared
 returns-in_err-route-clause-shared g c =
@@ -21,7 +21,7 @@ returns-in_err-route-clause-shared g c =
     let stopped : c.from_residual.result ≡ Err (stop_of_route error) = search rules in
     record {
       works = λ stand sound.
-          rw stopped (unasked_work (g.R.Records.custody c.args.records.now).kept c.args.message.now c.args.moment error c.args.resources.now.tally c.in_err-route.ensures.route);
+          rw stopped (unasked_work c.args.received.now (g.R.Records.custody c.args.records.now).kept error c.args.resources.now.tally c.in_err-route.ensures.route);
       stands = λ stand sound. stand;
       room = rw stopped refl;
     }
@@ -29,16 +29,16 @@ returns-in_err-route-clause-shared g c =
 pub returns-clause-answers : goal.returns-clause-answers
 unfolding owner
 returns-clause-answers g c = λ stand sound.
-    let owns : option_and_then name_if (named_by c.in_ok-route.route) ≡ owner c.args.message.now = ap (option_and_then name_if) c.in_ok-route.ensures.named in
-    subst (λ named. AnswersMessage c.args.operator (g.R.Records.custody c.args.records.now).kept (g.R.Records.custody c.answer_route.new.records).kept named c.args.message.now c.args.moment c.answer_route.result) owns
-    (asked _ _ _ _ _ _ c.in_ok-route.route _ c.in_ok-route.ensures.route (c.answer_route.ensures.answers stand sound))
+    let owns : option_and_then name_if (named_by c.in_ok-route.route) ≡ owner c.args.received.now.message.now = ap (option_and_then name_if) c.in_ok-route.ensures.named in
+    subst (λ named. AnswersMessage c.args.received.now (g.R.Records.custody c.args.records.now).kept (g.R.Records.custody c.answer_route.new.records).kept named c.answer_route.result) owns
+    (asked c.args.received.now _ _ _ c.in_ok-route.route _ c.in_ok-route.ensures.route (c.answer_route.ensures.answers stand sound))
 
 pub returns-clause-shared : goal.returns-clause-shared
 returns-clause-shared g c = record {
   works = λ stand sound.
       let kept = (g.R.Records.custody c.args.records.now).kept in
       let after = c.answer_route.new.resources.tally in
-      asked_work kept c.args.message.now c.args.moment c.in_ok-route.route c.answer_route.result c.args.resources.now.tally after c.in_ok-route.ensures.route
+      asked_work c.args.received.now kept c.in_ok-route.route c.answer_route.result c.args.resources.now.tally after c.in_ok-route.ensures.route
       (c.answer_route.ensures.shared.works stand sound);
   stands = c.answer_route.ensures.shared.stands;
   room = c.answer_route.ensures.shared.room;
@@ -54,7 +54,7 @@ returns-in_err-route-clause-keeper g c =
       sound = λ sound. sound;
       clean = λ clean. clean;
       stays = λ clean sound. subst (λ (r : Result (List ℕ) Stop). IfTold r custody.sound) (sym stopped) (unasked_told error custody.sound sound);
-      leaves = λ clean sound. no_more custody.may_leave custody.may_leave _ _ (owner c.args.message.now) _ _ (λ left is. is);
+      leaves = λ clean sound. no_more custody.may_leave custody.may_leave c.args.received.now _ (owner c.args.received.now.message.now) (λ left is. is);
       counts = subst (λ (r : Result (List ℕ) Stop). Counts custody.faults custody.faults r) (sym stopped) (unasked_counts error custody.faults);
     }
 
@@ -69,10 +69,10 @@ returns-clause-keeper g c = record {
       let after = (g.R.Records.custody c.answer_route.new.records).may_leave in
       let old = (g.R.Records.custody c.args.records.now).kept in
       let route = c.in_ok-route.route in
-      let owns : option_and_then name_if (named_by route) ≡ owner c.args.message.now =
+      let owns : option_and_then name_if (named_by route) ≡ owner c.args.received.now.message.now =
       ap (option_and_then name_if) c.in_ok-route.ensures.named in
-      subst (λ named. LeavesMessage before after c.args.operator old named c.args.message.now c.args.moment) owns
-      (asked_left before after c.args.operator old _ c.args.message.now c.args.moment route c.in_ok-route.ensures.route
+      subst (λ named. LeavesMessage before after c.args.received.now old named) owns
+      (asked_left before after c.args.received.now old _ route c.in_ok-route.ensures.route
       (c.answer_route.ensures.keeper.leaves clean sound));
   counts = c.answer_route.ensures.keeper.counts;
 }

@@ -1,16 +1,23 @@
 -- The active documents by their keys are those that the texts are.
-use Rattle.std.proofs.Common.{◌≡◌, sym, subst, ◌∙◌}
+use Rattle.std.proofs.Common.{◌≡◌, ◌+◌, ◌<◌, false, sym, subst, true, ◌∙◌}
 use Rattle.std.specs.Prelude.{IfOk}
-use Rattle.std.specs.List.{filter_map}
-use Rattle.xa_notation.specs.Document.{document_of}
 use Rattle.xa_decide.specs.Decision.{view_by}
-use Rattle.xa_records.specs.declared.active_text.ActiveText.{ActiveText}
-use Rattle.xa_server.specs.View.{active_if}
+use Rattle.xa_decide.specs.Reading.{IsNotTooLarge, reading_for}
+use Rattle.xa_server.specs.View.{active_of}
 use Rattle.xa_server.proofs.KeyedLemmas.{active_are}
 use Rattle.xa_server.proofs.view.view_of_kept.Goals as goal
 
-pub returns : goal.returns
-returns c = λ keyed.
-    let all : c.as_slice.result.now ≡ filter_map (λ (one : ActiveText). active_if one.text (document_of one.text)) c.args.kept.texts =
-    c.as_slice.ensures ∙ c.in_ok-active.ensures ∙ sym (active_are c.args.kept.texts keyed) in
-    subst (λ active. IfOk c.new.result (λ view. view ≡ view_by active c.args.kept.root c.args.kept.source)) all c.new.ensures
+pub returns-clause-value : goal.returns-clause-value
+returns-clause-value c = λ keyed.
+    let all : c.as_slice.result.now ≡ active_of c.args.kept.texts = c.as_slice.ensures ∙ c.in_ok-active.ensures ∙ sym (active_are c.args.kept.texts keyed) in
+    subst (λ active. IfOk c.new.result (λ view. view ≡ view_by active c.args.kept.root c.args.kept.source)) all c.new.ensures.value
+
+pub returns-clause-read : goal.returns-clause-read
+returns-clause-read c = λ keyed.
+    let all : c.as_slice.result.now ≡ active_of c.args.kept.texts = c.as_slice.ensures ∙ c.in_ok-active.ensures ∙ sym (active_are c.args.kept.texts keyed) in
+    subst (λ active. IfOk c.new.result (λ view. IsNotTooLarge view.tree → c.args.reader.now.left ≡ c.new.new.reader.left + reading_for active c.args.kept.root)) all c.new.ensures.read
+
+pub returns-clause-refused : goal.returns-clause-refused
+returns-clause-refused c = λ keyed.
+    let all : c.as_slice.result.now ≡ active_of c.args.kept.texts = c.as_slice.ensures ∙ c.in_ok-active.ensures ∙ sym (active_are c.args.kept.texts keyed) in
+    subst (λ active. c.args.reader.now.is_spent ≡ false → c.new.new.reader.is_spent ≡ true → c.args.reader.now.left < reading_for active c.args.kept.root) all c.new.ensures.refused

@@ -1,4 +1,5 @@
 use Rattle.std.proofs.Common.{refl}
+use Rattle.xa_server.specs.declared.received.Received.{Received}
 use Rattle.xa_server.specs.Owner.{owner}
 use Rattle.xa_server.proofs.CrashLemmas.{if_sent, step_left}
 use Rattle.xa_server.proofs.ServedLemmas.{counted, served}
@@ -7,8 +8,10 @@ use Rattle.xa_server.proofs.server.Server.serve.Goals as goal
 
 pub returns-clause-served : goal.returns-clause-served
 returns-clause-served g c = λ sound.
+    let received : Received = record { operator = c.self.inside.operator; message = c.args.message; moment = c.args.moment } in
     let stand = c.self.invariant (c.answer-answered.ensures.keeper.sound sound) in
-    rw (← c.self.view_is) (served _ _ c.args.message.now _ c.answer-answered.result _ (c.answer-answered.ensures.answers stand sound) c.reply_of.ensures refl)
+    rw (← c.self.view_is)
+    (served received (g.R.Records.custody c.self.inside.records).kept _ c.answer-answered.result _ (c.answer-answered.ensures.answers stand sound) c.reply_of.ensures refl)
 
 pub returns-clause-counts : goal.returns-clause-counts
 returns-clause-counts g c = rw (← c.self.view_is) (counted _ _ c.answer-answered.result _ c.answer-answered.ensures.keeper.counts c.reply_of.ensures)
@@ -17,7 +20,9 @@ pub returns-clause-stays : goal.returns-clause-stays
 returns-clause-stays g c = rw (← c.self.view_is) (λ clean sound. if_sent _ c.answer-answered.result _ (c.answer-answered.ensures.keeper.stays clean sound) c.reply_of.ensures)
 
 pub returns-clause-crash : goal.returns-clause-crash
-returns-clause-crash g c = rw (← c.self.view_is) (λ clean sound. step_left _ _ _ (owner c.args.message.now) c.args.message.now _ (c.answer-answered.ensures.keeper.leaves clean sound))
+returns-clause-crash g c = rw (← c.self.view_is) (λ clean sound.
+    let received : Received = record { operator = c.self.inside.operator; message = c.args.message; moment = c.args.moment } in
+    step_left _ _ received (g.R.Records.custody c.self.inside.records).kept (owner c.args.message.now) (c.answer-answered.ensures.keeper.leaves clean sound))
 
 pub returns-clause-work : goal.returns-clause-work
 returns-clause-work g c = λ sound.

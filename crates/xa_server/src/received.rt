@@ -1,0 +1,15 @@
+//! A message as the server has received it.
+use xa_http::Message;
+use xa_records::Digest;
+use xa_value::Moment;
+
+/// A message, and all else but the state that its answer depends on.
+#[derive(Drop)]
+pub(crate) struct Received<'a> {
+    /// The digest of the operator's token.
+    pub(crate) operator: Digest,
+    /// The message.
+    pub(crate) message: &'a Message,
+    /// The moment at which it is answered.
+    pub(crate) moment: Moment,
+}
