@@ -8,7 +8,7 @@ import subprocess
 import sys
 
 TOP = pathlib.Path(__file__).resolve().parent.parent
-sys.path.insert(0, str(TOP / "agreement" / "model"))
+sys.path.insert(0, str(TOP / "tests" / "model"))
 sys.dont_write_bytecode = True
 
 from counting import CountingServer  # noqa: E402
@@ -68,8 +68,8 @@ def compiled(code, library):
 
 
 def script():
-    """The messages, each with its moment, of the longest row of trials/tripped.rows."""
-    rows = [fields[1:] for _, fields, _ in Source(TOP / "trials" / "tripped.rows").rows if fields[0] == "tripped"]
+    """The messages, each with its moment, of the longest row of tests/rows/tripped.rows."""
+    rows = [fields[1:] for _, fields, _ in Source(TOP / "tests" / "rows" / "tripped.rows").rows if fields[0] == "tripped"]
     moment, found = 0, []
     for field in max(rows, key=len):
         word, _, text = field.partition(":")

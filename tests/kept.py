@@ -1,10 +1,10 @@
-"""The rows that stand in the tables of a store after messages: by the model of the server and that of the tables (agreement/model), over Python's own sqlite3."""
+"""The rows that stand in the tables of a store after messages: by the model of the server and that of the tables (tests/model), over Python's own sqlite3."""
 import os
 import sys
 
 TOP = os.path.dirname(os.path.dirname(os.path.abspath(__file__)))
 sys.dont_write_bytecode = True
-sys.path.insert(0, f"{TOP}/agreement/model")
+sys.path.insert(0, f"{TOP}/tests/model")
 from machines import Server  # noqa: E402
 from messages import Stream  # noqa: E402
 from routes import owner  # noqa: E402

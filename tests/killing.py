@@ -4,7 +4,7 @@ then, and what it shows once it is begun again.
 A load is some messages in one piece, of which the last may be cut. The tables have to be those after the first
 messages of the load, for some number of them: after no fewer than were answered, and no more than came whole.
 Python's own sqlite3 reads them in a copy of the files, and the rows are those of the model of the server in
-agreement/model, with numbers, epochs and digests of tokens.
+tests/model, with numbers, epochs and digests of tokens.
 """
 import collections
 import json
@@ -188,7 +188,7 @@ class Store:
     def round(self):
         """Whether the program goes on as it is to, up to another kill and behind it."""
         with Served(self.program, str(self.path), str(self.token_file)) as served:
-            self.expect("the store opens again", served.listens, True)
+            self.expect("the store opens again", served.listened(), None)
             if not served.listens:
                 return False
             self.shows(served)

@@ -10,13 +10,13 @@ docs/guide/openapi.yaml has and the page doesn't write out.
 """
 import ast
 import functools
-import importlib.machinery
-import importlib.util
 import json
 import pathlib
 import re
 import subprocess
 import textwrap
+
+import api
 
 TOP = pathlib.Path(__file__).resolve().parent.parent
 DECISIONS = TOP / "docs" / "design" / "decisions"
@@ -150,11 +150,8 @@ def kinds(pattern):
 
 @functools.cache
 def openapi():
-    """The module tests/api, which reads docs/guide/openapi.yaml, and what it reads."""
-    loader = importlib.machinery.SourceFileLoader("api", str(TOP / "tests" / "api"))
-    module = importlib.util.module_from_spec(importlib.util.spec_from_loader("api", loader))
-    loader.exec_module(module)
-    return module, module.Yaml((TOP / module.OPENAPI).read_text(encoding="utf-8")).whole()
+    """What docs/guide/openapi.yaml has, as tests/api.py reads it."""
+    return api.Yaml((TOP / api.OPENAPI).read_text(encoding="utf-8")).whole()
 
 
 def roles(operation):
@@ -162,16 +159,16 @@ def roles(operation):
 
 
 def routes(_):
-    module, page = openapi()
+    page = openapi()
     return "| Route | Token | What it does |\n|---|---|---|\n" + "".join(
         f"| `{method} {path}` | {roles(operation)} | {operation['summary']} |\n"
-        for method, path, operation in module.operations(page))
+        for method, path, operation in api.operations(page))
 
 
 def route(name):
     """What a route does, as docs/guide/openapi.yaml says it."""
-    module, page = openapi()
-    told = next(operation["description"] for method, path, operation in module.operations(page)
+    page = openapi()
+    told = next(operation["description"] for method, path, operation in api.operations(page)
                 if f"{method}:{path}" == name)
     return "".join("\n".join(wrapped(part.split("\n"))) + "\n\n" for part in told.strip().split("\n\n")).strip("\n") + "\n"
 
@@ -183,7 +180,7 @@ def held_by(schema):
     if "properties" in schema:
         return "{" + ", ".join(f"{name}: {held_by(each)}" for name, each in schema["properties"].items()) + "}"
     name = schema.get("$ref", "").rpartition("/")[2]
-    values = openapi()[1]["components"]["schemas"][name].get("enum", ()) if name else ()
+    values = openapi()["components"]["schemas"][name].get("enum", ()) if name else ()
     return " or ".join(values) if 0 < len(values) < 4 else name or schema["type"].replace("string", "")
 
 
@@ -195,7 +192,7 @@ def member_told(name, schema, needed):
 
 def objects(first):
     """The objects that an object of docs/guide/openapi.yaml leads to, each with its members."""
-    schemas, order = openapi()[1]["components"]["schemas"], [first]
+    schemas, order = openapi()["components"]["schemas"], [first]
     for name in order:
         order += [each for each in dict.fromkeys(re.findall(r"schemas/(\w+)", json.dumps(schemas[name])))
                   if each not in order and "properties" in schemas[each]]
@@ -211,14 +208,14 @@ def objects(first):
 
 def errors(_):
     text = "| Code | Status | What happened | What to do |\n|---|---|---|---|\n"
-    for code, each in openapi()[1]["x-errors"].items():
+    for code, each in openapi()["x-errors"].items():
         text += f"| `{code}` | {each['status']} | {cell(each['what'])} | {cell(each['do'])} |\n"
     return text
 
 
 def states(_):
     text = "| State | Messages before | What the server has then |\n|---|---|---|\n"
-    for name, state in openapi()[1]["x-states"].items():
+    for name, state in openapi()["x-states"].items():
         steps = [f"`{item['example']}` with `{item['replace']}` made `{item['by']}`, n from {item['from']} to {item['to']}"
                  if isinstance(item, dict) else f"`{item}`" for item in state["messages"]]
         text += f"| `{name}` | {', '.join(steps) or 'none'} | {state['description']} |\n"
@@ -227,15 +224,15 @@ def states(_):
 
 def examples_of(route):
     """Each example of a route: its name, summary, state, target, body as it is written, status and reply."""
-    module, page = openapi()
-    for method, path, operation in module.operations(page):
+    page = openapi()
+    for method, path, operation in api.operations(page):
         bodies = {name: each["value"] for content in operation.get("requestBody", {}).get("content", {}).values()
                   for name, each in content.get("examples", {}).items()}
         for status, response in operation["responses"].items() if f"{method} {path}" == route else ():
             for content in response.get("content", {}).values():
                 for name, each in content.get("examples", {}).items():
                     request = each["x-request"]
-                    body = module.compact(request.get("body", bodies.get(name, "")))
+                    body = api.compact(request.get("body", bodies.get(name, "")))
                     yield name, each["summary"], request["from"], request["target"], body, status, each["value"]
 
 
@@ -255,7 +252,7 @@ def reply_told(status, value):
         return f"{status} `{value['Error']}`"
     compact = json.dumps(value, separators=(",", ":"), ensure_ascii=False)
     decision = re.fullmatch(r'.*"Decision":"(\w+)".*"urn:oasis:names:tc:xacml:1.0:status:([\w-]+)"}}}]}', compact)
-    if decision and compact == openapi()[0].decided(*decision.groups()):
+    if decision and compact == api.decided(*decision.groups()):
         return f"{status} {decision[1]} `{decision[2]}`"
     return f"{status} `{compact}`"
 

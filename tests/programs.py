@@ -4,6 +4,8 @@ without proof.
 
 usage: tests/programs.py proved NAME COMMAND..     runs a command that proves and builds the program NAME, and
                                                    notes of which sources it made it
+       tests/programs.py soonest NAME              tells where NAME is: the proved program, or else one without
+                                                   proof, which it compiles if there is none of these sources
 
 A note beside a program has a checksum of all that it was made of, and one of the program; where either isn't
 what it is now, the program is never taken.
@@ -21,6 +23,9 @@ import time
 
 TOP = pathlib.Path(__file__).resolve().parent.parent
 UNPROVED = TOP / "build" / "unproved"
+# How a program is compiled without proof. Without optimisation each call clears its locals: the program is
+# there sooner, and a run takes thirty times as long.
+OPTIMISED, QUICKLY = "-O1", "-O0"
 # How long a compilation may take, in seconds, and how often is looked how far it is.
 PATIENCE, PAUSE = 3600, 0.2
 
@@ -168,9 +173,9 @@ def untaken(name, folder, seen):
     return NotBuilt(f"{ended} {found} It said:\n{said}")
 
 
-def translated(name, folder):
-    """Has `rt try` translate a program for LLVM, ends it there, and gives the compiler's words, which name the
-    translation, a file of the folder."""
+def translated(name, folder, level):
+    """Has `rt try` translate a program for LLVM, ends it there, and gives the words that compile it at that
+    level; they name the translation, a file of the folder."""
     room, case, seen = folder / "try", folder / "cases", {}
     room.mkdir()
     case.mkdir()
@@ -189,20 +194,24 @@ def translated(name, folder):
         finally:
             ran.terminate()
             ran.wait()
-    # (without optimisation each call clears its locals, and a run takes thirty times as long)
-    return ["-O1" if word == "-O0" else word for word in words if not word.startswith("-fsanitize")]
+    return [level if word == "-O0" else word for word in words if not word.startswith("-fsanitize")]
 
 
-def compiled(name):
+def unproved(name, level):
+    """Where a program that is compiled at that level is kept."""
+    return UNPROVED / (name if level == OPTIMISED else f"{name}{level}")
+
+
+def compiled(name, level=OPTIMISED):
     """The program compiled of these sources without proof: what it does isn't proved, and it stops where an
     index is out of range, say. It is kept in build/unproved, and compiled again where a source has changed."""
-    program, made_of = UNPROVED / name, fingerprint(name, ("src",))
+    program, made_of = unproved(name, level), fingerprint(name, ("src",))
     if is_of(program, made_of):
         return program
     UNPROVED.mkdir(parents=True, exist_ok=True)
     with tempfile.TemporaryDirectory(prefix=f"{name}-", dir=UNPROVED) as made:
         folder = pathlib.Path(made).resolve()
-        words, top = translated(name, folder), kit()
+        words, top = translated(name, folder, level), kit()
         parts = [words[words.index("-o") + 1], top / "c" / "libos_c.a", top / "c" / "liblibc_c.a"]
         link = [top / "bin" / "rattle-link", "--target", "x86_64-unknown-linux-gnu", "--toolchain", top / "toolchain"]
         for command in (words, [*link, "-o", name, *parts]):
@@ -217,8 +226,28 @@ def compiled(name):
     return program
 
 
+def soonest(name):
+    """The program that is there soonest: the proved one, or else one that is compiled without proof. If none is
+    there yet, it tells what it compiles, and how long that took."""
+    made_of = fingerprint(name, ("src",))
+    kept = [path for level in (OPTIMISED, QUICKLY) if is_of(path := unproved(name, level), made_of)]
+    found = proved(name) or next(iter(kept), None)
+    if found:
+        return found
+    say = lambda text: print(text, file=sys.stderr, flush=True)
+    say(f"# {name} isn't proved and built of these sources. It and the {len(tower(name)) - 1} crates below it are\n"
+        "# compiled without proof, in some three minutes, and kept for the next time.")
+    began = time.time()
+    found = compiled(name, QUICKLY)
+    say(f"# Compiled in {time.time() - began:.0f} s: {found.relative_to(TOP)}. Nothing of it is proved.")
+    return found
+
+
 def main():
-    if len(sys.argv) < 4 or sys.argv[1] != "proved":
+    if sys.argv[1:2] == ["soonest"] and len(sys.argv) == 3:
+        print(soonest(sys.argv[2]))
+        return 0
+    if sys.argv[1:2] != ["proved"] or len(sys.argv) < 4:
         print(__doc__, file=sys.stderr)
         return 2
     before = begun(sys.argv[2:3])
@@ -229,4 +258,7 @@ def main():
 
 
 if __name__ == "__main__":
-    sys.exit(main())
+    try:
+        sys.exit(main())
+    except NotBuilt as fault:
+        sys.exit(str(fault))

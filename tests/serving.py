@@ -1,4 +1,4 @@
-"""A running `pdpd serve`, and a client that writes bytes to it: what tests/serve, tests/tables and the benchmarks share."""
+"""A running `pdpd serve`, and a client that writes bytes to it: what tests/serve.py, tests/tables.py and the benchmarks share."""
 import os
 import selectors
 import socket
@@ -10,6 +10,8 @@ import time
 OPERATOR = "operator-token-1"
 MOST_CONNECTIONS = 1_000_000
 PATIENCE = 30
+# How often the program is started before another port isn't tried, and its exit status where it can't listen.
+MOST_STARTS, STATUS_OF_SOCKET = 5, 5
 PIECE = 100  # messages that are sent together
 os.umask(0o077)  # a token file that others can read gets a line on standard error
 
@@ -126,13 +128,26 @@ class Served:
     """The program over a file, for so many connections. It is killed, if it still runs, at the end of the `with` statement."""
 
     def __init__(self, program, path, token_file, connections=MOST_CONNECTIONS, port=None, **more):
-        self.port = port or free_port()
-        address = f"127.0.0.1:{self.port}"
-        self.said = b""
-        self.process = subprocess.Popen([program, "serve", path, address, token_file, str(connections)], stdin=subprocess.DEVNULL,
-                                        stdout=subprocess.PIPE, stderr=subprocess.PIPE, **more)
+        start = lambda chosen: self.start([program, "serve", path, f"127.0.0.1:{chosen}", token_file, str(connections)], chosen, more)
+        start(port or free_port())
+        for _ in range(MOST_STARTS - 1):
+            if port or not self.port_is_taken():
+                break
+            start(free_port())
+
+    def start(self, words, port, more):
+        self.port, self.said = port, b""
+        self.process = subprocess.Popen(words, stdin=subprocess.DEVNULL, stdout=subprocess.PIPE, stderr=subprocess.PIPE, **more)
         self.first_line = self.process.stdout.readline()
-        self.listens = self.first_line == f"listening {address}\n".encode()
+        self.listens = self.first_line == f"listening 127.0.0.1:{port}\n".encode()
+
+    def port_is_taken(self):
+        """Whether the program has ended since it can't listen: another process got the port that was free a moment ago."""
+        return not self.first_line and self.process.wait(PATIENCE) == STATUS_OF_SOCKET
+
+    def listened(self):
+        """None where it listens; else what it said and its exit status."""
+        return None if self.listens else self.ended()[1:]
 
     def client(self):
         return Client(self.port)

@@ -59,7 +59,7 @@ def enter(words):
     """Runs the test once more in namespaces of its own, and answers with its status."""
     folder = TOP / "build" / f"deploy-test-{os.getpid()}"
     if any(pathlib.Path(own) in folder.parents for own in OWN):
-        print(f"tests/deploy: missing: a clone that is in none of {', '.join(OWN)}")
+        print(f"tests/deploy.py: missing: a clone that is in none of {', '.join(OWN)}")
         return 2
     folder.mkdir(mode=0o755, parents=True)
     # who is told to end ends all that runs in there, and leaves nothing (`run` kills what it waits for)
@@ -109,7 +109,7 @@ class Machine:
 
     def pack(self, program):
         """Makes the archive, as `make dist` does."""
-        words = [TOP / "deploy" / "dist", "--to", self.folder, *(["--program", program] if program else [])]
+        words = [TOP / "deploy" / "dist.py", "--to", self.folder, *(["--program", program] if program else [])]
         subprocess.run(words, check=True, stdout=subprocess.DEVNULL)
 
     def walk(self):

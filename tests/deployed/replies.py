@@ -1,12 +1,11 @@
 """What is answered through four shards: the API's examples, odd requests, odd paths, the list of domains."""
-import importlib.machinery
-import importlib.util
 import json
 import os
 import shutil
 import subprocess
-import sys
 import time
+
+import api
 
 from . import clients
 from .clients import Client, Load, message, once, read, status
@@ -23,31 +22,19 @@ OTHERWISE = {
 }
 
 
-def api():
-    """tests/api, which reads the page of the API."""
-    path = str(TOP / "tests" / "api")
-    loader = importlib.machinery.SourceFileLoader("api", path)
-    module = importlib.util.module_from_spec(importlib.util.spec_from_loader("api", loader))
-    arguments, sys.argv = sys.argv, [path]
-    loader.exec_module(module)
-    sys.argv = arguments
-    return module
-
-
 def examples(machine, checks):
     """Each example of docs/guide/API.md: every message before it, and its own, are answered as the page says."""
-    module = api()
-    pages, _ = module.read_page((TOP / module.PAGE).read_text(encoding="utf-8"))
-    machine.change_token(module.OPERATOR_TOKEN)
+    pages, _ = api.read_page((TOP / api.PAGE).read_text(encoding="utf-8"))
+    machine.change_token(api.OPERATOR_TOKEN)
     for example in pages.examples.values():
-        if module.error_body("Unavailable").encode() in example.reply:
+        if api.error_body("Unavailable").encode() in example.reply:
             continue  # for want of memory
         machine.operator.clear()
-        before = [module.stepped(pages, step) for step in pages.states[example.state]]
+        before = [api.stepped(pages, step) for step in pages.states[example.state]]
         with Client(PLAIN) as client:
             for data, wanted in before:
                 checks.expect(f"before {example.name}: {data[:60]}", read(client.ask(data)), read(wanted))
-            found, wanted = read(client.ask(module.bytes_of(example.head, example.body))), read(example.reply)
+            found, wanted = read(client.ask(api.bytes_of(example.head, example.body))), read(example.reply)
         if example.name in OTHERWISE:
             wanted = OTHERWISE[example.name]
             found = found and (found[0], found[2])
@@ -77,7 +64,7 @@ def desk(machine, checks):
     trusts = {"DALVEZOUR_TOKEN": "ward-admin-1", "SSL_CERT_FILE": "/etc/haproxy/pdpd.crt"}
     for word, *more, wanted in (("deploy", "--yes", "Deployed: number 1."), ("status", "--strict", "is what runs there"),
                                 ("deploy", "--yes", "Nothing is to be done.")):
-        words = [TOP / "author" / "policy", word, "--program", "none", *more, folder]
+        words = [TOP / "tools" / "policy" / "policy.py", word, "--program", "none", *more, folder]
         ran = subprocess.run(words, env={**os.environ, **trusts}, capture_output=True, text=True, check=False)
         checks.expect(f"policy {word}: {ran.stdout}{ran.stderr}", (ran.returncode, wanted in ran.stdout), (0, True))
     trusts.pop("SSL_CERT_FILE")

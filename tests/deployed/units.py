@@ -111,7 +111,7 @@ def installed(machine, checks):
     with open(folder / "pdpd", "r+b") as program:
         program.truncate(os.path.getsize(folder / "pdpd") - 1)
     checks.expect("the archive", archive.stat().st_size > 10_000, True)
-    drawn = sh(f"{TOP}/deploy/draw --show")
+    drawn = sh(f"{TOP}/deploy/draw.py --show")
     checks.expect("the drawing is that of its text", drawn, (TOP / "docs" / "guide" / "deployment.svg").read_text())
 
 

@@ -4,7 +4,8 @@ use std::alloc::Global;
 use std::fmt::Debug;
 use xa_value::{OrMemory, Value};
 
-/// The answer to a row, as far as it is written. One that finds no memory is cut, and takes what else comes as if it had found it.
+/// The answer to a row, as far as it is written. One that finds no memory is cut, and takes what
+/// else comes as if it had found it.
 #[derive(Drop)]
 pub struct Answer {
     alloc: Global,

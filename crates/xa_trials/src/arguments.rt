@@ -1,4 +1,5 @@
-//! Arguments as fields: a value is a field `TYPE:TEXT`, and a bag a field `bag:TYPE` with a field `+TEXT` for each of its values.
+//! Arguments as fields: a value is a field `TYPE:TEXT`, and a bag a field `bag:TYPE` with a field
+//! `+TEXT` for each of its values.
 use crate::field::text_of;
 use crate::no_answer::NoAnswer;
 use std::alloc::Global;

@@ -1,4 +1,5 @@
-//! Rows of decisions: the response to a request, by active documents, a root and a source of attributes, at a moment.
+//! Rows of decisions: the response to a request, by active documents, a root and a source of attributes,
+//! at a moment.
 use crate::answer::Answer;
 use crate::bodies::rows_of;
 use crate::documents::active_of;

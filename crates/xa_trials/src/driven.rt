@@ -1,5 +1,7 @@
-//! Rows of connections that are driven. Events are as in rows of connections, and further: `comes:BYTES` is what the peer sends next; `reads:`, `writes:` and `flushes:`
-//! say how these calls go; `clock:N` has the clock tell so many moments alone; and `drive:N` drives a connection with all that, and begins with another peer.
+//! Rows of connections that are driven. Events are as in rows of connections, and further:
+//! `comes:BYTES` is what the peer sends next; `reads:`, `writes:` and `flushes:` say how these
+//! calls go; `clock:N` has the clock tell so many moments alone; and `drive:N` drives a connection
+//! with all that, and begins with another peer.
 use crate::answer::Answer;
 use crate::clock::StandingClock;
 use crate::field::{bytes_of, number_of};
@@ -23,7 +25,8 @@ struct Driving<R: Records + Drop> {
 }
 
 impl<R: Records + Drop> Driving<R> {
-    /// Drives a connection, and adds how that has ended, what the peer has got, and how much of what it sent was left.
+    /// Drives a connection, and adds how that has ended, what the peer has got, and how much of
+    /// what it sent was left.
     fn drive(&mut self, answer: &mut Answer, text: &str) -> Result<(), NoAnswer> {
         let mut clock = StandingClock {
             moment: self.fronted.moment,
@@ -88,7 +91,8 @@ pub fn happenings<R: Records + Drop>(
     Ok(())
 }
 
-/// What becomes of driven connections: over a keeper in memory, and over tables, which have to answer the same.
+/// What becomes of driven connections: over a keeper in memory, and over tables, which have to
+/// answer the same.
 pub fn driven(answer: &mut Answer, events: &[&str]) -> Result<(), NoAnswer> {
     let alloc = answer.alloc();
     answered(happenings(answer, PlainRecords::new(alloc), events))?;

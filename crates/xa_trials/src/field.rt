@@ -79,7 +79,8 @@ impl Reader {
         self.put(rest.as_bytes())
     }
 
-    /// Puts the text since the start so often that it stands there as often as was said, and the bytes after it.
+    /// Puts the text since the start so often that it stands there as often as was said, and the
+    /// bytes after it.
     fn repeat(&mut self, rest: &[u8]) -> Result<(), NoAnswer> {
         let text = Vec::from_slice(self.alloc, self.bytes.get(self.start..).unwrap_or(&[]))?;
         self.bytes.truncate(self.start);
@@ -111,8 +112,8 @@ where
     }
 }
 
-/// The bytes that the field stands for: `\n`, `\r`, `\t` and `\xHH` are a byte, `\{COUNT,TEXT\}` is the text COUNT times, and any
-/// other letter after a backslash stands for itself.
+/// The bytes that the field stands for: `\n`, `\r`, `\t` and `\xHH` are a byte, `\{COUNT,TEXT\}` is
+/// the text COUNT times, and any other letter after a backslash stands for itself.
 pub fn bytes_of(alloc: Global, field: &str) -> Result<Vec<u8>, NoAnswer> {
     let mut reader = Reader {
         alloc,

@@ -1,6 +1,8 @@
-//! Rows of connections: what a front answers to events. Behind `made:BYTES`, which are messages that have to succeed, come `begin:`, `piece:N:BYTES`, `answer:N` and
-//! `finish:N`, the calls of a front. `answers:N` asks for all answers that there are, and `moment:SECONDS` dates those that follow. `waits:N-M:BYTES` has bytes wait for
-//! some connections, `turns:SIZE` hands over what waits, so many bytes of each in turn, and `cuts:BYTES` hands over bytes cut behind each of them.
+//! Rows of connections: what a front answers to events. Behind `made:BYTES`, which are messages
+//! that have to succeed, come `begin:`, `piece:N:BYTES`, `answer:N` and `finish:N`, the calls of a
+//! front. `answers:N` asks for all answers that there are, and `moment:SECONDS` dates those that
+//! follow. `waits:N-M:BYTES` has bytes wait for some connections, `turns:SIZE` hands over what
+//! waits, so many bytes of each in turn, and `cuts:BYTES` hands over bytes cut behind each of them.
 use crate::answer::Answer;
 use crate::decisions::moment_of;
 use crate::field::{bytes_of, number_of};
@@ -92,7 +94,8 @@ fn answer_all<R: Records + Drop>(
     Ok(())
 }
 
-/// Hands over the next bytes of those that wait for a connection, so many at most, and asks for all answers. Whether there were some.
+/// Hands over the next bytes of those that wait for a connection, so many at most, and asks for all
+/// answers. Whether there were some.
 fn turn<R: Records + Drop>(
     front: &mut Front<R>,
     line: &mut Line,
@@ -221,7 +224,8 @@ impl<R: Records + Drop> Fronted<R> {
         Ok(())
     }
 
-    /// Hands over what waits, so many bytes of each connection in turn, and asks for all answers after each piece. Whether something waited.
+    /// Hands over what waits, so many bytes of each connection in turn, and asks for all answers
+    /// after each piece. Whether something waited.
     fn round(&mut self, size: usize) -> Result<bool, NoAnswer> {
         let mut has_more = false;
         for line in self.lines.iter_mut() {
@@ -253,7 +257,8 @@ impl<R: Records + Drop> Fronted<R> {
         Ok(())
     }
 
-    /// Hands over the bytes in two pieces on a connection of their own. How many replies there were to the first piece, and what was answered in all.
+    /// Hands over the bytes in two pieces on a connection of their own. How many replies there were
+    /// to the first piece, and what was answered in all.
     fn cut(&mut self, bytes: &[u8], place: usize) -> Result<(usize, Output), NoAnswer> {
         let mut output = Output::new(self.alloc);
         let conn = self.front.open()?;
@@ -266,7 +271,8 @@ impl<R: Records + Drop> Fronted<R> {
         Ok((before, output))
     }
 
-    /// Hands over the bytes cut behind each of them, and adds what was answered, and then to how many messages before the second piece came.
+    /// Hands over the bytes cut behind each of them, and adds what was answered, and then to how
+    /// many messages before the second piece came.
     fn cuts(&mut self, answer: &mut Answer, text: &str) -> Result<(), NoAnswer> {
         let bytes = bytes_of(self.alloc, text)?;
         let mut outputs = Runs::new(self.alloc);
@@ -300,7 +306,8 @@ impl<R: Records + Drop> Fronted<R> {
         }
     }
 
-    /// Makes the call of the front that the word and the text behind it say, or lets happen what else they say.
+    /// Makes the call of the front that the word and the text behind it say, or lets happen what
+    /// else they say.
     fn call(&mut self, answer: &mut Answer, word: &str, text: &str) -> Result<(), NoAnswer> {
         match word {
             "begin" => self.begin(answer),
@@ -338,7 +345,8 @@ fn happenings<R: Records + Drop>(
     Ok(())
 }
 
-/// What a front answers to the events: over a keeper in memory, and over tables, which have to answer the same.
+/// What a front answers to the events: over a keeper in memory, and over tables, which have to
+/// answer the same.
 pub fn front(answer: &mut Answer, events: &[&str]) -> Result<(), NoAnswer> {
     let alloc = answer.alloc();
     answered(happenings(answer, PlainRecords::new(alloc), events))?;

@@ -1,5 +1,7 @@
-//! Rows of a keeper of records: what it answers to changes and readings, one after another. A call is a field of its word, the domain's name and a text,
-//! with a space between: `create a`, `put a ask TOKEN`, `upload a DOCUMENT`. The key of a document is written as a document that has it.
+//! Rows of a keeper of records: what it answers to changes and readings, one after another. A
+//! call is a field of its word, the domain's name and a text, with a space between: `create a`,
+//! `put a ask TOKEN`, `upload a DOCUMENT`. The key of a document is written as a document that
+//! has it.
 use crate::answer::Answer;
 use crate::field::{kept_text, number_of};
 use crate::keeper_changes::{change_document, change_domain, change_held, put_token, upload};
@@ -9,7 +11,8 @@ use crate::no_answer::NoAnswer;
 use xa_records::{PlainRecords, Records};
 use xa_value::Text;
 
-/// What a keeper answers to the calls, of which the first finds no domain: one in memory, and one over tables, which has to answer the same.
+/// What a keeper answers to the calls, of which the first finds no domain: one in memory, and one
+/// over tables, which has to answer the same.
 pub fn keeper(answer: &mut Answer, calls: &[&str]) -> Result<(), NoAnswer> {
     let alloc = answer.alloc();
     keeper_in_memory(answer, calls)?;
@@ -25,7 +28,8 @@ pub fn keeper_in_memory(answer: &mut Answer, calls: &[&str]) -> Result<(), NoAns
     make_all(answer, PlainRecords::new(alloc), calls)
 }
 
-/// The same, by keepers that begin with one domain, which the text says with its number and its epoch: `NAME NUMBER EPOCH`.
+/// The same, by keepers that begin with one domain, which the text says with its number and its
+/// epoch: `NAME NUMBER EPOCH`.
 pub fn keeper_with(answer: &mut Answer, text: &str, calls: &[&str]) -> Result<(), NoAnswer> {
     let alloc = answer.alloc();
     let (name, numbers) = first_word_and_rest(text);

@@ -97,7 +97,8 @@ pub fn change_document<R: Records>(
     }
 }
 
-/// Takes the token away, sets the root to that of the body, or the rows of the source of attributes to those of the body.
+/// Takes the token away, sets the root to that of the body, or the rows of the source of attributes
+/// to those of the body.
 pub fn change_held<R: Records>(
     answer: &mut Answer,
     records: &mut R,

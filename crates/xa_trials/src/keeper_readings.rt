@@ -1,4 +1,5 @@
-//! Readings that a row asks of a keeper of records. What isn't there is answered `!None`, and a list ends with `.`.
+//! Readings that a row asks of a keeper of records. What isn't there is answered `!None`, and a
+//! list ends with `.`.
 use crate::answer::Answer;
 use crate::bodies::{push_root, push_rows};
 use crate::field::bytes_of;
@@ -62,7 +63,8 @@ pub fn gate<R: Records>(
     Ok(())
 }
 
-/// What decides in the domain: the texts of its active documents, its root, and the rows of its source of attributes.
+/// What decides in the domain: the texts of its active documents, its root, and the rows of its
+/// source of attributes.
 pub fn view<R: Records>(answer: &mut Answer, records: &mut R, name: &Text) -> Result<(), NoAnswer> {
     let read = records.view(answer.alloc(), name);
     let Some(view) = finding_of(answer, read) else {

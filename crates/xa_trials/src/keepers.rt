@@ -47,7 +47,8 @@ pub fn tables(alloc: Global) -> Result<SqlRecords<MemStore>, NoAnswer> {
     keeper_over(alloc, connection(alloc)?)
 }
 
-/// A keeper over tables in memory with one domain of that name, number and epoch, in which nothing has been put yet; the next gets the number after it.
+/// A keeper over tables in memory with one domain of that name, number and epoch, in which nothing
+/// has been put yet; the next gets the number after it.
 pub fn tables_with(
     alloc: Global,
     name: &str,

@@ -19,7 +19,8 @@ pub fn tree(answer: &mut Answer, root: &str, texts: &[&str]) -> Result<(), NoAns
     Ok(())
 }
 
-/// Adds the tree: `?` for a reference that leads to nothing, else the name of the algorithm, of a set with its children.
+/// Adds the tree: `?` for a reference that leads to nothing, else the name of the algorithm, of a
+/// set with its children.
 #[cycle(shown)]
 fn show(answer: &mut Answer, tree: &Linked) {
     match tree {

@@ -1,7 +1,9 @@
-//! Rows of connections: what a client of this process receives from a server over a socket. Events are as in rows of a server: `made:BYTES`, `piece:BYTES`, which
-//! the client writes, `moment:SECONDS`, at which the server's clock stands from then on, and `close:`, which ends the connection and begins another. A connection has
-//! its ends in one thread, one after the other: the client connects, writes, and ends its writing side; then the server takes the connection, answers it and
-//! closes it; then the client reads.
+//! Rows of connections: what a client of this process receives from a server over a socket. Events
+//! are as in rows of a server: `made:BYTES`, `piece:BYTES`, which the client writes,
+//! `moment:SECONDS`, at which the server's clock stands from then on, and `close:`, which ends the
+//! connection and begins another. A connection has its ends in one thread, one after the other: the
+//! client connects, writes, and ends its writing side; then the server takes the connection,
+//! answers it and closes it; then the client reads.
 use crate::answer::Answer;
 use crate::clock::StandingClock;
 use crate::decisions::moment_of;
@@ -26,8 +28,8 @@ struct Sockets<R: Records + Drop> {
 }
 
 impl<R: Records + Drop> Sockets<R> {
-    /// Has a client connect and write, and the server take the connection, answer it and close it. Adds how that has ended for the server and what the client has
-    /// received.
+    /// Has a client connect and write, and the server take the connection, answer it and close it.
+    /// Adds how that has ended for the server and what the client has received.
     fn connection(&mut self, answer: &mut Answer) -> Result<(), NoAnswer> {
         let mut client = TcpStream::connect(&self.rt, self.listener.local_addr()?)?;
         client.write_all(&self.written)?;

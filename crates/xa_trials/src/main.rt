@@ -1,4 +1,5 @@
-//! Answers rows: each line of standard input is a row of fields with a tab between, and its answer is a line of standard output.
+//! Answers rows: each line of standard input is a row of fields with a tab between, and its answer
+//! is a line of standard output.
 #![tactic(auto)]
 
 mod answer;

@@ -1,4 +1,5 @@
-//! Rows of streams and their parts: the messages of a stream, where a message's target leads, and which texts are tokens and names.
+//! Rows of streams and their parts: the messages of a stream, where a message's target leads, and
+//! which texts are tokens and names.
 use crate::answer::Answer;
 use crate::field::bytes_of;
 use crate::no_answer::NoAnswer;
@@ -72,6 +73,10 @@ fn push_route(answer: &mut Answer, route: &Route) {
         Route::Domains => answer.word("domains"),
         Route::Operator { domain, command } => {
             answer.name("", command);
+            answer.field("", domain.as_slice());
+        }
+        Route::Decide { domain } => {
+            answer.word("Decide");
             answer.field("", domain.as_slice());
         }
         Route::Domain { domain, command } => {

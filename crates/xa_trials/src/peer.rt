@@ -1,4 +1,5 @@
-//! The other end of a connection that is driven: a reader and a writer of their own, whose calls are short, are interrupted, or fail.
+//! The other end of a connection that is driven: a reader and a writer of their own, whose calls
+//! are short, are interrupted, or fail.
 use crate::answer::Answer;
 use crate::field::number_of;
 use crate::no_answer::NoAnswer;
@@ -7,7 +8,8 @@ use std::alloc::Global;
 use std::io::{self, ErrorKind, Read, Write};
 use std::mem;
 
-/// Calls of one kind: how many bytes each gives or takes at most, which one fails, and which are interrupted. They are counted from 1 on.
+/// Calls of one kind: how many bytes each gives or takes at most, which one fails, and which are
+/// interrupted. They are counted from 1 on.
 #[derive(Clone, Copy, Drop)]
 pub struct Calls {
     size: usize,

@@ -5,8 +5,8 @@ use crate::field::{number_of, text_of};
 use crate::no_answer::NoAnswer;
 use xa_value::{DataType, Plain, Text, TextRef, Value};
 
-/// The value of the member under the type, and the member as which it is written. The member is a field `text:TEXT`, `boolean:true`,
-/// `boolean:false` or `integer:DIGITS`.
+/// The value of the member under the type, and the member as which it is written. The member is a
+/// field `text:TEXT`, `boolean:true`, `boolean:false` or `integer:DIGITS`.
 pub fn plain(answer: &mut Answer, name: &str, member: &str) -> Result<(), NoAnswer> {
     let data_type = type_named(name)?;
     let Some((kind, field)) = member.split_once(':') else {

@@ -11,7 +11,8 @@ use xa_records::{PlainRecords, Records};
 use xa_server::{Event, FrontError, Outcome};
 use xa_value::Moment;
 
-/// Plays the call that the word and the text behind it say, at the moment. No outcome where it is made already.
+/// Plays the call that the word and the text behind it say, at the moment. No outcome where it is
+/// made already.
 fn outcomes_of<R: Records + Drop>(
     fronted: &mut Fronted<R>,
     moment: Moment,
@@ -85,7 +86,8 @@ fn play<R: Records + Drop>(
     Ok(())
 }
 
-/// What a front answers to the events, which are played: over a keeper in memory, and over tables, which have to answer the same.
+/// What a front answers to the events, which are played: over a keeper in memory, and over tables,
+/// which have to answer the same.
 pub fn played(answer: &mut Answer, events: &[&str]) -> Result<(), NoAnswer> {
     let alloc = answer.alloc();
     answered(play(answer, PlainRecords::new(alloc), events))?;

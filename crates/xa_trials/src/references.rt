@@ -79,7 +79,8 @@ fn push_version(answer: &mut Answer, version: &Option<Version>) -> Result<(), No
     Ok(())
 }
 
-/// Adds a field of the word and KIND|ID|PATTERN|EARLIEST|LATEST, where what the reference doesn't say is empty.
+/// Adds a field of the word and KIND|ID|PATTERN|EARLIEST|LATEST, where what the reference doesn't say is
+/// empty.
 pub fn push_reference(
     answer: &mut Answer,
     word: &str,

@@ -3,7 +3,8 @@ use crate::answer::Answer;
 use crate::no_answer::NoAnswer;
 use std::alloc::Global;
 
-/// Fields that are added one after another: equal ones in a row once, and behind them how many they are, as `*COUNT`.
+/// Fields that are added one after another: equal ones in a row once, and behind them how many they
+/// are, as `*COUNT`.
 #[derive(Drop)]
 pub struct Runs {
     before: Vec<u8>,

@@ -133,7 +133,8 @@ impl<R: Reopen + Drop> Trial<R> {
         })
     }
 
-    /// Hands over bytes, unless the connection has ended, and adds the replies to all messages that are whole then, and to a fault. Whether there were some.
+    /// Hands over bytes, unless the connection has ended, and adds the replies to all messages that
+    /// are whole then, and to a fault. Whether there were some.
     fn push_answers(
         &mut self,
         answer: &mut Answer,
@@ -194,7 +195,8 @@ impl<R: Reopen + Drop> Trial<R> {
         Ok(())
     }
 
-    /// Goes on with another stream; after a restart with another server over the same keeper, and else after what the server has counted is added.
+    /// Goes on with another stream; after a restart with another server over the same keeper, and
+    /// else after what the server has counted is added.
     fn trial_after(self, answer: &mut Answer, word: &str) -> Result<Trial<R>, NoAnswer> {
         let Trial {
             alloc,
@@ -217,7 +219,8 @@ impl<R: Reopen + Drop> Trial<R> {
     }
 }
 
-/// What the server answers to the events: over a keeper in memory, and over tables, which have to answer the same.
+/// What the server answers to the events: over a keeper in memory, and over tables, which have to
+/// answer the same.
 pub fn server(answer: &mut Answer, events: &[&str]) -> Result<(), NoAnswer> {
     let alloc = answer.alloc();
     server_in_memory(answer, events)?;

@@ -1,7 +1,9 @@
-//! Rows of stores that are opened as a keeper's. The first field behind the kind says how the store begins: `empty`, or `keeper`, with the tables of a
-//! keeper without domains. Statements of SQL follow, which are run. Then a crash is taken of its files, in memory, and what it leaves is opened at both of its
-//! ends, which have to be answered alike. The answer says whether the keeper is opened and the store has a keeper's tables and no others, and of a store that is
-//! refused whether it holds something else than before.
+//! Rows of stores that are opened as a keeper's. The first field behind the kind says how the store
+//! begins: `empty`, or `keeper`, with the tables of a keeper without domains. Statements of SQL
+//! follow, which are run. Then a crash is taken of its files, in memory, and what it leaves is
+//! opened at both of its ends, which have to be answered alike. The answer says whether the keeper
+//! is opened and the store has a keeper's tables and no others, and of a store that is refused
+//! whether it holds something else than before.
 use crate::answer::Answer;
 use crate::field::kept_text;
 use crate::files::{File, Store, after_crash, connection_to, files_under, keeper_of, new_files};
@@ -74,7 +76,8 @@ fn contents(alloc: Global, conn: &mut Connection<Store>) -> Result<String, NoAns
     Ok(held)
 }
 
-/// Whether the store that is opened has a keeper's tables and no others, or why it isn't opened; and its connection.
+/// Whether the store that is opened has a keeper's tables and no others, or why it isn't opened;
+/// and its connection.
 fn judgement_of(
     alloc: Global,
     conn: Connection<Store>,
@@ -96,7 +99,8 @@ fn push_opened(answer: &mut Answer, is_ours: bool) {
     }
 }
 
-/// Opens the store in the files as a keeper's: whether it has a keeper's tables and no others; or why it isn't opened, and whether it holds something else then.
+/// Opens the store in the files as a keeper's: whether it has a keeper's tables and no others; or
+/// why it isn't opened, and whether it holds something else then.
 fn judge(answer: &mut Answer, files: Files<File>) -> Result<(), NoAnswer> {
     let alloc = answer.alloc();
     let mut conn = opened(alloc, files)?;
@@ -114,7 +118,8 @@ fn judge(answer: &mut Answer, files: Files<File>) -> Result<(), NoAnswer> {
     Ok(())
 }
 
-/// What opening the store answers after a crash: one that leaves what was synced alone, and one that leaves all that was written, which has to be answered the same.
+/// What opening the store answers after a crash: one that leaves what was synced alone, and one
+/// that leaves all that was written, which has to be answered the same.
 pub fn opening(answer: &mut Answer, word: &str, statements: &[&str]) -> Result<(), NoAnswer> {
     let alloc = answer.alloc();
     let conn = store_after_statements(alloc, word, statements)?;

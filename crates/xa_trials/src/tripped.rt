@@ -1,4 +1,5 @@
-//! Rows of a keeper that fails: a script of messages over keepers of which each fails at another call, and a server's row over a keeper that fails at one.
+//! Rows of a keeper that fails: a script of messages over keepers of which each fails at another
+//! call, and a server's row over a keeper that fails at one.
 use crate::answer::Answer;
 use crate::decisions::moment_of;
 use crate::field::{bytes_of, number_of};
@@ -66,7 +67,8 @@ pub fn messages_of(alloc: Global, events: &[&str]) -> Result<Vec<(Moment, Messag
     Ok(messages)
 }
 
-/// How many of the messages are refused by the server; nothing, where another reply isn't the one of a server to which those never came.
+/// How many of the messages are refused by the server; nothing, where another reply isn't the one
+/// of a server to which those never came.
 fn refusals<R: Records, S: Records>(
     server: &mut Server<R>,
     spared: &mut Server<S>,
@@ -84,7 +86,8 @@ fn refusals<R: Records, S: Records>(
     Some(count)
 }
 
-/// Runs the script over a keeper whose call after so many others fails: as many messages are refused as calls have failed.
+/// Runs the script over a keeper whose call after so many others fails: as many messages are
+/// refused as calls have failed.
 fn run_once<R: Begin + Drop>(
     alloc: Global,
     messages: &[(Moment, Message)],
@@ -146,7 +149,8 @@ fn each_in_turn<R: Begin + Drop>(
     Ok(())
 }
 
-/// How many calls of the keeper the script makes, each of which failed in turn: over a keeper in memory, and over tables, to which the same has to come.
+/// How many calls of the keeper the script makes, each of which failed in turn: over a keeper in
+/// memory, and over tables, to which the same has to come.
 pub fn tripped(answer: &mut Answer, events: &[&str]) -> Result<(), NoAnswer> {
     let alloc = answer.alloc();
     let messages = messages_of(alloc, events)?;
@@ -157,7 +161,8 @@ pub fn tripped(answer: &mut Answer, events: &[&str]) -> Result<(), NoAnswer> {
     Ok(())
 }
 
-/// What a server answers over a keeper whose call after so many others fails: one in memory, and one over tables, which has to answer the same.
+/// What a server answers over a keeper whose call after so many others fails: one in memory, and
+/// one over tables, which has to answer the same.
 pub fn tripped_after(answer: &mut Answer, left: &str, events: &[&str]) -> Result<(), NoAnswer> {
     let alloc = answer.alloc();
     let left = number_of(left)?;

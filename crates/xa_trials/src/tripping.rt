@@ -72,8 +72,8 @@ impl Trip {
     }
 }
 
-/// A keeper around another, of whose calls the one after so many others isn't made, but fails with `Store`; what comes after it is made. `faults` isn't counted
-/// as a call.
+/// A keeper around another, of whose calls the one after so many others isn't made, but fails with
+/// `Store`; what comes after it is made. `faults` isn't counted as a call.
 #[derive(Drop)]
 pub struct Tripping<R: Records> {
     inner: R,
@@ -118,7 +118,14 @@ fn count_reading<X>(faults: &mut u64, done: &Result<X, Failure>)
 }
 
 impl<R: Records> Records for Tripping<R> {
-    ghost custody = { λ t. record { kept = (R.custody t.inner).kept; sound = (R.custody t.inner).sound; clean = (R.custody t.inner).clean; may_leave = (R.custody t.inner).may_leave; faults = t.faults; is_open = (R.custody t.inner).is_open } };
+    ghost custody = { λ t. record {
+      kept = (R.custody t.inner).kept;
+      sound = (R.custody t.inner).sound;
+      clean = (R.custody t.inner).clean;
+      may_leave = (R.custody t.inner).may_leave;
+      faults = t.faults;
+      is_open = (R.custody t.inner).is_open;
+    } };
 
     fn faults(&self) -> u64 {
         self.faults

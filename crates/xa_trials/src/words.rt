@@ -1,6 +1,8 @@
-//! Rows in short. `\(WORD)` stands for the text that a row `define WORD TEXT` above gave; `\[COUNT,TEXT\]` for the text so often, and `\[FIRST-LAST,TEXT\]` for the text
-//! once with each of these numbers, in which `\#` stands for the number and `\-` for the one before. Repetitions may stand in one another: a number is that of the
-//! innermost that has numbers. All else stays as it is.
+//! Rows in short. `\(WORD)` stands for the text that a row `define WORD TEXT` above gave;
+//! `\[COUNT,TEXT\]` for the text so often, and `\[FIRST-LAST,TEXT\]` for the text once with each
+//! of these numbers, in which `\#` stands for the number and `\-` for the one before.
+//! Repetitions may stand in one another: a number is that of the innermost that has numbers. All
+//! else stays as it is.
 use crate::field::number_of;
 use crate::no_answer::NoAnswer;
 use std::alloc::Global;

@@ -1,0 +1,216 @@
+#!/usr/bin/env python3
+"""Runs all tests: every stored row, the stored transcript, a comparison of 2,000 random rows with the model,
+the real program from outside, both programs with each allocation refused in turn, the policy author's
+desk, whether each wrong body still applies, and whether what is generated in the pages is right. The last line is 'N passed, M failed'; each answer and each check counts as one.
+
+usage: tests/all.py             over the programs that are proved and built of these very sources; where one
+                                isn't, it is compiled of them without proof
+       tests/all.py --proved    where one isn't, that is a failure: as `make prove` runs them
+"""
+import os
+import pathlib
+import re
+import subprocess
+import sys
+import tempfile
+import threading
+import time
+from concurrent.futures import Future, ThreadPoolExecutor
+
+TESTS = pathlib.Path(__file__).resolve().parent
+TOP = TESTS.parent
+sys.path.insert(0, str(TESTS))
+sys.dont_write_bytecode = True
+
+import programs  # noqa: E402
+
+# Rows of one run of the program, and of one comparison with the model; the comparisons together have 2,000.
+ROWS_A_RUN, ROWS_COMPARED, COMPARISONS = 250, 250, 8
+SECONDS = 1800
+SURROUNDINGS = {**os.environ, "PYTHONDONTWRITEBYTECODE": "1"}
+
+printing = threading.Lock()
+
+
+class Program:
+    """A program that tests run, once it is there."""
+
+    def __init__(self, name, only_proved):
+        self.name, self.only_proved, self.is_proved, self.path = name, only_proved, False, Future()
+
+    def find(self):
+        """Finds it, or compiles it."""
+        try:
+            found = programs.proved(self.name)
+            self.is_proved = found is not None
+            if not found and self.only_proved:
+                raise programs.NotBuilt(f"{self.name} isn't proved and built of these very sources")
+            self.path.set_result(str(found or programs.compiled(self.name)))
+        except Exception as fault:  # what waits for it is told
+            self.path.set_exception(fault)
+            raise
+        return 0, 0, f"{'proved and built' if self.is_proved else 'compiled without proof'}, of these sources"
+
+
+def count(text):
+    """How many passed and failed, by the last line that says so."""
+    found = re.findall(r"(\d+) passed, (\d+) failed", text)
+    return tuple(map(int, found[-1])) if found else (0, 0)
+
+
+def ran(command, counted=count, **how):
+    """Runs a command: how many passed and failed, and what it wrote. A status other than 0 is a failure."""
+    how = {"cwd": TOP, "env": SURROUNDINGS, "stdin": subprocess.DEVNULL, "timeout": SECONDS, **how}
+    done = subprocess.run(command, stdout=subprocess.PIPE, stderr=subprocess.STDOUT, check=False, **how)
+    text = done.stdout.decode(errors="replace")
+    passed, failed = counted(text)
+    return passed, max(failed, 1) if done.returncode or not passed + failed else failed, text
+
+
+def run(program, words, held):
+    """What a program writes to those bytes, and what is wrong with its end, if something is."""
+    words = [program.path.result(), *words]
+    done = subprocess.run(words, input=held, capture_output=True, timeout=SECONDS, check=False)
+    said = f"{program.name} ended with status {done.returncode}: {done.stderr.decode(errors='replace')[-500:]}"
+    return done.stdout, said if done.returncode else ""
+
+
+def rows(program, words, first, asked, wanted):
+    """Some of the stored rows, of which the first has that number, behind those that define words."""
+    written, said = run(program, [], b"".join(line + b"\n" for line in [*words, *asked]))
+    found = written.split(b"\n")[len(words):-1]
+    others = [at for at, answer in enumerate(wanted) if found[at:at + 1] != [answer]]
+    short = lambda lines, at: b"".join(lines[at:at + 1])[:300].decode()
+    told = [f"line {first + at} of crates/xa_trials/stdin: {short(asked, at)}\n"
+            f"  found  {short(found, at)}\n  wanted {short(wanted, at)}" for at in others[:5]]
+    failed = max(len(others), 1 if said or len(found) != len(asked) else 0)
+    return len(asked) - len(others), failed, "\n".join([*told, said])
+
+
+def transcript(program):
+    """The stored transcript of pdpd, and what it writes to it."""
+    crate = TOP / "crates" / "pdpd"
+    written, said = run(program, (crate / "args").read_text().split(), (crate / "stdin").read_bytes())
+    is_right = not said and written == (crate / "stdout").read_bytes()
+    return (1, 0, "") if is_right else (0, 1, f"{said}\nIt wrote at last {written[-500:]!r}")
+
+
+def but_for(pattern, text):
+    """How many passed and failed, where a line says how many there were and how many were wrong."""
+    found = re.search(pattern, text)
+    return (int(found[1]) - int(found[2]), int(found[2])) if found else (0, 0)
+
+
+def model_alone():
+    """Worked examples of all routes, answered by the model alone."""
+    pattern = r"(\d+) messages in \d+ conversations, (\d+) answered otherwise"
+    return ran([sys.executable, "tests/model/compare/worked.py"], lambda text: but_for(pattern, text))
+
+
+def agreement(program, seed):
+    """Random rows of that seed, answered by the program and by the model."""
+    agree, words = [sys.executable, "tests/model/compare/agree.py"], [str(seed), str(ROWS_COMPARED)]
+    with tempfile.TemporaryDirectory() as made:
+        held, written = pathlib.Path(made) / "rows", pathlib.Path(made) / "answers"
+        held.mkdir()
+        subprocess.run([*agree, "rows", held, *words], cwd=TOP, env=SURROUNDINGS, check=True)
+        found, said = run(program, [], b"".join(path.read_bytes() for path in sorted(held.iterdir())))
+        written.write_bytes(found)
+        told = lambda text: but_for(r"(\d+) of \d+ rows answered, (\d+) otherwise", text)
+        passed, failed, text = ran([*agree, "compare", written, *words], told)
+    return passed, max(failed, ROWS_COMPARED - passed, 1 if said else 0), f"{text}{said}"
+
+
+def outside(program, name):
+    """A test that runs the real program from outside."""
+    return ran([f"tests/{name}.py", program.path.result()])
+
+
+def memory(pdpd, xa_trials):
+    """Both programs, each of whose allocations fails in turn."""
+    return ran(["tests/memory.py", pdpd.path.result(), xa_trials.path.result()])
+
+
+def desk(xa_trials, pdpd, name):
+    """One file of the desk's tests, over both programs."""
+    def told(text):
+        every = re.search(r"^Ran (\d+) tests? in", text, re.M)
+        wrong = sum(map(int, re.findall(r"(?:failures|errors)=(\d+)", text)))
+        return (int(every[1]) - wrong, wrong) if every else (0, 0)
+    surroundings = {**SURROUNDINGS, "DESK_PROGRAM": xa_trials.path.result(), "DESK_PDPD": pdpd.path.result()}
+    return ran(["tools/policy/test.py", f"tests.{name}"], told, env=surroundings)
+
+
+class Steps:
+    """The tests that have ended."""
+
+    def __init__(self):
+        self.passed = self.failed = 0
+        self.began = time.time()
+
+    def take(self, name, call, *given):
+        """Runs one step and tells what it came to; what a failed one wrote is shown."""
+        began = time.time()
+        try:
+            passed, failed, text = call(*given)
+        except Exception as fault:  # a step that can't be run has failed, and the others go on
+            passed, failed, text = 0, 1, f"{type(fault).__name__}: {fault}"
+        with printing:
+            self.passed, self.failed = self.passed + passed, self.failed + failed
+            told = f"{passed} passed, {failed} failed" if passed or failed else text
+            print(f"{name}: {told}, in {time.time() - began:.0f} s", flush=True)
+            if failed:
+                print(f"{text.rstrip()[-6000:]}\nFAILED {name}", flush=True)
+
+
+def stored_rows():
+    """The stored rows in pieces: those that define words, which stand first, the number of the first of the others, these, and their answers."""
+    crate = TOP / "crates" / "xa_trials"
+    asked, wanted = ((crate / name).read_bytes().split(b"\n")[:-1] for name in ("stdin", "stdout"))
+    if len(asked) != len(wanted):
+        raise SystemExit(f"{len(asked)} rows are stored, and {len(wanted)} answers: `make rows` writes both")
+    count = sum(line.startswith(b"define\t") for line in asked)
+    for at in range(count, len(asked), ROWS_A_RUN):
+        yield asked[:count], at + 1, asked[at:at + ROWS_A_RUN], wanted[at:at + ROWS_A_RUN]
+
+
+def all_steps(pdpd, xa_trials):
+    """The steps, in lanes: what stands in one is run one after another. Those come first that others wait
+    for, and then those that take long."""
+    yield [("pdpd", pdpd.find)]
+    yield [("xa_trials", xa_trials.find)]
+    static = [(name, ran, [f"tests/{name}.py"]) for name in ("edits", "columns", "pages")]
+    yield [*static, ("worked examples, by the model", model_alone)]
+    yield [("tests/program.py", outside, pdpd, "program")]
+    yield [("tests/memory.py", memory, pdpd, xa_trials)]
+    others = [(f"tests/{name}.py", outside, pdpd, name) for name in ("api", "serve", "tables")]
+    yield [("stored transcript", transcript, pdpd), *others]
+    for path in sorted((TOP / "tools" / "policy" / "tests").glob("test_*.py")):
+        yield [(f"tools/policy/test.py tests.{path.stem}", desk, xa_trials, pdpd, path.stem)]
+    for words, first, asked, wanted in stored_rows():
+        yield [(f"rows {first} to {first + len(asked) - 1}", rows, xa_trials, words, first, asked, wanted)]
+    for seed in range(1, COMPARISONS + 1):
+        yield [(f"{ROWS_COMPARED} random rows of seed {seed}, and the model", agreement, xa_trials, seed)]
+
+
+def main():
+    if sys.argv[1:] not in ([], ["--proved"]):
+        print(__doc__, file=sys.stderr)
+        return 2
+    steps = Steps()
+    pdpd, xa_trials = (Program(name, "--proved" in sys.argv) for name in ("pdpd", "xa_trials"))
+    with ThreadPoolExecutor(max(2, len(os.sched_getaffinity(0)))) as pool:
+        for lane in all_steps(pdpd, xa_trials):
+            pool.submit(lambda lane=lane: [steps.take(*step) for step in lane])
+    print(f"The tests took {time.time() - steps.began:.0f} s.")
+    if pdpd.is_proved and xa_trials.is_proved:
+        print("The programs are proved, and built of these very sources.")
+    else:
+        print("NOTHING HERE IS PROVED: a program was compiled of these sources without proof, and tests show\n"
+              "what they try and no more. `make prove` proves all.")
+    print(f"{steps.passed} passed, {steps.failed} failed")
+    return 1 if steps.failed else 0
+
+
+if __name__ == "__main__":
+    sys.exit(main())

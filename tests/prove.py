@@ -1,0 +1,304 @@
+#!/usr/bin/env python3
+"""The gate: `rt ci`, whole, and then all tests over the programs that it has proved. It ends with when each
+crate was proved, what it took, and 'N passed, M failed'.
+
+usage: tests/prove.py
+
+`rt ci` gives each crate of a chain one processor as long as there are wrong bodies to try. So a forerunner,
+an `rt ci` over a copy without wrong bodies, goes ahead of it and proves each crate with two. `rt ci` itself,
+the judge, which is run whole in this checkout, takes from the toolchain's store on this machine what was
+proved of the same files, and tries the wrong bodies beside. The judge alone decides: where the forerunner
+fails or ends, the judge proves all itself.
+"""
+import contextlib
+import ctypes
+import json
+import os
+import pathlib
+import re
+import resource
+import shutil
+import signal
+import subprocess
+import sys
+import tempfile
+import threading
+import time
+
+TESTS = pathlib.Path(__file__).resolve().parent
+TOP = TESTS.parent
+sys.path.insert(0, str(TESTS))
+sys.dont_write_bytecode = True
+
+import programs  # noqa: E402
+
+# What the forerunner's copy has of a crate: not its wrong bodies, and nothing to run its program on.
+COPIED = ("src", "specs", "proofs", "args", "status")
+# Gigabytes of disk that two runs of `rt ci` want; the store keeps nothing where fewer than five are free.
+ROOM_WANTED = 10
+# How long the judge waits for the forerunner to begin, and how often memory is looked at, in seconds.
+BEGINS_WITHIN, LOOKED_EVERY = 90, 5
+# How much the judge and its wrong bodies stand back behind the forerunner.
+NICE = 10
+FIGURES = TOP / "build" / "gate.json"
+
+
+def crates():
+    lines = (TOP / "crates.txt").read_text(encoding="utf-8").splitlines()
+    rows = [line.partition("#")[0] for line in lines]
+    return [row.partition(":")[0].split()[0] for row in rows if row.strip()]
+
+
+def descendants():
+    """This process's children, and theirs."""
+    below = {}
+    for process in pathlib.Path("/proc").glob("[0-9]*"):
+        with contextlib.suppress(OSError):
+            parent = int((process / "stat").read_text().rpartition(")")[2].split()[1])
+            below.setdefault(parent, []).append(int(process.name))
+    found = list(below.get(os.getpid(), []))
+    for one in found:
+        found += below.get(one, [])
+    return found
+
+
+def memory_of(process):
+    """The bytes that a process holds, of pages that several share its share."""
+    with contextlib.suppress(OSError):
+        held = re.search(r"^Pss:\s+(\d+) kB", pathlib.Path(f"/proc/{process}/smaps_rollup").read_text(), re.M)
+        return 1024 * int(held[1]) if held else 0
+    return 0
+
+
+def ends_with_us(behind=0):
+    """Has the process that is being started end when this one does, however it ends (PR_SET_PDEATHSIG), and
+    stand back that much."""
+    ctypes.CDLL(None).prctl(1, signal.SIGKILL)
+    os.nice(behind)
+
+
+class Watch:
+    """The times of what happens, and the most memory that is held at once."""
+
+    def __init__(self):
+        self.began, self.most, self.proved, self.kept, self.marks = time.time(), 0, {}, set(), {}
+        threading.Thread(target=self.look, daemon=True).start()
+
+    def look(self):
+        while True:
+            self.most = max(self.most, sum(map(memory_of, descendants())))
+            time.sleep(LOOKED_EVERY)
+
+    def minutes(self):
+        return (time.time() - self.began) / 60
+
+    def hears(self, line):
+        """Notes what a line of either run says of a crate."""
+        found = re.match(r"rt: (\w+) (proved|is kept)\b", line)
+        if found and found[2] == "proved":
+            self.proved.setdefault(found[1], self.minutes())
+        elif found:
+            self.kept.add(found[1])
+
+    def mark(self, what):
+        self.marks[what] = self.minutes()
+
+
+class Run:
+    """A running `rt ci`, whose lines are noted, and written to a file or on standard output."""
+
+    def __init__(self, folder, watch, log, behind=0, **how):
+        self.watch, self.log, self.seen, self.last = watch, log, set(), ""
+        how = {"stdin": subprocess.DEVNULL, "stdout": subprocess.PIPE, "stderr": subprocess.STDOUT, **how}
+        self.process = subprocess.Popen(["rt", "ci"], cwd=folder, text=True, errors="replace",
+                                        preexec_fn=lambda: ends_with_us(behind), **how)
+
+    def read(self):
+        """Reads its lines to their end, and gives its status."""
+        for line in self.process.stdout:
+            self.log.write(line)
+            self.log.flush()
+            self.watch.hears(line)
+            self.last = line.strip() or self.last
+            if found := re.match(r"rt: (\w+) (?:proved|is kept|NOT PROVED)\b", line):
+                self.seen.add(found[1])
+                self.has_seen(len(self.seen))
+        return self.process.wait()
+
+    def has_seen(self, number):
+        """What follows once it has told of so many crates."""
+
+    def stop(self):
+        """Ends it; what it has started ends with it."""
+        self.process.kill()
+        self.process.wait()
+
+
+class Forerunner:
+    """The run that goes ahead, over a copy in a folder of its own."""
+
+    def __init__(self, watch):
+        self.watch, self.run, self.folder = watch, None, None
+
+    def why_not(self):
+        """Why there is none, if so."""
+        store = programs.kit().parent / "rattle-kept"
+        with contextlib.suppress(OSError):
+            store.mkdir(mode=0o700, exist_ok=True)
+        if len(os.sched_getaffinity(0)) < 2:
+            return "there is one processor"
+        if not store.is_dir() or store.stat().st_uid != os.geteuid():
+            return f"{store} can't be used"
+        if min(shutil.disk_usage(it).free for it in (store, tempfile.gettempdir())) < ROOM_WANTED << 30:
+            return f"fewer than {ROOM_WANTED} GB of disk are free"
+        return None
+
+    def start(self):
+        try:
+            why = self.why_not() or self.go()
+        except OSError as fault:
+            why = str(fault)
+        if why:
+            print(f"No forerunner, since {why}: rt ci proves each crate itself.", flush=True)
+
+    def go(self):
+        """Makes the copy, and begins."""
+        self.folder = pathlib.Path(tempfile.mkdtemp(prefix="gate-"))
+        # (rt runs programs as nobody, who has to come to its temporary files)
+        self.folder.chmod(0o711)
+        (self.folder / "tmp").mkdir(mode=0o777)
+        copied = self.folder / "copy"
+        parts = [TOP / "crates" / name / part for name in crates() for part in COPIED]
+        for path in filter(pathlib.Path.exists, parts):
+            to = copied / path.relative_to(TOP)
+            to.parent.mkdir(parents=True, exist_ok=True)
+            shutil.copytree(path, to) if path.is_dir() else shutil.copyfile(path, to)
+        for name in ("crates.txt", "HANDLES"):
+            shutil.copyfile(TOP / name, copied / name)
+        surroundings = {**os.environ, "TMPDIR": str(self.folder / "tmp")}
+        self.run = Run(copied, self.watch, open(self.folder / "log", "w"), env=surroundings)
+        threading.Thread(target=self.run.read, daemon=True).start()
+        self.wait_for_its_first_proof()
+
+    def wait_for_its_first_proof(self):
+        """Waits until it is at a first crate, so that it comes first to each."""
+        until = time.time() + BEGINS_WITHIN
+        while time.time() < until and self.run.process.poll() is None:
+            for process in descendants():
+                with contextlib.suppress(OSError):
+                    if pathlib.Path(f"/proc/{process}/comm").read_text().startswith("rattle"):
+                        return
+            time.sleep(0.2)
+
+    def told(self):
+        """The last lines that it wrote."""
+        log = self.folder and self.folder / "log"
+        lines = log.read_text(errors="replace").split("\n") if log and log.is_file() else ["nothing"]
+        return "\n".join(lines[-60:])
+
+    def stop(self):
+        if self.run:
+            self.run.stop()
+
+    def remove(self):
+        if self.folder:
+            shutil.rmtree(self.folder, ignore_errors=True)
+
+
+class Judge(Run):
+    """The run that decides."""
+
+    def __init__(self, watch, forerunner):
+        super().__init__(TOP, watch, sys.stdout, NICE if forerunner.run else 0)
+        self.forerunner = forerunner
+
+    def has_seen(self, number):
+        # every crate is proved: nothing is left for the forerunner
+        if number == len(crates()):
+            self.watch.mark("all proved")
+            self.forerunner.stop()
+
+
+def machine():
+    """The processors that there are to use, the memory, and the kit."""
+    text = pathlib.Path("/proc/cpuinfo").read_text()
+    model = re.search(r"^model name\s*:\s*(.*)$", text, re.M)
+    memory = int(re.search(r"^MemTotal:\s+(\d+)", pathlib.Path("/proc/meminfo").read_text(), re.M)[1])
+    return {"processors": len(os.sched_getaffinity(0)), "model": model[1] if model else "unknown",
+            "memory": round(memory / 1_000_000), "kit": (programs.kit() / "KIT-ID").read_text().strip()}
+
+
+def figures(watch):
+    """What the gate took."""
+    used = resource.getrusage(resource.RUSAGE_CHILDREN)
+    return {**machine(), "clock": watch.minutes(), "processor": (used.ru_utime + used.ru_stime) / 60,
+            "most": watch.most / 1e9, "marks": watch.marks, "proved": watch.proved,
+            "kept": sorted(watch.kept - set(watch.proved))}
+
+
+def tell(found):
+    """Prints what the gate took, and keeps it for bench/gate.py."""
+    FIGURES.parent.mkdir(exist_ok=True)
+    FIGURES.write_text(json.dumps(found, indent=1) + "\n", encoding="utf-8")
+    print("When each crate was proved, and what followed, in minutes after the start:")
+    for name, at in sorted([*found["proved"].items(), *found["marks"].items()], key=lambda it: it[1]):
+        print(f"  {name:12} {at:6.1f}")
+    if found["kept"]:
+        print(f"  kept from earlier runs on this machine: {' '.join(found['kept'])}")
+    print(f"The gate took {found['clock']:.1f} minutes by the clock and {found['processor']:.1f} processor-minutes, "
+          f"and {found['most']:.1f} GB of memory at the most,\non {found['processors']} processors "
+          f"({found['model']}, {found['memory']} GB; {found['kit']}).")
+
+
+def judged(watch):
+    """Runs `rt ci` behind the forerunner, and gives its status and its last line."""
+    forerunner, judge = Forerunner(watch), None
+    try:
+        forerunner.start()
+        judge = Judge(watch, forerunner)
+        status = judge.read()
+        if status:
+            print(f"What the forerunner wrote last:\n{forerunner.told()}", flush=True)
+        return status, judge.last
+    finally:
+        for run in (forerunner, judge):
+            if run:
+                run.stop()
+        forerunner.remove()
+
+
+def tested():
+    """Runs all tests over the proved programs, and gives their status and their last line."""
+    last = ""
+    how = {"stdin": subprocess.DEVNULL, "stdout": subprocess.PIPE, "stderr": subprocess.STDOUT}
+    with subprocess.Popen([TESTS / "all.py", "--proved"], cwd=TOP, text=True, errors="replace", **how) as ran:
+        for line in ran.stdout:
+            print(line, end="", flush=True)
+            last = line.strip() or last
+    return ran.returncode, last
+
+
+def main():
+    watch, made_of = Watch(), programs.begun(["pdpd", "xa_trials"])
+    status, last = judged(watch)
+    lasts = [last]
+    watch.mark("rt ci ended")
+    if status == 0:
+        programs.ended(made_of)
+        status, last = tested()
+        lasts.append(last)
+    watch.mark("end")
+    tell(figures(watch))
+    counts = [found for found in (re.match(r"(\d+) passed, (\d+) failed", it) for it in lasts) if found]
+    passed, failed = (sum(int(it[number]) for it in counts) for number in (1, 2))
+    print(f"{passed} passed, {failed or int(status != 0)} failed")
+    return status
+
+
+if __name__ == "__main__":
+    signal.signal(signal.SIGTERM, lambda *_: sys.exit(143))
+    try:
+        sys.exit(main())
+    except programs.NotBuilt as fault:
+        print(f"{fault}\n0 passed, 1 failed")
+        sys.exit(2)

@@ -1,0 +1,326 @@
+"""The command `policy`: its words, and what each of them writes."""
+from __future__ import annotations
+
+import argparse
+import contextlib
+import json
+import sys
+from collections.abc import Callable
+
+from . import ask, asking, cases, diff, exchange, explain, explained, files, laid_out, lints, program, setting, text, together
+from .check import Checked, Disagreement, Rows
+from .faults import Remark, Remarks
+from .model import documents as documents_of_model
+from .model import route_bodies
+from .model import rows as model_rows
+
+FINE, FAULTS, USAGE, DISAGREE = 0, 1, 2, 3
+ONLY_MODEL = "There is no proved program: only the model in Python spoke. `tools/policy/policy.py build` proves and builds the program."
+
+
+def chosen_program(options: argparse.Namespace) -> program.Program | None:
+    """The program that is asked; what isn't sure about it is said, and loudly where there is none."""
+    if options.build and not options.program:
+        with contextlib.redirect_stdout(sys.stderr):
+            program.built()
+    found = program.found(options.program)
+    if found is None:
+        text.loud(ONLY_MODEL)
+    elif found.warning:
+        text.warn(found.warning)
+    return found
+
+
+def all_agree(pairs: list[tuple[str, str, str]]) -> bool:
+    """Whether model and program say the same; else each difference is said loudly. A pair is a name and what each of them says."""
+    for name, by_model, by_program in pairs:
+        if by_model != by_program:
+            text.loud(f"MODEL AND PROGRAM DISAGREE on {name}. The model: {by_model[:400]} The program: {by_program[:400]} One of them is wrong: please report this with the files.")
+    return all(by_model == by_program for _, by_model, by_program in pairs)
+
+
+def print_remarks(found: list[Remark]) -> None:
+    """Remarks, in the order of their places."""
+    for remark in sorted(found, key=lambda remark: (remark.source.path, remark.start)):
+        print(text.remark_shown(remark) + "\n")
+
+
+# check
+
+
+def check_pairs(documents: list[Checked], rows: Rows | None, found: program.Program | None) -> list[tuple[str, str, str]]:
+    """What the model and the program say of each file."""
+    if found is None:
+        return []
+    asked = [(one.source.path, documents_of_model.document, "document", one.source.held) for one in documents]
+    if rows is not None:
+        asked.append((rows.source.path, route_bodies.rows, "rows", rows.source.held))
+    fields = [model_rows.encoded(held) for _, _, _, held in asked]
+    answers = found.answers([[kind, field] for (_, _, kind, _), field in zip(asked, fields)])
+    return [(name, " ".join(by_model(field)), " ".join(by_program)) for (name, by_model, _, _), field, by_program in zip(asked, fields, answers)]
+
+
+def checked_together(options: argparse.Namespace) -> tuple[list[Checked], Rows | None]:
+    """The documents and the rows, with the remarks of all checks."""
+    documents, rows = files.documents(options.files), files.rows(options.rows)
+    together.Together(documents).check()
+    off = set(options.off)
+    unknown = off - set(lints.NAMES) - {"leads-nowhere", "circle", "way-too-long", "tree-too-large", "same-key"}
+    if unknown:
+        raise setting.Usage(f"no lint is called {text.listed(sorted(unknown))}; `policy lints` lists them")
+    lints.Lints(documents, rows, off).run()
+    if options.root is not None and all(one.is_sound for one in documents):
+        setting.check_root(setting.Setting(documents, setting.root_of(options.root, documents), None), documents[0].remarks)
+    return documents, rows
+
+
+def check(options: argparse.Namespace) -> int:
+    """Answers `check`."""
+    documents, rows = checked_together(options)
+    found = chosen_program(options)
+    pairs = check_pairs(documents, rows, found)
+    every = [remark for one in documents for remark in one.remarks.found] + (rows.remarks.found if rows else [])
+    if options.json:
+        print(json.dumps([remark.as_json() for remark in every], indent=2))
+    else:
+        print_remarks(every)
+        print_summary(documents, rows, every, found)
+    if not all_agree(pairs):
+        return DISAGREE
+    return FAULTS if any(remark.level == "fault" or options.strict and remark.level == "warning" for remark in every) else FINE
+
+
+def print_summary(documents: list[Checked], rows: Rows | None, every: list[Remark], found: program.Program | None) -> None:
+    """What became of each file, and how much was remarked."""
+    for one in documents:
+        named = f"{setting.KIND_NAMES[one.document.kind]} {one.document.name} {one.document.version or '?'}" if one.document else "no document"
+        verdict = text.painted("taken", "green") if one.is_sound else text.painted(f"refused, {one.code}", "red")
+        print(text.wrapped(f"{one.source.path}: {named}", "", "    ") + f": {verdict}")
+    if rows is not None:
+        print(f"{rows.source.path}: {text.counted(len(rows.rows), 'row')}: "
+              + (f"refused, {rows.code}" if rows.code else "taken"))
+    counts = [text.counted(sum(remark.level == level for remark in every), level) for level in ("fault", "warning", "note")]
+    print(", ".join(counts)
+          + ("; the proved program says the same." if found and not found.warning else "."
+             if found is None else "; the program says the same."))
+
+
+# ask and explain
+
+
+def setting_of(options: argparse.Namespace, paths: list[str]) -> setting.Setting | None:
+    """What decides; None where a file has faults, which are said."""
+    documents, rows = files.documents(paths), files.rows(options.rows)
+    faults = [remark for one in documents for remark in one.remarks.faults()] + (rows.remarks.faults() if rows else [])
+    if not faults:
+        keys = together.Together(documents)
+        keys.doubles()
+        faults = [remark for one in documents for remark in one.remarks.faults()]
+    if faults:
+        print_remarks(faults)
+        print(f"Nothing is decided: {text.counted(len(faults), 'fault')}.")
+        return None
+    return setting.Setting(documents, setting.root_of(options.root, documents), rows)
+
+
+def remarks_on_root(held: setting.Setting) -> Remarks:
+    """What is to be said of the root and of the source rows."""
+    remarks = Remarks()
+    setting.check_root(held, remarks)
+    if held.rows is not None:
+        lints.Lints([], held.rows, {"shorthand"}).run()
+        remarks.found += held.rows.remarks.found
+    return remarks
+
+
+def decided(options: argparse.Namespace) -> int:
+    """Answers `ask` and `explain`."""
+    moment = setting.moment_of(options.at)
+    held = setting_of(options, options.policy)
+    if held is None:
+        return FAULTS
+    body = sys.stdin.buffer.read() if options.request == "-" else files.held(options.request)
+    asked = asking.checked_request(options.request, body)
+    found = chosen_program(options)
+    answer = ask.answered(held, [(body, moment)], found)[0]
+    shown = explain.explained(held, body, moment)
+    pairs = [("the response", answer.by_model, answer.by_program)] if answer.by_program is not None else []
+    if not all_agree(pairs) or not explanation_agrees(answer, shown):
+        return DISAGREE
+    remarks = remarks_on_root(held).found + asked.remarks.found
+    if options.is_explained:
+        print_explained(options, answer, shown, moment, remarks)
+    else:
+        print_asked(options, answer, moment, remarks)
+    return FAULTS if any(remark.level == "fault" for remark in remarks) else FINE
+
+
+def explanation_agrees(answer: ask.Answer, shown: list[dict] | None) -> bool:
+    """Whether the explanation comes to the response; else that is said loudly."""
+    if not ask.is_explained(answer.results(), shown):
+        text.loud(f"THE EXPLANATION AND THE RESPONSE DISAGREE. The response: {answer.body[:400]}")
+        return False
+    return True
+
+
+def print_asked(options: argparse.Namespace, answer: ask.Answer, moment: int, remarks: list[Remark]) -> None:
+    """The response, laid out and as the server writes it, or alone."""
+    if options.raw:
+        print(answer.body)
+        return
+    print_remarks(remarks)
+    if answer.is_refused:
+        print(f'400 Bad Request: {{"Error":"{answer.body[1:]}"}}')
+        return
+    print(laid_out.shown(answer.results()))
+    print(f"\nat {setting.moment_shown(moment)}, by " + ("the model alone" if answer.by_program is None else "model and program")
+          + "; the server writes:")
+    print(answer.body)
+
+
+def print_explained(options: argparse.Namespace, answer: ask.Answer, shown: list[dict] | None, moment: int,
+                    remarks: list[Remark]) -> None:
+    """The explanation, as text or as JSON."""
+    if options.json:
+        held = {"at": setting.moment_shown(moment), "by": "model" if answer.by_program is None else "model and program",
+                "remarks": [remark.as_json() for remark in remarks],
+                "response": None if answer.is_refused else json.loads(answer.body), "results": shown}
+        print(json.dumps(held, indent=2, ensure_ascii=False))
+        return
+    print_remarks(remarks)
+    if answer.is_refused:
+        print(f'400 Bad Request: {{"Error":"{answer.body[1:]}"}}')
+    elif shown is None:
+        print(laid_out.shown(answer.results()))
+        print("    because: the request as a whole isn't decided: it is no request of the profile, asks for a combined decision, or for more than 64")
+    else:
+        print(explained.shown(shown))
+        print(f"\nat {setting.moment_shown(moment)}, by "
+              + ("the model alone" if answer.by_program is None else "model and program"))
+
+
+# The command's words.
+
+
+def add_question(parser: argparse.ArgumentParser) -> None:
+    """The options of `ask` and `explain`."""
+    parser.add_argument("--policy", nargs="+", required=True, metavar="FILE",
+                        help="policy documents, all active; a folder stands for its documents")
+    parser.add_argument("--root", metavar="ID",
+                        help="the id of the document where a decision begins; may be left out where there is one document")
+    parser.add_argument("--rows", metavar="ROWS", help='source rows, {"Row":[..]}')
+    parser.add_argument("--request", required=True, metavar="REQUEST", help='the request, {"Request":{..}}; - for standard input')
+    parser.add_argument("--at", metavar="TIME",
+                        help="a dateTime, as 2026-11-23T10:00:00Z, or seconds since 1970; now where it is left out")
+
+
+def add_check(parser: argparse.ArgumentParser) -> None:
+    """The options of `check`."""
+    parser.add_argument("files", nargs="+", metavar="FILE",
+                        help="policy documents, which are active together; a folder stands for its documents")
+    parser.add_argument("--rows", metavar="ROWS", help='source rows, {"Row":[..]}, checked too')
+    parser.add_argument("--root", metavar="ID", help="the id of the document where decisions begin")
+    parser.add_argument("--off", action="append", default=[], metavar="LINT", help="switches a lint off (see `policy lints`)")
+    parser.add_argument("--strict", action="store_true", help="ends with status 1 for warnings too")
+    parser.add_argument("--json", action="store_true", help="writes the remarks as JSON")
+
+
+def add_test(parser: argparse.ArgumentParser) -> None:
+    """The options of `test`."""
+    parser.add_argument("files", nargs="+", metavar="FILE", help="files of cases")
+    parser.add_argument("--junit", metavar="OUT", help="writes the results as JUnit XML too")
+    parser.add_argument("--coverage", action="store_true",
+                        help="lists rules, targets and conditions that no case reached both ways")
+
+
+def add_diff(parser: argparse.ArgumentParser) -> None:
+    """The options of `diff`."""
+    parser.add_argument("old", nargs="?", metavar="OLD", help="a document, or a folder of documents; with --live the domain's folder")
+    parser.add_argument("new", nargs="?", metavar="NEW", help="a document, or a folder of documents")
+    parser.add_argument("--requests", metavar="FILE", help="an array of requests, a request, or a file of cases")
+    parser.add_argument("--random", type=int, default=0, metavar="N",
+                        help="makes N requests from the values that the policies name")
+    parser.add_argument("--seed", type=int, default=1, help="another seed makes other requests")
+    parser.add_argument("--root", metavar="ID", help="the id of the document where a decision begins")
+    parser.add_argument("--rows", metavar="ROWS", help='source rows, {"Row":[..]}')
+    parser.add_argument("--at", metavar="TIME", help="the time of requests that have none of their own")
+    parser.add_argument("--strict", action="store_true", help="ends with status 1 where an answer changes")
+
+
+def parser() -> argparse.ArgumentParser:
+    """The words of the command, with their options."""
+    from . import deploy, deploy_words  # which stand on this module
+    whole = argparse.ArgumentParser(prog="policy",
+                                    description="A policy author's desk: what is wrong with a policy, what it decides, and why.",
+                                    epilog="Exit status: 0 fine, 1 faults or failed cases, 2 usage, 3 model and program disagree, "
+                                           "4 the server refuses or is away.")
+    words = whole.add_subparsers(dest="word", required=True, metavar="WORD")
+    asks = argparse.ArgumentParser(add_help=False)
+    asks.add_argument("--program", default="", metavar="PATH",
+                      help="the program that is asked: a path, `try` for the unproved one by `rt try`, `none` for the model alone")
+    asks.add_argument("--build", action="store_true",
+                      help="proves and builds the program first, where it isn't built of these sources")
+
+    def word(name: str, meaning: str, run: Callable, add: Callable | None, **more: object) -> argparse.ArgumentParser:
+        one = words.add_parser(name, parents=[asks] if add else [], help=meaning,
+                               description=meaning[0].upper() + meaning[1:] + ".")
+        if add:
+            add(one)
+        one.set_defaults(run=run, **more)
+        return one
+
+    exchange.add_words(word)
+    word("check", "names all faults of documents, with their places", check, add_check)
+    one = word("ask", "decides on a request", decided, add_question, is_explained=False)
+    one.add_argument("--raw", action="store_true", help="writes the body of the response alone")
+    one = word("explain", "shows how a decision comes about", decided, add_question, is_explained=True)
+    one.add_argument("--json", action="store_true", help="writes the explanation as JSON")
+    word("test", "runs cases", cases_run, add_test)
+    one = word("diff", "shows requests whose answer changes from one set of documents to another", diff_run, add_diff)
+    one.add_argument("--live", action="store_true", help="compares what the server has with the domain's folder OLD")
+    deploy_words.add_server(one)
+    one.set_defaults(live_run=deploy.live_diff)
+    deploy_words.add_words(word)
+    word("build", "proves and builds the program, and keeps it for the other words", lambda _: program.built(), None)
+    word("lints", "lists the lints by their names", lints_run, None)
+    return whole
+
+
+def lints_run(_: argparse.Namespace) -> int:
+    """Answers `lints`."""
+    print("\n".join(lints.lint_lines()))
+    return FINE
+
+
+def cases_run(options: argparse.Namespace) -> int:
+    """Answers `test`."""
+    return cases.run(options.files, chosen_program(options), options.junit, options.coverage)
+
+
+def diff_run(options: argparse.Namespace) -> int:
+    """Answers `diff`."""
+    if options.live and options.new is not None:
+        raise setting.Usage("diff --live takes the domain's folder alone")
+    if options.live:
+        return options.live_run(options)
+    if options.new is None or options.json:
+        raise setting.Usage("diff needs OLD and NEW, or --live, with which --json goes")
+    old, new = setting_of(options, [options.old]), setting_of(options, [options.new])
+    if old is None or new is None:
+        return FAULTS
+    return diff.run(old, new, options, chosen_program(options))
+
+
+def main(words: list[str] | None = None) -> int:
+    """Runs the command; its exit status."""
+    options = parser().parse_args(words)
+    try:
+        return options.run(options)
+    except setting.Usage as fault:
+        print(f"policy: {fault}", file=sys.stderr)
+        return USAGE
+    except (Disagreement, program.ProgramFailed) as fault:
+        text.loud(str(fault))
+        return DISAGREE
+    except BrokenPipeError:
+        return FINE

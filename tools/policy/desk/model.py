@@ -1,0 +1,26 @@
+"""The model in Python (tests/model), as far as the desk uses it: its modules, under their own names."""
+import pathlib
+import sys
+
+TOP = pathlib.Path(__file__).resolve().parents[3]
+sys.path.insert(1, str(TOP / "tests" / "model"))
+# a text of very many digits is out of range, and nothing that Python refuses to read
+getattr(sys, "set_int_max_str_digits", lambda _: None)(0)
+
+import combining  # noqa: E402, F401
+import contexts  # noqa: E402, F401
+import decisions  # noqa: E402, F401
+import documents  # noqa: E402, F401
+import expressions  # noqa: E402, F401
+import functions  # noqa: E402, F401
+import identifiers  # noqa: E402, F401
+import inputs  # noqa: E402, F401
+import json_texts  # noqa: E402, F401
+import linking  # noqa: E402, F401
+import policies  # noqa: E402, F401
+import requests  # noqa: E402, F401
+import responses  # noqa: E402, F401
+import route_bodies  # noqa: E402, F401
+import rows  # noqa: E402, F401
+import values  # noqa: E402, F401
+import versions  # noqa: E402, F401

@@ -1,0 +1,156 @@
+"""The proved program xa_trials, which answers rows of inputs: where it stands, whether it is of these sources, and what it answers."""
+from __future__ import annotations
+
+import hashlib
+import os
+import pathlib
+import shutil
+import subprocess
+import sys
+import tempfile
+from dataclasses import dataclass
+
+from .model import TOP, inputs, rows
+
+sys.path.append(str(TOP / "tests"))
+
+import programs  # noqa: E402
+
+CRATE = TOP / "crates" / "xa_trials"
+PLACES = (CRATE / "out" / "xa_trials", TOP / "build" / "xa_trials")
+ESCAPED = {"|": "\\x7c", "=": "\\x3d"}
+SECONDS = 600
+# `rt try` gives no more than 1 MiB of answers to a file
+ROWS_A_FILE = 250
+
+
+class ProgramFailed(Exception):
+    """The program didn't answer."""
+
+
+def part(text: str) -> str:
+    """A text as a part of a field, in which bars and equals signs part."""
+    return "".join(ESCAPED.get(letter, letter) for letter in rows.encoded(text))
+
+
+def sources() -> list[pathlib.Path]:
+    """The files of the code that the program is built of."""
+    return sorted(path for path in TOP.glob("crates/*/src/**/*.rt") if path.relative_to(TOP).parts[1] != "pdpd")
+
+
+def fingerprint() -> str:
+    """A digest of all that code."""
+    found = hashlib.sha256()
+    for path in sources():
+        found.update(str(path.relative_to(TOP)).encode() + b"\0" + path.read_bytes() + b"\0")
+    return found.hexdigest()
+
+
+def stamp_of(path: pathlib.Path) -> pathlib.Path:
+    """The file that says of which sources `policy build` made the program."""
+    return path.with_name(path.name + ".sources")
+
+
+@dataclass
+class Program:
+    """A program that answers rows; `warning` says what isn't sure about it."""
+    command: list[str]
+    warning: str = ""
+    is_tried: bool = False
+
+    def answers(self, asked: list[list[str]]) -> list[list[str]]:
+        """The fields of the answer to each row."""
+        if not asked:
+            return []
+        held = "".join(rows.line(inputs.as_read(fields)) for fields in asked)
+        written = self.tried(held) if self.is_tried else self.run(held)
+        found = [line.split("\t") for line in written.split("\n")[:-1]]
+        if len(found) != len(asked):
+            raise ProgramFailed(f"{' '.join(self.command)} gave {len(found)} answers to {len(asked)} rows")
+        return found
+
+    def run(self, held: str) -> str:
+        """What the program writes to the rows."""
+        try:
+            ran = subprocess.run(self.command, input=held.encode("ascii"), capture_output=True, timeout=SECONDS, check=False)
+        except (OSError, subprocess.TimeoutExpired) as fault:
+            raise ProgramFailed(f"{self.command[0]} doesn't run: {fault}") from None
+        if ran.returncode != 0:
+            raise ProgramFailed(f"{self.command[0]} ended with status {ran.returncode}")
+        return ran.stdout.decode("latin-1")
+
+    def tried(self, held: str) -> str:
+        """What `rt try` writes, which compiles the program without proving it, and runs it for each file of rows."""
+        lines = held.splitlines(keepends=True)
+        with tempfile.TemporaryDirectory() as folder:
+            for first in range(0, len(lines), ROWS_A_FILE):
+                pathlib.Path(folder, f"{first:09}").write_text("".join(lines[first:first + ROWS_A_FILE]), encoding="ascii")
+            ran = subprocess.run([*self.command, folder], cwd=CRATE, capture_output=True, check=False)
+        return "".join(line + "\n" for line in ran.stdout.decode("latin-1").split("\n")[:-1] if not line.startswith("== "))
+
+
+def found(named: str = "") -> Program | None:
+    """The program: the one that is named, here or by DESK_PROGRAM in the environment, the proved one, or None. `try` is the one that `rt try` compiles, unproved."""
+    named = named or os.environ.get("DESK_PROGRAM", "")
+    if named == "none":
+        return None
+    if named == "try":
+        return Program(["rt", "try", "--steps", "1000", "--seconds", "600", "--cases"],
+                       "The program is compiled without proof (rt try): what it answers isn't proved.", True)
+    if named:
+        return Program([named], f"{named} is taken as it is: whether it is proved isn't known here.")
+    for path in PLACES:
+        if path.is_file() and os.access(path, os.X_OK):
+            return Program([str(path)], warning_of(path))
+    return None
+
+
+def is_of_these(path: pathlib.Path) -> bool:
+    """Whether the program there is known to be proved, of the sources as they are now: by what `policy build`
+    notes, or by what `make prove` does (tests/programs.py)."""
+    stamp = stamp_of(path)
+    if stamp.is_file() and stamp.read_text(encoding="ascii").strip() == fingerprint():
+        return True
+    try:
+        return path == PLACES[0] and programs.proved(CRATE.name) is not None
+    except programs.NotBuilt:  # there is no toolchain to compare with
+        return False
+
+
+def warning_of(path: pathlib.Path) -> str:
+    """What isn't sure about the program there."""
+    return "" if is_of_these(path) else (f"whether {path.relative_to(TOP)} is proved, and of these sources, isn't known: "
+                                         "`tools/policy/policy.py build` proves and builds it.")
+
+
+def is_built() -> bool:
+    """Whether the program is there, built of the sources as they are now."""
+    return PLACES[0].is_file() and is_of_these(PLACES[0])
+
+
+def built() -> int:
+    """Proves and builds the program where it isn't, and runs it on its stored rows; the exit status."""
+    name = PLACES[0].relative_to(TOP)
+    if is_built():
+        print(f"{name} is proved, and of these sources.")
+        return 0
+    if shutil.which("rt") is None:
+        print("The toolchain's command rt isn't on the path: see CONTRIBUTING.md.")
+        return 1
+    print("Proving and building xa_trials; from nothing this takes long, after small changes a minute.", flush=True)
+    made_of = programs.begun([CRATE.name])
+    with open(CRATE / "stdin", "rb") as stored:
+        ran = subprocess.run(["rt", "run"], cwd=CRATE, stdin=stored, stdout=subprocess.PIPE, check=False)
+    if ran.returncode != 0:
+        print("It isn't proved: rt run says why.")
+        return 1
+    if ran.stdout != (CRATE / "stdout").read_bytes():
+        print(f"{name} is proved, but answers its stored rows otherwise.")
+        return 1
+    programs.ended(made_of)
+    stamp_of(PLACES[0]).write_text(fingerprint() + "\n", encoding="ascii")
+    PLACES[1].parent.mkdir(exist_ok=True)
+    for path in (PLACES[0], stamp_of(PLACES[0])):
+        shutil.copy2(path, PLACES[1].parent / path.name)
+    print(f"{name} is proved, and answers its stored rows.")
+    return 0
