@@ -12,14 +12,14 @@ crate = $(or $(NAME),$(error make $@ NAME: the name of a crate is missing, one o
 help:
 	@awk -F ':.*## ' '/^[a-z-]+:.*## / { printf "  make %-12s %s\n", $$1 ($$1 ~ /^(try|check|edits)$$/ ? " NAME" : ""), $$2 }' Makefile
 
-run: ## serves the ward's example and asks it by curl; over a file and once more after a restart, where the program is built
+run: ## serves the ward's example over a file, asks it by curl, and again after a restart; where pdpd isn't built, it is compiled first, without proof
 	@examples/ward/walk
 
 test: ## all tests, in minutes: over the proved programs, where they are built of these very sources, else over what is compiled without proof
-	@tests/all
+	@tests/all.py
 
 prove: ## the gate, in an hour and more: proves everything, tries the wrong bodies, and runs all tests over the proved programs
-	@tests/prove
+	@tests/prove.py
 
 # the word after `try`, `check` or `edits` is a crate's name, and no target
 ifneq (,$(filter try check edits,$(firstword $(MAKECMDGOALS))))
@@ -38,10 +38,10 @@ check: ## proves a crate, over what earlier checks kept
 	@cd crates/$(crate); rt check
 
 api: pdpd ## proves and builds pdpd, and sends it every example of the API reference (docs/guide/API.md, docs/guide/openapi.yaml)
-	tests/api
+	tests/api.py
 
 memory: ## refuses pdpd and xa_trials each of their allocations in turn, as `make test` does too; compiles a few lines of C with cc
-	tests/memory
+	tests/memory.py
 
 edits: ## tries the further wrong bodies in edits/NAME, each of which the prover must reject
 	@edits/run $(crate)
@@ -49,28 +49,28 @@ edits: ## tries the further wrong bodies in edits/NAME, each of which the prover
 fmt: ## lays out the files of all crates
 	@for crate in crates/*/; do (cd "$$crate"; rt fmt); done
 
-rows: ## writes the stored input and output of xa_trials anew, from trials/*.rows
-	trials/write
+rows: ## writes the stored input and output of xa_trials anew, from tests/rows/*.rows
+	tests/rows/write.py
 
 pages: ## writes what is generated in the pages (*.md), and wraps their prose
-	tests/pages --write
+	tests/pages.py --write
 
 agreement: ## answers random rows and transcripts by xa_trials and pdpd and by a model in Python, and compares
-	agreement/run
-	agreement/replay
+	tests/model/compare/run
+	tests/model/compare/replay
 
-author-test: ## tests the policy author's desk (author/policy); proves and builds the program of rows first, where it isn't built
-	author/policy build
-	author/test
+author-test: ## tests the policy author's desk (tools/policy/policy.py); proves and builds the program of rows first, where it isn't built
+	tools/policy/policy.py build
+	tools/policy/test.py
 
-bench: pdpd ## proves and builds pdpd, and runs all benchmarks but bench/heads, bench/units, bench/deploy and bench/casbin
+bench: pdpd ## proves and builds pdpd, and runs all benchmarks but bench/heads, bench/units.py, bench/deploy.py and bench/casbin.py
 	bench/all
 
 dist: ## packs the proved program, the kit for several of them behind HAProxy, and their pages: build/pdpd-VERSION.tar.gz
-	@deploy/dist
+	@deploy/dist.py
 
 install: ## the same, and installs it under PREFIX (/usr/local)
-	@deploy/dist --install $(or $(PREFIX),/usr/local)
+	@deploy/dist.py --install $(or $(PREFIX),/usr/local)
 
 deploy-test: ## tries that kit with HAProxy, runit and the proved program (docs/guide/OPERATING.md); takes the rights of root
-	@tests/deploy
+	@tests/deploy.py
