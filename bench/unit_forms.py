@@ -199,11 +199,15 @@ def of_all(function, size):
     return [denies_if(expression, defined=defined, times=1)], asked
 
 
+def bytes_shown(size):
+    return "1 byte" if size == 1 else f"{size} bytes"
+
+
 def functions_of_values():
     for function, (takes, gives, _) in FUNCTIONS.items():
         name = function.rpartition(":")[2]
         for size in sizes_for(function):
-            of = f", {size} bytes" if size else ""
+            of = f", {bytes_shown(size)}" if size else ""
             if name != "n-of":
                 yield Form(f"map of {name}{of}", *mapped(function, size))
             yield Form(f"{name}{of}", *applied(function, size))
@@ -253,7 +257,7 @@ def functions_of_bags():
                         condition = apply(V1 + "not", condition)
                     asked = request(attribute("a", values, data_type), attribute("b", values[::-1] if name != "at-least-one-member-of" else distinct(data_type, size, count, 5_000), data_type),
                                     attribute("c", distinct(data_type, size, 1, 9_000), data_type))
-                    yield Form(f"{data_type}-{name}, {count} values{f', {size} bytes' if size else ''}", [denies_if(condition, defined=defined)], asked)
+                    yield Form(f"{data_type}-{name}, {count} values{f', {bytes_shown(size)}' if size else ''}", [denies_if(condition, defined=defined)], asked)
 
 
 def distinct(data_type, size, count, start=0):
@@ -280,7 +284,7 @@ def matched():
                 matches = [match(function, first_type, first, data_type=second_type)]
                 times = 100 if size < 1_000 else 25
                 draft = policy(Rule=[rule("Deny", Target=target(*matches, alternatives=times)), rule()])
-                yield Form(f"match by {name}{f', {size} bytes' if size else ''}, {count} values", [draft], request(attribute("a", [second] * count, second_type)))
+                yield Form(f"match by {name}{f', {bytes_shown(size)}' if size else ''}, {count} values", [draft], request(attribute("a", [second] * count, second_type)))
 
 
 def other(data_type, size):
@@ -363,7 +367,7 @@ def expressions():
         for name, function in (("string-starts-with", V3 + "string-starts-with"), ("string-greater-than", V1 + "string-greater-than")):
             first = literal("string", "y" * size)
             expression = apply(V3 + "any-of", inner(function), first, variable("v"))
-            yield Form(f"any-of of {name}, {count} values of {size} bytes", [denies_if(expression, defined=[("v", designator("a"))], times=20)], request(attribute("a", ["x" * size] * count)))
+            yield Form(f"any-of of {name}, {count} values of {bytes_shown(size)}", [denies_if(expression, defined=[("v", designator("a"))], times=20)], request(attribute("a", ["x" * size] * count)))
     for name in ("dateTime-greater-than", "date-greater-than", "time-less-than", "integer-less-than", "string-less-than"):
         data_type = name.split("-")[0]
         expression = apply(V3 + "any-of-any", inner(V1 + name), variable("v"), variable("w"))
@@ -373,10 +377,10 @@ def expressions():
         for function in ("string-starts-with", "string-ends-with"):
             expression = apply(V1 + "all-of-all", inner(V3 + function), variable("v"), variable("w"))
             asked = request(attribute("a", ["x" * size] * 60), attribute("b", ["x" * size] * 60))
-            yield Form(f"all-of-all of {function}, {size} bytes", [denies_if(apply(V1 + "not", expression), defined=[("v", designator("a")), ("w", designator("b"))], times=1)], asked)
+            yield Form(f"all-of-all of {function}, {bytes_shown(size)}", [denies_if(apply(V1 + "not", expression), defined=[("v", designator("a")), ("w", designator("b"))], times=1)], asked)
             expression = apply(V3 + "any-of-any", inner(V3 + function), variable("v"), variable("w"))
             asked = request(attribute("a", ["x" * size + "y"] * 60), attribute("b", ["x" * size] * 60))
-            yield Form(f"any-of-any of {function}, {size} bytes", [denies_if(expression, defined=[("v", designator("a")), ("w", designator("b"))], times=1)], asked)
+            yield Form(f"any-of-any of {function}, {bytes_shown(size)}", [denies_if(expression, defined=[("v", designator("a")), ("w", designator("b"))], times=1)], asked)
     bags = [("t", designator("t", "time")), ("u", designator("u", "time")), ("w", designator("w", "time"))]
     times = {"t": ["23:59:59.123456789-13:59"] * 15, "u": ["11:00:00+13:59"] * 15, "w": ["12:00:00.1+13:59"] * 15}
     expression = apply(V3 + "any-of-any", inner(V2 + "time-in-range"), *[variable(name) for name, _ in bags])
@@ -447,7 +451,7 @@ def designators():
 
 def shown(value):
     text = str(value)
-    return f"{len(text)} bytes" if text.isalnum() else f"{len(text)} bytes as {text[:1]!r}"
+    return bytes_shown(len(text)) if text.isalnum() else f"{bytes_shown(len(text))} as {text[:1]!r}"
 
 
 def duties():

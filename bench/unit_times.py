@@ -8,6 +8,8 @@ from rows import encoded, line
 from unit_forms import padded, written
 
 NO_LIMIT, ASKS, RUNS = 2**64 - 1, 4, 5
+# where a row of one ask takes so many seconds, one more is asked behind it, else ASKS
+LONG = 0.05
 
 
 def asking(body):
@@ -37,37 +39,43 @@ def ran(program, text):
     return used.ru_utime + used.ru_stime, answer
 
 
-def seconds(program, form, asks, has_root):
-    """Processor seconds of so many asks under no limit, at best."""
+def seconds(program, form, asks, has_root, runs):
+    """Processor seconds of so many asks under no limit, the best of so many runs."""
     text = row(form, NO_LIMIT, asks, has_root)
-    return min(ran(program, text)[0] for _ in range(RUNS))
+    return min(ran(program, text)[0] for _ in range(runs))
 
 
-def of_an_ask(program, form, has_root):
+def of_an_ask(program, form, has_root, runs):
     """Processor seconds of one ask behind a first one, which reads and links what the root leads to."""
-    return (seconds(program, form, 1 + ASKS, has_root) - seconds(program, form, 1, has_root)) / ASKS
+    first = seconds(program, form, 1, has_root, runs)
+    asks = 1 if first > LONG else ASKS
+    return (seconds(program, form, 1 + asks, has_root, runs) - first) / asks
 
 
-def is_answered(program, form, limit):
-    _, answer = ran(program, row(form, limit, 1))
+def of_the_form(program, form, runs):
+    """Processor seconds of one ask of the form, without what reading the row and the request takes: that is what the same ask takes of a domain without a root."""
+    return of_an_ask(program, form, True, runs) - of_an_ask(program, form, False, runs)
+
+
+def is_answered(program, form, text, limit):
+    """Whether the row, which has no limit, is answered under this one."""
+    _, answer = ran(program, text.replace(f"limit:{NO_LIMIT}", f"limit:{limit}", 1))
     assert answer.startswith((b"HTTP/1.1 200 ", b"HTTP/1.1 503 ")), (form.name, answer[:300])
     return answer.startswith(b"HTTP/1.1 200 ")
 
 
 def units(program, form, part=None):
     """The least limit under which the form is answered, or one that is more by no more than one part in so many."""
-    high = 1 << 16
-    while not is_answered(program, form, high):
+    text, high = row(form, NO_LIMIT, 1), 1 << 16
+    while not is_answered(program, form, text, high):
         high *= 4
     low = -1 if high == 1 << 16 else high // 4
     while high - low > (max(1, high // part) if part else 1):
         middle = (low + high) // 2
-        low, high = (low, middle) if is_answered(program, form, middle) else (middle, high)
+        low, high = (low, middle) if is_answered(program, form, text, middle) else (middle, high)
     return high
 
 
-def each(program, form, part=None):
-    """The form's seconds and its units for one ask. What reading the row and the request takes is taken off: it is
-    what the same ask takes of a domain without a root."""
-    took = of_an_ask(program, form, True) - of_an_ask(program, form, False)
-    return took, units(program, form, part)
+def each(program, form):
+    """The form's seconds and its units for one ask."""
+    return of_the_form(program, form, RUNS), units(program, form)

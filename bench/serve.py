@@ -1,7 +1,7 @@
 #!/usr/bin/env python3
 """Asks a second over a socket, and the processor time that an ask takes, of the proved `pdpd serve`; beside nginx, which answers `return 200`, or a file.
 
-Usage: bench/serve [PDPD]     PDPD: the built program (build/pdpd, which `make pdpd` makes)
+Usage: bench/serve.py [PDPD]     PDPD: the built program (build/pdpd, which `make pdpd` makes)
 
 The server has one core, and the client another: one connection, requests one at a time, each behind the reply to the one before, by wrk. Each kind has some rounds of two seconds, all kinds
 in turn, so that all have the same minute; the best round counts. Processor time is the server's own, user and system, as /proc has it to the nanosecond. System calls are counted by
@@ -9,7 +9,7 @@ strace, in a round apart. nginx has one process, and replies as many bytes as th
 packages: what isn't here is left out. Beside them stands a program of some lines of C (compiled by cc) that receives and sends the same bytes and does nothing else: what the system takes for a
 request by itself. On a disturbed machine all this says little.
 
-The asks are that of bench/asks, of a policy of ten rules with a match each, of which the last permits, and the first ones of examples/company and examples/ward. One that is kept is the same
+The asks are that of bench/asks.py, of a policy of ten rules with a match each, of which the last permits, and the first ones of examples/company and examples/ward. One that is kept is the same
 bytes again; one that is worked out has other blanks at its end each time. The policy of examples/ward names the clock, so that no response is kept. At last, the ask of ten rules without wrk: in
 pieces of 100 without waiting, by a client in Python.
 """
@@ -263,7 +263,7 @@ def by_others(ask, folder, missing):
 
 def main():
     if not os.path.isfile(PROGRAM):
-        sys.exit(f"bench/serve: {PROGRAM} is not there: `make pdpd` builds it")
+        sys.exit(f"bench/serve.py: {PROGRAM} is not there: `make pdpd` builds it")
     missing = [name for name in ("wrk", "nginx", "strace", "cc") if not shutil.which(name)]
     if missing:
         print(f"not here, and left out: {', '.join(missing)} (Debian's packages of these names; cc is in gcc)")

@@ -3,8 +3,8 @@
 toolchain whose store is empty (its files by further names where the disk allows, so that it takes no room), and
 writes what it took into docs/GATE.md, in place of what stood there for as many processors.
 
-usage: bench/gate                     with all processors, and nothing else running
-       taskset -c 0,1 bench/gate      with two
+usage: bench/gate.py                     with all processors, and nothing else running
+       taskset -c 0,1 bench/gate.py      with two
 """
 import json
 import os
@@ -21,7 +21,7 @@ PAGE = TOP / "docs" / "GATE.md"
 
 
 def marks(processors):
-    return f"<!-- bench/gate, {processors} processors -->", f"<!-- end of {processors} processors -->"
+    return f"<!-- bench/gate.py, {processors} processors -->", f"<!-- end of {processors} processors -->"
 
 
 def copy_of_kit(folder):

@@ -1,8 +1,8 @@
 #!/usr/bin/env python3
 """What the tables of the proved `pdpd serve` cost: messages over 10, 1,000 and 10,000 domains, and opening them.
 
-Usage: bench/store [PDPD]                   PDPD: the built program (build/pdpd, which `make pdpd` makes)
-       bench/store --instructions [PDPD]    instructions in place of times, over 10 and 10,000 domains, in some minutes (valgrind, Debian's package)
+Usage: bench/store.py [PDPD]                   PDPD: the built program (build/pdpd, which `make pdpd` makes)
+       bench/store.py --instructions [PDPD]    instructions in place of times, over 10 and 10,000 domains, in some minutes (valgrind, Debian's package)
 
 The files are written by Python's sqlite3, with one active document of 1 KB, a token and a root in each domain. Of each size:
 
@@ -155,7 +155,7 @@ def by_instructions(folder, token):
 
 def main():
     if not os.path.isfile(PROGRAM):
-        sys.exit(f"bench/store: {PROGRAM} is not there: `make pdpd` builds it")
+        sys.exit(f"bench/store.py: {PROGRAM} is not there: `make pdpd` builds it")
     failed, gates = [], {}
     with tempfile.TemporaryDirectory() as folder:
         token = pathlib.Path(folder) / "token"

@@ -1,8 +1,8 @@
 #!/usr/bin/env python3
 """The keeper in memory: nanoseconds a call of one domain, with 10 and with 10,000 domains of 10 documents each; the two may differ by three tenths.
 
-Usage: bench/records [XA_TRIALS]     XA_TRIALS: the built program; without it the proved one, which is proved and built first where it isn't yet
-       bench/records --instructions [XA_TRIALS]     instructions in place of times, in some minutes (valgrind, Debian's package)
+Usage: bench/records.py [XA_TRIALS]     XA_TRIALS: the built program; without it the proved one, which is proved and built first where it isn't yet
+       bench/records.py --instructions [XA_TRIALS]     instructions in place of times, in some minutes (valgrind, Debian's package)
 
 The program xa_trials answers rows of a keeper. A row makes all domains and then calls one of them, so many times or twice as many: the difference is
 what the calls take, with what the program takes to read their fields, which is the same for both numbers of domains. Times are processor time, the
@@ -17,7 +17,7 @@ import sys
 import tempfile
 
 TOP = pathlib.Path(__file__).resolve().parent.parent
-sys.path.insert(0, str(TOP / "agreement" / "model"))
+sys.path.insert(0, str(TOP / "tests" / "model"))
 
 from inputs import as_read  # noqa: E402
 

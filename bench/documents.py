@@ -2,7 +2,7 @@
 """Policy documents: how long one takes to read, beside the time that `serde_json` alone takes for the same text, and the
 memory that each of the two takes.
 
-Usage: bench/documents
+Usage: bench/documents.py
 
 Proves and builds the program below over a copy of xa_notation and what it stands on, and gives it documents of 1, 8 and 64 KiB
 of rules with targets, conditions and obligations, and documents of shapes that would show work which grows faster than the text, each at
@@ -284,7 +284,7 @@ def build(work):
     done = subprocess.run(["rt", "run"], cwd=bench, input=b"", stdout=subprocess.PIPE, stderr=subprocess.STDOUT)
     program = os.path.join(bench, "out/documents_bench")
     if done.returncode != 0 or not os.path.exists(program):
-        sys.exit(done.stdout.decode() + "bench/documents: the program wasn't built")
+        sys.exit(done.stdout.decode() + "bench/documents.py: the program wasn't built")
     return program
 
 

@@ -1,7 +1,7 @@
 #!/usr/bin/env python3
 """What an ask of a domain with ten active documents of 5 KB costs through the proved pdpd: the first, which reads them, and a second, for which the domain's view is ready.
 
-Usage: bench/shelf [PDPD]     PDPD: the built program (build/pdpd, which `make pdpd` makes)
+Usage: bench/shelf.py [PDPD]     PDPD: the built program (build/pdpd, which `make pdpd` makes)
 
 The cost is in instructions, as `valgrind --tool=cachegrind` counts them, or without valgrind in microseconds of processor time. The asks differ in a space, so that
 each is worked out. A domain with one active document, the root's, and nine others tells what each of the nine costs more: on the second ask that is

@@ -1,9 +1,9 @@
 #!/usr/bin/env python3
 """Asks a second and their times through the kit of deploy/: 1, 2 and 4 shards, 1, 10 and 100 clients.
 
-usage: bench/deploy [PROGRAM]   the program, or that which is proved and built of these very sources
+usage: bench/deploy.py [PROGRAM]   the program, or that which is proved and built of these very sources
 
-In namespaces of its own, as tests/deploy, and with what that one wants, and nginx. The asks are of
+In namespaces of its own, as tests/deploy.py, and with what that one wants, and nginx. The asks are of
 examples/ward, whose policy names the clock, so that each response is worked out; 16 domains of it are
 asked in turn, by wrk, for four seconds each, at a plain port, and once over TLS. Beside them stand one shard
 with other settings, one pdpd alone with one client, and nginx, which replies `return 200`, in the place of
@@ -37,7 +37,7 @@ def ward(operator, name):
                  message("PUT", f"{at}/pap/policy/urn:example:ward:records/1.0/active", token),
                  message("PUT", f"{at}/pap/root", token, root), message("PUT", f"{at}/pip", token, read("rows.json"))):
         if clients.status(clients.once(data)) not in (200, 201):
-            sys.exit(f"bench/deploy: {data[:60]} isn't answered with success")
+            sys.exit(f"bench/deploy.py: {data[:60]} isn't answered with success")
     return message("POST", f"{at}/pdp", token, read("request-alice.json"))
 
 
@@ -92,7 +92,7 @@ def main():
     program = os.path.abspath(words[0]) if words else None
     machine.WANTED["nginx"] = "nginx"
     if lacks := list(machine.missing(program)):
-        print("\n".join(f"bench/deploy: missing: {what}" for what in lacks))
+        print("\n".join(f"bench/deploy.py: missing: {what}" for what in lacks))
         return 2
     if machine.INSIDE not in os.environ:
         return machine.enter([os.path.abspath(__file__), *words])

@@ -1,7 +1,7 @@
 #!/usr/bin/env python3
 """Decisions a second, and processor time a decision, of pdpd and of casbin (the Go library), in one run.
 
-Usage: bench/casbin [PDPD]     PDPD: the built program (build/pdpd, which `make pdpd` makes)
+Usage: bench/casbin.py [PDPD]     PDPD: the built program (build/pdpd, which `make pdpd` makes)
 
 Both decide by 10, 50 or 150 rules with one comparison each, of which the last permits; 1,000 different subjects ask in turn, which are more decisions than pdpd keeps. pdpd takes
 each ask as an HTTP message with a request of the JSON Profile, checks its token, and writes an HTTP reply. casbin (Enforce of an Enforcer without a cache) gets its

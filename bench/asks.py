@@ -1,9 +1,9 @@
 #!/usr/bin/env python3
 """What an ask takes through the proved pdpd, in microseconds of processor time: one whose response is kept, and ordinary ones that are worked out.
 
-Usage: bench/asks [PDPD]     PDPD: the built program (build/pdpd, which `make pdpd` makes)
-       bench/asks PDPD --instructions     instructions in place of times, in some minutes (valgrind, Debian's package); and those of asks with
-                                          many values, by policies of so many matches on them that are all false
+Usage: bench/asks.py [PDPD]     PDPD: the built program (build/pdpd, which `make pdpd` makes)
+       bench/asks.py PDPD --instructions     instructions in place of times, in some minutes (valgrind, Debian's package); and those of asks with
+                                             many values, by policies of so many matches on them that are all false
 
 A domain has one policy, of ten rules with a match each, of which the last permits. A request has three attributes. The same bytes again and again are worked
 out once; 1,000 requests in turn are more than are kept, so that each is worked out. Each kind is sent so many times and twice as many: the difference is

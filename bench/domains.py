@@ -2,7 +2,7 @@
 """Messages of one domain through the proved `pdpd serve` over a file, with 1 and with 10,000 domains of 10 documents each: microseconds of processor time a message, which may
 differ by three tenths and 3 microseconds, for a table of many rows is one or two pages deeper; and the operator's list of all domains, which may take 5 ms.
 
-Usage: bench/domains [PDPD]     PDPD: the built program (build/pdpd, which `make pdpd` makes)
+Usage: bench/domains.py [PDPD]     PDPD: the built program (build/pdpd, which `make pdpd` makes)
 
 The files are written by Python's sqlite3. Messages of one kind after another go to one of the domains, in pieces of 100 without waiting, each kind nine times; the best counts. In each message is the
 system call that sends its reply, and in a change what the disk's calls take of the processor. On a disturbed machine the times say little.
@@ -73,7 +73,7 @@ def measured(folder, numbers):
 
 def main():
     if not os.path.isfile(PROGRAM):
-        sys.exit(f"bench/domains: {PROGRAM} is not there: `make pdpd` builds it")
+        sys.exit(f"bench/domains.py: {PROGRAM} is not there: `make pdpd` builds it")
     with tempfile.TemporaryDirectory() as folder:
         (few, _), (many, (listing, status)) = measured(folder, [5_000]), measured(folder, list(range(1, 10_001)))
     failed = 0

@@ -1,7 +1,7 @@
 #!/usr/bin/env python3
 """Messages per second and peak memory of the proved pdpd, over transcripts of one decision message.
 
-Usage: bench/replay [PDPD]     PDPD: the built program (build/pdpd, which `make pdpd` makes)
+Usage: bench/replay.py [PDPD]     PDPD: the built program (build/pdpd, which `make pdpd` makes)
 
 Each transcript holds N copies of one request for a decision, once with an entry for each message and once in entries of
 up to 1 MiB that hold many. The time is the best of three runs, with standard input

@@ -2,11 +2,11 @@
 """What costs most: inputs that a tenant may send or upload, at two sizes, and how the processor time grows from the one to the other; and inputs that only a limit of
 work ends, each under the limit of LIMIT units and of REPLY bytes for a response, which have to be over within 4 s of processor time and 1 GB of memory, with the next message answered. Of those that are
 refused it shows the nanoseconds for a unit, reading and linking included. Behind them stand the forms of which a unit takes most, each at its least limit
-(`bench/units` measures all that there are): a unit may take MOST_OF_A_UNIT nanoseconds. And what an ask costs whose domain has as many bytes of policies as may be read for
+(`bench/units.py` measures all that there are): a unit may take MOST_OF_A_UNIT nanoseconds. And what an ask costs whose domain has as many bytes of policies as may be read for
 one message (the limit of READING bytes, room for views of ROOM): where no policy is asked, where the root leads to few, where all are read, and where three such domains drive
 each other's view out.
 
-Usage: bench/worst [XA_TRIALS]     XA_TRIALS: the built program; without it the proved one, which is proved and built first where it isn't yet
+Usage: bench/worst.py [XA_TRIALS]     XA_TRIALS: the built program; without it the proved one, which is proved and built first where it isn't yet
 
 The program xa_trials answers a row for each. Of each line the second size is twice the first,
 so a growth of two is linear and one of four is a square. What the program takes to read the row is measured by a row that is read and not worked out, and
@@ -23,7 +23,7 @@ import sys
 import tempfile
 
 TOP = pathlib.Path(__file__).resolve().parent.parent
-sys.path[:0] = [str(TOP / "agreement" / "model"), str(TOP / "bench")]
+sys.path[:0] = [str(TOP / "tests" / "model"), str(TOP / "bench")]
 
 from inputs import as_read  # noqa: E402
 from unit_forms import forms  # noqa: E402
@@ -339,9 +339,10 @@ DEAREST = [
     "string-contains, 40 in 200, by twos", "string-contains, 64 in 100, all alike", "string-contains, 200 in 200, nearly there", "string-contains, 400 in 4000, by threes",
     "map of string-from-dateTime", "map of string-from-dayTimeDuration", "map of string-substring, 1000 bytes", "map of dateTime-add-dayTimeDuration",
     "1,500 rules without more, permit-overrides", "1,000 policies of one rule, permit-overrides", "1,000 policies without rules, deny-overrides", "200 policies of 300 rules without more",
-    "all-of-all of string-starts-with, 1 bytes", "not, 20 in one another", "variables that each copy a bag of texts", "variables that each copy a bag of integers",
+    "all-of-all of string-starts-with, 1 byte", "not, 20 in one another", "variables that each copy a bag of texts", "variables that each copy a bag of integers",
     "200 matches among 2000 attributes", "200 matches by issuers among 2000 attributes", "200 matches among 1000 categories", "200 matches among 1000 source rows",
     "individual requests of 1000 categories", "1,400 obligations and a fault",
+    "anyURI-from-string, 1 byte", "string-from-anyURI, 1 byte", "string-normalize-space, 1 byte",
 ]
 
 

@@ -1,8 +1,8 @@
 #!/usr/bin/env python3
 """Decisions on large requests, by 999 policies of 10 designators each: nanoseconds a designator, and what the rest of a decision takes.
 
-Usage: bench/decide [XA_TRIALS]     XA_TRIALS: the built program; without it the proved one, which is proved and built first where it isn't yet
-       bench/decide --instructions [XA_TRIALS]     instructions in place of times, in some minutes (valgrind, Debian's package)
+Usage: bench/decide.py [XA_TRIALS]     XA_TRIALS: the built program; without it the proved one, which is proved and built first where it isn't yet
+       bench/decide.py --instructions [XA_TRIALS]     instructions in place of times, in some minutes (valgrind, Debian's package)
 
 The program xa_trials answers `decide` rows, each with 1,000 documents. A request with 64 individual requests asks each designator 63 times more than
 the same request with one, and links no more: so the difference of their times is what designators cost, with the match that each stands in. Times are
@@ -17,7 +17,7 @@ import sys
 import tempfile
 
 TOP = pathlib.Path(__file__).resolve().parent.parent
-sys.path.insert(0, str(TOP / "agreement" / "model"))
+sys.path.insert(0, str(TOP / "tests" / "model"))
 
 from inputs import as_read  # noqa: E402
 
