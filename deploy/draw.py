@@ -1,8 +1,8 @@
 #!/usr/bin/env python3
 """Makes docs/guide/deployment.svg of docs/guide/deployment.txt, whose first lines say how it is written.
 
-usage: deploy/draw          writes the drawing
-       deploy/draw --show   writes it to standard output
+usage: deploy/draw.py          writes the drawing
+       deploy/draw.py --show   writes it to standard output
 """
 import pathlib
 import sys

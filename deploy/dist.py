@@ -21,7 +21,7 @@ import programs  # noqa: E402
 PAGES = ("README.md", *sorted(str(path.relative_to(TOP)) for path in (TOP / "docs").rglob("*")
                               if path.suffix in (".md", ".svg", ".yaml")),
          *(f"examples/ward/{name}.json" for name in ("policy", "rows", "request-alice")))
-LEFT_OUT = ("dist", "draw")
+LEFT_OUT = ("dist.py", "draw.py")
 
 
 def program_of(named):
@@ -31,9 +31,9 @@ def program_of(named):
     try:
         path = programs.proved("pdpd")
     except programs.NotBuilt as fault:
-        raise SystemExit(f"deploy/dist: {fault}") from None
+        raise SystemExit(f"deploy/dist.py: {fault}") from None
     if path is None:
-        raise SystemExit("deploy/dist: pdpd isn't proved and built of these very sources: `make prove` or "
+        raise SystemExit("deploy/dist.py: pdpd isn't proved and built of these very sources: `make prove` or "
                          "`make pdpd` does it")
     return path, ("This program was proved and built of the sources of checksum "
                   f"{programs.fingerprint('pdpd')}\nby {said_by('rt', 'version')}.")
