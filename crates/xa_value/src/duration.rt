@@ -13,8 +13,7 @@ ghost use Rattle.xa_value.specs.parsing.Duration.{total_nanos, nanos_of, has_sho
 
 use crate::lexical::{begins_with, digit_count, number};
 use crate::read_error::ReadError;
-use crate::time::{DAY, HOUR, MINUTE, SECOND, fraction_length, fraction_nanos, push_fraction};
-use std::alloc::AllocError;
+use crate::time::{SECOND, fraction_length, fraction_nanos};
 use std::marker::Model;
 
 /// 10,000 years, in months: more than lie between any two dates, of the years 1 to 9999.
@@ -323,84 +322,4 @@ pub(crate) fn read_day_time(text: &[u8]) -> Result<DayTimeDuration, ReadError>
         return Err(ReadError::OutOfRange);
     }
     nanos_within(begins_with(b'-', text), part(b'D', body), clock)
-}
-
-/// Writes a minus for what is below zero.
-fn push_sign(text: &mut String, negative: bool) -> Result<(), AllocError>
-    ensures { OnOk result
-        (string_bytes text.new ≡ string_bytes text.old ++ (if negative then codes "-" else [])) }
-{
-    if negative { text.push('-') } else { Ok(()) }
-}
-
-/// Writes a part with its unit, and nothing where it is zero.
-#[tactic(auto, unfolding(crate::specs::Duration::part_text))]
-fn push_part(text: &mut String, number: u64, unit: char) -> Result<(), AllocError>
-    requires { unit < 128 }
-    ensures { OnOk result (string_bytes text.new ≡ string_bytes text.old ++ part_text number unit) }
-{
-    if number == 0 {
-        return Ok(());
-    }
-    write!(text, "{number}")?;
-    text.push(unit)
-}
-
-#[tactic(auto, unfolding(crate::specs::Duration::year_month_text))]
-pub(crate) fn push_year_month(
-    text: &mut String,
-    duration: YearMonthDuration,
-) -> Result<(), AllocError>
-    ensures { OnOk result (string_bytes text.new ≡ string_bytes text.old ++ year_month_text duration) }
-{
-    let months = duration.months().unsigned_abs();
-    if months == 0 {
-        return text.push_str("P0M");
-    }
-    push_sign(text, duration.months() < 0)?;
-    text.push('P')?;
-    push_part(text, u64::from(months / 12), 'Y')?;
-    push_part(text, u64::from(months % 12), 'M')
-}
-
-/// Writes seconds with a fraction, and nothing where they are zero.
-#[tactic(auto, unfolding(crate::specs::Duration::seconds_text))]
-fn push_seconds(text: &mut String, nanos: u64) -> Result<(), AllocError>
-    ensures { OnOk result (string_bytes text.new ≡ string_bytes text.old ++ seconds_text nanos) }
-{
-    if nanos == 0 {
-        return Ok(());
-    }
-    let seconds = nanos / SECOND;
-    write!(text, "{seconds}")?;
-    push_fraction(text, (nanos % SECOND) as u32)?;
-    text.push('S')
-}
-
-/// Writes hours, minutes and seconds after `T`, and nothing where they are zero.
-#[tactic(auto, unfolding(crate::specs::Duration::clock_part_text))]
-fn push_clock_part(text: &mut String, nanos: u64) -> Result<(), AllocError>
-    ensures { OnOk result (string_bytes text.new ≡ string_bytes text.old ++ clock_part_text nanos) }
-{
-    if nanos == 0 {
-        return Ok(());
-    }
-    text.push('T')?;
-    push_part(text, nanos / HOUR, 'H')?;
-    push_part(text, nanos / MINUTE % 60, 'M')?;
-    push_seconds(text, nanos % MINUTE)
-}
-
-#[tactic(auto, unfolding(crate::specs::Duration::day_time_text))]
-pub(crate) fn push_day_time(text: &mut String, duration: DayTimeDuration) -> Result<(), AllocError>
-    ensures { OnOk result (string_bytes text.new ≡ string_bytes text.old ++ day_time_text duration) }
-{
-    let nanos = duration.nanos().unsigned_abs();
-    if nanos == 0 {
-        return text.push_str("PT0S");
-    }
-    push_sign(text, duration.nanos() < 0)?;
-    text.push('P')?;
-    push_part(text, (nanos / u128::from(DAY)) as u64, 'D')?;
-    push_clock_part(text, (nanos % u128::from(DAY)) as u64)
 }

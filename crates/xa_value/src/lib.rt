@@ -9,6 +9,7 @@ mod category;
 mod data_type;
 mod digits;
 mod duration;
+mod duration_printing;
 mod instant;
 mod items;
 mod lexical;

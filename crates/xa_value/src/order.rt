@@ -64,10 +64,22 @@ impl Value {
 
     /// Whether the values are equal: of one type, and of the same instant, number or bytes (XACML
     /// 3.0, core, appendix A.3.1; XML Schema, part 2, section 3.2.7.4).
-    #[tactic(auto, unfolding(crate::specs::Order::same))]
+    #[tactic(auto, unfolding(crate::specs::Order::same, crate::specs::Order::number_of, crate::specs::Order::bytes_of))]
     pub fn same(&self, other: &Value) -> bool
         ensures value { result ≡ same self.now other.now }
         ensures law { IsEquivalence same }
+    {
+        match (self, other) {
+            // (most values that are compared are texts)
+            (Value::String(text), Value::String(other)) => text.as_bytes() == other.as_bytes(),
+            _ => self.has_same_key(other),
+        }
+    }
+
+    /// Whether the values are of one type, and what they are ordered by is the same.
+    #[tactic(auto, unfolding(crate::specs::Order::same))]
+    fn has_same_key(&self, other: &Value) -> bool
+        ensures { result ≡ same self.now other.now }
     {
         self.data_type().is_same(other.data_type())
             && self.number() == other.number()

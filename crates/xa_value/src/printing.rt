@@ -9,7 +9,8 @@ ghost use Rattle.xa_value.specs.Printing.{printed};
 
 use crate::binary::{base64_text, hex_text};
 use crate::calendar::{Date, DateTime, push_date, push_date_time};
-use crate::duration::{DayTimeDuration, YearMonthDuration, push_day_time, push_year_month};
+use crate::duration::{DayTimeDuration, YearMonthDuration};
+use crate::duration_printing::{push_day_time, push_year_month};
 use crate::number::{push_boolean, push_integer};
 use crate::text::Text;
 use crate::time::{Time, push_time};
