@@ -20,6 +20,8 @@ use Rattle.xa_link.specs.declared.placed.Placed.{Placed}
 use Rattle.xa_link.specs.declared.placed.Placed.TheFolds.{fold-roll-Placed}
 use Rattle.xa_link.specs.declared.placed.Placed.TheOpen.{Placed-F}
 use Rattle.xa_link.specs.declared.placed.Placed.TheVariants as part
+use Rattle.xa_link.specs.declared.resolved.Finding.{Finding}
+use Rattle.xa_link.specs.declared.resolved.Finding.TheVariants.{NotLooked, Looked}
 use Rattle.xa_link.specs.Linking.{document_at, replaced, replaced_step, tree_within}
 use Rattle.xa_link.specs.Placed.{AreRight, HasPlaced, SamePlaced, held, led_within, linked, linked_step, placed, placed_at, placed_step}
 use Rattle.xa_link.specs.Resolution.{resolve}
@@ -74,31 +76,37 @@ document_is more active path = linked_is (led_within more active path) (resolve 
 
 -- ---- what is held
 
-held_is : (documents : List (Option (Option Placed))) (place : ℕ) → held documents place ≡ get_or documents place None
+held_is : (documents : List Finding) (place : ℕ) → held documents place ≡ get_or documents place NotLooked
 held_is [] place = refl
 held_is (o ∷ os) zero = refl
 held_is (o ∷ os) (suc place) = held_is os place
 
-pub set_has : (documents : List (Option (Option Placed))) (place : ℕ) (d : Option Placed) → place < length documents → HasPlaced documents place d (slice_set documents place (Some d))
-set_has documents place d within other = held_is (slice_set documents place (Some d)) other ∙ by_case (other == place) refl where
-  by_case : (b : Bool) → (other == place) ≡ b → get_or (slice_set documents place (Some d)) other None ≡ (if b then Some d else held documents other)
-  by_case true same = ap (λ p. get_or (slice_set documents place (Some d)) p None) (eqb-true other place same) ∙ get_or-set_same documents place (Some d) None within
-  by_case false differ = get_or-set_other documents place other (Some d) None (λ z. grind (arith, nat_tests, differ, z)) ∙ sym (held_is documents other)
+pub set_has : (documents : List Finding) (place : ℕ) (d : Option Placed) → place < length documents → HasPlaced documents place d (slice_set documents place (Looked d))
+set_has documents place d within other = held_is (slice_set documents place (Looked d)) other ∙ by_case (other == place) refl where
+  by_case : (b : Bool) → (other == place) ≡ b → get_or (slice_set documents place (Looked d)) other NotLooked ≡ (if b then Looked d else held documents other)
+  by_case true same = ap (λ p. get_or (slice_set documents place (Looked d)) p NotLooked) (eqb-true other place same) ∙ get_or-set_same documents place (Looked d) NotLooked within
+  by_case false differ = get_or-set_other documents place other (Looked d) NotLooked (λ z. grind (arith, nat_tests, differ, z)) ∙ sym (held_is documents other)
 
-pub has_after : (a b c : List (Option (Option Placed))) (place : ℕ) (d : Option Placed) → SamePlaced a b → HasPlaced b place d c → HasPlaced a place d c
-has_after a b c place d same has other = has other ∙ ap (λ o. if other == place then Some d else o) (same other)
+pub has_after : (a b c : List Finding) (place : ℕ) (d : Option Placed) → SamePlaced a b → HasPlaced b place d c → HasPlaced a place d c
+has_after a b c place d same has other = has other ∙ ap (λ o. if other == place then Looked d else o) (same other)
 
-pub right_same : (active : List Active) (a b : List (Option (Option Placed))) → AreRight active a → SamePlaced a b → AreRight active b
+pub right_same : (active : List Active) (a b : List Finding) → AreRight active a → SamePlaced a b → AreRight active b
 right_same active a b right same place d there = right place d (sym (same place) ∙ there)
 
-pub right_put : (active : List Active) (a b : List (Option (Option Placed))) (place : ℕ) (d : Option Placed) → AreRight active a → placed_at active place ≡ d → HasPlaced a place d b → AreRight active b
+-- what was found, of a place that was looked at
+abbrev found_or : Option Placed → Finding → Option Placed
+found_or other NotLooked = other
+found_or other (Looked found) = found
+
+pub right_put : (active : List Active) (a b : List Finding) (place : ℕ) (d : Option Placed) → AreRight active a → placed_at active place ≡ d → HasPlaced a place d b → AreRight active b
 right_put active a b place d right here has other e there = by_case (other == place) refl where
   by_case : (c : Bool) → (other == place) ≡ c → placed_at active other ≡ e
   by_case true same =
       let at : other ≡ place = eqb-true other place same in
-      let same_found : e ≡ d = (let put : Some e ≡ Some d = sym there ∙ has other ∙ ap (λ c. if c then Some d else held a other) same in cc) in
+      let put : Looked e ≡ Looked d = sym there ∙ has other ∙ ap (λ c. if c then Looked d else held a other) same in
+      let same_found : e ≡ d = ap (found_or e) put in
       ap (placed_at active) at ∙ here ∙ sym same_found
-  by_case false differ = right other e (ap (λ c. if c then Some d else held a other) (sym differ) ∙ sym (has other) ∙ there)
+  by_case false differ = right other e (ap (λ c. if c then Looked d else held a other) (sym differ) ∙ sym (has other) ∙ there)
 
 -- what is looked up stands at the place
 pub found_at : (active : List Active) (place : ℕ) (looked_up : Option (Bor Active)) (found : Bor Active) → IsItemAt active place looked_up → looked_up ≡ Some found → slice_get active place ≡ Some found.now

@@ -1,13 +1,15 @@
 -- How many bytes are at places, and what is read one document after another.
 use Rattle.std.proofs.Common.{◌≡◌, ℕ, zero, suc, ◌+◌, ◌-◌, ◌<◌, ◌≤◌, Bool, true, false, ◌==◌, List, [], ◌∷◌, length, map, Option, Some, None, Ok, Err, refl, sym, ap, subst, ◌∙◌, arith}
-use Rattle.std.specs.Prelude.{◌||◌, if◌then◌else◌, is_some, nat_le, slice_get, Result}
+use Rattle.std.specs.Prelude.{◌||◌, if◌then◌else◌, nat_le, slice_get, Result}
 use Rattle.std.proofs.Math.Dec.{eqb-suc-suc, eqb-suc-zero, eqb-zero-suc}
 use Rattle.std.proofs.lemmas.Bool.{eqb-true, le-leb, leb-false, leb-true, true≢false}
 use Rattle.xa_shelf.specs.Allowance.{Allowance, asked}
 use Rattle.xa_link.specs.declared.active.Active.{Active}
 use Rattle.xa_link.specs.declared.placed.Placed.{Placed}
+use Rattle.xa_link.specs.declared.resolved.Finding.{Finding}
+use Rattle.xa_link.specs.declared.resolved.Finding.TheVariants.{NotLooked, Looked}
 use Rattle.xa_link.specs.Placed.{HasPlaced, SamePlaced, held}
-use Rattle.xa_link.specs.Progress.{Counted, Progress, Reads, Refuses, allowed, is_read, length_at, marks}
+use Rattle.xa_link.specs.Progress.{Counted, Progress, Reads, Refuses, allowed, is_looked, is_read, length_at, marks}
 use Rattle.xa_link.specs.Reading.{bytes_at}
 
 -- ---- tests
@@ -196,23 +198,23 @@ read_before old reader place is = record { places = λ other. sym (by_test other
 
 -- ---- marks
 
-pub marks_is : (documents : List (Option (Option Placed))) (place : ℕ) → is_read (marks documents) place ≡ is_some (held documents place)
+pub marks_is : (documents : List Finding) (place : ℕ) → is_read (marks documents) place ≡ is_looked (held documents place)
 marks_is [] place = refl
-marks_is (None ∷ rest) zero = refl
-marks_is (Some found ∷ rest) zero = refl
+marks_is (NotLooked ∷ rest) zero = refl
+marks_is (Looked found ∷ rest) zero = refl
 marks_is (first ∷ rest) (suc place) = marks_is rest place
 
-pub marks_put : (a b : List (Option (Option Placed))) (place : ℕ) (found : Option Placed) → HasPlaced a place found b
+pub marks_put : (a b : List Finding) (place : ℕ) (found : Option Placed) → HasPlaced a place found b
     → (other : ℕ) → is_read (marks b) other ≡ (is_read (marks a) other || (other == place))
-marks_put a b place found has other = marks_is b other ∙ ap is_some (has other) ∙ by_test (other == place) refl
+marks_put a b place found has other = marks_is b other ∙ ap is_looked (has other) ∙ by_test (other == place) refl
   where
     or_true : (c : Bool) → true ≡ (c || true)
     or_true true = refl
     or_true false = refl
 
-    by_test : (c : Bool) → (other == place) ≡ c → is_some (if other == place then Some found else held a other) ≡ (is_read (marks a) other || (other == place))
+    by_test : (c : Bool) → (other == place) ≡ c → is_looked (if other == place then Looked found else held a other) ≡ (is_read (marks a) other || (other == place))
     by_test true same =
-        ap (λ c. is_some (if c then Some found else held a other)) same ∙ or_true (is_read (marks a) other) ∙ sym (ap (λ c. is_read (marks a) other || c) same)
+        ap (λ c. is_looked (if c then Looked found else held a other)) same ∙ or_true (is_read (marks a) other) ∙ sym (ap (λ c. is_read (marks a) other || c) same)
     by_test false differ =
-        ap (λ c. is_some (if c then Some found else held a other)) differ ∙ sym (marks_is a other) ∙ sym (or_false (is_read (marks a) other))
+        ap (λ c. is_looked (if c then Looked found else held a other)) differ ∙ sym (marks_is a other) ∙ sym (or_false (is_read (marks a) other))
         ∙ sym (ap (λ c. is_read (marks a) other || c) differ)

@@ -12,6 +12,8 @@ use Rattle.xa_link.specs.declared.active.Active.{Active}
 use Rattle.xa_link.specs.declared.placed.Placed.{Placed, fold-Placed}
 use Rattle.xa_link.specs.declared.placed.Placed.TheOpen.{Placed-F}
 use Rattle.xa_link.specs.declared.placed.Placed.TheVariants as part
+use Rattle.xa_link.specs.declared.resolved.Finding.{Finding}
+use Rattle.xa_link.specs.declared.resolved.Finding.TheVariants.{NotLooked, Looked}
 use Rattle.xa_link.specs.Linking.{document_at, tree_at, tree_within, unless_circular}
 use Rattle.xa_link.specs.Resolution.{resolve}
 
@@ -44,25 +46,25 @@ led_within zero active path place = Unresolved
 led_within (suc more) active path place =
     tree_at (λ next. tree_within more active (next ∷ path)) active (unless_circular path place)
 
--- a place that is there and has something
-abbrev pub flattened : {X : Type 0} → Option (Option X) → Option X
-flattened (Some o) = o
-flattened None = None
+-- a place beyond those that are kept wasn't looked at
+abbrev pub or_not_looked : Option Finding → Finding
+or_not_looked (Some finding) = finding
+or_not_looked None = NotLooked
 
--- what was found at a place, where it was looked at: a document, or none
-abbrev pub held : List (Option (Option Placed)) → ℕ → Option (Option Placed)
-held documents place = flattened (slice_get documents place)
+-- what is known of a place
+abbrev pub held : List Finding → ℕ → Finding
+held documents place = or_not_looked (slice_get documents place)
 
 -- what was found is what stands there
-abbrev pub AreRight : List Active → List (Option (Option Placed)) → Type 0
+abbrev pub AreRight : List Active → List Finding → Type 0
 AreRight active documents =
-    (place : ℕ) (found : Option Placed) → held documents place ≡ Some found → placed_at active place ≡ found
+    (place : ℕ) (found : Option Placed) → held documents place ≡ Looked found → placed_at active place ≡ found
 
 -- the same is held
-abbrev pub SamePlaced : List (Option (Option Placed)) → List (Option (Option Placed)) → Type 0
+abbrev pub SamePlaced : List Finding → List Finding → Type 0
 SamePlaced documents after = (place : ℕ) → held after place ≡ held documents place
 
 -- and this beside
-abbrev pub HasPlaced : List (Option (Option Placed)) → ℕ → Option Placed → List (Option (Option Placed)) → Type 0
+abbrev pub HasPlaced : List Finding → ℕ → Option Placed → List Finding → Type 0
 HasPlaced documents place found after =
-    (other : ℕ) → held after other ≡ (if other == place then Some found else held documents other)
+    (other : ℕ) → held after other ≡ (if other == place then Looked found else held documents other)

@@ -1,11 +1,13 @@
 -- How far reading for a tree has come (cited by contracts of private functions alone).
 use Rattle.std.specs.Prelude.{◌≡◌, ℕ, zero, suc, ◌+◌, ◌<◌, ◌==◌, Bool, true, false, ◌||◌, List, []}
-use Rattle.std.specs.Prelude.{◌∷◌, length, map, Option, Some, None, is_some, slice_get, Result, Ok, Err}
+use Rattle.std.specs.Prelude.{◌∷◌, length, map, Option, Some, None, slice_get, Result, Ok, Err}
 use Rattle.std.specs.List.{list_any}
 use Rattle.xa_shelf.specs.Allowance.{Allowance}
 use Rattle.xa_link.specs.declared.active.Active.{Active}
 use Rattle.xa_link.specs.declared.placed.Placed.{Placed, fold-Placed}
 use Rattle.xa_link.specs.declared.placed.Placed.TheOpen.{Placed-F}
+use Rattle.xa_link.specs.declared.resolved.Finding.{Finding}
+use Rattle.xa_link.specs.declared.resolved.Finding.TheVariants.{NotLooked, Looked}
 use Rattle.xa_link.specs.Linking.{document_at, unless_circular}
 use Rattle.xa_link.specs.Reading.{bytes_at, is_at_or_below, leads_within}
 
@@ -19,9 +21,13 @@ is_read [] place = false
 is_read (first ∷ rest) zero = first
 is_read (first ∷ rest) (suc place) = is_read rest place
 
--- those where something is held
-abbrev pub marks : List (Option (Option Placed)) → List Bool
-marks documents = map is_some documents
+-- those that were looked at
+abbrev pub is_looked : Finding → Bool
+is_looked NotLooked = false
+is_looked (Looked found) = true
+
+abbrev pub marks : List Finding → List Bool
+marks documents = map is_looked documents
 
 -- the length of the text at a place
 abbrev pub text_length : Option Active → ℕ

@@ -18,14 +18,22 @@ use xa_notation::Parsed;
 use xa_shelf::TextReader;
 use xa_value::{OrMemory, Shared};
 
-/// Active documents, and what was found at those of their places that were looked at: the document, its
-/// references resolved, or none where the text isn't one. Clauses see the active documents, and which of
+/// What is known of a place among active documents.
+#[derive(Drop)]
+pub(crate) enum Finding {
+    /// It wasn't looked at yet.
+    NotLooked,
+    /// What was found there: the document, its references resolved, or none where the text isn't one.
+    Looked(Option<Shared<Placed>>),
+}
+
+/// Active documents, and what is known of their places. Clauses see the active documents, and which of
 /// them were read.
 #[derive(Drop)]
 pub(crate) struct Resolved<'a> {
     alloc: Global,
     index: Index<'a>,
-    documents: Vec<Option<Option<Shared<Placed>>>>,
+    documents: Vec<Finding>,
 }
 
 impl<'a> Model for Resolved<'a> {
@@ -40,22 +48,19 @@ impl<'a> Model for Resolved<'a> {
 }
 
 /// Makes the place one of those that documents may be at.
-fn make_room(
-    documents: &mut Vec<Option<Option<Shared<Placed>>>>,
-    place: usize,
-) -> Result<(), AllocError>
+fn make_room(documents: &mut Vec<Finding>, place: usize) -> Result<(), AllocError>
     ensures same { SamePlaced documents.old.items documents.new.items }
     ensures room { IfOk result (λ _. place < length documents.new.items) }
 {
     while documents.len() <= place {
-        documents.push(None)?;
+        documents.push(Finding::NotLooked)?;
     }
     Ok(())
 }
 
 /// Keeps what was found at the place.
 fn keep(
-    documents: &mut Vec<Option<Option<Shared<Placed>>>>,
+    documents: &mut Vec<Finding>,
     place: usize,
     found: Option<Shared<Placed>>,
 ) -> Result<(), AllocError>
@@ -63,7 +68,7 @@ fn keep(
     ensures err { OnErr result (SamePlaced documents.old.items documents.new.items) }
 {
     make_room(documents, place)?;
-    documents[place] = Some(found);
+    documents[place] = Finding::Looked(found);
     Ok(())
 }
 
@@ -77,16 +82,13 @@ fn share_of(found: &Option<Shared<Placed>>) -> Result<Option<Shared<Placed>>, Al
     }
 }
 
-/// What was found at the place, where it was looked at.
-fn found_at(
-    documents: &[Option<Option<Shared<Placed>>>],
-    place: usize,
-) -> Result<Option<Option<Shared<Placed>>>, AllocError>
+/// What is known of the place.
+fn found_at(documents: &[Finding], place: usize) -> Result<Finding, AllocError>
     ensures { IfOk result (λ found. found ≡ held documents.now place) }
 {
     match documents.get(place) {
-        Some(Some(found)) => Ok(Some(share_of(found)?)),
-        _ => Ok(None),
+        Some(Finding::Looked(found)) => Ok(Finding::Looked(share_of(found)?)),
+        _ => Ok(Finding::NotLooked),
     }
 }
 
@@ -162,7 +164,7 @@ impl<'a> Resolved<'a> {
         ensures kept { self.new.active ≡ self.old.active }
         ensures read { Counted result (λ other. other == place) self.old self.new reader.old reader.new }
     {
-        if let Some(found) = found_at(self.documents.as_slice(), place)? {
+        if let Finding::Looked(found) = found_at(self.documents.as_slice(), place)? {
             return Ok(found);
         }
         let found = placed_at(self.alloc, &mut self.index, reader, place)?;

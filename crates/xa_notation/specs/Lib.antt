@@ -7,3 +7,4 @@ pub mod Shape
 pub mod Tables
 pub mod Tokens
 pub mod Typing
+pub mod Values

@@ -4,7 +4,7 @@ ghost use Rattle.serde_json.specs.Find.{as_integer, as_number};
 ghost use Rattle.serde_json.specs.View.{view};
 ghost use Rattle.xa_value.specs.Gives.{Gives};
 ghost use Rattle.xa_value.specs.Plain.{from_plain};
-ghost use Rattle.xa_notation.specs.Shape.{attribute_value, designator, literal, or_bad, plain_value};
+ghost use Rattle.xa_notation.specs.Values.{attribute_value, designator, literal, or_bad, plain_value};
 
 use crate::json::{check_members, flag, member_at, needed_member, optional_text, text_copy};
 use crate::member::Member;
@@ -72,7 +72,7 @@ pub fn literal(
 }
 
 /// A literal (XACML 3.0, core, section 5.31).
-#[tactic(auto, unfolding(crate::specs::Shape::attribute_value))]
+#[tactic(auto, unfolding(crate::specs::Values::attribute_value))]
 pub(crate) fn attribute_value(alloc: Global, value: &Json) -> Result<Value, OrMemory<NotationError>>
     ensures { Gives result (attribute_value (view value.now)) }
 {
@@ -82,7 +82,7 @@ pub(crate) fn attribute_value(alloc: Global, value: &Json) -> Result<Value, OrMe
 }
 
 /// An attribute designator (core, section 5.29).
-#[tactic(auto, unfolding(crate::specs::Shape::designator))]
+#[tactic(auto, unfolding(crate::specs::Values::designator))]
 pub(crate) fn designator(alloc: Global, value: &Json) -> Result<Designator, OrMemory<NotationError>>
     ensures { Gives result (designator (view value.now)) }
 {

@@ -3,8 +3,8 @@ ghost use Rattle.std.specs.Prelude.{◌≡◌, option_map};
 ghost use Rattle.serde_json.specs.View.{view};
 ghost use Rattle.xa_value.specs.Gives.{Gives};
 ghost use Rattle.xa_notation.specs.Json.{optional};
-ghost use Rattle.xa_notation.specs.Shape.{category, data_type, description, effect, effect_named};
-ghost use Rattle.xa_notation.specs.Shape.{id, pattern, policy_algorithm, rule_algorithm, version};
+ghost use Rattle.xa_notation.specs.Values.{category, data_type, description, effect, effect_named};
+ghost use Rattle.xa_notation.specs.Values.{id, pattern, policy_algorithm, rule_algorithm, version};
 
 use crate::algorithm::{policy_algorithm_named, rule_algorithm_named};
 use crate::json::text;
@@ -69,7 +69,7 @@ pub(crate) fn optional_pattern(value: Option<&Json>) -> Result<Option<Pattern>, 
 }
 
 /// The effect of the name.
-#[tactic(auto, unfolding(crate::specs::Shape::effect_named))]
+#[tactic(auto, unfolding(crate::specs::Values::effect_named))]
 fn effect_named(text: &str) -> Result<Effect, NotationError>
     ensures { result ≡ effect_named text.now }
 {
