@@ -4,6 +4,7 @@ use Rattle.std.specs.Prelude.{filter, Some, None, slice_get}
 use Rattle.std.specs.List.{cons_option, filter_map, flat_map, list_any}
 use Rattle.xa_value.specs.declared.value.Value.{Value}
 use Rattle.xa_value.specs.Order.{same}
+use Rattle.xa_bag.proofs.SetLemmas as list
 use Rattle.xa_expr.specs.declared.looked.Looked.{Looked}
 use Rattle.xa_expr.specs.declared.looked.Looked.TheVariants.{Nothing, Found, NotFound}
 use Rattle.xa_expr.specs.Looked.{joined, looked}
@@ -74,3 +75,17 @@ module _ {X : Type 0} (gives : X → List Value) (all : List X → List Value) (
       ap (λ l. look_on l (drop (i + 1) places)) is
       ∙ ap (λ o. joined so_far (looked sought (all (cons_option o (filter_map (slice_get items) (drop (i + 1) places)))))) got
       ∙ ap (λ ps. look_on so_far ps) (sym (walked places i below)) ∙ before
+
+  -- the look so far, and one at the values of the items from one on
+  abbrev pub look_from : Looked → ℕ → Looked
+  look_from so_far i = joined so_far (looked sought (all (drop i items)))
+
+  -- the next item is looked at
+  pub next_looked_at : (so_far found next : Looked) (i : ℕ) (item : X) (whole : Looked) → i < length items
+      → item ≡ get_or items i item → found ≡ looked sought (gives item) → next ≡ joined so_far found
+      → look_from so_far i ≡ whole → look_from next (i + 1) ≡ whole
+  next_looked_at so_far found next i item whole below at here is before =
+      ap (λ l. look_from l (i + 1)) (is ∙ ap (λ l. joined so_far l) here)
+      ∙ joined_behind so_far sought (gives item) (all (drop (i + 1) items))
+      ∙ ap (λ vs. joined so_far (looked sought vs)) (sym (each item (drop (i + 1) items)))
+      ∙ ap (λ xs. joined so_far (looked sought (all xs))) (sym (list.walked items i item at below)) ∙ before

@@ -9,8 +9,8 @@ use Rattle.xa_notation.specs.declared.member.Member.TheVariants as member
 use Rattle.xa_notation.specs.declared.notation_error.NotationError.{NotationError}
 use Rattle.xa_notation.specs.declared.tables.Object.TheVariants as table
 use Rattle.xa_notation.specs.Json.{at, each, fits, items, json, needed_member, optional, text}
-use Rattle.xa_notation.specs.Shape.{category, data_type, literal}
 use Rattle.xa_notation.specs.Tables.{name_of}
+use Rattle.xa_notation.specs.Values.{category, data_type, literal}
 use Rattle.xa_profile.specs.Response.{listing, type_data, value_data}
 use Rattle.xa_decide.specs.declared.source_row.SourceRow.{SourceRow}
 

@@ -101,7 +101,7 @@ fn one_outcome(alloc: Global, fault: Fault) -> Result<Outcome, AllocError>
 #[derive(Drop)]
 struct Deciding<'a> {
     view: &'a View,
-    asks_for_policies: bool,
+    names_policies: bool,
     objects: &'a [IndexedObject<'a>],
     moment: Moment,
     work: &'a Work,
@@ -133,12 +133,12 @@ impl<'a> Deciding<'a> {
     /// before it is written.
     #[tactic(auto, unfolding(crate::specs::Decision::decision))]
     fn result_at(&self, alloc: Global, places: Items<usize>) -> Result<ResultObject, AllocError>
-        ensures { IfOk result (λ r. r ≡ result_of self.now.view.now self.now.asks_for_policies
+        ensures { IfOk result (λ r. r ≡ result_of self.now.view.now self.now.names_policies
             self.now.objects.now self.now.moment (Places places)) }
     {
         let chosen = places.as_slice();
         let context = self.context_at(alloc, chosen)?;
-        let evaluated = by_tree(alloc, self.view.tree(), &context, self.asks_for_policies)?;
+        let evaluated = by_tree(alloc, self.view.tree(), &context, self.names_policies)?;
         self.work
             .spend_on_result(writing_of_result(self.objects, chosen, &evaluated))?;
         Ok(ResultObject { evaluated, places })
@@ -146,7 +146,7 @@ impl<'a> Deciding<'a> {
 
     /// The result of an individual request.
     fn result_of(&self, alloc: Global, individual: Individual) -> Result<ResultObject, AllocError>
-        ensures { IfOk result (λ r. r ≡ result_of self.now.view.now self.now.asks_for_policies
+        ensures { IfOk result (λ r. r ≡ result_of self.now.view.now self.now.names_policies
             self.now.objects.now self.now.moment individual) }
     {
         self.work.spend(STEP)?;
@@ -163,7 +163,7 @@ impl<'a> Deciding<'a> {
         individuals: Items<Individual>,
     ) -> Result<Items<ResultObject>, AllocError>
         ensures { IfOk result (λ results. results ≡ map (result_of self.now.view.now
-            self.now.asks_for_policies self.now.objects.now self.now.moment) individuals) }
+            self.now.names_policies self.now.objects.now self.now.moment) individuals) }
     {
         let mut results = Items::new(alloc);
         for individual in individuals.into_vec() {
@@ -204,7 +204,7 @@ fn outcome_of_individuals<'x>(
     let indexed = indexed_objects(alloc, work, request.objects.as_slice())?;
     let deciding = Deciding {
         view,
-        asks_for_policies: request.return_policy_id_list,
+        names_policies: request.return_policy_id_list,
         objects: indexed.as_slice(),
         moment,
         work,

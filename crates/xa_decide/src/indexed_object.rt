@@ -10,7 +10,7 @@ ghost use Rattle.xa_decide.specs.indexing.Types.{IsOfType, IsOfTypes};
 use crate::attribute::push_attribute;
 use crate::keys::{ByIssuer, ByName, issuer_key};
 use crate::naming::{Naming, naming_of};
-use crate::order::{item_at, order_of, places_among, units_of_search};
+use crate::order::{are_few, item_at, order_of, places_among, units_of_search};
 use crate::response_work::writing_of_object;
 use crate::work::Work;
 use crate::writing::Writing;
@@ -121,6 +121,17 @@ impl<'a> IndexedObject<'a> {
         ensures { result.now ≡ self.now.attributes }
     {
         self.object.attributes.as_slice()
+    }
+
+    /// The object's attributes, where they are few and their values are looked at one by one, to be gone
+    /// through one after another.
+    pub(crate) fn few(&self) -> Option<&'a [Attribute]>
+        ensures { IfSome result (λ few. few.now ≡ self.now.attributes) }
+    {
+        match &self.members {
+            None if are_few(self.object.attributes.len()) => Some(self.attributes()),
+            _ => None,
+        }
     }
 
     /// The values of the attribute, which has the place, to be searched; none, where they are looked at

@@ -128,6 +128,13 @@ impl<'a> IndividualObjects<'a> {
         let _ = &self.order;
     }
 
+    /// All objects, in request order.
+    pub(crate) fn all(&self) -> &[&'a IndexedObject<'a>]
+        ensures { map (λ o. o.now) result.now ≡ self.now }
+    {
+        self.objects.as_slice()
+    }
+
     /// Places among which are those of all objects of that category.
     pub(crate) fn places(&self, category: &str) -> &[usize]
         ensures { filter (λ o. bytes_eq o.category category.now) (filter_map (slice_get self.now) result.now)

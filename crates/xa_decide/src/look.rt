@@ -1,12 +1,13 @@
 //! Looks for a value among those of a designator, where they are: no value is copied.
-ghost use Rattle.std.specs.Prelude.{◌≡◌, [], ◌∷◌, bytes_eq, IfOk, IfSome, if◌then◌else◌};
+ghost use Rattle.std.specs.Prelude.{◌≡◌, [], ◌∷◌, bytes_eq, filter, map, IfOk, IfSome, if◌then◌else◌};
+ghost use Rattle.std.specs.List.{flat_map};
 ghost use Rattle.xa_expr.specs.Looked.{looked};
 ghost use Rattle.xa_decide.specs.Context.{is_named_by, is_row, object_values, request_values, source_values};
 
 use crate::attribute::is_named_by;
 use crate::indexed_object::IndexedObject;
 use crate::individual_objects::IndividualObjects;
-use crate::order::item_at;
+use crate::order::{are_few, item_at};
 use crate::source::{Source, is_row};
 use crate::source_row::SourceRow;
 use crate::work::{Work, is_large};
@@ -93,9 +94,23 @@ impl<'a> Look<'a> {
         }
     }
 
-    /// A look at the values of the object's attributes.
+    /// A look at the values of the attributes, which are gone through one after another.
     #[tactic(auto, using(xa_expr::proofs::LookedLemmas::joined_nothing))]
-    fn at_object(&self, object: &IndexedObject<'_>) -> Result<Looked, AllocError>
+    fn at_each_attribute(&self, attributes: &[Attribute]) -> Result<Looked, AllocError>
+        ensures { IfOk result (λ found. found ≡ looked self.now.sought.now
+            (flat_map (λ a. a.values.values) (filter (is_named_by self.now.designator.now) attributes.now))) }
+    {
+        let mut so_far = Looked::Nothing;
+        for attribute in attributes {
+            let found = self.at_attribute(attribute, None)?;
+            so_far = so_far.and(found);
+        }
+        Ok(so_far)
+    }
+
+    /// A look at the values of the object's attributes, which are found by their places.
+    #[tactic(auto, using(xa_expr::proofs::LookedLemmas::joined_nothing))]
+    fn at_attributes_by_place(&self, object: &IndexedObject<'_>) -> Result<Looked, AllocError>
         ensures { IfOk result (λ found.
             found ≡ looked self.now.sought.now (object_values self.now.designator.now object.now)) }
     {
@@ -111,6 +126,17 @@ impl<'a> Look<'a> {
         Ok(so_far)
     }
 
+    /// A look at the values of the object's attributes.
+    fn at_object(&self, object: &IndexedObject<'_>) -> Result<Looked, AllocError>
+        ensures { IfOk result (λ found.
+            found ≡ looked self.now.sought.now (object_values self.now.designator.now object.now)) }
+    {
+        match object.few() {
+            Some(attributes) => self.at_each_attribute(attributes),
+            None => self.at_attributes_by_place(object),
+        }
+    }
+
     /// A look at the values of the object's attributes, if it is of the designator's category.
     fn at_object_of_category(&self, object: &IndexedObject<'_>) -> Result<Looked, AllocError>
         ensures { IfOk result (λ found. found ≡ looked self.now.sought.now
@@ -124,9 +150,23 @@ impl<'a> Look<'a> {
         }
     }
 
-    /// A look at the values that the request has.
+    /// A look at the values of the objects, which are gone through one after another.
     #[tactic(auto, unfolding(crate::specs::Context::request_values), using(xa_expr::proofs::LookedLemmas::joined_nothing))]
-    pub(crate) fn at_objects(&self, objects: &IndividualObjects<'_>) -> Result<Looked, AllocError>
+    fn at_each_object(&self, objects: &[&IndexedObject<'_>]) -> Result<Looked, AllocError>
+        ensures { IfOk result (λ found. found ≡ looked self.now.sought.now
+            (request_values (map (λ o. o.now) objects.now) self.now.designator.now)) }
+    {
+        let mut so_far = Looked::Nothing;
+        for object in objects {
+            let found = self.at_object_of_category(object)?;
+            so_far = so_far.and(found);
+        }
+        Ok(so_far)
+    }
+
+    /// A look at the values of the objects, which are found by their places.
+    #[tactic(auto, unfolding(crate::specs::Context::request_values), using(xa_expr::proofs::LookedLemmas::joined_nothing))]
+    fn at_objects_by_place(&self, objects: &IndividualObjects<'_>) -> Result<Looked, AllocError>
         ensures { IfOk result (λ found.
             found ≡ looked self.now.sought.now (request_values objects.now self.now.designator.now)) }
     {
@@ -138,6 +178,19 @@ impl<'a> Look<'a> {
             }
         }
         Ok(so_far)
+    }
+
+    /// A look at the values that the request has.
+    pub(crate) fn at_objects(&self, objects: &IndividualObjects<'_>) -> Result<Looked, AllocError>
+        ensures { IfOk result (λ found.
+            found ≡ looked self.now.sought.now (request_values objects.now self.now.designator.now)) }
+    {
+        let all = objects.all();
+        if are_few(all.len()) {
+            self.at_each_object(all)
+        } else {
+            self.at_objects_by_place(objects)
+        }
     }
 
     /// A look at the row's value, if it is a row of the entity's attribute that the designator names.

@@ -14,6 +14,13 @@ const FEW: usize = 8;
 /// The places of that many items.
 const PLACES: &[usize] = &[0, 1, 2, 3, 4, 5, 6, 7];
 
+/// Whether so many items are looked at one after another.
+pub(crate) fn are_few(count: usize) -> bool
+    ensures { result ≡ nat_le count 8 }
+{
+    count <= FEW
+}
+
 /// How often a number of items is halved until there is none.
 fn halvings(count: usize) -> u64 {
     u64::from(64u32.saturating_sub(count.leading_zeros()))

@@ -6,5 +6,5 @@ use Rattle.xa_decide.proofs.decision.Deciding.results_of.Given as goal
 -- the results so far, before those of the individual requests that are left
 abbrev pub invariant-loop-individual : goal.invariant-loop-individual
 invariant-loop-individual l =
-    l.results ++ map (result_of l.self.view.now l.self.asks_for_policies l.self.objects.now l.self.moment) (into_iter_items l.individual-iterator)
-    ≡ map (result_of l.self.view.now l.self.asks_for_policies l.self.objects.now l.self.moment) l.fn.individuals
+    l.results ++ map (result_of l.self.view.now l.self.names_policies l.self.objects.now l.self.moment) (into_iter_items l.individual-iterator)
+    ≡ map (result_of l.self.view.now l.self.names_policies l.self.objects.now l.self.moment) l.fn.individuals

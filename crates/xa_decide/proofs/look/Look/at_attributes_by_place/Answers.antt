@@ -3,8 +3,8 @@ use Rattle.xa_decide.proofs.LookLemmas.{item_looked_at, nothing_looked_at, passe
 use Rattle.std.proofs.Common.{◌∙◌}
 use Rattle.std.specs.Prelude.{if◌then◌else◌, [], filter}
 use Rattle.std.specs.List.{flat_map}
-use Rattle.xa_decide.proofs.look.Look.at_object.Goals.{in-Some+in_ok-at_attribute, in_default}
-use Rattle.xa_decide.proofs.look.Look.at_object.Goals as goal
+use Rattle.xa_decide.proofs.look.Look.at_attributes_by_place.Goals.{in-Some+in_ok-at_attribute, in_default}
+use Rattle.xa_decide.proofs.look.Look.at_attributes_by_place.Goals as goal
 
 pub loop-place-preserved : goal.loop-place-preserved
 loop-place-preserved c =

@@ -3,8 +3,8 @@ use Rattle.std.specs.Prelude.{if◌then◌else◌, [], bytes_eq, filter}
 use Rattle.std.specs.List.{flat_map}
 use Rattle.xa_decide.specs.Context.{object_values}
 use Rattle.xa_decide.proofs.LookLemmas.{item_looked_at, nothing_looked_at, passed}
-use Rattle.xa_decide.proofs.look.Look.at_objects.Goals.{in-Some+in_ok-at_object_of_category, in_default}
-use Rattle.xa_decide.proofs.look.Look.at_objects.Goals as goal
+use Rattle.xa_decide.proofs.look.Look.at_objects_by_place.Goals.{in-Some+in_ok-at_object_of_category, in_default}
+use Rattle.xa_decide.proofs.look.Look.at_objects_by_place.Goals as goal
 
 pub loop-place-preserved : goal.loop-place-preserved
 loop-place-preserved c =

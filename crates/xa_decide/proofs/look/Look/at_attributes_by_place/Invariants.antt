@@ -3,7 +3,7 @@ use Rattle.std.specs.Prelude.{filter, slice_get}
 use Rattle.std.specs.List.{filter_map, flat_map}
 use Rattle.xa_expr.specs.Looked.{joined, looked}
 use Rattle.xa_decide.specs.Context.{is_named_by}
-use Rattle.xa_decide.proofs.look.Look.at_object.Given as goal
+use Rattle.xa_decide.proofs.look.Look.at_attributes_by_place.Given as goal
 
 -- the look so far, and one at the values of the attributes at the places that are left
 abbrev pub invariant-loop-place : goal.invariant-loop-place
