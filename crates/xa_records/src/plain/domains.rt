@@ -193,8 +193,8 @@ impl Domains {
     /// Puts a document in that isn't active yet. The very text again changes nothing.
     pub(crate) fn upload(
         &mut self,
-        name: &Text,
         alloc: Global,
+        name: &Text,
         key: DocumentKey,
         text: &[u8],
     ) -> Result<Upload, ChangeError>

@@ -186,7 +186,7 @@ impl Records for PlainRecords {
         ensures store { IsErrOf result (Failed Store)
             → CantRaise (within (uploaded key text.now)) name.now self.old.domains }
     {
-        let done = self.domains.upload(name, alloc, key, text);
+        let done = self.domains.upload(alloc, name, key, text);
         count_failure(&mut self.faults, &done);
         done
     }
