@@ -1,4 +1,4 @@
--- A transaction that is begun and undone, over tables of any schema, and what is judged in it.
+-- A transaction that is begun and undone, over tables of any schema, and what is checked in it.
 use Rattle.std.proofs.Common.{◌≡◌, ◌≢◌, ◌⊎◌, inl, inr, ℕ, List, [], codes, true, false, cond, None, Bool, Ok, Err, Result, IsTrue, IfErr, refl, sym, ap, subst, subst₂, ◌∙◌, true≢false, arith}
 use Rattle.sqlite.specs.Clock.{timed}
 use Rattle.xa_store.proofs.Common.{Command, Begin, Rollback, IsPlain, Row, Schema, State, HasCleanDisk, Executes, IsRolledBack, MayCommit, Survives, Trees, command_of, runs_as, survives_then, survives_weaker, OpenError, SchemaVersion, schema_of, RestsIn, SameNow}
@@ -104,7 +104,7 @@ ended_before s idle = record {
   fails = tt;
 }
 
--- ---- what is judged in the transaction
+-- ---- what is checked in the transaction
 
 pub fails_no_refusal : (e : OpenError) → IsFailure e → ¬ IsRefusal e
 fails_no_refusal e (inl is) (inl other) = absurd cc

@@ -4,7 +4,7 @@ pub mod AskLemmas
 pub mod ChangeLemmas
 pub mod EntryLemmas
 pub mod FilterLemmas
-pub mod JudgedTexts
+pub mod CheckedTexts
 pub mod KeyLemmas
 pub mod MadeTexts
 pub mod OpenedLemmas

@@ -1,6 +1,6 @@
 -- Tables that were brought into schema 2 are sound, and mean what those of schema 1 meant.
 use Rattle.std.proofs.Common.{◌≡◌, ℕ, ◌+◌, ◌<◌, ℤ, pos, true, ◌&&◌, cond, List, [], ◌∷◌, map, filter, int_cmp, int_eq, int_lt, Ok, Err, refl, sym, ap, subst, ◌∙◌, arith}
-use Rattle.xa_store.proofs.Common.{from_entries, list_all, on, ints, Database, Row, Trees, IsSound, sort_by, filter-map, map-map, map_same, first_of_both, second_of_both, sort_by-map, SourceRow, Damaged, Kind, Domains, Tokens, Documents, Roots, Attributes, Sources, Schema1, Schema2, are_counted, are_rising, are_sound_rows, as_read, is_count, is_empty, is_left_empty, is_sound, is_sound_row, is_sound_table, is_whole_row, judged, kinds_in, known_next, opened, place_in, read_meta, row_number, AttributeRow, DomainRow, attribute_in, document_in, domain_in, meta_row, nat_of, next_in, root_in, token_in, unissued_in, attributes_at, documents_at, domain_entry, first_rows_of, first_world_of, library_of, roles_of, root_at, rows_of, source_of, state_at, tokens_at, world_of}
+use Rattle.xa_store.proofs.Common.{from_entries, list_all, on, ints, Database, Row, Trees, IsSound, sort_by, filter-map, map-map, map_same, first_of_both, second_of_both, sort_by-map, SourceRow, Damaged, Kind, Domains, Tokens, Documents, Roots, Attributes, Sources, Schema1, Schema2, are_counted, are_rising, are_sound_rows, as_read, is_count, is_empty, is_left_empty, is_sound, is_sound_row, is_sound_table, is_whole_row, checked, kinds_in, known_next, opened, place_in, read_meta, row_number, AttributeRow, DomainRow, attribute_in, document_in, domain_in, meta_row, nat_of, next_in, root_in, token_in, unissued_in, attributes_at, documents_at, domain_entry, first_rows_of, first_world_of, library_of, roles_of, root_at, rows_of, source_of, state_at, tokens_at, world_of}
 use Rattle.xa_store.specs.Migration.{IsDone, IsSoundFirst, moved_row, moved_rows}
 use Rattle.xa_store.specs.Opening.{IsMigrated}
 use Rattle.xa_store.proofs.MigratingLemmas.{its_meta}
@@ -101,7 +101,7 @@ module _ (first : Trees) (sound : IsSoundFirst first) (d : Database) (done : IsD
       (both_true (are_counted (map place_in (db 10))) (is_left_empty Schema2 db) counted (ap is_empty done.attributes))
 
   opens : opened Schema2 db ≡ Ok tt
-  opens = ap (λ rows. judged Schema2 db (known_next Schema2 (map read_meta rows))) meta ∙ ap (λ b. cond b (Ok tt) (Err Damaged)) is_sound_now
+  opens = ap (λ rows. checked Schema2 db (known_next Schema2 (map read_meta rows))) meta ∙ ap (λ b. cond b (Ok tt) (Err Damaged)) is_sound_now
 
   states : (n : ℤ) → state_at (rows_of db) n ≡ state_at (first_rows_of first) n
   states n = λ i. record {

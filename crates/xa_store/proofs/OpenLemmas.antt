@@ -50,7 +50,7 @@ nothing_known a second first blank (inr (inr h)) = blank h
 pub sound_ours : (s : State) → IsSoundIn Schema2 s → Ours s
 sound_ours s sound = opened_ours s sound.rests sound.database sound.opens
 
--- ---- the tables of a schema were judged
+-- ---- the tables of a schema were checked
 
 module _ (version : SchemaVersion) (a c : State) (quiet : IsIdle a) (schema : a.now.schema ≡ schema_of version) where
   at_rest : IsTrue a.is_open → RestsIn (schema_of version) a
@@ -191,7 +191,7 @@ module _ (a c : State) (full : has_room a.now.schema ≡ false) (second : versio
       stays up (inr (inl rests)) = absurd (not_first a second rests)
       stays up (inr (inr blank)) = absurd (not_blank a full blank)
 
--- tables of schema 1, which were judged, and then brought into schema 2
+-- tables of schema 1, which were checked, and then brought into schema 2
 module _ (a b : State) (full : has_room a.now.schema ≡ false) (first : version_in a.now.schema ≡ Schema1) where
   its_room : IsTrue (is_free a.now.schema (codes "sources"))
   its_room = go (is_free a.now.schema (codes "sources")) refl

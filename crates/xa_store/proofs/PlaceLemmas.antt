@@ -6,7 +6,7 @@ use Rattle.xa_store.specs.Texts.{meta_shown}
 use Rattle.xa_store.proofs.CountedLemmas.{walk_counts}
 use Rattle.xa_store.proofs.FoundLemmas.{found_sorted}
 use Rattle.xa_store.proofs.HitLemmas.{eq_then}
-use Rattle.xa_store.proofs.JudgedTexts.{left_is, meta_read_is, places_is}
+use Rattle.xa_store.proofs.CheckedTexts.{left_is, meta_read_is, places_is}
 use Rattle.xa_store.proofs.ReadLemmas.{bare}
 use Rattle.xa_store.proofs.SqlLemmas.{Answered, answered, count_is, out}
 

@@ -2,8 +2,8 @@
 use Rattle.std.proofs.Common.{◌≡◌, ℤ, Bool, true, false, List, [], ◌∷◌, map, filter, int_lt, Less, Option, Some, None, Result, Ok, Err, refl, sym, ap, ap₂, subst, subst₂, ◌∙◌, true≢false, IsPermutation}
 use Rattle.xa_store.proofs.Common.{AllByRecursion, list_all, All-permutation, IsPermutation-map, IsPermutation-sym, Row, column, overlay, Output, Query, output_cmp, State, Shown, Term, col, eval, Trees, Value, Null, Int, Real, Text, Blob, reads_as, Less-from_lt, all_of, all_weaker, all_both, all_from_test, all_unmap, all_map, test_from_all, filter_all, map-map, map_same, ascending-map, first_of_both, second_of_both, sorted_unique, output_cmp_total, IsAscending, int_of, last_key, value_cmp-Int, Kind, Domains, Tokens, Documents, Roots, Attributes, Sources, SchemaVersion, OpenError, NotThisSchema, Damaged, Store, Memory, are_rising, as_read, is_number, is_sound_table, is_whole_row, read_columns, row_number, schema_of, tree_of, RestsIn}
 use Rattle.std.proofs.lemmas.List.Elements.{recursion_from_All, All-from_recursion}
-use Rattle.xa_store.specs.Check.{has_kind, text_of, HasNumbers, IsRead, Judges, Walks, checks, comes_after, fits}
-use Rattle.xa_store.proofs.JudgedTexts.{judged_is}
+use Rattle.xa_store.specs.Check.{has_kind, text_of, HasNumbers, IsRead, TellsSound, Walks, checks, comes_after, fits}
+use Rattle.xa_store.proofs.CheckedTexts.{checked_is}
 use Rattle.xa_store.proofs.RiseLemmas.{lt_trans, lt_from, both_true, second_false}
 use Rattle.xa_store.proofs.SqlLemmas.{Answered, answered, show, out, hits}
 use Rattle.xa_store.proofs.TextLemmas.{of_table}
@@ -80,7 +80,7 @@ module _ (kind : Kind) (db : Trees) where
 pub shown_read : (kind : Kind) (version : SchemaVersion) → has_kind kind version ≡ true → (old new : State) → RestsIn (schema_of version) old → (rows : List Row) → Shown (text_of kind) [] old new rows
     → IsRead kind old.now.trees rows
 shown_read kind version has old new rests rows shown =
-    let it = judged_is kind version has in
+    let it = checked_is kind version has in
     is_read kind old.now.trees rows
     (answered (tree_of kind) [] _ (0 ∷ []) old.now.trees (bare kind old.now.trees) [] rows
     (reads_as (text_of kind) [] old new (schema_of version) rests.schema _ it.0 it.2 it.1 rows shown).answer)
@@ -145,16 +145,16 @@ module _ (kind : Kind) (next : ℤ) where
     pub walked_numbers : Walks kind next db (Ok tt) → HasNumbers kind db
     walked_numbers (rows, is, passes, held) = numbered_rows (sound_rows rows is passes)
 
-    pub walked_judges : (r : Result (Unit {0}) OpenError) → Walks kind next db (Ok tt) → Judges (are_rising (map row_number read)) r → Judges (is_sound_table db next kind) r
-    walked_judges (Ok x) (rows, is, passes, held) up = both_true _ _ (test_from_all (is_whole_row kind next) read (sound_rows rows is passes)) up
-    walked_judges (Err Damaged) walked down = second_false _ _ down
-    walked_judges (Err NotThisSchema) walked up = absurd up
-    walked_judges (Err Store) walked up = tt
-    walked_judges (Err Memory) walked up = tt
+    pub walked_checks : (r : Result (Unit {0}) OpenError) → Walks kind next db (Ok tt) → TellsSound (are_rising (map row_number read)) r → TellsSound (is_sound_table db next kind) r
+    walked_checks (Ok x) (rows, is, passes, held) up = both_true _ _ (test_from_all (is_whole_row kind next) read (sound_rows rows is passes)) up
+    walked_checks (Err Damaged) walked down = second_false _ _ down
+    walked_checks (Err NotThisSchema) walked up = absurd up
+    walked_checks (Err Store) walked up = tt
+    walked_checks (Err Memory) walked up = tt
 
     -- or has stopped before
-    pub stopped_judges : (e : OpenError) → Walks kind next db (Err e) → Judges (is_sound_table db next kind) (Err e)
-    stopped_judges Damaged (rows, is, fails) = unsound rows is fails
-    stopped_judges NotThisSchema walked = absurd walked
-    stopped_judges Store walked = tt
-    stopped_judges Memory walked = tt
+    pub stopped_checks : (e : OpenError) → Walks kind next db (Err e) → TellsSound (is_sound_table db next kind) (Err e)
+    stopped_checks Damaged (rows, is, fails) = unsound rows is fails
+    stopped_checks NotThisSchema walked = absurd walked
+    stopped_checks Store walked = tt
+    stopped_checks Memory walked = tt

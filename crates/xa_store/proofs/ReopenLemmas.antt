@@ -1,6 +1,6 @@
 -- A keeper's own tables are such as opening finds sound.
 use Rattle.std.proofs.Common.{◌≡◌, ℕ, ℤ, ◌<ℤ◌, Bool, true, false, ◌&&◌, cond, bytes_eq, List, [], ◌∷◌, map, int_eq, int_lt, Option, Ok, Err, refl, sym, ap, subst, ◌∙◌, arith}
-use Rattle.xa_store.proofs.Common.{AllByRecursion, list_all, ints, is_eq-slice_cmp, Row, column, State, Trees, Int, Text, all_both, all_map, all_weaker, ascending-map, map-map, map_same, test_from_all, IsAscending, bytes_eq_refl, DocumentKey, version_text, Parsed, document_of, is_domain_name, IsDocumentOf, Damaged, Kind, Domains, Tokens, Documents, Roots, Sources, Schema2, are_counted, are_rising, as_read, holds_key, holds_text_if_any, holds_value, is_bit, is_count, is_digest, is_empty, is_given, is_left_empty, is_pattern, is_sound, is_sound_table, is_version, is_whole_row, judged, kinds_in, known_next, opened, place_in, read_meta, row_number, tree_of, is_utf8, AttributeRow, DocumentRow, DomainRow, RootRow, TokenRow, attribute_in, attribute_row, bit, document_in, document_row, domain_in, domain_row, issuer_columns, kind_number, next_in, role_number, root_in, root_row, token_in, token_row, type_number, value_text, AreDocuments, AreOurs, AreRows, AreTables, AreWhole, Ours, is_if_any, place_of, rows_of}
+use Rattle.xa_store.proofs.Common.{AllByRecursion, list_all, ints, is_eq-slice_cmp, Row, column, State, Trees, Int, Text, all_both, all_map, all_weaker, ascending-map, map-map, map_same, test_from_all, IsAscending, bytes_eq_refl, DocumentKey, version_text, Parsed, document_of, is_domain_name, IsDocumentOf, Damaged, Kind, Domains, Tokens, Documents, Roots, Sources, Schema2, are_counted, are_rising, as_read, holds_key, holds_text_if_any, holds_value, is_bit, is_count, is_digest, is_empty, is_given, is_left_empty, is_pattern, is_sound, is_sound_table, is_version, is_whole_row, checked, kinds_in, known_next, opened, place_in, read_meta, row_number, tree_of, is_utf8, AttributeRow, DocumentRow, DomainRow, RootRow, TokenRow, attribute_in, attribute_row, bit, document_in, document_row, domain_in, domain_row, issuer_columns, kind_number, next_in, role_number, root_in, root_row, token_in, token_row, type_number, value_text, AreDocuments, AreOurs, AreRows, AreTables, AreWhole, Ours, is_if_any, place_of, rows_of}
 use Rattle.xa_store.proofs.ColumnLemmas.{held_if_any, text_written}
 use Rattle.xa_store.proofs.ColumnNumbers.{of_activity, of_kind, of_role}
 use Rattle.xa_store.proofs.CountedLemmas.{each_counted}
@@ -125,7 +125,7 @@ module _ (db : Trees) (tables : AreTables db) (documents : AreDocuments (rows_of
       (both_true (are_counted (map place_in (db 10))) (is_left_empty Schema2 db) counted (ap is_empty tables.left_empty))
 
   pub tables_open : opened Schema2 db ≡ Ok tt
-  tables_open = ap (λ rows. judged Schema2 db (known_next Schema2 (map read_meta rows))) tables.meta ∙ ap (λ b. cond b (Ok tt) (Err Damaged)) sound
+  tables_open = ap (λ rows. checked Schema2 db (known_next Schema2 (map read_meta rows))) tables.meta ∙ ap (λ b. cond b (Ok tt) (Err Damaged)) sound
 
 pub ours_open : (s : State) → Ours s → opened Schema2 s.now.trees ≡ Ok tt
 ours_open s ours = tables_open s.now.trees ours.tables ours.documents ours.whole

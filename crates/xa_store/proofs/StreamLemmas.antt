@@ -5,14 +5,14 @@ use Rattle.sqlite.specs.Given.{HasGiven}
 use Rattle.xa_store.specs.Check.{has_kind, text_of, AreHeld, GoesOn, HoldsBack, IsRead, IsUnguarded, Moves, refused_as, TellsNext, Walked, Walks, fits}
 use Rattle.xa_store.proofs.AskLemmas.{goes_then, goes_unchanged, held_rolled, held_unchanged, holds_then, rolled_same, shown_goes, shown_held, unchanged_same}
 use Rattle.xa_store.proofs.AskedLemmas.{failed_fits, never_damaged, never_refused, same_then}
-use Rattle.xa_store.proofs.JudgedTexts.{judged_is}
+use Rattle.xa_store.proofs.CheckedTexts.{checked_is}
 use Rattle.xa_store.proofs.QuietLemmas.{rests_after}
 use Rattle.xa_store.proofs.ReadLemmas.{bare, is_read, shown_read}
 use Rattle.xa_store.proofs.SqlLemmas.{answered}
 use Rattle.xa_store.proofs.WalkLemmas.{Leads, leads_on, leads_to, fails_on}
 
-pub judged_plain : (kind : Kind) (version : SchemaVersion) → has_kind kind version ≡ true → IsPlain (understood (schema_of version) (text_of kind))
-judged_plain kind version has = (judged_is kind version has).2
+pub checked_plain : (kind : Kind) (version : SchemaVersion) → has_kind kind version ≡ true → IsPlain (understood (schema_of version) (text_of kind))
+checked_plain kind version has = (checked_is kind version has).2
 
 module _ {S : Type 0} (g : Ghosts S) (kind : Kind) (next : ℤ) (last : Option ℤ) (old new : Held S) (sql : List ℕ) (given : List Row) where
   pub moved_ok : (o : Option Row) (r : Result (Option ℤ) OpenError) → TellsNext kind next last o r → GivesOn g sql [] old new given o → Moves g kind next last old new sql given r
@@ -63,14 +63,14 @@ module _ {S : Type 0} (g : Ghosts S) (version : SchemaVersion) (kind : Kind) (ha
 
   pub stands_begun : (new : Held S) → (HasCleanDisk (state g new) → HasBegun g (text_of kind) [] first new) → Stands g version kind next start new None
   stands_begun new begun clean rests =
-      let plain = subst (λ s. IsPlain (understood s (text_of kind))) (sym rests.schema) (judged_plain kind version has) in
+      let plain = subst (λ s. IsPlain (understood s (text_of kind))) (sym rests.schema) (checked_plain kind version has) in
       let it = begun_plain g (text_of kind) [] first new plain (begun clean) in
       ([], it.0, it.1, λ tail. refl, tt)
 
   pub keeps_begun : (new : Held S) → (HasCleanDisk (state g new) → HasBegun g (text_of kind) [] first new) → Keeps version start (state g new)
   keeps_begun new begun clean = elim (begun clean) [
     | inl h ↦ (goes_unchanged start (state g new) h.1, λ inside. held_unchanged start (state g new) inside h.1)
-    | inr h ↦ (shown_goes (text_of kind) [] start (state g new) _ (judged_plain kind version has) h.1, λ inside. shown_held (text_of kind) [] start (state g new) _ inside h.1)
+    | inr h ↦ (shown_goes (text_of kind) [] start (state g new) _ (checked_plain kind version has) h.1, λ inside. shown_held (text_of kind) [] start (state g new) _ inside h.1)
   ]
 
   module _ (mid new : Held S) (last : Option ℤ) (survived : Survives start (state g mid) (λ db. IsUnguarded version start)) (keeps : Keeps version start (state g mid)) (stands : Stands g version kind next start mid last)
@@ -115,7 +115,7 @@ module _ {S : Type 0} (g : Ghosts S) (version : SchemaVersion) (kind : Kind) (ha
         let same = same_on clean rests shows.0.is_open in
         let there = rests_after start (state g new) rests same in
         let begins = given_begin g (text_of kind) [] new (given ++ row ∷ []) shows in
-        let it = judged_is kind version has in
+        let it = checked_is kind version has in
         let read = begins_as (text_of kind) [] (state g new) (state g new) (schema_of version) there.schema _ it.0 it.2 it.1 (given ++ row ∷ []) begins in
         let all = (given ++ row ∷ []) ++ read.1.0 in
         let is = is_read kind (state g new).now.trees all (answered _ [] _ (0 ∷ []) (state g new).now.trees (bare kind (state g new).now.trees) [] all read.1.1) in
@@ -131,7 +131,7 @@ module _ {S : Type 0} (g : Ghosts S) (version : SchemaVersion) (kind : Kind) (ha
         unfit clean rests it.0 it.3 row.0 row.1 row.2
     found NotThisSchema moved clean rests =
         let it = stands (before clean) rests in
-        moved clean (text_of kind) it.0 it.1 version (judged_plain kind version has) (rests_after start (state g mid) rests (same_mid clean rests))
+        moved clean (text_of kind) it.0 it.1 version (checked_plain kind version has) (rests_after start (state g mid) rests (same_mid clean rests))
     found Store moved clean rests = tt
     found Memory moved clean rests = tt
 

@@ -1,6 +1,6 @@
 -- A change that was planned by queries and then run.
-use Rattle.std.proofs.Common.{◌≡◌, ◌⊎◌, inl, inr, ℕ, List, Result, Ok, Err, IsTrue, IfOk, sym, ap, subst, ◌∙◌}
-use Rattle.xa_store.proofs.Common.{Database, State, HasCleanDisk, Trees, ChangeError, Failure, Change, IfAnswered, IsMade, AreDocuments, AreNumbered, AreOurs, AreWhole, Ours, SameNow, Rows, rows_of, kept_of, world_of}
+use Rattle.std.proofs.Common.{◌≡◌, ◌⊎◌, inl, inr, ℕ, List, Result, Ok, Err, IsTrue, IfErr, IfOk, sym, ap, subst, ◌∙◌}
+use Rattle.xa_store.proofs.Common.{Database, Held, state, Ghosts, State, HasCleanDisk, Trees, ChangeError, Failure, Change, IfAnswered, IsMade, AreDocuments, AreNumbered, AreOurs, AreWhole, Ours, SameNow, Rows, rows_of, kept_of, world_of}
 use Rattle.xa_records.specs.declared.refusal.ChangeError.TheVariants.{Failed, Refused}
 use Rattle.xa_store.specs.declared.step.Step.{Step}
 use Rattle.xa_store.specs.Plan.{told_by}
@@ -101,6 +101,18 @@ module _ (change : Change) (name : List ℕ) (old mid new : State) (quiet : Quie
       stays = λ clean ours. tt;
       leaves = λ clean ours db may. let before = runs.clean clean in left before ours db (runs.crash clean (opens before) (ours_here before ours) (allowed before ours) db may);
     }
+
+-- a plan that is carried out, if there is one
+module _ {S : Type 0} (g : Ghosts S) (change : Change) (name : List ℕ) (old mid new : Held S) (quiet : Quiet (state g old) (state g mid)) where
+  pub carried : (planned : Result (List Step) ChangeError) → (HasCleanDisk (state g mid) → IfAnswered planned (IsTrue (state g mid).is_open))
+      → (HasCleanDisk (state g mid) → Ours (state g old) → IsPlanned change name (rows_of (state g old).now.trees) planned) → (result : Result (Unit {0}) ChangeError)
+      → IfOk planned (λ steps. (ran : Result (Unit {0}) Failure) × Runs steps (state g mid) (state g new) ran × (result ≡ answer_of ran)) → IfErr planned (λ error. (new ≡ mid) × (result ≡ Err error))
+      → Turns change name (state g old) (state g new) result
+  carried (Ok steps) opens plans result (ran, runs, is) keeps =
+      subst (Turns change name (state g old) (state g new)) (sym is) (turned change name (state g old) (state g mid) (state g new) quiet steps opens plans ran runs)
+  carried (Err error) opens plans result runs (same, is) =
+      subst (λ h. Turns change name (state g old) (state g h) result) (sym same)
+      (subst (λ (r : Result (Unit {0}) ChangeError). Turns change name (state g old) (state g mid) r) (sym is) (unmade change name (state g old) (state g mid) (state g mid) quiet (List Step) error opens plans))
 
 -- what a change tells, where it was made
 pub told : {X : Type 0} (change : Change) (name : List ℕ) (old new : State) (x : X) (r : Result (Unit {0}) ChangeError) → Turns change name old new r → Turns change name old new (told_by x r)

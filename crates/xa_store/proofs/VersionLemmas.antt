@@ -14,8 +14,9 @@ use Rattle.xa_notation.specs.declared.member.Member.TheVariants as member
 use Rattle.xa_notation.specs.declared.notation_error.NotationError.TheVariants.{TooLarge}
 use Rattle.xa_notation.specs.Document.{document_of}
 use Rattle.xa_notation.specs.Json.{at, chosen_member, each, fits, items_if_any, json, needed_member, text}
-use Rattle.xa_notation.specs.Shape.{description, document_named, id, or_bad, policy_algorithm, rule_algorithm, version, written_child, written_document, written_duties, written_policy, written_rule, written_set_of, written_set_within, written_target, written_variables}
+use Rattle.xa_notation.specs.Shape.{document_named, written_child, written_document, written_duties, written_policy, written_rule, written_set_of, written_set_within, written_target, written_variables}
 use Rattle.xa_notation.specs.Typing.{typed_tree}
+use Rattle.xa_notation.specs.Values.{description, id, or_bad, policy_algorithm, rule_algorithm, version}
 
 -- ---- the second of two steps, by what the first gives
 

@@ -1,4 +1,4 @@
--- How the tables are read and judged when a store is opened: one query for the rows of each, in the order of their
+-- How the tables are read and checked when a store is opened: one query for the rows of each, in the order of their
 -- numbers, and one for whether the table has them in that order. It is said of tables of a schema, whichever that is.
 use Rattle.std.specs.Prelude.{◌≡◌, ◌≢◌, ◌⊎◌, ℕ, ◌+ℤ◌, ℤ, pos, negsuc, FitsSigned, Bool, true, false, ◌&&◌, List}
 use Rattle.std.specs.Prelude.{[], ◌∷◌, ◌++◌, map, int_lt, codes, IsPermutation, IsTrue, if◌then◌else◌, Option, Some}
@@ -108,18 +108,18 @@ refused_as (SqliteFailure OutOfMemory) = Memory
 refused_as _ = Store
 
 -- sound, or damaged; or want of memory or a failure of the store
-abbrev pub Judges : Bool → Result (Unit {0}) OpenError → Type 0
-Judges sound (Ok x) = sound ≡ true
-Judges sound (Err Damaged) = sound ≡ false
-Judges sound (Err NotThisSchema) = ⊥
-Judges sound (Err Store) = Unit {0}
-Judges sound (Err Memory) = Unit {0}
+abbrev pub TellsSound : Bool → Result (Unit {0}) OpenError → Type 0
+TellsSound sound (Ok x) = sound ≡ true
+TellsSound sound (Err Damaged) = sound ≡ false
+TellsSound sound (Err NotThisSchema) = ⊥
+TellsSound sound (Err Store) = Unit {0}
+TellsSound sound (Err Memory) = Unit {0}
 
--- what the tables hold was judged by a test of them
-pub record Judged (version : SchemaVersion) (sound : Trees → Bool) (old new : State)
+-- what the tables hold was checked by a test of them
+pub record CheckedBy (version : SchemaVersion) (sound : Trees → Bool) (old new : State)
     (result : Result (Unit {0}) OpenError) : Type 0 where
   pub asks : Asks version old new result
-  pub finds : HasCleanDisk new → RestsIn (schema_of version) old → Judges (sound old.now.trees) result
+  pub finds : HasCleanDisk new → RestsIn (schema_of version) old → TellsSound (sound old.now.trees) result
 
 -- ---- the rows of one table, in the order of their numbers
 
@@ -203,7 +203,7 @@ module _ {S : Type 0} (g : Ghosts S) (kind : Kind) (next : ℤ) (last : Option �
 abbrev pub Orders : Kind → Trees → Result (Unit {0}) OpenError → Type 0
 Orders kind db result =
     (next : ℤ) → Walks kind next db (Ok tt)
-    → Judges (are_rising (map row_number (map (as_read kind) (db (tree_of kind))))) result
+    → TellsSound (are_rising (map row_number (map (as_read kind) (db (tree_of kind))))) result
 
 -- ---- the places of the rows of sources
 
@@ -241,11 +241,11 @@ counts last (row ∷ rows) = is_next last (place_told row) && counts (unwrap_or 
 abbrev pub AreSources : SchemaVersion → Trees → Type 0
 AreSources version db = AreRows attribute_row attribute_in (λ a. a.rowid) same_place (db (tree_of (sources_in version)))
 
--- their places were judged, and whether none of them stands where the schema has none
+-- their places were checked, and whether none of them stands where the schema has none
 abbrev pub FindsRest : SchemaVersion → State → State → Result (Unit {0}) OpenError → Type 0
 FindsRest version old new result =
     HasCleanDisk new → RestsIn (schema_of version) old → AreSources version old.now.trees
-    → Judges (are_counted (map place_in (old.now.trees (tree_of (sources_in version))))
+    → TellsSound (are_counted (map place_in (old.now.trees (tree_of (sources_in version))))
     && is_left_empty version old.now.trees) result
 
 -- ---- what the parts of opening answer
@@ -263,7 +263,7 @@ abbrev pub GivesAs : {X : Type 0} → Result X OpenError → Result (Unit {0}) O
 GivesAs (Ok x) given = given ≡ Ok tt
 GivesAs (Err e) given = Gives (Err e) given
 
--- the tables were judged
+-- the tables were checked
 pub record Checked (version : SchemaVersion) (old new : State) (result : Result (Unit {0}) OpenError) : Type 0 where
   pub asks : Asks version old new result
   pub opened : HasCleanDisk new → RestsIn (schema_of version) old → GivesAs result (opened version old.now.trees)
@@ -298,7 +298,7 @@ pub record IsSoundIn (version : SchemaVersion) (s : State) : Type 0 where
   pub database : IsDatabase s.now
   pub opens : opened version s.now.trees ≡ Ok tt
 
--- the tables were judged, and nothing has changed: of those that aren't the schema's alone that is said where the
+-- the tables were checked, and nothing has changed: of those that aren't the schema's alone that is said where the
 -- answer is about them
 pub record Tested (version : SchemaVersion) (old new : State) (result : Result Bool OpenError) : Type 0 where
   pub survives : Survives old new (λ _. ⊥)

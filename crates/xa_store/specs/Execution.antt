@@ -1,6 +1,6 @@
 -- What the steps of a change do in their transaction.
-use Rattle.std.specs.Prelude.{◌≡◌, ◌⊎◌, ℕ, false, List, [], Option, Result, IsTrue, OnOk, OnErr}
-use Rattle.sqlite.specs.State.{State, HasCleanDisk, KeepsCounts, Shows}
+use Rattle.std.specs.Prelude.{◌≡◌, ◌⊎◌, ℕ, false, List, [], ◌∷◌, Option, Result, IsTrue, OnOk, OnErr}
+use Rattle.sqlite.specs.State.{State, HasCleanDisk, KeepsCommit, KeepsCounts, Shows, Survives}
 use Rattle.sqlite.specs.Tree.{Trees}
 use Rattle.sqlite.specs.declared.types.Value.{Value}
 use Rattle.sqlite.specs.declared.types.Value.TheVariants.{Text}
@@ -8,7 +8,7 @@ use Rattle.sqlite_typed.specs.Columns.{or_null}
 use Rattle.xa_records.specs.declared.refusal.Failure.{Failure}
 use Rattle.xa_store.specs.declared.step.Step.{Step}
 use Rattle.xa_store.specs.Sound.{AreTables, IsOurDatabase, Ours, Rests, SameNow}
-use Rattle.xa_store.specs.Steps.{AllowsAll, after_all}
+use Rattle.xa_store.specs.Steps.{Allows, AllowsAll, after_all}
 use Rattle.xa_store.specs.Tables.{our_schema}
 use Rattle.xa_store.specs.World.{Rows, rows_of}
 
@@ -27,6 +27,18 @@ pub record IsInside (s : State) : Type 0 where
 pub record Took (steps : List Step) (old new : State) : Type 0 where
   pub within : IsInside new
   pub rows : rows_of new.now.trees ≡ after_all steps (rows_of old.now.trees)
+
+-- A statement in a transaction. A crash now leaves what one might have left before; nothing is committed, and after
+-- success the transaction goes on.
+pub record StaysInside {X : Type 0} (old new : State) (result : Result X Failure) : Type 0 where
+  pub survives : Survives old new (λ _. ⊥)
+  pub kept : HasCleanDisk new → IsTrue old.in_transaction → KeepsCommit old new
+  pub inside : HasCleanDisk new → IsTrue old.in_transaction → OnOk result (IsTrue new.in_transaction)
+
+-- after success the step was taken, if it might be
+abbrev pub Takes : {X : Type 0} → Step → State → State → Result X Failure → Type 0
+Takes step old new result =
+    HasCleanDisk new → IsInside old → Allows step (rows_of old.now.trees) → OnOk result (Took (step ∷ []) old new)
 
 -- the tables are the rows after the steps
 pub record Holds (steps : List Step) (before : Rows) (db : Trees) : Type 0 where

@@ -244,10 +244,10 @@ is_sound version db next =
     is_count next && list_all (is_sound_table db next) (kinds_in version)
     && (are_counted (map place_in (db (tree_of (sources_in version)))) && is_left_empty version db)
 
-abbrev pub judged : SchemaVersion → Trees → Option ℤ → Result (Unit {0}) OpenError
-judged version db None = Err NotThisSchema
-judged version db (Some next) = if is_sound version db next then Ok tt else Err Damaged
+abbrev pub checked : SchemaVersion → Trees → Option ℤ → Result (Unit {0}) OpenError
+checked version db None = Err NotThisSchema
+checked version db (Some next) = if is_sound version db next then Ok tt else Err Damaged
 
 -- of tables of that schema: so with the number of the other they are none of a keeper's
 abbrev pub opened : SchemaVersion → Trees → Result (Unit {0}) OpenError
-opened version db = judged version db (known_next version (map read_meta (db 0)))
+opened version db = checked version db (known_next version (map read_meta (db 0)))

@@ -1,6 +1,9 @@
 //! Changes of domains. Each is planned by queries, which may refuse it, and then one transaction takes
 //! the steps of the plan.
-ghost use Rattle.std.specs.Prelude.{◌≡◌};
+ghost use Rattle.std.specs.Prelude.{◌≡◌, Result, Err, IfErr, IfOk};
+ghost use Rattle.sqlite.specs.Held.{state};
+ghost use Rattle.xa_records.specs.declared.refusal.Failure.{Failure as Failed};
+ghost use Rattle.xa_store.specs.Execution.{Runs};
 ghost use Rattle.xa_store.specs.Turns.{answer_of};
 
 pub(crate) mod document;
@@ -11,7 +14,21 @@ pub(crate) mod source;
 pub(crate) mod text;
 pub(crate) mod token;
 
+use crate::step::Step;
+use crate::step::transaction::run;
+use sqlite::{Alter, Connection};
+use std::alloc::Global;
 use xa_records::{ChangeError, Failure};
+use xa_value::Items;
+
+/// The epoch that a domain gets.
+#[derive(Clone, Copy, Debug)]
+pub(crate) struct Revision {
+    /// The domain's number.
+    pub(crate) number: i64,
+    /// Its epoch after the change.
+    pub(crate) epoch: i64,
+}
 
 /// What the transaction of a change answers, as the answer of the change.
 pub(crate) fn answered(ran: Result<(), Failure>) -> Result<(), ChangeError>
@@ -20,5 +37,21 @@ pub(crate) fn answered(ran: Result<(), Failure>) -> Result<(), ChangeError>
     match ran {
         Ok(()) => Ok(()),
         Err(failure) => Err(ChangeError::Failed(failure)),
+    }
+}
+
+/// Takes the steps of a plan in one transaction, or tells why there is no plan.
+pub(crate) fn carried_out<S: Alter>(
+    conn: &mut Connection<S>,
+    alloc: Global,
+    planned: Result<Items<Step>, ChangeError>,
+) -> Result<(), ChangeError>
+    ensures runs { IfOk planned (λ steps. (ran : Result (Unit {0}) Failed)
+        × Runs steps (state S.Store conn.old) (state S.Store conn.new) ran × (result ≡ answer_of ran)) }
+    ensures keeps { IfErr planned (λ error. (conn.new ≡ conn.old) × (result ≡ Err error)) }
+{
+    match planned {
+        Ok(steps) => answered(run(conn, alloc, steps.as_slice())),
+        Err(error) => Err(error),
     }
 }

@@ -25,7 +25,7 @@ use crate::schema::version::SchemaVersion;
 use sqlite::{Alter, Connection};
 use std::alloc::Global;
 
-/// Judges the tables of that schema.
+/// Checks the tables of that schema.
 fn check_ours<S: Alter>(
     alloc: Global,
     conn: &mut Connection<S>,
@@ -41,8 +41,8 @@ fn check_ours<S: Alter>(
     }
 }
 
-/// Judges the tables as those of that schema, and says whether they are these and no others.
-fn judge<S: Alter>(
+/// Checks the tables as those of that schema, and says whether they are these and no others.
+fn check_as<S: Alter>(
     alloc: Global,
     conn: &mut Connection<S>,
     version: SchemaVersion,
@@ -59,42 +59,42 @@ fn judge<S: Alter>(
     }
 }
 
-/// Makes the tables beside what is there, and then judges them as any others. Where these aren't sound,
+/// Makes the tables beside what is there, and then checks them as any others. Where these aren't sound,
 /// the store has failed.
-fn make_and_judge<S: Alter>(alloc: Global, conn: &mut Connection<S>) -> Result<bool, OpenError>
+fn make_and_check<S: Alter>(alloc: Global, conn: &mut Connection<S>) -> Result<bool, OpenError>
     requires { IsTrue (has_room (state S.Store conn.old).now.schema) }
     ensures { Loads (state S.Store conn.old) (state S.Store conn.new) result }
 {
     make(conn)?;
-    match judge(alloc, conn, SchemaVersion::Schema2) {
+    match check_as(alloc, conn, SchemaVersion::Schema2) {
         Ok(ours) => Ok(ours),
         Err(error) => Err(failed_after(error)),
     }
 }
 
-/// Judges tables of schema 1, and then brings them into schema 2.
-fn judge_and_migrate<S: Alter>(alloc: Global, conn: &mut Connection<S>) -> Result<bool, OpenError>
+/// Checks tables of schema 1, and then brings them into schema 2.
+fn check_and_migrate<S: Alter>(alloc: Global, conn: &mut Connection<S>) -> Result<bool, OpenError>
     requires taken { has_room (state S.Store conn.old).now.schema ≡ false }
     requires first { version_in (state S.Store conn.old).now.schema ≡ Schema1 }
     ensures { Loads (state S.Store conn.old) (state S.Store conn.new) result }
 {
-    let ours = judge(alloc, conn, SchemaVersion::Schema1)?;
+    let ours = check_as(alloc, conn, SchemaVersion::Schema1)?;
     migrate(conn)?;
     Ok(ours)
 }
 
-/// Judges the tables that are there, and brings those of schema 1 into schema 2.
+/// Checks the tables that are there, and brings those of schema 1 into schema 2.
 fn load_kept<S: Alter>(alloc: Global, conn: &mut Connection<S>) -> Result<bool, OpenError>
     requires { has_room (state S.Store conn.old).now.schema ≡ false }
     ensures { Loads (state S.Store conn.old) (state S.Store conn.new) result }
 {
     match version_in(conn.schema()) {
-        SchemaVersion::Schema1 => judge_and_migrate(alloc, conn),
-        SchemaVersion::Schema2 => judge(alloc, conn, SchemaVersion::Schema2),
+        SchemaVersion::Schema1 => check_and_migrate(alloc, conn),
+        SchemaVersion::Schema2 => check_as(alloc, conn, SchemaVersion::Schema2),
     }
 }
 
-/// Makes the tables or judges them, and says whether they are a keeper's tables and no others.
+/// Makes the tables or checks them, and says whether they are a keeper's tables and no others.
 fn load<S: Alter>(alloc: Global, conn: &mut Connection<S>) -> Result<bool, OpenError>
     ensures loads { Loads (state S.Store conn.old) (state S.Store conn.new) result }
     ensures busy { IsTrue (state S.Store conn.old).in_transaction
@@ -105,7 +105,7 @@ fn load<S: Alter>(alloc: Global, conn: &mut Connection<S>) -> Result<bool, OpenE
         return Err(OpenError::Store);
     }
     if has_room(conn.schema()) {
-        make_and_judge(alloc, conn)
+        make_and_check(alloc, conn)
     } else {
         load_kept(alloc, conn)
     }
@@ -113,7 +113,7 @@ fn load<S: Alter>(alloc: Global, conn: &mut Connection<S>) -> Result<bool, OpenE
 
 impl<S: Alter> SqlRecords<S> {
     /// Opens the store of the connection as a keeper. Where none of a keeper's tables has its name
-    /// taken they are made, in one transaction; else each row is read and judged, a body at a time.
+    /// taken they are made, in one transaction; else each row is read and checked, a body at a time.
     /// Then tables of schema 1 are brought into schema 2, in one transaction. A connection that is
     /// refused is handed back; its tables are as they were, unless the store failed. Where a
     /// transaction is under way nothing is asked, and the answer is `Store`.

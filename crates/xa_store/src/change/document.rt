@@ -16,8 +16,8 @@ ghost use Rattle.xa_store.specs.Steps.{KeyReads};
 ghost use Rattle.xa_store.specs.Turns.{IsPlanned, Turns};
 ghost use Rattle.xa_store.specs.World.{Rows, rows_of, world_of};
 
-use crate::change::answered;
 use crate::change::number::next_after;
+use crate::change::{Revision, answered, carried_out};
 use crate::query::count::document_count;
 use crate::query::document::document_of;
 use crate::query::document_row::DocumentFound;
@@ -54,17 +54,15 @@ fn is_same_body(one: &[u8], other: &[u8]) -> bool
 }
 
 /// The step, and then the epoch.
-fn raising_steps(
-    alloc: Global,
-    step: Step,
-    number: i64,
-    epoch: i64,
-) -> Result<Items<Step>, AllocError>
-    ensures { IfOk result (λ steps. steps ≡ step ∷ SetEpoch number epoch ∷ []) }
+fn raising_steps(alloc: Global, step: Step, revision: Revision) -> Result<Items<Step>, AllocError>
+    ensures { IfOk result (λ steps. steps ≡ step ∷ SetEpoch revision.number revision.epoch ∷ []) }
 {
     let mut steps = Items::new(alloc);
     steps.push(step)?;
-    steps.push(Step::SetEpoch { number, epoch })?;
+    steps.push(Step::SetEpoch {
+        number: revision.number,
+        epoch: revision.epoch,
+    })?;
     Ok(steps)
 }
 
@@ -104,7 +102,11 @@ fn plan_new<S: Alter>(
         key,
         text: copy,
     };
-    Ok(raising_steps(alloc, step, found.number, epoch)?)
+    let revision = Revision {
+        number: found.number,
+        epoch,
+    };
+    Ok(raising_steps(alloc, step, revision)?)
 }
 
 /// The plan for a document that is there with that text: the very text again changes nothing.
@@ -237,7 +239,11 @@ fn plan_activity(
         key: copy,
         active,
     };
-    Ok(raising_steps(alloc, step, found.number, epoch)?)
+    let revision = Revision {
+        number: found.number,
+        epoch,
+    };
+    Ok(raising_steps(alloc, step, revision)?)
 }
 
 /// The plan for the activity of a document of a domain that was found.
@@ -297,10 +303,8 @@ pub(crate) fn set_active_in<S: Alter>(
     ensures turns { Turns (within (activity_set key.now active)) name.now
         (state S.Store conn.old) (state S.Store conn.new) result }
 {
-    match plan_active(conn, alloc, name, key, active) {
-        Ok(steps) => answered(run(conn, alloc, steps.as_slice())),
-        Err(error) => Err(error),
-    }
+    let planned = plan_active(conn, alloc, name, key, active);
+    carried_out(conn, alloc, planned)
 }
 
 /// The plan to take out a document that is there.
@@ -324,7 +328,11 @@ fn plan_gone(
         number: found.number,
         key: copy,
     };
-    Ok(raising_steps(alloc, step, found.number, epoch)?)
+    let revision = Revision {
+        number: found.number,
+        epoch,
+    };
+    Ok(raising_steps(alloc, step, revision)?)
 }
 
 /// The plan to take a document out of a domain that was found.
@@ -379,8 +387,6 @@ pub(crate) fn delete_in<S: Alter>(
     ensures turns { Turns (within (deleted key.now)) name.now
         (state S.Store conn.old) (state S.Store conn.new) result }
 {
-    match plan_delete(conn, alloc, name, key) {
-        Ok(steps) => answered(run(conn, alloc, steps.as_slice())),
-        Err(error) => Err(error),
-    }
+    let planned = plan_delete(conn, alloc, name, key);
+    carried_out(conn, alloc, planned)
 }

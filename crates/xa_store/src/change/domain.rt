@@ -16,12 +16,11 @@ ghost use Rattle.xa_store.specs.Steps.{is_named};
 ghost use Rattle.xa_store.specs.Turns.{IsPlanned, Turns};
 ghost use Rattle.xa_store.specs.World.{Rows, rows_of};
 
-use crate::change::answered;
+use crate::change::carried_out;
 use crate::change::number::next_after;
 use crate::query::domain::{DomainFound, domain_named};
 use crate::query::number::next_number;
 use crate::step::Step;
-use crate::step::transaction::run;
 use sqlite::{Alter, Connection};
 use std::alloc::{AllocError, Global};
 use xa_records::{ChangeError, Refusal};
@@ -84,10 +83,8 @@ pub(crate) fn create_in<S: Alter>(
     requires { IsTrue (is_domain_name name.now) }
     ensures turns { Turns created name.now (state S.Store conn.old) (state S.Store conn.new) result }
 {
-    match plan_create(conn, alloc, name) {
-        Ok(steps) => answered(run(conn, alloc, steps.as_slice())),
-        Err(error) => Err(error),
-    }
+    let planned = plan_create(conn, alloc, name);
+    carried_out(conn, alloc, planned)
 }
 
 /// The one step that takes a domain out.
@@ -134,8 +131,6 @@ pub(crate) fn remove_in<S: Alter>(
 ) -> Result<(), ChangeError>
     ensures turns { Turns removed name.now (state S.Store conn.old) (state S.Store conn.new) result }
 {
-    match plan_remove(conn, alloc, name) {
-        Ok(steps) => answered(run(conn, alloc, steps.as_slice())),
-        Err(error) => Err(error),
-    }
+    let planned = plan_remove(conn, alloc, name);
+    carried_out(conn, alloc, planned)
 }

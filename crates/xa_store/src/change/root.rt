@@ -18,13 +18,12 @@ ghost use Rattle.xa_store.specs.Turns.{IsPlanned, Turns};
 ghost use Rattle.xa_store.specs.World.{Rows, root_at, rows_of};
 ghost use Rattle.sqlite_keyed.specs.Keyed.{IsKeyedBy};
 
-use crate::change::answered;
 use crate::change::number::next_after;
 use crate::change::text::bytes_are_utf8;
+use crate::change::{Revision, carried_out};
 use crate::query::domain::{DomainFound, domain_named};
 use crate::query::root::root_of;
 use crate::step::Step;
-use crate::step::transaction::run;
 use sqlite::{Alter, Connection};
 use std::alloc::{AllocError, Global};
 use xa_policy::{Pattern, Reference, Version};
@@ -84,30 +83,35 @@ fn root_reads_back(root: &Option<Reference>)
 }
 
 /// The steps, and then the epoch.
-fn with_epoch(mut steps: Items<Step>, number: i64, epoch: i64) -> Result<Items<Step>, AllocError>
-    ensures { IfOk result (λ all. all ≡ steps ++ SetEpoch number epoch ∷ []) }
+fn with_epoch(mut steps: Items<Step>, revision: Revision) -> Result<Items<Step>, AllocError>
+    ensures { IfOk result (λ all. all ≡ steps ++ SetEpoch revision.number revision.epoch ∷ []) }
 {
-    steps.push(Step::SetEpoch { number, epoch })?;
+    steps.push(Step::SetEpoch {
+        number: revision.number,
+        epoch: revision.epoch,
+    })?;
     Ok(steps)
 }
 
 /// The steps that set the root.
 fn root_steps(
     alloc: Global,
-    number: i64,
-    epoch: i64,
+    revision: Revision,
     root: Option<Reference>,
 ) -> Result<Items<Step>, AllocError>
-    ensures { IfOk result (λ steps. steps ≡ root_steps number epoch root) }
+    ensures { IfOk result (λ steps. steps ≡ root_steps revision.number revision.epoch root) }
 {
     let mut steps = Items::new(alloc);
-    steps.push(Step::DropRoot(number))?;
+    steps.push(Step::DropRoot(revision.number))?;
     match root {
         Some(root) => {
-            steps.push(Step::AddRoot { number, root })?;
-            with_epoch(steps, number, epoch)
+            steps.push(Step::AddRoot {
+                number: revision.number,
+                root,
+            })?;
+            with_epoch(steps, revision)
         }
-        None => with_epoch(steps, number, epoch),
+        None => with_epoch(steps, revision),
     }
 }
 
@@ -127,7 +131,11 @@ fn plan_found(
     }
     root_reads_back(&root);
     let epoch = next_after(found.epoch)?;
-    Ok(root_steps(alloc, found.number, epoch, root)?)
+    let revision = Revision {
+        number: found.number,
+        epoch,
+    };
+    Ok(root_steps(alloc, revision, root)?)
 }
 
 /// The plan, or why the root isn't set.
@@ -161,8 +169,6 @@ pub(crate) fn set_root_in<S: Alter>(
     ensures turns { Turns (within (root_set root)) name.now
         (state S.Store conn.old) (state S.Store conn.new) result }
 {
-    match plan(conn, alloc, name, root) {
-        Ok(steps) => answered(run(conn, alloc, steps.as_slice())),
-        Err(error) => Err(error),
-    }
+    let planned = plan(conn, alloc, name, root);
+    carried_out(conn, alloc, planned)
 }

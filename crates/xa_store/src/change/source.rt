@@ -15,13 +15,12 @@ ghost use Rattle.xa_store.specs.Steps.{ReadsBack};
 ghost use Rattle.xa_store.specs.Turns.{IsPlanned, Turns};
 ghost use Rattle.xa_store.specs.World.{Rows, rows_of, state_at};
 
-use crate::change::answered;
 use crate::change::number::next_after;
 use crate::change::text::{bytes_are_utf8, bytes_are_utf8_if_any};
+use crate::change::{Revision, carried_out};
 use crate::query::domain::{DomainFound, domain_named};
 use crate::query::source::source_of;
 use crate::step::Step;
-use crate::step::transaction::run;
 use sqlite::{Alter, Connection};
 use std::alloc::{AllocError, Global};
 use xa_decide::SourceRow;
@@ -97,17 +96,19 @@ fn row_steps(
 /// The steps that set the source.
 fn source_steps(
     alloc: Global,
-    number: i64,
-    epoch: i64,
+    revision: Revision,
     rows: Items<SourceRow>,
 ) -> Result<Items<Step>, AllocError>
     requires { length rows ≤ 4_096 }
-    ensures { IfOk result (λ steps. steps ≡ source_steps number epoch rows) }
+    ensures { IfOk result (λ steps. steps ≡ source_steps revision.number revision.epoch rows) }
 {
     let mut steps = Items::new(alloc);
-    steps.push(Step::DropSource(number))?;
-    steps.push(Step::SetEpoch { number, epoch })?;
-    row_steps(steps, number, rows)
+    steps.push(Step::DropSource(revision.number))?;
+    steps.push(Step::SetEpoch {
+        number: revision.number,
+        epoch: revision.epoch,
+    })?;
+    row_steps(steps, revision.number, rows)
 }
 
 /// The plan for a domain that was found with that source.
@@ -130,7 +131,11 @@ fn plan_found(
     }
     check_rows(alloc, rows.as_slice())?;
     let epoch = next_after(found.epoch)?;
-    Ok(source_steps(alloc, found.number, epoch, rows)?)
+    let revision = Revision {
+        number: found.number,
+        epoch,
+    };
+    Ok(source_steps(alloc, revision, rows)?)
 }
 
 /// The plan, or why the source isn't set.
@@ -166,8 +171,6 @@ pub(crate) fn set_source_in<S: Alter>(
     ensures turns { Turns (within (source_set rows)) name.now
         (state S.Store conn.old) (state S.Store conn.new) result }
 {
-    match plan(conn, alloc, name, rows) {
-        Ok(steps) => answered(run(conn, alloc, steps.as_slice())),
-        Err(error) => Err(error),
-    }
+    let planned = plan(conn, alloc, name, rows);
+    carried_out(conn, alloc, planned)
 }

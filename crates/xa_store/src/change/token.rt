@@ -11,12 +11,11 @@ ghost use Rattle.xa_store.specs.Sound.{Ours};
 ghost use Rattle.xa_store.specs.Turns.{IsPlanned, Turns};
 ghost use Rattle.xa_store.specs.World.{rows_of};
 
-use crate::change::answered;
+use crate::change::carried_out;
 use crate::query::count::token_count;
 use crate::query::domain::{DomainFound, domain_named};
 use crate::query::token::role_of;
 use crate::step::Step;
-use crate::step::transaction::run;
 use sqlite::{Alter, Connection};
 use std::alloc::{AllocError, Global};
 use xa_notation::Role;
@@ -139,10 +138,8 @@ pub(crate) fn put_token_in<S: Alter>(
     ensures turns { Turns (within (token_put digest role)) name.now
         (state S.Store conn.old) (state S.Store conn.new) result }
 {
-    match plan_put(conn, alloc, name, digest, role) {
-        Ok(steps) => answered(run(conn, alloc, steps.as_slice())),
-        Err(error) => Err(error),
-    }
+    let planned = plan_put(conn, alloc, name, digest, role);
+    carried_out(conn, alloc, planned)
 }
 
 /// The plan to take a token out of a domain that was found.
@@ -203,8 +200,6 @@ pub(crate) fn drop_token_in<S: Alter>(
     ensures turns { Turns (within (token_dropped digest)) name.now
         (state S.Store conn.old) (state S.Store conn.new) result }
 {
-    match plan_drop(conn, alloc, name, digest) {
-        Ok(steps) => answered(run(conn, alloc, steps.as_slice())),
-        Err(error) => Err(error),
-    }
+    let planned = plan_drop(conn, alloc, name, digest);
+    carried_out(conn, alloc, planned)
 }

@@ -85,7 +85,7 @@ fn next_number<S: Alter>(
     }
 }
 
-/// Judges all rows of the table, in the order of their numbers.
+/// Checks all rows of the table, in the order of their numbers.
 pub(crate) fn walk<S: Alter>(
     alloc: Global,
     conn: &mut Connection<S>,

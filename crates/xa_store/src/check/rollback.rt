@@ -37,7 +37,7 @@ fn end<S: Alter>(conn: &mut Connection<S>) -> Result<(), OpenError>
     }
 }
 
-/// Judges the tables as those of that schema. They aren't these alone.
+/// Checks the tables as those of that schema. They aren't these alone.
 pub(crate) fn check_apart<S: Alter>(
     alloc: Global,
     conn: &mut Connection<S>,

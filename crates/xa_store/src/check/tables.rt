@@ -4,8 +4,8 @@ ghost use Rattle.std.specs.List.{list_all};
 ghost use Rattle.sqlite.specs.Effect.{IsDatabase};
 ghost use Rattle.sqlite.specs.Held.{state};
 ghost use Rattle.sqlite.specs.State.{HasCleanDisk};
-ghost use Rattle.xa_store.specs.Check.{AreSources, Asks, Checked, FindsRest, GivesNext};
-ghost use Rattle.xa_store.specs.Check.{Judged, Judges, Orders, counts, has_kind, no_place};
+ghost use Rattle.xa_store.specs.Check.{AreSources, Asks, Checked, CheckedBy, FindsRest, GivesNext};
+ghost use Rattle.xa_store.specs.Check.{Orders, TellsSound, counts, has_kind, no_place};
 ghost use Rattle.xa_store.specs.Opened.{are_counted, is_left_empty, is_sound, is_sound_table, kinds_in};
 ghost use Rattle.xa_store.specs.Opened.{known_next, place_in, read_meta, schema_of, sources_in, tree_of};
 ghost use Rattle.xa_store.specs.declared.schema.kind.Kind.TheVariants.{Documents, Domains, Roots, Tokens};
@@ -24,8 +24,8 @@ use crate::sql;
 use sqlite::{Alter, Connection, Row};
 use std::alloc::Global;
 
-/// Judges whether the table has its rows in the order of their numbers, of tables of a schema that has it.
-fn judge_order<S: Alter>(conn: &mut Connection<S>, kind: Kind) -> Result<(), OpenError>
+/// Checks whether the table has its rows in the order of their numbers, of tables of a schema that has it.
+fn check_order<S: Alter>(conn: &mut Connection<S>, kind: Kind) -> Result<(), OpenError>
     ensures asks { (version : Version) → IsTrue (has_kind kind version)
         → Asks version (state S.Store conn.old) (state S.Store conn.new) result }
     ensures finds { HasCleanDisk (state S.Store conn.new) → (version : Version)
@@ -40,24 +40,24 @@ fn judge_order<S: Alter>(conn: &mut Connection<S>, kind: Kind) -> Result<(), Ope
     }
 }
 
-/// Judges the rows of the table, and their order.
+/// Checks the rows of the table, and their order.
 #[tactic(auto, using(crate::proofs::LoadLemmas::table_stopped))]
-fn judge_table<S: Alter>(
+fn check_table<S: Alter>(
     alloc: Global,
     conn: &mut Connection<S>,
     kind: Kind,
     known: Known,
 ) -> Result<(), OpenError>
     requires { IsTrue (has_kind kind known.version) }
-    ensures { Judged known.version (λ db. is_sound_table db known.next kind)
+    ensures { CheckedBy known.version (λ db. is_sound_table db known.next kind)
         (state S.Store conn.old) (state S.Store conn.new) result }
 {
     walk(alloc, conn, kind, known)?;
-    judge_order(conn, kind)
+    check_order(conn, kind)
 }
 
-/// Judges two tables, one after the other.
-fn judge_two<S: Alter>(
+/// Checks two tables, one after the other.
+fn check_two<S: Alter>(
     alloc: Global,
     conn: &mut Connection<S>,
     first: Kind,
@@ -66,41 +66,41 @@ fn judge_two<S: Alter>(
 ) -> Result<(), OpenError>
     requires first { IsTrue (has_kind first known.version) }
     requires second { IsTrue (has_kind second known.version) }
-    ensures { Judged known.version
+    ensures { CheckedBy known.version
         (λ db. is_sound_table db known.next first && is_sound_table db known.next second)
         (state S.Store conn.old) (state S.Store conn.new) result }
 {
-    judge_table(alloc, conn, first, known)?;
-    judge_table(alloc, conn, second, known)
+    check_table(alloc, conn, first, known)?;
+    check_table(alloc, conn, second, known)
 }
 
-/// Judges all tables but those of the rows of sources and the first.
-fn judge_four<S: Alter>(
+/// Checks all tables but those of the rows of sources and the first.
+fn check_four<S: Alter>(
     alloc: Global,
     conn: &mut Connection<S>,
     known: Known,
 ) -> Result<(), OpenError>
-    ensures { Judged known.version
+    ensures { CheckedBy known.version
         (λ db. (is_sound_table db known.next Domains && is_sound_table db known.next Tokens)
         && (is_sound_table db known.next Documents && is_sound_table db known.next Roots))
         (state S.Store conn.old) (state S.Store conn.new) result }
 {
-    judge_two(alloc, conn, Kind::Domains, Kind::Tokens, known)?;
-    judge_two(alloc, conn, Kind::Documents, Kind::Roots, known)
+    check_two(alloc, conn, Kind::Domains, Kind::Tokens, known)?;
+    check_two(alloc, conn, Kind::Documents, Kind::Roots, known)
 }
 
-/// Judges all tables that have rows, but the first.
+/// Checks all tables that have rows, but the first.
 #[tactic(auto, using(crate::proofs::LoadLemmas::has_sources))]
-fn judge_tables<S: Alter>(
+fn check_tables<S: Alter>(
     alloc: Global,
     conn: &mut Connection<S>,
     known: Known,
 ) -> Result<(), OpenError>
-    ensures { Judged known.version (λ db. list_all (is_sound_table db known.next) (kinds_in known.version))
+    ensures { CheckedBy known.version (λ db. list_all (is_sound_table db known.next) (kinds_in known.version))
         (state S.Store conn.old) (state S.Store conn.new) result }
 {
-    judge_four(alloc, conn, known)?;
-    judge_table(alloc, conn, known.version.sources(), known)
+    check_four(alloc, conn, known)?;
+    check_table(alloc, conn, known.version.sources(), known)
 }
 
 /// Whether each place comes after the one before.
@@ -117,13 +117,13 @@ fn are_places(rows: &[Row]) -> bool
     true
 }
 
-/// Judges the places of the rows of sources.
-fn judge_places<S: Alter>(conn: &mut Connection<S>, version: SchemaVersion) -> Result<(), OpenError>
+/// Checks the places of the rows of sources.
+fn check_places<S: Alter>(conn: &mut Connection<S>, version: SchemaVersion) -> Result<(), OpenError>
     ensures asks { Asks version (state S.Store conn.old) (state S.Store conn.new) result }
     ensures finds { HasCleanDisk (state S.Store conn.new)
         → RestsIn (schema_of version) (state S.Store conn.old)
         → AreSources version (state S.Store conn.old).now.trees
-        → Judges
+        → TellsSound
         (are_counted (map place_in ((state S.Store conn.old).now.trees (tree_of (sources_in version)))))
         result }
 {
@@ -135,9 +135,9 @@ fn judge_places<S: Alter>(conn: &mut Connection<S>, version: SchemaVersion) -> R
     }
 }
 
-/// Judges whether the table `attributes` has no row, of tables of schema 2.
-fn judge_attributes<S: Alter>(conn: &mut Connection<S>) -> Result<(), OpenError>
-    ensures { Judged Schema2 (λ db. is_left_empty Schema2 db)
+/// Checks whether the table `attributes` has no row, of tables of schema 2.
+fn check_attributes<S: Alter>(conn: &mut Connection<S>) -> Result<(), OpenError>
+    ensures { CheckedBy Schema2 (λ db. is_left_empty Schema2 db)
         (state S.Store conn.old) (state S.Store conn.new) result }
 {
     let rows = rows_of(conn, SchemaVersion::Schema1.places_text())?;
@@ -148,17 +148,17 @@ fn judge_attributes<S: Alter>(conn: &mut Connection<S>) -> Result<(), OpenError>
     }
 }
 
-/// Judges the places of the rows of sources in schema 2, and whether none of these stands in `attributes`.
-fn judge_second_sources<S: Alter>(conn: &mut Connection<S>) -> Result<(), OpenError>
+/// Checks the places of the rows of sources in schema 2, and whether none of these stands in `attributes`.
+fn check_second_sources<S: Alter>(conn: &mut Connection<S>) -> Result<(), OpenError>
     ensures asks { Asks Schema2 (state S.Store conn.old) (state S.Store conn.new) result }
     ensures finds { FindsRest Schema2 (state S.Store conn.old) (state S.Store conn.new) result }
 {
-    judge_places(conn, SchemaVersion::Schema2)?;
-    judge_attributes(conn)
+    check_places(conn, SchemaVersion::Schema2)?;
+    check_attributes(conn)
 }
 
-/// Judges the places of the rows of sources, and whether none of these stands where the schema has none.
-fn judge_sources<S: Alter>(
+/// Checks the places of the rows of sources, and whether none of these stands where the schema has none.
+fn check_sources<S: Alter>(
     conn: &mut Connection<S>,
     version: SchemaVersion,
 ) -> Result<(), OpenError>
@@ -166,13 +166,13 @@ fn judge_sources<S: Alter>(
     ensures finds { FindsRest version (state S.Store conn.old) (state S.Store conn.new) result }
 {
     match version {
-        SchemaVersion::Schema1 => judge_places(conn, version),
-        SchemaVersion::Schema2 => judge_second_sources(conn),
+        SchemaVersion::Schema1 => check_places(conn, version),
+        SchemaVersion::Schema2 => check_second_sources(conn),
     }
 }
 
-/// Judges all tables but the first, and the places.
-fn judge_all<S: Alter>(
+/// Checks all tables but the first, and the places.
+fn check_all<S: Alter>(
     alloc: Global,
     conn: &mut Connection<S>,
     known: Known,
@@ -180,13 +180,13 @@ fn judge_all<S: Alter>(
     ensures asks { Asks known.version (state S.Store conn.old) (state S.Store conn.new) result }
     ensures finds { HasCleanDisk (state S.Store conn.new)
         → RestsIn (schema_of known.version) (state S.Store conn.old) → IsDatabase (state S.Store conn.old).now
-        → Judges (is_sound known.version (state S.Store conn.old).now.trees known.next) result }
+        → TellsSound (is_sound known.version (state S.Store conn.old).now.trees known.next) result }
 {
     if !is_count(known.next) {
         return Err(OpenError::Damaged);
     }
-    judge_tables(alloc, conn, known)?;
-    judge_sources(conn, known.version)
+    check_tables(alloc, conn, known)?;
+    check_sources(conn, known.version)
 }
 
 /// The number of the next domain, in the one row of the first table, which has to have the number of
@@ -204,7 +204,7 @@ fn look<S: Alter>(conn: &mut Connection<S>, version: SchemaVersion) -> Result<i6
     }
 }
 
-/// Judges the tables, as those of that schema.
+/// Checks the tables, as those of that schema.
 pub(crate) fn check<S: Alter>(
     alloc: Global,
     conn: &mut Connection<S>,
@@ -214,5 +214,5 @@ pub(crate) fn check<S: Alter>(
 {
     let _schema = conn.schema();
     let next = look(conn, version)?;
-    judge_all(alloc, conn, Known { version, next })
+    check_all(alloc, conn, Known { version, next })
 }

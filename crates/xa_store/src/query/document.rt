@@ -64,16 +64,14 @@ fn in_order<T: Keyed>(items: Items<T>) -> Vec<T>
     items
 }
 
-/// The row of the document of that key, whose kind and version stand beside it as columns hold them.
+/// The row of the document of that key, whose version stands beside it as a column holds it.
 #[tactic(auto, using(crate::proofs::DocumentLemmas::document_plain))]
 fn document_rows<'k, S: Alter>(
     conn: &mut Connection<S>,
     number: i64,
-    kind: i64,
     key: &'k DocumentKey,
     version: &'k Text,
 ) -> Result<Vec<Row>, Failure>
-    requires kind { kind ≡ kind_number key.now.kind }
     requires version { version.now ≡ version_text key.now.version }
     ensures quiet { Quiet (state S.Store conn.old) (state S.Store conn.new) }
     ensures opens { HasCleanDisk (state S.Store conn.new)
@@ -88,7 +86,7 @@ fn document_rows<'k, S: Alter>(
         sql::DOCUMENT,
         &[
             ValueRef::Int(number),
-            ValueRef::Int(kind),
+            ValueRef::Int(kind_column(key.kind)),
             ValueRef::Text(key.id.as_bytes()),
             ValueRef::Text(version.as_bytes()),
         ],
@@ -111,8 +109,7 @@ pub(crate) fn document_of<S: Alter>(
 {
     key.version.reads_back();
     let version = key.version.to_text(alloc)?;
-    let kind = kind_column(key.kind);
-    let rows = document_rows(conn, number, kind, key, &version)?;
+    let rows = document_rows(conn, number, key, &version)?;
     one_told(alloc, rows.as_slice())
 }
 

@@ -4,7 +4,7 @@ ghost use Rattle.xa_store.specs.Check.{order_text_of, text_of};
 
 use crate::sql;
 
-/// A table whose rows are judged one by one.
+/// A table whose rows are checked one by one.
 #[derive(Clone, Copy, Debug)]
 pub(crate) enum Kind {
     /// The domains, by their numbers.

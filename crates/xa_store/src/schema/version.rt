@@ -48,7 +48,7 @@ impl SchemaVersion {
     }
 }
 
-/// What is known of tables before their rows are judged.
+/// What is known of tables before their rows are checked.
 #[derive(Clone, Copy, Debug)]
 pub(crate) struct Known {
     /// Their schema.

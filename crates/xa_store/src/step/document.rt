@@ -1,13 +1,10 @@
 //! The statements that add and drop a document, and set whether it is active.
-ghost use Rattle.std.specs.Prelude.{◌≡◌, [], ◌∷◌, IsTrue, OnOk};
+ghost use Rattle.std.specs.Prelude.{◌≡◌};
 ghost use Rattle.sqlite.specs.Held.{state};
-ghost use Rattle.sqlite.specs.State.{HasCleanDisk, KeepsCommit, Survives};
 ghost use Rattle.xa_store.specs.declared.step.Step.TheVariants.{AddDocument, DropDocument, SetActive};
 ghost use Rattle.xa_policy.specs.Version.{version_text};
 ghost use Rattle.xa_store.specs.Rows.{bit};
-ghost use Rattle.xa_store.specs.Steps.{Allows};
-ghost use Rattle.xa_store.specs.Execution.{IsInside, Took};
-ghost use Rattle.xa_store.specs.World.{rows_of};
+ghost use Rattle.xa_store.specs.Execution.{StaysInside, Takes};
 
 use crate::query::column::kind_column;
 use crate::sql;
@@ -35,18 +32,9 @@ pub(crate) fn add_document<S: Alter>(
     text: &[u8],
 ) -> Result<(), Failure>
     ensures same_reference { tx.new.conn.ghost_name ≡ tx.old.conn.ghost_name }
-    ensures survives { Survives (state S.Store tx.old.conn.now) (state S.Store tx.new.conn.now) (λ _. ⊥) }
-    ensures kept { HasCleanDisk (state S.Store tx.new.conn.now)
-        → IsTrue (state S.Store tx.old.conn.now).in_transaction
-        → KeepsCommit (state S.Store tx.old.conn.now) (state S.Store tx.new.conn.now) }
-    ensures inside { HasCleanDisk (state S.Store tx.new.conn.now)
-        → IsTrue (state S.Store tx.old.conn.now).in_transaction
-        → OnOk result (IsTrue (state S.Store tx.new.conn.now).in_transaction) }
-    ensures takes { HasCleanDisk (state S.Store tx.new.conn.now) → IsInside (state S.Store tx.old.conn.now)
-        → Allows (AddDocument number key.now text.now) (rows_of (state S.Store tx.old.conn.now).now.trees)
-        → OnOk result
-        (Took ((AddDocument number key.now text.now) ∷ [])
-        (state S.Store tx.old.conn.now) (state S.Store tx.new.conn.now)) }
+    ensures stays { StaysInside (state S.Store tx.old.conn.now) (state S.Store tx.new.conn.now) result }
+    ensures takes { Takes (AddDocument number key.now text.now)
+        (state S.Store tx.old.conn.now) (state S.Store tx.new.conn.now) result }
 {
     let version = key.version.to_text(alloc)?;
     execute_in(
@@ -71,19 +59,10 @@ fn set_active_at<'a, S: Alter>(
     active: bool,
 ) -> Result<(), Failure>
     ensures same_reference { tx.new.conn.ghost_name ≡ tx.old.conn.ghost_name }
-    ensures survives { Survives (state S.Store tx.old.conn.now) (state S.Store tx.new.conn.now) (λ _. ⊥) }
-    ensures kept { HasCleanDisk (state S.Store tx.new.conn.now)
-        → IsTrue (state S.Store tx.old.conn.now).in_transaction
-        → KeepsCommit (state S.Store tx.old.conn.now) (state S.Store tx.new.conn.now) }
-    ensures inside { HasCleanDisk (state S.Store tx.new.conn.now)
-        → IsTrue (state S.Store tx.old.conn.now).in_transaction
-        → OnOk result (IsTrue (state S.Store tx.new.conn.now).in_transaction) }
-    ensures takes { HasCleanDisk (state S.Store tx.new.conn.now) → IsInside (state S.Store tx.old.conn.now)
-        → version.now ≡ version_text key.now.version
-        → Allows (SetActive number key.now active) (rows_of (state S.Store tx.old.conn.now).now.trees)
-        → OnOk result
-        (Took ((SetActive number key.now active) ∷ [])
-        (state S.Store tx.old.conn.now) (state S.Store tx.new.conn.now)) }
+    ensures stays { StaysInside (state S.Store tx.old.conn.now) (state S.Store tx.new.conn.now) result }
+    ensures takes { version.now ≡ version_text key.now.version
+        → Takes (SetActive number key.now active)
+        (state S.Store tx.old.conn.now) (state S.Store tx.new.conn.now) result }
 {
     execute_in(
         tx,
@@ -107,18 +86,9 @@ pub(crate) fn set_active<S: Alter>(
     active: bool,
 ) -> Result<(), Failure>
     ensures same_reference { tx.new.conn.ghost_name ≡ tx.old.conn.ghost_name }
-    ensures survives { Survives (state S.Store tx.old.conn.now) (state S.Store tx.new.conn.now) (λ _. ⊥) }
-    ensures kept { HasCleanDisk (state S.Store tx.new.conn.now)
-        → IsTrue (state S.Store tx.old.conn.now).in_transaction
-        → KeepsCommit (state S.Store tx.old.conn.now) (state S.Store tx.new.conn.now) }
-    ensures inside { HasCleanDisk (state S.Store tx.new.conn.now)
-        → IsTrue (state S.Store tx.old.conn.now).in_transaction
-        → OnOk result (IsTrue (state S.Store tx.new.conn.now).in_transaction) }
-    ensures takes { HasCleanDisk (state S.Store tx.new.conn.now) → IsInside (state S.Store tx.old.conn.now)
-        → Allows (SetActive number key.now active) (rows_of (state S.Store tx.old.conn.now).now.trees)
-        → OnOk result
-        (Took ((SetActive number key.now active) ∷ [])
-        (state S.Store tx.old.conn.now) (state S.Store tx.new.conn.now)) }
+    ensures stays { StaysInside (state S.Store tx.old.conn.now) (state S.Store tx.new.conn.now) result }
+    ensures takes { Takes (SetActive number key.now active)
+        (state S.Store tx.old.conn.now) (state S.Store tx.new.conn.now) result }
 {
     let version = key.version.to_text(alloc)?;
     set_active_at(tx, number, key, &version, active)
@@ -132,18 +102,9 @@ pub(crate) fn drop_document<S: Alter>(
     key: &DocumentKey,
 ) -> Result<(), Failure>
     ensures same_reference { tx.new.conn.ghost_name ≡ tx.old.conn.ghost_name }
-    ensures survives { Survives (state S.Store tx.old.conn.now) (state S.Store tx.new.conn.now) (λ _. ⊥) }
-    ensures kept { HasCleanDisk (state S.Store tx.new.conn.now)
-        → IsTrue (state S.Store tx.old.conn.now).in_transaction
-        → KeepsCommit (state S.Store tx.old.conn.now) (state S.Store tx.new.conn.now) }
-    ensures inside { HasCleanDisk (state S.Store tx.new.conn.now)
-        → IsTrue (state S.Store tx.old.conn.now).in_transaction
-        → OnOk result (IsTrue (state S.Store tx.new.conn.now).in_transaction) }
-    ensures takes { HasCleanDisk (state S.Store tx.new.conn.now) → IsInside (state S.Store tx.old.conn.now)
-        → Allows (DropDocument number key.now) (rows_of (state S.Store tx.old.conn.now).now.trees)
-        → OnOk result
-        (Took ((DropDocument number key.now) ∷ [])
-        (state S.Store tx.old.conn.now) (state S.Store tx.new.conn.now)) }
+    ensures stays { StaysInside (state S.Store tx.old.conn.now) (state S.Store tx.new.conn.now) result }
+    ensures takes { Takes (DropDocument number key.now)
+        (state S.Store tx.old.conn.now) (state S.Store tx.new.conn.now) result }
 {
     let version = key.version.to_text(alloc)?;
     execute_in(

@@ -1,13 +1,13 @@
 //! The steps of a change, executed one after another in its transaction.
-ghost use Rattle.std.specs.Prelude.{◌≡◌, ℕ, [], ◌∷◌, Ok, Err, IsErrOf, IsTrue, OnOk};
+ghost use Rattle.std.specs.Prelude.{◌≡◌, ℕ, Ok, Err, IsErrOf, IsTrue, OnOk};
 ghost use Rattle.sqlite.specs.Held.{state};
-ghost use Rattle.sqlite.specs.State.{HasCleanDisk, KeepsCommit, Survives, Executes, ExecutesInside};
+ghost use Rattle.sqlite.specs.State.{HasCleanDisk, Executes, ExecutesInside};
 ghost use Rattle.sqlite.specs.Values.{bound};
 ghost use Rattle.sqlite.specs.declared.error.Error.TheVariants.{SqliteFailure};
 ghost use Rattle.sqlite.specs.declared.error.ErrorCode.TheVariants.{OutOfMemory};
 ghost use Rattle.xa_records.specs.declared.refusal.Failure.TheVariants.{Memory};
-ghost use Rattle.xa_store.specs.Steps.{Allows, AllowsAll};
-ghost use Rattle.xa_store.specs.Execution.{IsInside, Took};
+ghost use Rattle.xa_store.specs.Steps.{AllowsAll};
+ghost use Rattle.xa_store.specs.Execution.{IsInside, StaysInside, Takes, Took};
 ghost use Rattle.xa_store.specs.World.{rows_of};
 
 use crate::failure::failure_of;
@@ -29,13 +29,7 @@ pub(crate) fn execute_in<S: Alter>(
     given: &[ValueRef<'_>],
 ) -> Result<(), Failure>
     ensures same_reference { tx.new.conn.ghost_name ≡ tx.old.conn.ghost_name }
-    ensures survives { Survives (state S.Store tx.old.conn.now) (state S.Store tx.new.conn.now) (λ _. ⊥) }
-    ensures kept { HasCleanDisk (state S.Store tx.new.conn.now)
-        → IsTrue (state S.Store tx.old.conn.now).in_transaction
-        → KeepsCommit (state S.Store tx.old.conn.now) (state S.Store tx.new.conn.now) }
-    ensures inside { HasCleanDisk (state S.Store tx.new.conn.now)
-        → IsTrue (state S.Store tx.old.conn.now).in_transaction
-        → OnOk result (IsTrue (state S.Store tx.new.conn.now).in_transaction) }
+    ensures stays { StaysInside (state S.Store tx.old.conn.now) (state S.Store tx.new.conn.now) result }
     ensures wants { HasCleanDisk (state S.Store tx.new.conn.now)
         → IsTrue (state S.Store tx.old.conn.now).in_transaction → IsErrOf result Memory
         → ExecutesInside 0 sql.now (bound given.now)
@@ -54,16 +48,8 @@ pub(crate) fn execute_in<S: Alter>(
 /// Takes the step.
 fn take<S: Alter>(tx: &mut Transaction<'_, S>, alloc: Global, step: &Step) -> Result<(), Failure>
     ensures same_reference { tx.new.conn.ghost_name ≡ tx.old.conn.ghost_name }
-    ensures survives { Survives (state S.Store tx.old.conn.now) (state S.Store tx.new.conn.now) (λ _. ⊥) }
-    ensures kept { HasCleanDisk (state S.Store tx.new.conn.now)
-        → IsTrue (state S.Store tx.old.conn.now).in_transaction
-        → KeepsCommit (state S.Store tx.old.conn.now) (state S.Store tx.new.conn.now) }
-    ensures inside { HasCleanDisk (state S.Store tx.new.conn.now)
-        → IsTrue (state S.Store tx.old.conn.now).in_transaction
-        → OnOk result (IsTrue (state S.Store tx.new.conn.now).in_transaction) }
-    ensures takes { HasCleanDisk (state S.Store tx.new.conn.now) → IsInside (state S.Store tx.old.conn.now)
-        → Allows step.now (rows_of (state S.Store tx.old.conn.now).now.trees)
-        → OnOk result (Took (step.now ∷ []) (state S.Store tx.old.conn.now) (state S.Store tx.new.conn.now)) }
+    ensures stays { StaysInside (state S.Store tx.old.conn.now) (state S.Store tx.new.conn.now) result }
+    ensures takes { Takes step.now (state S.Store tx.old.conn.now) (state S.Store tx.new.conn.now) result }
 {
     match step {
         Step::AddDomain { number, name } => add_domain(tx, *number, name),
@@ -104,13 +90,7 @@ pub(crate) fn take_all<S: Alter>(
     steps: &[Step],
 ) -> Result<(), Failure>
     ensures same_reference { tx.new.conn.ghost_name ≡ tx.old.conn.ghost_name }
-    ensures survives { Survives (state S.Store tx.old.conn.now) (state S.Store tx.new.conn.now) (λ _. ⊥) }
-    ensures kept { HasCleanDisk (state S.Store tx.new.conn.now)
-        → IsTrue (state S.Store tx.old.conn.now).in_transaction
-        → KeepsCommit (state S.Store tx.old.conn.now) (state S.Store tx.new.conn.now) }
-    ensures inside { HasCleanDisk (state S.Store tx.new.conn.now)
-        → IsTrue (state S.Store tx.old.conn.now).in_transaction
-        → OnOk result (IsTrue (state S.Store tx.new.conn.now).in_transaction) }
+    ensures stays { StaysInside (state S.Store tx.old.conn.now) (state S.Store tx.new.conn.now) result }
     ensures takes { HasCleanDisk (state S.Store tx.new.conn.now) → IsInside (state S.Store tx.old.conn.now)
         → AllowsAll steps.now (rows_of (state S.Store tx.old.conn.now).now.trees)
         → OnOk result (Took steps.now (state S.Store tx.old.conn.now) (state S.Store tx.new.conn.now)) }

@@ -1,14 +1,13 @@
 //! The statements that add and drop a root.
-ghost use Rattle.std.specs.Prelude.{◌≡◌, [], ◌∷◌, IsTrue, OnOk};
+ghost use Rattle.std.specs.Prelude.{◌≡◌};
 ghost use Rattle.sqlite.specs.Held.{state};
-ghost use Rattle.sqlite.specs.State.{HasCleanDisk, KeepsCommit, Survives};
 ghost use Rattle.xa_store.specs.declared.step.Step.TheVariants.{AddRoot, DropRoot};
 ghost use Rattle.std.specs.Prelude.{IfOk, option_map};
 ghost use Rattle.sqlite.specs.Values.{bound_value};
 ghost use Rattle.sqlite_value.specs.Value.{owned};
 ghost use Rattle.xa_policy.specs.Pattern.{pattern_text};
 ghost use Rattle.xa_policy.specs.Version.{version_text};
-ghost use Rattle.xa_store.specs.Execution.{IsInside, Took, text_column};
+ghost use Rattle.xa_store.specs.Execution.{StaysInside, Takes, text_column};
 
 use crate::query::column::kind_column;
 use crate::sql;
@@ -58,17 +57,9 @@ pub(crate) fn add_root<S: Alter>(
     root: &Reference,
 ) -> Result<(), Failure>
     ensures same_reference { tx.new.conn.ghost_name ≡ tx.old.conn.ghost_name }
-    ensures survives { Survives (state S.Store tx.old.conn.now) (state S.Store tx.new.conn.now) (λ _. ⊥) }
-    ensures kept { HasCleanDisk (state S.Store tx.new.conn.now)
-        → IsTrue (state S.Store tx.old.conn.now).in_transaction
-        → KeepsCommit (state S.Store tx.old.conn.now) (state S.Store tx.new.conn.now) }
-    ensures inside { HasCleanDisk (state S.Store tx.new.conn.now)
-        → IsTrue (state S.Store tx.old.conn.now).in_transaction
-        → OnOk result (IsTrue (state S.Store tx.new.conn.now).in_transaction) }
-    ensures takes { HasCleanDisk (state S.Store tx.new.conn.now) → IsInside (state S.Store tx.old.conn.now)
-        → OnOk result
-        (Took ((AddRoot number root.now) ∷ [])
-        (state S.Store tx.old.conn.now) (state S.Store tx.new.conn.now)) }
+    ensures stays { StaysInside (state S.Store tx.old.conn.now) (state S.Store tx.new.conn.now) result }
+    ensures takes { Takes (AddRoot number root.now)
+        (state S.Store tx.old.conn.now) (state S.Store tx.new.conn.now) result }
 {
     let pattern = text_of_pattern(alloc, &root.version)?;
     let earliest = text_of_version(alloc, &root.earliest)?;
@@ -90,16 +81,9 @@ pub(crate) fn add_root<S: Alter>(
 /// Takes the root out.
 pub(crate) fn drop_root<S: Alter>(tx: &mut Transaction<'_, S>, number: i64) -> Result<(), Failure>
     ensures same_reference { tx.new.conn.ghost_name ≡ tx.old.conn.ghost_name }
-    ensures survives { Survives (state S.Store tx.old.conn.now) (state S.Store tx.new.conn.now) (λ _. ⊥) }
-    ensures kept { HasCleanDisk (state S.Store tx.new.conn.now)
-        → IsTrue (state S.Store tx.old.conn.now).in_transaction
-        → KeepsCommit (state S.Store tx.old.conn.now) (state S.Store tx.new.conn.now) }
-    ensures inside { HasCleanDisk (state S.Store tx.new.conn.now)
-        → IsTrue (state S.Store tx.old.conn.now).in_transaction
-        → OnOk result (IsTrue (state S.Store tx.new.conn.now).in_transaction) }
-    ensures takes { HasCleanDisk (state S.Store tx.new.conn.now) → IsInside (state S.Store tx.old.conn.now)
-        → OnOk result
-        (Took ((DropRoot number) ∷ []) (state S.Store tx.old.conn.now) (state S.Store tx.new.conn.now)) }
+    ensures stays { StaysInside (state S.Store tx.old.conn.now) (state S.Store tx.new.conn.now) result }
+    ensures takes { Takes (DropRoot number)
+        (state S.Store tx.old.conn.now) (state S.Store tx.new.conn.now) result }
 {
     execute_in(tx, sql::DROP_ROOT, &[ValueRef::Int(number)])
 }

@@ -1,12 +1,9 @@
 //! The statements that add a row of a source, and drop a source.
-ghost use Rattle.std.specs.Prelude.{◌≡◌, [], ◌∷◌, IsTrue, OnOk};
+ghost use Rattle.std.specs.Prelude.{◌≡◌};
 ghost use Rattle.sqlite.specs.Held.{state};
-ghost use Rattle.sqlite.specs.State.{HasCleanDisk, KeepsCommit, Survives};
 ghost use Rattle.xa_store.specs.declared.step.Step.TheVariants.{AddAttribute, DropSource};
 ghost use Rattle.xa_store.specs.Rows.{type_number};
-ghost use Rattle.xa_store.specs.Steps.{Allows};
-ghost use Rattle.xa_store.specs.Execution.{IsInside, Took};
-ghost use Rattle.xa_store.specs.World.{rows_of};
+ghost use Rattle.xa_store.specs.Execution.{StaysInside, Takes};
 
 use crate::sql;
 use crate::step::execution::execute_in;
@@ -34,18 +31,9 @@ pub(crate) fn add_attribute<S: Alter>(
     row: &SourceRow,
 ) -> Result<(), Failure>
     ensures same_reference { tx.new.conn.ghost_name ≡ tx.old.conn.ghost_name }
-    ensures survives { Survives (state S.Store tx.old.conn.now) (state S.Store tx.new.conn.now) (λ _. ⊥) }
-    ensures kept { HasCleanDisk (state S.Store tx.new.conn.now)
-        → IsTrue (state S.Store tx.old.conn.now).in_transaction
-        → KeepsCommit (state S.Store tx.old.conn.now) (state S.Store tx.new.conn.now) }
-    ensures inside { HasCleanDisk (state S.Store tx.new.conn.now)
-        → IsTrue (state S.Store tx.old.conn.now).in_transaction
-        → OnOk result (IsTrue (state S.Store tx.new.conn.now).in_transaction) }
-    ensures takes { HasCleanDisk (state S.Store tx.new.conn.now) → IsInside (state S.Store tx.old.conn.now)
-        → Allows (AddAttribute number place row.now) (rows_of (state S.Store tx.old.conn.now).now.trees)
-        → OnOk result
-        (Took ((AddAttribute number place row.now) ∷ [])
-        (state S.Store tx.old.conn.now) (state S.Store tx.new.conn.now)) }
+    ensures stays { StaysInside (state S.Store tx.old.conn.now) (state S.Store tx.new.conn.now) result }
+    ensures takes { Takes (AddAttribute number place row.now)
+        (state S.Store tx.old.conn.now) (state S.Store tx.new.conn.now) result }
 {
     let value = row.value.to_text(alloc)?;
     execute_in(
@@ -67,16 +55,9 @@ pub(crate) fn add_attribute<S: Alter>(
 /// Takes all rows of the source out.
 pub(crate) fn drop_source<S: Alter>(tx: &mut Transaction<'_, S>, number: i64) -> Result<(), Failure>
     ensures same_reference { tx.new.conn.ghost_name ≡ tx.old.conn.ghost_name }
-    ensures survives { Survives (state S.Store tx.old.conn.now) (state S.Store tx.new.conn.now) (λ _. ⊥) }
-    ensures kept { HasCleanDisk (state S.Store tx.new.conn.now)
-        → IsTrue (state S.Store tx.old.conn.now).in_transaction
-        → KeepsCommit (state S.Store tx.old.conn.now) (state S.Store tx.new.conn.now) }
-    ensures inside { HasCleanDisk (state S.Store tx.new.conn.now)
-        → IsTrue (state S.Store tx.old.conn.now).in_transaction
-        → OnOk result (IsTrue (state S.Store tx.new.conn.now).in_transaction) }
-    ensures takes { HasCleanDisk (state S.Store tx.new.conn.now) → IsInside (state S.Store tx.old.conn.now)
-        → OnOk result
-        (Took ((DropSource number) ∷ []) (state S.Store tx.old.conn.now) (state S.Store tx.new.conn.now)) }
+    ensures stays { StaysInside (state S.Store tx.old.conn.now) (state S.Store tx.new.conn.now) result }
+    ensures takes { Takes (DropSource number)
+        (state S.Store tx.old.conn.now) (state S.Store tx.new.conn.now) result }
 {
     execute_in(tx, sql::DROP_SOURCE, &[ValueRef::Int(number)])
 }

@@ -1,12 +1,9 @@
 //! The statements that add and drop a token, and set its role.
-ghost use Rattle.std.specs.Prelude.{◌≡◌, [], ◌∷◌, IsTrue, OnOk};
+ghost use Rattle.std.specs.Prelude.{◌≡◌};
 ghost use Rattle.sqlite.specs.Held.{state};
-ghost use Rattle.sqlite.specs.State.{HasCleanDisk, KeepsCommit, Survives};
 ghost use Rattle.xa_store.specs.declared.step.Step.TheVariants.{AddToken, DropToken, SetRole};
 ghost use Rattle.xa_store.specs.Rows.{role_number};
-ghost use Rattle.xa_store.specs.Steps.{Allows};
-ghost use Rattle.xa_store.specs.Execution.{IsInside, Took};
-ghost use Rattle.xa_store.specs.World.{rows_of};
+ghost use Rattle.xa_store.specs.Execution.{StaysInside, Takes};
 
 use crate::sql;
 use crate::step::execution::execute_in;
@@ -33,18 +30,9 @@ pub(crate) fn add_token<S: Alter>(
     role: Role,
 ) -> Result<(), Failure>
     ensures same_reference { tx.new.conn.ghost_name ≡ tx.old.conn.ghost_name }
-    ensures survives { Survives (state S.Store tx.old.conn.now) (state S.Store tx.new.conn.now) (λ _. ⊥) }
-    ensures kept { HasCleanDisk (state S.Store tx.new.conn.now)
-        → IsTrue (state S.Store tx.old.conn.now).in_transaction
-        → KeepsCommit (state S.Store tx.old.conn.now) (state S.Store tx.new.conn.now) }
-    ensures inside { HasCleanDisk (state S.Store tx.new.conn.now)
-        → IsTrue (state S.Store tx.old.conn.now).in_transaction
-        → OnOk result (IsTrue (state S.Store tx.new.conn.now).in_transaction) }
-    ensures takes { HasCleanDisk (state S.Store tx.new.conn.now) → IsInside (state S.Store tx.old.conn.now)
-        → Allows (AddToken number digest.now role) (rows_of (state S.Store tx.old.conn.now).now.trees)
-        → OnOk result
-        (Took ((AddToken number digest.now role) ∷ [])
-        (state S.Store tx.old.conn.now) (state S.Store tx.new.conn.now)) }
+    ensures stays { StaysInside (state S.Store tx.old.conn.now) (state S.Store tx.new.conn.now) result }
+    ensures takes { Takes (AddToken number digest.now role)
+        (state S.Store tx.old.conn.now) (state S.Store tx.new.conn.now) result }
 {
     execute_in(
         tx,
@@ -65,17 +53,9 @@ pub(crate) fn set_role<S: Alter>(
     role: Role,
 ) -> Result<(), Failure>
     ensures same_reference { tx.new.conn.ghost_name ≡ tx.old.conn.ghost_name }
-    ensures survives { Survives (state S.Store tx.old.conn.now) (state S.Store tx.new.conn.now) (λ _. ⊥) }
-    ensures kept { HasCleanDisk (state S.Store tx.new.conn.now)
-        → IsTrue (state S.Store tx.old.conn.now).in_transaction
-        → KeepsCommit (state S.Store tx.old.conn.now) (state S.Store tx.new.conn.now) }
-    ensures inside { HasCleanDisk (state S.Store tx.new.conn.now)
-        → IsTrue (state S.Store tx.old.conn.now).in_transaction
-        → OnOk result (IsTrue (state S.Store tx.new.conn.now).in_transaction) }
-    ensures takes { HasCleanDisk (state S.Store tx.new.conn.now) → IsInside (state S.Store tx.old.conn.now)
-        → OnOk result
-        (Took ((SetRole number digest.now role) ∷ [])
-        (state S.Store tx.old.conn.now) (state S.Store tx.new.conn.now)) }
+    ensures stays { StaysInside (state S.Store tx.old.conn.now) (state S.Store tx.new.conn.now) result }
+    ensures takes { Takes (SetRole number digest.now role)
+        (state S.Store tx.old.conn.now) (state S.Store tx.new.conn.now) result }
 {
     execute_in(
         tx,
@@ -95,17 +75,9 @@ pub(crate) fn drop_token<S: Alter>(
     digest: &Digest,
 ) -> Result<(), Failure>
     ensures same_reference { tx.new.conn.ghost_name ≡ tx.old.conn.ghost_name }
-    ensures survives { Survives (state S.Store tx.old.conn.now) (state S.Store tx.new.conn.now) (λ _. ⊥) }
-    ensures kept { HasCleanDisk (state S.Store tx.new.conn.now)
-        → IsTrue (state S.Store tx.old.conn.now).in_transaction
-        → KeepsCommit (state S.Store tx.old.conn.now) (state S.Store tx.new.conn.now) }
-    ensures inside { HasCleanDisk (state S.Store tx.new.conn.now)
-        → IsTrue (state S.Store tx.old.conn.now).in_transaction
-        → OnOk result (IsTrue (state S.Store tx.new.conn.now).in_transaction) }
-    ensures takes { HasCleanDisk (state S.Store tx.new.conn.now) → IsInside (state S.Store tx.old.conn.now)
-        → OnOk result
-        (Took ((DropToken number digest.now) ∷ [])
-        (state S.Store tx.old.conn.now) (state S.Store tx.new.conn.now)) }
+    ensures stays { StaysInside (state S.Store tx.old.conn.now) (state S.Store tx.new.conn.now) result }
+    ensures takes { Takes (DropToken number digest.now)
+        (state S.Store tx.old.conn.now) (state S.Store tx.new.conn.now) result }
 {
     execute_in(
         tx,

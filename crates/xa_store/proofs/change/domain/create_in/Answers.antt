@@ -1,23 +1,11 @@
-use Rattle.std.proofs.Common.{List, sym, subst}
-use Rattle.sqlite.specs.Held.{state}
-use Rattle.xa_records.specs.Changes.{created}
-use Rattle.xa_store.specs.declared.step.Step.{Step}
-use Rattle.xa_store.specs.Turns.{Turns}
-use Rattle.xa_store.proofs.TurnLemmas.{turned, unmade}
+use Rattle.xa_store.proofs.Common.{created}
+use Rattle.xa_store.proofs.TurnLemmas.{carried}
 use Rattle.xa_store.proofs.change.domain.create_in.Goals as goal
 
-pub returns-in-Ok : goal.returns-in-Ok
-returns-in-Ok g c =
-    let old = state g.S.Store c.args.conn.now in
-    let mid = state g.S.Store c.plan_create.new.conn in
-    let new = state g.S.Store c.run.new.conn in
+pub returns : goal.returns
+returns g c =
+    let plan = c.plan_create-planned in
     record {
-      turns = subst (Turns created c.args.name.now old new) (sym c.answered.ensures)
-          (turned created c.args.name.now old mid new c.plan_create.ensures.quiet c.in-Ok.steps c.in-Ok.ensures.opens c.in-Ok.ensures.plans c.run.result (rw c.as_slice.ensures at c.run.ensures));
+      turns = carried g.S.Store created c.args.name.now c.args.conn.now plan.new.conn c.carried_out.new.conn plan.ensures.quiet plan.result plan.ensures.opens plan.ensures.plans
+          c.carried_out.result c.carried_out.ensures.runs c.carried_out.ensures.keeps;
     }
-
-pub returns-in-Err : goal.returns-in-Err
-returns-in-Err g c =
-    let old = state g.S.Store c.args.conn.now in
-    let mid = state g.S.Store c.plan_create.new.conn in
-    record { turns = unmade created c.args.name.now old mid mid c.plan_create.ensures.quiet (List Step) c.in-Err.error c.in-Err.ensures.opens c.in-Err.ensures.plans }

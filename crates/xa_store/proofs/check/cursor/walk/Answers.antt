@@ -3,7 +3,7 @@ use Rattle.xa_store.proofs.Common.{to_z-of_z, FitsSigned, HasGiven, Held, state,
 use Rattle.xa_store.specs.Check.{has_kind, refused_as, text_of, Moves, Walked, Walks}
 use Rattle.xa_store.specs.Opening.{IsFailure}
 use Rattle.xa_store.proofs.AskedLemmas.{a_failure, failed_fits, not_asked, survives_asked}
-use Rattle.xa_store.proofs.StreamLemmas.{judged_plain, keeps_begun, keeps_on, stands_begun, survived_on, walk_ended, walk_goes_on, walk_stopped}
+use Rattle.xa_store.proofs.StreamLemmas.{checked_plain, keeps_begun, keeps_on, stands_begun, survived_on, walk_ended, walk_goes_on, walk_stopped}
 use Rattle.xa_store.proofs.check.cursor.walk.Goals as goal
 
 walks_failed : (kind : Kind) (next : ℤ) (db : Trees) (e : OpenError) → IsFailure e → Walks kind next db (Err e)
@@ -13,8 +13,8 @@ walks_failed kind next db e (inr is) = subst (λ o. Walks kind next db (Err o)) 
 not_walked : (version : SchemaVersion) (kind : Kind) → has_kind kind version ≡ true → (next : ℤ) (old new : State) (e : Error) → Survives old new (CommitsShowing (text_of kind) [] old)
     → (HasCleanDisk new → FailsToQuery (text_of kind) [] old new e) → Walked version kind next old new (Err (refused_as e))
 not_walked version kind has next old new e survives failed = record {
-  asks = not_asked (text_of kind) [] old new version (judged_plain kind version has) survives e (refused_as e) failed;
-  finds = λ clean rests. walks_failed kind next old.now.trees (refused_as e) (a_failure e (failed_fits (text_of kind) [] old new e rests (judged_plain kind version has) (failed clean)));
+  asks = not_asked (text_of kind) [] old new version (checked_plain kind version has) survives e (refused_as e) failed;
+  finds = λ clean rests. walks_failed kind next old.now.trees (refused_as e) (a_failure e (failed_fits (text_of kind) [] old new e rests (checked_plain kind version has) (failed clean)));
 }
 
 -- what is known of a row that is asked for
@@ -34,7 +34,7 @@ pub rows-init : goal.rows-init
 rows-init g c =
     let made = c.in_ok-rows.ensures in (
       refl,
-      survives_asked (text_of c.args.kind) [] (state g.S.Store c.args.conn.now) _ c.args.known.version (judged_plain c.args.kind c.args.known.version c.requires) (rw c.text.ensures at made.survives),
+      survives_asked (text_of c.args.kind) [] (state g.S.Store c.args.conn.now) _ c.args.known.version (checked_plain c.args.kind c.args.known.version c.requires) (rw c.text.ensures at made.survives),
       keeps_begun g.S.Store c.args.known.version c.args.kind c.requires c.args.known.next c.args.conn.now c.in_ok-rows.rows.conn.now (rw c.text.ensures at made.begun),
       stands_begun g.S.Store c.args.known.version c.args.kind c.requires _ c.args.conn.now c.in_ok-rows.rows.conn.now (rw c.text.ensures at made.begun),
     )

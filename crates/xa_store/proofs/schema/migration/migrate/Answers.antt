@@ -10,7 +10,7 @@ returns-in-Ok g c =
     let last = c.commit.new.self.0 in
     let same : last ≡ c.conn-2-1.given.0 = search rules in
     subst (λ h. Migrated {X = Unit {0}} (state g.S.Store c.args.conn.now) (state g.S.Store h) (Ok tt)) same
-    (migrated g.S.Store c.args.conn.now c.take_all.new.tx.conn.now last (rw begun at c.take_all.ensures.survives) (rw begun at c.take_all.ensures.kept) c.commit.ensures.survives (rw begun at c.in_ok-take_all.ensures.moves) tt
+    (migrated g.S.Store c.args.conn.now c.take_all.new.tx.conn.now last (rw begun at c.in_ok-take_all.ensures.stays.survives) (rw begun at c.in_ok-take_all.ensures.stays.kept) c.commit.ensures.survives (rw begun at c.in_ok-take_all.ensures.moves) tt
     c.in-Ok.ensures.ok)
 
 pub returns-in-Err : goal.returns-in-Err
@@ -19,5 +19,5 @@ returns-in-Err g c =
     let last = c.commit.new.self.0 in
     let same : last ≡ c.conn-2-1.given.0 = search rules in
     subst (λ h. Migrated {X = Unit {0}} (state g.S.Store c.args.conn.now) (state g.S.Store h) (Err c.failed.result)) same
-    (unmigrated g.S.Store c.args.conn.now c.take_all.new.tx.conn.now last (rw begun at c.take_all.ensures.survives) (rw begun at c.take_all.ensures.kept) c.commit.ensures.survives (rw begun at c.in_ok-take_all.ensures.moves)
-    c.failed.result c.in-Err.error c.failed.ensures (λ clean. (rw begun at c.in_ok-take_all.ensures.inside) clean refl) c.commit.ensures.ended c.in-Err.ensures.err)
+    (unmigrated g.S.Store c.args.conn.now c.take_all.new.tx.conn.now last (rw begun at c.in_ok-take_all.ensures.stays.survives) (rw begun at c.in_ok-take_all.ensures.stays.kept) c.commit.ensures.survives (rw begun at c.in_ok-take_all.ensures.moves)
+    c.failed.result c.in-Err.error c.failed.ensures (λ clean. (rw begun at c.in_ok-take_all.ensures.stays.inside) clean refl) c.commit.ensures.ended c.in-Err.ensures.err)

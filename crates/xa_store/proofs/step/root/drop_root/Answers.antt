@@ -6,9 +6,9 @@ use Rattle.xa_store.proofs.TakeLemmas.{took_ok}
 use Rattle.xa_store.proofs.step.root.drop_root.Goals as goal
 
 pub returns-clause-takes : goal.returns-clause-takes
-returns-clause-takes g c clean inside =
+returns-clause-takes g c clean inside allows =
     let old = state g.S.Store c.args.tx.now.conn.now in
     let new = state g.S.Store c.execute_in.new.tx.conn.now in
     let n = to_z-of_z w64 c.args.number c.ranges.number in
-    took_ok old new (DropRoot c.args.number) c.execute_in.result (c.execute_in.ensures.inside clean inside.inside) (c.execute_in.ensures.runs clean inside.inside)
+    took_ok old new (DropRoot c.args.number) c.execute_in.result (c.execute_in.ensures.stays.inside clean inside.inside) (c.execute_in.ensures.runs clean inside.inside)
     (λ ran. root_dropped_stepped old new inside.schema ran.0 inside.tables c.args.number (rw n at ran.1))

@@ -11,5 +11,5 @@ returns-clause-takes g c clean inside none =
     let old = state g.S.Store c.args.tx.now.conn.now in
     let new = state g.S.Store c.execute_in.new.tx.conn.now in
     let n = to_z-of_z w64 c.args.number c.ranges.number in
-    took_ok old new (AddToken c.args.number c.args.digest.now c.args.role) c.execute_in.result (c.execute_in.ensures.inside clean inside.inside) (c.execute_in.ensures.runs clean inside.inside)
+    took_ok old new (AddToken c.args.number c.args.digest.now c.args.role) c.execute_in.result (c.execute_in.ensures.stays.inside clean inside.inside) (c.execute_in.ensures.runs clean inside.inside)
     (λ ran. token_added_stepped old new inside.schema ran.0 inside.tables c.args.number c.args.digest.now c.args.role none (rw (n, (of_role c.args.role).held) at (rw (c.as_bytes.ensures.value, c.number_of_role.ensures) at ran.1)))

@@ -10,6 +10,6 @@ returns g c =
     let last = c.commit.new.tx.0 in
     let same : last ≡ c.conn-2-1.given.0 = search rules in
     subst (λ h. Runs c.args.steps.now (state g.S.Store c.args.conn.now) (state g.S.Store h) c.commit.result) same
-    (run_ended g.S.Store c.args.conn.now c.take_all.new.tx.conn.now last c.args.steps.now (rw begun at c.take_all.ensures.survives) (rw begun at c.take_all.ensures.kept)
-    (rw begun at c.in_ok-take_all.ensures.takes) c.commit.ensures.survives c.commit.result (λ clean. (rw begun at c.in_ok-take_all.ensures.inside) clean refl) c.commit.ensures.ended c.commit.ensures.commits
+    (run_ended g.S.Store c.args.conn.now c.take_all.new.tx.conn.now last c.args.steps.now (rw begun at c.in_ok-take_all.ensures.stays.survives) (rw begun at c.in_ok-take_all.ensures.stays.kept)
+    (rw begun at c.in_ok-take_all.ensures.takes) c.commit.ensures.survives c.commit.result (λ clean. (rw begun at c.in_ok-take_all.ensures.stays.inside) clean refl) c.commit.ensures.ended c.commit.ensures.commits
     c.commit.ensures.fails)

@@ -1,4 +1,4 @@
--- What the queries are by which the rows of the tables are judged.
+-- What the queries are by which the rows of the tables are checked.
 use Rattle.std.proofs.Common.{◌≡◌, ℕ, true, List, [], ◌∷◌, map, codes, refl, sym, true≢false}
 use Rattle.sqlite.specs.Listing.{understood}
 use Rattle.xa_store.proofs.Common.{Query, col, Kind, Domains, Tokens, Documents, Roots, Attributes, Sources, SchemaVersion, Schema1, Schema2, read_columns, schema_of, sources_in, tree_of}
@@ -18,20 +18,20 @@ names_of Roots = codes "number" ∷ codes "kind" ∷ codes "id" ∷ codes "patte
 names_of Attributes = codes "rowid" ∷ codes "number" ∷ codes "place" ∷ codes "category" ∷ codes "entity" ∷ codes "attribute" ∷ codes "value_type" ∷ codes "value" ∷ []
 names_of Sources = codes "rowid" ∷ codes "number" ∷ codes "place" ∷ codes "category" ∷ codes "entity" ∷ codes "attribute" ∷ codes "value_type" ∷ codes "value" ∷ codes "issuer" ∷ []
 
-pub judged_is : (kind : Kind) (version : SchemaVersion) → has_kind kind version ≡ true → IsQueryIn (schema_of version) (text_of kind) (reading (query_of kind) (names_of kind))
+pub checked_is : (kind : Kind) (version : SchemaVersion) → has_kind kind version ≡ true → IsQueryIn (schema_of version) (text_of kind) (reading (query_of kind) (names_of kind))
 unfolding understood everything
-judged_is Domains Schema1 has = (refl, refl, (refl, refl))
-judged_is Domains Schema2 has = (refl, refl, (refl, refl))
-judged_is Tokens Schema1 has = (refl, refl, (refl, refl))
-judged_is Tokens Schema2 has = (refl, refl, (refl, refl))
-judged_is Documents Schema1 has = (refl, refl, (refl, refl))
-judged_is Documents Schema2 has = (refl, refl, (refl, refl))
-judged_is Roots Schema1 has = (refl, refl, (refl, refl))
-judged_is Roots Schema2 has = (refl, refl, (refl, refl))
-judged_is Attributes Schema1 has = (refl, refl, (refl, refl))
-judged_is Attributes Schema2 has = (refl, refl, (refl, refl))
-judged_is Sources Schema1 has = absurd (true≢false (sym has))
-judged_is Sources Schema2 has = (refl, refl, (refl, refl))
+checked_is Domains Schema1 has = (refl, refl, (refl, refl))
+checked_is Domains Schema2 has = (refl, refl, (refl, refl))
+checked_is Tokens Schema1 has = (refl, refl, (refl, refl))
+checked_is Tokens Schema2 has = (refl, refl, (refl, refl))
+checked_is Documents Schema1 has = (refl, refl, (refl, refl))
+checked_is Documents Schema2 has = (refl, refl, (refl, refl))
+checked_is Roots Schema1 has = (refl, refl, (refl, refl))
+checked_is Roots Schema2 has = (refl, refl, (refl, refl))
+checked_is Attributes Schema1 has = (refl, refl, (refl, refl))
+checked_is Attributes Schema2 has = (refl, refl, (refl, refl))
+checked_is Sources Schema1 has = absurd (true≢false (sym has))
+checked_is Sources Schema2 has = (refl, refl, (refl, refl))
 
 abbrev pub places_query : SchemaVersion → Query
 places_query version = of_table (tree_of (sources_in version)) [] (col 1 1 ∷ col 1 2 ∷ []) (1 ∷ 2 ∷ [])

@@ -1,7 +1,7 @@
 use Rattle.std.proofs.Common.{◌≡◌, false, IsTrue, rules, sym, ◌∙◌}
 use Rattle.xa_store.proofs.Common.{state}
 use Rattle.xa_store.proofs.OpenLemmas.{not_tested}
-use Rattle.xa_store.proofs.opening.judge.Goals as goal
+use Rattle.xa_store.proofs.opening.check_as.Goals as goal
 
 pub returns-then-not-is_autocommit : goal.returns-then-not-is_autocommit
 returns-then-not-is_autocommit g c = not_tested c.args.version (state g.S.Store c.args.conn.now)

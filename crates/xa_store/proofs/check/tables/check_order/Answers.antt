@@ -1,10 +1,10 @@
 use Rattle.std.proofs.Common.{◌≡◌, [], Ok, Err, rules, sym, subst}
 use Rattle.xa_store.proofs.Common.{IsPlain, state, understood, nil_from_length, Damaged, schema_of}
 use Rattle.xa_store.proofs.AskedLemmas.{as_failed, as_told}
-use Rattle.xa_store.proofs.LoadLemmas.{failure_judged}
+use Rattle.xa_store.proofs.LoadLemmas.{failure_checked}
 use Rattle.xa_store.proofs.OrderLemmas.{in_order, out_of_order}
 use Rattle.xa_store.proofs.RisingTexts.{order_plain}
-use Rattle.xa_store.proofs.check.tables.judge_order.Goals as goal
+use Rattle.xa_store.proofs.check.tables.check_order.Goals as goal
 
 pub returns-in_err-rows-clause-asks : goal.returns-in_err-rows-clause-asks
 returns-in_err-rows-clause-asks g c version has =
@@ -16,7 +16,7 @@ pub returns-in_err-rows-clause-finds : goal.returns-in_err-rows-clause-finds
 returns-in_err-rows-clause-finds g c clean version has rests next walked =
     let plain = subst (λ sql. IsPlain (understood (schema_of version) sql)) (sym c.order_text.ensures) (order_plain c.args.kind version has) in
     let is : c.from_residual.result ≡ Err c.in_err-rows.field-0.0 = search rules in
-    rw is (failure_judged _ c.in_err-rows.field-0.0 (c.in_err-rows.ensures.fails clean version plain rests))
+    rw is (failure_checked _ c.in_err-rows.field-0.0 (c.in_err-rows.ensures.fails clean version plain rests))
 
 pub returns-then-is_empty-clause-asks : goal.returns-then-is_empty-clause-asks
 returns-then-is_empty-clause-asks g c version has =

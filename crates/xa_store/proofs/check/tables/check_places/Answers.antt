@@ -2,9 +2,9 @@ use Rattle.std.proofs.Common.{◌≡◌, ◌∙◌, true, false, Ok, Err, rules,
 use Rattle.xa_store.proofs.Common.{IsPlain, state, understood, Damaged, schema_of}
 use Rattle.xa_store.specs.Check.{counts, no_place}
 use Rattle.xa_store.proofs.AskedLemmas.{as_failed, as_told}
-use Rattle.xa_store.proofs.LoadLemmas.{failure_judged}
+use Rattle.xa_store.proofs.LoadLemmas.{failure_checked}
 use Rattle.xa_store.proofs.PlaceLemmas.{places_count, places_plain}
-use Rattle.xa_store.proofs.check.tables.judge_places.Goals as goal
+use Rattle.xa_store.proofs.check.tables.check_places.Goals as goal
 
 pub returns-in_err-rows-clause-asks : goal.returns-in_err-rows-clause-asks
 returns-in_err-rows-clause-asks g c =
@@ -16,7 +16,7 @@ pub returns-in_err-rows-clause-finds : goal.returns-in_err-rows-clause-finds
 returns-in_err-rows-clause-finds g c clean rests are =
     let plain = subst (λ sql. IsPlain (understood (schema_of c.args.version) sql)) (sym c.places_text.ensures) (places_plain c.args.version) in
     let is : c.from_residual.result ≡ Err c.in_err-rows.field-0.0 = search rules in
-    rw is (failure_judged _ c.in_err-rows.field-0.0 (c.in_err-rows.ensures.fails clean c.args.version plain rests))
+    rw is (failure_checked _ c.in_err-rows.field-0.0 (c.in_err-rows.ensures.fails clean c.args.version plain rests))
 
 pub returns-then-are_places-clause-asks : goal.returns-then-are_places-clause-asks
 returns-then-are_places-clause-asks g c =
