@@ -11,8 +11,8 @@ use Rattle.std.proofs.lemmas.List.{append-nil}
 use Rattle.std.proofs.lemmas.List.Elements.{All-nil, All-cons}
 use Rattle.xa_http.specs.Stream.{Stream, fed}
 use Rattle.xa_http.proofs.SizeLemmas.{waiting_short}
-use Rattle.xa_server.specs.declared.answering.Turn.{Turn}
-use Rattle.xa_server.specs.declared.answering.Turn.TheVariants.{Answered, Waits, Ends}
+use Rattle.xa_server.specs.declared.turns.Turn.{Turn}
+use Rattle.xa_server.specs.declared.turns.Turn.TheVariants.{Answered, Waits, Ends}
 use Rattle.xa_server.specs.declared.driven.Driven.{Driven}
 use Rattle.xa_server.specs.declared.driven.Driven.TheVariants.{Ended, ReadFault, WriteFault, NoClock, TooManyReads, Memory}
 use Rattle.xa_server.specs.declared.front_error.FrontError.{FrontError}

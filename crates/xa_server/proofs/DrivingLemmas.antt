@@ -22,7 +22,7 @@ use Rattle.xa_server.specs.Lines.{IsOpen}
 use Rattle.xa_server.specs.Replies.{bytes_of}
 use Rattle.xa_server.specs.Served.{IsRun}
 use Rattle.xa_server.specs.Transfers.{IsReadOn, ReadEnd, WriteEnd, bytes_read, gave, unread}
-use Rattle.xa_server.proofs.AskedLemmas.{said_after, said_on}
+use Rattle.xa_server.proofs.SaidLemmas.{said_after, said_on}
 use Rattle.xa_server.proofs.ConnectionLemmas.{cuts_trans, run_trans, work_trans}
 use Rattle.xa_server.proofs.IsolationLemmas.{headline, isolated}
 use Rattle.xa_server.proofs.MultiplexerLemmas.{line_again, line_kept}

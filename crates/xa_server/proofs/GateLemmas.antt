@@ -16,10 +16,10 @@ use Rattle.xa_records.specs.declared.gate.Gate.{Gate}
 use Rattle.xa_records.specs.Kept.{Domain, Kept, state_of}
 use Rattle.xa_records.specs.Readings.{gate_of, gate_of_domain}
 use Rattle.xa_shelf.proofs.EntryLemmas.{all_promoted, all_put, all_removed, value_found}
-use Rattle.xa_server.specs.declared.opened.Opened.{Opened}
+use Rattle.xa_server.specs.declared.revision.Revision.{Revision}
 use Rattle.xa_server.specs.declared.stop.Stop.{Stop}
 use Rattle.xa_server.specs.declared.stop.Stop.TheVariants.{Code, Failed}
-use Rattle.xa_server.specs.Gates.{opened_by, opened_in, opened_of, opened_with, without_gate}
+use Rattle.xa_server.specs.Gates.{revision_by, revision_in, revision_of, revision_with, without_gate}
 use Rattle.xa_server.specs.Handling.{Answers, admitted_by}
 use Rattle.xa_server.specs.Machine.{Answer, admitted, digest_shown, permitted}
 use Rattle.xa_server.specs.Stock.{AllStand, AreGates, IsGate, Stock, forgetting, remembering, using_gate}
@@ -59,22 +59,22 @@ lets_in kept name digest gate role opens has = by_gate (gate_opens kept name gat
       rw (there, in_map) (may_ask role)
 
 -- what it opens
-module _ (kept : Kept) (name digest : List ℕ) (gates : List (List ℕ × Gate)) (opened : Opened) (are : AreGates kept gates) where
-  by_role : (gate : Gate) (role : Option Role) → gate_of name kept ≡ Some gate → role_in digest gate.tokens ≡ role → option_map (λ _. opened_by gate) role ≡ Some opened
-      → (opened_of name kept ≡ Some opened) × (admitted_by true (state_of name kept) (Some digest) ≡ Ok tt)
+module _ (kept : Kept) (name digest : List ℕ) (gates : List (List ℕ × Gate)) (revision : Revision) (are : AreGates kept gates) where
+  by_role : (gate : Gate) (role : Option Role) → gate_of name kept ≡ Some gate → role_in digest gate.tokens ≡ role → option_map (λ _. revision_by gate) role ≡ Some revision
+      → (revision_of name kept ≡ Some revision) × (admitted_by true (state_of name kept) (Some digest) ≡ Ok tt)
   by_role gate None opens has is = absurd cc
-  by_role gate (Some role) opens has is = (ap (option_map opened_by) opens ∙ is, lets_in kept name digest gate role opens has)
+  by_role gate (Some role) opens has is = (ap (option_map revision_by) opens ∙ is, lets_in kept name digest gate role opens has)
 
-  by_lookup : (found : Option Gate) → lookup (bytes_eq name) gates ≡ found → option_and_then (opened_with digest) found ≡ Some opened
-      → (opened_of name kept ≡ Some opened) × (admitted_by true (state_of name kept) (Some digest) ≡ Ok tt)
+  by_lookup : (found : Option Gate) → lookup (bytes_eq name) gates ≡ found → option_and_then (revision_with digest) found ≡ Some revision
+      → (revision_of name kept ≡ Some revision) × (admitted_by true (state_of name kept) (Some digest) ≡ Ok tt)
   by_lookup None there is = absurd cc
   by_lookup (Some gate) there is = by_role gate (role_in digest gate.tokens) (found_gate kept name gates gate are there) refl is
 
-pub known_opens : (kept : Kept) (name digest : List ℕ) (message : Message) (stock : Stock) (opened : Opened) → digest_shown message ≡ Some digest → AllStand kept stock
-    → opened_in name digest stock.gates ≡ Some opened → (opened_of name kept ≡ Some opened) × (admitted true (state_of name kept) message ≡ Ok tt)
-known_opens kept name digest message stock opened shown stand is =
-    subst (λ d. (opened_of name kept ≡ Some opened) × (admitted_by true (state_of name kept) d ≡ Ok tt)) (sym shown)
-    (by_lookup kept name digest stock.gates opened stand.gates (lookup (bytes_eq name) stock.gates) refl is)
+pub known_opens : (kept : Kept) (name digest : List ℕ) (message : Message) (stock : Stock) (revision : Revision) → digest_shown message ≡ Some digest → AllStand kept stock
+    → revision_in name digest stock.gates ≡ Some revision → (revision_of name kept ≡ Some revision) × (admitted true (state_of name kept) message ≡ Ok tt)
+known_opens kept name digest message stock revision shown stand is =
+    subst (λ d. (revision_of name kept ≡ Some revision) × (admitted_by true (state_of name kept) d ≡ Ok tt)) (sym shown)
+    (by_lookup kept name digest stock.gates revision stand.gates (lookup (bytes_eq name) stock.gates) refl is)
 
 -- ---- what stands
 

@@ -1,7 +1,7 @@
 pub mod AdmissionLemmas
 pub mod AnswerLemmas
-pub mod AskedLemmas
-pub mod AskingLemmas
+pub mod SaidLemmas
+pub mod AskLemmas
 pub mod AuthorizationLemmas
 pub mod ConnectionLemmas
 pub mod CourseLemmas

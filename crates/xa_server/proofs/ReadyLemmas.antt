@@ -10,9 +10,9 @@ use Rattle.xa_records.specs.DomainState.{DomainState}
 use Rattle.xa_records.specs.Kept.{DecidesAlike, Domain, IsNumbered, Kept, state_of}
 use Rattle.xa_records.specs.Readings.{gate_of_domain}
 use Rattle.xa_shelf.proofs.EntryLemmas.{all_promoted, all_removed, all_taken, value_found}
-use Rattle.xa_server.specs.declared.opened.Opened.{Opened}
+use Rattle.xa_server.specs.declared.revision.Revision.{Revision}
 use Rattle.xa_server.specs.declared.ready.Ready.{Ready}
-use Rattle.xa_server.specs.Gates.{opened_by, opened_of}
+use Rattle.xa_server.specs.Gates.{revision_by, revision_of}
 use Rattle.xa_server.specs.Growth.{Grows}
 use Rattle.xa_server.specs.Handling.{view_told}
 use Rattle.xa_server.specs.Standing.{Stands}
@@ -20,7 +20,7 @@ use Rattle.xa_server.specs.Stock.{AreReady, IsReady}
 use Rattle.xa_server.specs.View.{view_of}
 use Rattle.xa_server.specs.Views.{Room, added, bytes_of_tree, bytes_of_view, fitting, in_front, touched, view_ready, with_view, without}
 use Rattle.xa_server.proofs.StandingLemmas.{all_implied, made_stands, stands_on}
-use Rattle.xa_server.proofs.WorkLemmas.{domain_opened}
+use Rattle.xa_server.proofs.WorkLemmas.{domain_of_revision}
 
 -- that a view is that of a state
 abbrev IsViewOf : Viewed → DomainState → Type 0
@@ -33,7 +33,7 @@ alike_viewed view a b alike is = let same : view_of b ≡ view_of a = rw (alike.
 -- as domains go on
 pub ready_grown : (old new : Kept) → Grows old new → (views : List (ℕ × Ready)) → AreReady old views → AreReady new views
 ready_grown old new grows views ready =
-    all_implied (IsReady old) (IsReady new) (λ entry. stands_on (IsViewOf entry.1.view) (alike_viewed entry.1.view) old new grows entry.0 entry.1.epoch) views ready
+    all_implied (IsReady old) (IsReady new) (λ entry. stands_on (IsViewOf entry.1.view) (alike_viewed entry.1.view) old new grows entry.0 entry.1.revision.epoch) views ready
 
 -- ---- a view that is found
 
@@ -44,25 +44,25 @@ found_entry kept views number epoch view ready found = by_lookup (lookup (nat_eq
   one_view : (a b : Viewed) → Some a ≡ Some b → a ≡ b
   one_view a b e = cc
 
-  by_epoch : (entry : Ready) (same : Bool) → nat_eq entry.epoch epoch ≡ same → IsReady kept (number, entry) → cond same (Some entry.view) None ≡ Some view → Stands kept number epoch (IsViewOf view)
+  by_epoch : (entry : Ready) (same : Bool) → nat_eq entry.revision.epoch epoch ≡ same → IsReady kept (number, entry) → cond same (Some entry.view) None ≡ Some view → Stands kept number epoch (IsViewOf view)
   by_epoch entry false e stands is = absurd cc
   by_epoch entry true e stands is =
-      subst (λ at. Stands kept number at (IsViewOf view)) (eqb-true entry.epoch epoch e)
-      (subst (λ v. Stands kept number entry.epoch (IsViewOf v)) (one_view entry.view view is) stands)
+      subst (λ at. Stands kept number at (IsViewOf view)) (eqb-true entry.revision.epoch epoch e)
+      (subst (λ v. Stands kept number entry.revision.epoch (IsViewOf v)) (one_view entry.view view is) stands)
 
   by_lookup : (there : Option Ready) → lookup (nat_eq number) views ≡ there → Stands kept number epoch (IsViewOf view)
   by_lookup None e = let none : None ≡ Some view = rw e at found in absurd cc
   by_lookup (Some entry) e =
       let on = value_found (IsReady kept) (nat_eq number) views entry ready e in
-      by_epoch entry (nat_eq entry.epoch epoch) refl (subst (λ n. IsReady kept (n, entry)) (sym (eqb-true number on.0 on.2)) on.1) (rw e at found)
+      by_epoch entry (nat_eq entry.revision.epoch epoch) refl (subst (λ n. IsReady kept (n, entry)) (sym (eqb-true number on.0 on.2)) on.1) (rw e at found)
 
--- it is what decides in the domain of that number and epoch
-pub ready_found : (kept : Kept) (name : List ℕ) (opened : Opened) (views : List (ℕ × Ready)) (view : Viewed) → opened_of name kept ≡ Some opened → AreReady kept views
-    → view_ready opened.number opened.epoch views ≡ Some view → view_told (state_of name kept) ≡ Ok view
-ready_found kept name opened views view opens ready found = by_gate (domain_opened kept name opened opens) where
-  by_gate : ((d : Domain) × (get kept.domains name ≡ Some d) × (opened_by (gate_of_domain d) ≡ opened)) → view_told (state_of name kept) ≡ Ok view
+-- it is what decides in the domain of that revision
+pub ready_found : (kept : Kept) (name : List ℕ) (revision : Revision) (views : List (ℕ × Ready)) (view : Viewed) → revision_of name kept ≡ Some revision → AreReady kept views
+    → view_ready revision.number revision.epoch views ≡ Some view → view_told (state_of name kept) ≡ Ok view
+ready_found kept name revision views view opens ready found = by_gate (domain_of_revision kept name revision opens) where
+  by_gate : ((d : Domain) × (get kept.domains name ≡ Some d) × (revision_by (gate_of_domain d) ≡ revision)) → view_told (state_of name kept) ≡ Ok view
   by_gate (d, there, is) =
-      let stands = found_entry kept views opened.number opened.epoch view ready found in
+      let stands = found_entry kept views revision.number revision.epoch view ready found in
       let holds : view_of d.state ≡ view = (stands.1 name d there (ap (λ o. o.number) is)).1 (sym (ap (λ o. o.epoch) is)) in
       rw there (ap Ok holds)
 
@@ -71,15 +71,16 @@ ready_found kept name opened views view opens ready found = by_gate (domain_open
 told_view : (state : DomainState) (view : Viewed) → view_told (Some state) ≡ Ok view → view_of state ≡ view
 told_view state view told = cc
 
-pub made_ready : (kept : Kept) (name : List ℕ) (opened : Opened) (ready : Ready) → IsNumbered kept → opened_of name kept ≡ Some opened → view_told (state_of name kept) ≡ Ok ready.view
-    → ready.epoch ≡ opened.epoch → IsReady kept (opened.number, ready)
-made_ready kept name opened ready numbered opens told epoch = by_gate (domain_opened kept name opened opens) where
-  by_gate : ((d : Domain) × (get kept.domains name ≡ Some d) × (opened_by (gate_of_domain d) ≡ opened)) → IsReady kept (opened.number, ready)
-  by_gate (d, there, is) =
+pub made_ready : (kept : Kept) (name : List ℕ) (revision : Revision) (ready : Ready) → IsNumbered kept → revision_of name kept ≡ Some revision → view_told (state_of name kept) ≡ Ok ready.view
+    → ready.revision ≡ revision → IsReady kept (ready.revision.number, ready)
+made_ready kept name revision ready numbered opens told is = by_gate (domain_of_revision kept name revision opens) where
+  by_gate : ((d : Domain) × (get kept.domains name ≡ Some d) × (revision_by (gate_of_domain d) ≡ revision)) → IsReady kept (ready.revision.number, ready)
+  by_gate (d, there, its) =
       let holds = told_view d.state ready.view (rw there at told) in
       let stands = made_stands (IsViewOf ready.view) kept name d numbered there holds in
-      subst (λ n. Stands kept n ready.epoch (IsViewOf ready.view)) (ap (λ o. o.number) is)
-      (subst (λ e. Stands kept d.number e (IsViewOf ready.view)) (ap (λ o. o.epoch) is ∙ sym epoch) stands)
+      let same : revision_by (gate_of_domain d) ≡ ready.revision = its ∙ sym is in
+      subst (λ n. Stands kept n ready.revision.epoch (IsViewOf ready.view)) (ap (λ o. o.number) same)
+      (subst (λ e. Stands kept d.number e (IsViewOf ready.view)) (ap (λ o. o.epoch) same) stands)
 
 -- ---- what is kept after a use, and after a view was kept
 

@@ -15,8 +15,8 @@ use Rattle.xa_http.specs.Messages.{IsFaulty, IsFirst, IsNext}
 use Rattle.xa_http.specs.Stream.{Stream}
 use Rattle.xa_http.proofs.LawLemmas.{answers_messages}
 use Rattle.xa_http.proofs.SizeLemmas.{first_shrinks}
-use Rattle.xa_server.specs.declared.answering.Turn.{Turn}
-use Rattle.xa_server.specs.declared.answering.Turn.TheVariants.{Waits, Ends}
+use Rattle.xa_server.specs.declared.turns.Turn.{Turn}
+use Rattle.xa_server.specs.declared.turns.Turn.TheVariants.{Waits, Ends}
 use Rattle.xa_server.specs.declared.driven.Driven.TheVariants.{Ended, WriteFault, NoClock, Memory, Shut}
 use Rattle.xa_server.specs.declared.event.Answer.{Answer}
 use Rattle.xa_server.specs.declared.front_error.FrontError.{FrontError}
@@ -34,7 +34,7 @@ use Rattle.xa_server.specs.Sending.{IsTaken, IsWritten}
 use Rattle.xa_server.specs.Served.{IsServed}
 use Rattle.xa_server.specs.Transfers.{Grows, IsReadOn, ReadEnd, WriteEnd}
 use Rattle.xa_server.specs.Work.{IsWork}
-use Rattle.xa_server.proofs.AskedLemmas.{asked_none, asked_on, asked_shut, unasked}
+use Rattle.xa_server.proofs.SaidLemmas.{asked_none, asked_on, asked_shut, unasked}
 use Rattle.xa_server.proofs.MultiplexerLemmas.{line_kept, looked, not_closed, same_stream}
 use Rattle.xa_server.proofs.ConnectionLemmas.{appends_none}
 use Rattle.xa_server.proofs.TransferLemmas.{grows_none, grows_trans, made_unread, one_sent}

@@ -11,18 +11,18 @@ use Rattle.xa_decide.proofs.TimelessLemmas.{timeless_answers_stay}
 use Rattle.xa_records.specs.DomainState.{DomainState}
 use Rattle.xa_records.specs.Kept.{DecidesAlike, Domain, IsNumbered, Kept, state_of}
 use Rattle.xa_records.specs.Readings.{gate_of_domain}
-use Rattle.xa_server.specs.declared.opened.Opened.{Opened}
+use Rattle.xa_server.specs.declared.revision.Revision.{Revision}
 use Rattle.xa_server.specs.declared.stop.Stop.{Stop}
 use Rattle.xa_server.specs.declared.stop.Stop.TheVariants.{Code, Failed}
-use Rattle.xa_server.specs.Gates.{opened_by, opened_of}
+use Rattle.xa_server.specs.Gates.{revision_by, revision_of}
 use Rattle.xa_server.specs.Growth.{Grows}
-use Rattle.xa_server.specs.Handling.{IsFresh, IsLookedUp, key_opened, worked_in}
+use Rattle.xa_server.specs.Handling.{IsFresh, IsLookedUp, key_of_revision, worked_in}
 use Rattle.xa_server.specs.Tally.{Tally}
 use Rattle.xa_server.specs.ValidCache.{AreValid, GivesBody, IsValid, response_body_at}
 use Rattle.xa_server.specs.View.{view_of}
 use Rattle.xa_server.specs.Work.{IsHeld, IsWorkedOut, key_in, response_of, worked_out}
 use Rattle.xa_server.proofs.StandingLemmas.{all_implied, found_holds, made_stands, stands_on}
-use Rattle.xa_server.proofs.WorkLemmas.{domain_opened}
+use Rattle.xa_server.proofs.WorkLemmas.{domain_of_revision}
 
 -- ---- as domains go on
 
@@ -106,12 +106,12 @@ pub looked_valid : (kept : Kept) (held : Option (List ℕ)) (key : Key) (old new
 looked_valid kept None key old new same valid = subst (λ t. AreValid kept t.held) (sym same) valid
 looked_valid kept (Some body) key old new moved valid = subst (λ t. AreValid kept t.held) (sym moved) (all_looked (IsValid kept) key old.held valid)
 
--- after a decision was worked out in the domain of that number and epoch
-pub fresh_valid : (kept : Kept) (name body : List ℕ) (moment : ℤ) (opened : Opened) (result : Result (List ℕ) Stop) (old new : Tally) → IsNumbered kept → opened_of name kept ≡ Some opened
-    → IsFresh (key_opened opened body) (worked_in (state_of name kept) body moment) result old new → AreValid kept old.held → AreValid kept new.held
-fresh_valid kept name body moment opened result old new numbered opens work valid = by_gate (domain_opened kept name opened opens) where
-  by_gate : ((d : Domain) × (get kept.domains name ≡ Some d) × (opened_by (gate_of_domain d) ≡ opened)) → AreValid kept new.held
+-- after a decision was worked out in the domain of that revision
+pub fresh_valid : (kept : Kept) (name body : List ℕ) (moment : ℤ) (revision : Revision) (result : Result (List ℕ) Stop) (old new : Tally) → IsNumbered kept → revision_of name kept ≡ Some revision
+    → IsFresh (key_of_revision revision body) (worked_in (state_of name kept) body moment) result old new → AreValid kept old.held → AreValid kept new.held
+fresh_valid kept name body moment revision result old new numbered opens work valid = by_gate (domain_of_revision kept name revision opens) where
+  by_gate : ((d : Domain) × (get kept.domains name ≡ Some d) × (revision_by (gate_of_domain d) ≡ revision)) → AreValid kept new.held
   by_gate (d, there, is) =
       let of_domain : IsFresh (key_in d body) (worked_in (state_of name kept) body moment) result old new =
-      subst (λ o. IsFresh (key_opened o body) (worked_in (state_of name kept) body moment) result old new) (sym is) work in
+      subst (λ o. IsFresh (key_of_revision o body) (worked_in (state_of name kept) body moment) result old new) (sym is) work in
       valid_fresh kept numbered name d there body moment result old new (rw there at of_domain) valid

@@ -16,11 +16,11 @@ use Rattle.xa_records.specs.Kept.{Domain, Kept}
 use Rattle.xa_records.specs.Readings.{gate_of, gate_of_domain}
 use Rattle.xa_server.specs.Alone.{Event}
 use Rattle.xa_server.specs.declared.replies.Reply.{Reply}
-use Rattle.xa_server.specs.declared.opened.Opened.{Opened}
+use Rattle.xa_server.specs.declared.revision.Revision.{Revision}
 use Rattle.xa_server.specs.declared.received.Received.{Received}
 use Rattle.xa_server.specs.declared.stop.Stop.{Stop}
 use Rattle.xa_server.specs.declared.stop.Stop.TheVariants.{Code, Failed}
-use Rattle.xa_server.specs.Gates.{opened_by, opened_of}
+use Rattle.xa_server.specs.Gates.{revision_by, revision_of}
 use Rattle.xa_server.specs.Handling.{IsAsked, IsFresh, IsReplyOf, WorksMessage, WorksOf, WorksRoute}
 use Rattle.xa_server.specs.Stop.{stop_of_route}
 use Rattle.xa_server.specs.Served.{IsServed}
@@ -49,13 +49,13 @@ gate_opens kept name gate opens = by_domain (get kept.domains name) refl where
   by_domain None there = let e : None ≡ Some gate = rw there at opens in absurd cc
   by_domain (Some domain) there = let e : Some (gate_of_domain domain) ≡ Some gate = rw there at opens in (domain, there, cc)
 
--- and that of its number and epoch
-pub domain_opened : (kept : Kept) (name : List ℕ) (opened : Opened) → opened_of name kept ≡ Some opened
-    → (domain : Domain) × (get kept.domains name ≡ Some domain) × (opened_by (gate_of_domain domain) ≡ opened)
-domain_opened kept name opened opens = by_domain (get kept.domains name) refl where
-  by_domain : (found : Option Domain) → get kept.domains name ≡ found → (domain : Domain) × (get kept.domains name ≡ Some domain) × (opened_by (gate_of_domain domain) ≡ opened)
-  by_domain None there = let e : None ≡ Some opened = rw there at opens in absurd cc
-  by_domain (Some domain) there = let e : Some (opened_by (gate_of_domain domain)) ≡ Some opened = rw there at opens in (domain, there, cc)
+-- and that of its revision
+pub domain_of_revision : (kept : Kept) (name : List ℕ) (revision : Revision) → revision_of name kept ≡ Some revision
+    → (domain : Domain) × (get kept.domains name ≡ Some domain) × (revision_by (gate_of_domain domain) ≡ revision)
+domain_of_revision kept name revision opens = by_domain (get kept.domains name) refl where
+  by_domain : (found : Option Domain) → get kept.domains name ≡ found → (domain : Domain) × (get kept.domains name ≡ Some domain) × (revision_by (gate_of_domain domain) ≡ revision)
+  by_domain None there = let e : None ≡ Some revision = rw there at opens in absurd cc
+  by_domain (Some domain) there = let e : Some (revision_by (gate_of_domain domain)) ≡ Some revision = rw there at opens in (domain, there, cc)
 
 -- ---- what the message asks for
 

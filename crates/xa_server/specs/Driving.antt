@@ -6,8 +6,8 @@ use Rattle.xa_http.specs.declared.session.Next.{Next}
 use Rattle.xa_http.specs.declared.session.Next.TheVariants as next
 use Rattle.xa_http.specs.Messages.{Cuts, IsNext}
 use Rattle.xa_http.specs.Stream.{Stream, fed}
-use Rattle.xa_server.specs.declared.answering.Turn.{Turn}
-use Rattle.xa_server.specs.declared.answering.Turn.TheVariants.{Answered, Waits, Ends}
+use Rattle.xa_server.specs.declared.turns.Turn.{Turn}
+use Rattle.xa_server.specs.declared.turns.Turn.TheVariants.{Answered, Waits, Ends}
 use Rattle.xa_server.specs.declared.driven.Driven.{Driven}
 use Rattle.xa_server.specs.declared.driven.Driven.TheVariants as driven
 use Rattle.xa_server.specs.declared.event.Answer.{Answer}

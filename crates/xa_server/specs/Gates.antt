@@ -6,24 +6,24 @@ use Rattle.lru.specs.LruCache.{lru_cache, promoted, put_entries}
 use Rattle.xa_records.specs.declared.gate.Gate.{Gate}
 use Rattle.xa_records.specs.Kept.{Kept}
 use Rattle.xa_records.specs.Readings.{gate_of}
-use Rattle.xa_server.specs.declared.opened.Opened.{Opened}
+use Rattle.xa_server.specs.declared.revision.Revision.{Revision}
 use Rattle.xa_server.specs.Tokens.{role_in}
 
--- the number and the epoch of a gate's domain
-abbrev pub opened_by : Gate → Opened
-opened_by gate = record { number = gate.number; epoch = gate.epoch }
+-- the revision of a gate's domain: its number and its epoch
+abbrev pub revision_by : Gate → Revision
+revision_by gate = record { number = gate.number; epoch = gate.epoch }
 
--- those of the domain of that name, if there is one
-abbrev pub opened_of : List ℕ → Kept → Option Opened
-opened_of name kept = option_map opened_by (gate_of name kept)
+-- that of the domain of that name, if there is one
+abbrev pub revision_of : List ℕ → Kept → Option Revision
+revision_of name kept = option_map revision_by (gate_of name kept)
 
--- those of a gate's domain, where one of its tokens has that digest
-abbrev pub opened_with : List ℕ → Gate → Option Opened
-opened_with digest gate = option_map (λ _. opened_by gate) (role_in digest gate.tokens)
+-- that of a gate's domain, where one of its tokens has that digest
+abbrev pub revision_with : List ℕ → Gate → Option Revision
+revision_with digest gate = option_map (λ _. revision_by gate) (role_in digest gate.tokens)
 
 -- by the gate that is remembered under that name, if there is one
-abbrev pub opened_in : List ℕ → List ℕ → List (List ℕ × Gate) → Option Opened
-opened_in name digest gates = option_and_then (opened_with digest) (lookup (bytes_eq name) gates)
+abbrev pub revision_in : List ℕ → List ℕ → List (List ℕ × Gate) → Option Revision
+revision_in name digest gates = option_and_then (revision_with digest) (lookup (bytes_eq name) gates)
 
 -- after a use of the gate under that name
 abbrev pub used : List ℕ → List (List ℕ × Gate) → List (List ℕ × Gate)

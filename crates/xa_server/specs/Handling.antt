@@ -14,10 +14,10 @@ use Rattle.xa_records.specs.declared.refusal.Failure.TheVariants.{Memory, Store}
 use Rattle.xa_records.specs.DomainState.{DomainState}
 use Rattle.xa_records.specs.Keeper.{Custody, IsOneMore}
 use Rattle.xa_records.specs.Kept.{Domain, IsChanged, Kept, names_of, state_of}
-use Rattle.xa_server.specs.declared.ask.Ask.{Ask}
+use Rattle.xa_server.specs.declared.asks.Ask.{Ask}
 use Rattle.xa_server.specs.declared.error_code.ErrorCode.{ErrorCode}
 use Rattle.xa_server.specs.declared.error_code.ErrorCode.TheVariants as error
-use Rattle.xa_server.specs.declared.opened.Opened.{Opened}
+use Rattle.xa_server.specs.declared.revision.Revision.{Revision}
 use Rattle.xa_server.specs.declared.received.Received.{Received}
 use Rattle.xa_server.specs.declared.ready.Ready.{Ready}
 use Rattle.xa_server.specs.declared.stop.Stop.{Stop}
@@ -25,7 +25,7 @@ use Rattle.xa_server.specs.declared.stop.Stop.TheVariants.{Code, Failed}
 use Rattle.xa_server.specs.declared.replies.Reply.{Reply}
 use Rattle.xa_server.specs.declared.replies.Reply.TheVariants.{Sent, Refused}
 use Rattle.xa_server.specs.ErrorCode.{error_reply}
-use Rattle.xa_server.specs.Gates.{opened_of}
+use Rattle.xa_server.specs.Gates.{revision_of}
 use Rattle.xa_server.specs.Replies.{decision_reply}
 use Rattle.xa_cache.specs.declared.key.Key.{Key}
 use Rattle.xa_decide.specs.Decision.{Viewed}
@@ -125,19 +125,20 @@ IsResponseReply meant (Ok bytes) = option_map (λ response. decision_reply respo
 IsResponseReply meant (Err (Code code)) = (meant ≡ None) × (code ≡ error.Body NotJson)
 IsResponseReply meant (Err (Failed failure)) = failure ≡ Memory
 
--- what decides was made ready, at that epoch; or an error answer says why not, or that failed; and nothing has changed
-abbrev pub MakesReady : Kept → Kept → ℕ → Result Ready Stop → Result Viewed ErrorCode → Type 0
-MakesReady old new epoch (Ok ready) meant = (meant ≡ Ok ready.view) × (ready.epoch ≡ epoch) × (new ≡ old)
-MakesReady old new epoch (Err (Code code)) meant = (meant ≡ Err code) × (new ≡ old)
-MakesReady old new epoch (Err (Failed failure)) meant = new ≡ old
+-- what decides was made ready, at that revision; or an error answer says why not, or that failed; and nothing has
+-- changed
+abbrev pub MakesReady : Kept → Kept → Revision → Result Ready Stop → Result Viewed ErrorCode → Type 0
+MakesReady old new revision (Ok ready) meant = (meant ≡ Ok ready.view) × (ready.revision ≡ revision) × (new ≡ old)
+MakesReady old new revision (Err (Code code)) meant = (meant ≡ Err code) × (new ≡ old)
+MakesReady old new revision (Err (Failed failure)) meant = new ≡ old
 
 -- the reply
 abbrev pub reply_told : List ℕ → ℤ → Option DomainState → Result (List ℕ) ErrorCode
 reply_told body moment state = response_told body moment state >>= (λ response. Ok (decision_reply response.0))
 
--- under which key a decision is held, by the number and the epoch of the domain that lets the message in
-abbrev pub key_opened : Opened → List ℕ → Key
-key_opened opened body = record { number = opened.number; epoch = opened.epoch; body = body }
+-- under which key a decision is held, by the revision of the domain that lets the message in
+abbrev pub key_of_revision : Revision → List ℕ → Key
+key_of_revision revision body = record { number = revision.number; epoch = revision.epoch; body = body }
 
 -- the same, where the body isn't too large: it has at most 16,384 bytes
 abbrev pub key_within : Key → Option Key
@@ -149,9 +150,9 @@ IsNoted (Some key) body timeless old new = IsWorkedOut key (Some (body, timeless
 IsNoted None body timeless old new =
     IsOneMore old.evaluations new.evaluations × (new.held ≡ old.held) × (new.unkept ≡ old.unkept)
 
--- the domain that has let it in is there, with that number and that epoch
+-- the domain that has let it in is there, at that revision
 abbrev pub IsLetIn : Kept → Ask → Type 0
-IsLetIn kept ask = opened_of ask.name.now kept ≡ Some ask.opened
+IsLetIn kept ask = revision_of ask.name.now kept ≡ Some ask.revision
 
 -- this holds where a domain has let it in, and where all that the server shares stood before and the keeper is sound
 -- after
@@ -160,7 +161,7 @@ IfLetIn old new ask before claim = IsLetIn old.kept ask → AllStand old.kept be
 
 -- under which key the decision on the body is held
 abbrev pub key_asked : Ask → List ℕ → Key
-key_asked ask body = key_opened ask.opened body
+key_asked ask body = key_of_revision ask.revision body
 
 -- what its response comes to, by what decides; by what decides in its domain; and the reply
 abbrev pub response_asked : Viewed → Ask → List ℕ → Option (List ℕ × Bool)

@@ -25,7 +25,7 @@ empty_stock = record { tally = nothing_held; room = record { views = []; most = 
 
 -- the view is that of the domain of that number, wherever it is still there and of the view's epoch
 abbrev pub IsReady : Kept → ℕ × Ready → Type 0
-IsReady kept entry = Stands kept entry.0 entry.1.epoch (λ state. view_of state ≡ entry.1.view)
+IsReady kept entry = Stands kept entry.0 entry.1.revision.epoch (λ state. view_of state ≡ entry.1.view)
 
 abbrev pub AreReady : Kept → List (ℕ × Ready) → Type 0
 AreReady kept views = AllByRecursion (IsReady kept) views

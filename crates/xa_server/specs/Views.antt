@@ -16,7 +16,7 @@ pub record Room : Type 0 where
 
 -- the view, if it is of that epoch
 abbrev pub view_if : ℕ → Ready → Option Viewed
-view_if epoch ready = if nat_eq ready.epoch epoch then Some ready.view else None
+view_if epoch ready = if nat_eq ready.revision.epoch epoch then Some ready.view else None
 
 -- the view under that number, if it is of that epoch
 abbrev pub view_ready : ℕ → ℕ → List (ℕ × Ready) → Option Viewed

@@ -2,7 +2,7 @@
 ghost use Rattle.std.specs.Prelude.{◌≡◌, true, false, Some};
 ghost use Rattle.xa_records.specs.Kept.{state_of};
 ghost use Rattle.xa_records.specs.Readings.{gate_of};
-ghost use Rattle.xa_server.specs.Gates.{opened_of};
+ghost use Rattle.xa_server.specs.Gates.{revision_of};
 ghost use Rattle.xa_server.specs.Handling.{OnlyReads, Opens, Shows, admitted_by};
 ghost use Rattle.xa_server.specs.Machine.{admitted, by_operator, digest_shown, permitted};
 ghost use Rattle.xa_server.specs.Stock.{AllStand};
@@ -10,8 +10,8 @@ ghost use Rattle.xa_server.specs.Stock.{AllStand};
 use crate::authorization::token_in;
 use crate::error_code::ErrorCode;
 use crate::gates::role_in;
-use crate::opened::Opened;
 use crate::resources::Resources;
+use crate::revision::Revision;
 use crate::stop::Stop;
 use std::alloc::Global;
 use xa_http::Message;
@@ -90,20 +90,20 @@ pub(crate) fn admission<R: Records>(
     Ok(())
 }
 
-/// The number and the epoch of the domain where it lets a message in that asks for a decision: by the
-/// gate that is remembered, or else by the keeper's, which is remembered then. The remembered gate is
-/// asked only whether it has the token: where it hasn't, the keeper is asked as for an absent domain, so
-/// that the time which an answer takes doesn't tell a stranger which domains there are.
+/// The revision of the domain where it lets a message in that asks for a decision: by the gate that is
+/// remembered, or else by the keeper's, which is remembered then. The remembered gate is asked only
+/// whether it has the token: where it hasn't, the keeper is asked as for an absent domain, so that the
+/// time which an answer takes doesn't tell a stranger which domains there are.
 pub(crate) fn admitting_domain<R: Records>(
     alloc: Global,
     resources: &mut Resources,
     records: &mut R,
     name: &Text,
     message: &Message,
-) -> Result<Opened, Stop>
+) -> Result<Revision, Stop>
     ensures tells { AllStand (R.custody records.old).kept resources.old → (R.custody records.new).sound
         → Opens (R.custody records.old).kept (R.custody records.new).kept
-        (opened_of name.now (R.custody records.old).kept) result
+        (revision_of name.now (R.custody records.old).kept) result
         (admitted true (state_of name.now (R.custody records.old).kept) message.now) }
     ensures stands { AllStand (R.custody records.old).kept resources.old → (R.custody records.new).sound
         → AllStand (R.custody records.old).kept resources.new }
@@ -112,14 +112,11 @@ pub(crate) fn admitting_domain<R: Records>(
     ensures keeper { OnlyReads (R.custody records.old) (R.custody records.new) result }
 {
     let digest = digest_shown(message).ok_or(ErrorCode::Unauthorized)?;
-    if let Some(opened) = resources.domain_by_gate(name, &digest) {
-        return Ok(opened);
+    if let Some(revision) = resources.revision_by_gate(name, &digest) {
+        return Ok(revision);
     }
     let gate = gate_opened(alloc, records, name, true, &digest)?;
-    let opened = Opened {
-        number: gate.number,
-        epoch: gate.epoch,
-    };
+    let revision = Revision::of(&gate);
     resources.remember(name, gate);
-    Ok(opened)
+    Ok(revision)
 }

@@ -1,6 +1,6 @@
 //! The changes that messages make. Of each the body is read first and the bytes of the reply are made;
 //! the change itself is the last thing that can fail.
-ghost use Rattle.std.specs.Prelude.{◌≡◌, IfOk, IsTrue};
+ghost use Rattle.std.specs.Prelude.{◌≡◌, IsTrue};
 ghost use Rattle.xa_http.specs.declared.command.DocumentCommand.TheVariants as document;
 ghost use Rattle.xa_http.specs.declared.command.OperatorCommand.TheVariants as operator;
 ghost use Rattle.xa_notation.specs.Bodies.{root_of};
@@ -16,7 +16,7 @@ ghost use Rattle.xa_server.specs.Replies.{created_reply, done_reply};
 
 use crate::replies::{created_reply, done_reply};
 use crate::stop::Stop;
-use std::alloc::{AllocError, Global};
+use std::alloc::Global;
 use xa_decide::read_rows;
 use xa_notation::{Parsed, read_new_token, read_old_token, read_root};
 use xa_policy::DocumentKey;
@@ -85,17 +85,6 @@ pub(crate) fn drop_token<R: Records>(
     Ok(reply)
 }
 
-/// The key of a document.
-fn key_of(parsed: &Parsed) -> Result<DocumentKey, AllocError>
-    ensures { IfOk result (λ key. key ≡ key_of parsed.now) }
-{
-    Ok(DocumentKey {
-        kind: parsed.kind(),
-        id: parsed.id().clone()?,
-        version: *parsed.version(),
-    })
-}
-
 /// Keeps the document that the body is; the very text again changes nothing. Which of both it is isn't
 /// known before, so both replies are made.
 pub(crate) fn upload<R: Records>(
@@ -109,7 +98,7 @@ pub(crate) fn upload<R: Records>(
         (within (uploaded (key_of parsed) body.now)) state) (document_of body.now)) }
 {
     let parsed = Parsed::read(alloc, body)?;
-    let key = key_of(&parsed)?;
+    let key = parsed.key()?;
     let created = created_reply(alloc)?;
     let done = done_reply(alloc)?;
     match records.upload(alloc, name, key, body)? {

@@ -6,7 +6,6 @@ ghost use Rattle.xa_server.specs.declared.driven.Driven.TheVariants as driven;
 ghost use Rattle.xa_server.specs.Driving.{FeedsOne, IsRead, IsWaiting, piece_of};
 ghost use Rattle.xa_server.specs.Lines.{IsOpen, line_at};
 
-use crate::answering::{answer_held, play_one};
 use crate::clock::Clock;
 use crate::driven::Driven;
 use crate::event::{Event, Outcome};
@@ -14,6 +13,7 @@ use crate::front_error::FrontError;
 use crate::lines::Conn;
 use crate::multiplexer::Multiplexer;
 use crate::reader::Reader;
+use crate::turns::{answer_held, play_one};
 use crate::writer::Writer;
 use std::io::ErrorKind;
 

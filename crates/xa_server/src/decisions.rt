@@ -1,13 +1,13 @@
 //! The decisions that are held, with their counts.
 ghost use Rattle.std.specs.Prelude.{◌≡◌, true, option_map, IfOk};
 ghost use Rattle.xa_cache.specs.Bodies.{found};
-ghost use Rattle.xa_server.specs.Handling.{IsLookedUp, IsNoted, key_opened, key_within};
+ghost use Rattle.xa_server.specs.Handling.{IsLookedUp, IsNoted, key_of_revision, key_within};
 ghost use Rattle.xa_server.specs.Tally.{nothing_held};
 ghost use Rattle.xa_server.specs.Work.{IsHeld};
 ghost use Rattle.xa_server.specs.Replies.{decision_reply};
 
-use crate::opened::Opened;
 use crate::replies::decision_reply;
+use crate::revision::Revision;
 use std::alloc::{AllocError, Global};
 use std::marker::Model;
 use xa_cache::{Cache, Key, fits};
@@ -16,7 +16,7 @@ use xa_records::Digest;
 use xa_value::Items;
 
 /// The most bytes of a request whose decision is looked up and held.
-const MAX_HELD_BYTES: usize = 16_384;
+const MAX_REQUEST_BYTES: usize = 16_384;
 
 /// The cache of decisions, and what was counted of them.
 #[derive(Drop)]
@@ -109,17 +109,17 @@ impl Decisions {
     }
 }
 
-/// The key under which a decision on that body is looked up and held, in the domain that lets the
-/// message in. A body that is too large for that has none, and isn't copied.
+/// The key under which a decision on that body is looked up and held, by the revision of the domain that
+/// lets the message in. A body that is too large for that has none, and isn't copied.
 pub(crate) fn key_within(
     alloc: Global,
-    opened: Opened,
+    revision: Revision,
     body: &[u8],
 ) -> Result<Option<Key>, AllocError>
-    ensures { IfOk result (λ key. key ≡ key_within (key_opened opened body.now)) }
+    ensures { IfOk result (λ key. key ≡ key_within (key_of_revision revision body.now)) }
 {
-    if body.len() > MAX_HELD_BYTES {
+    if body.len() > MAX_REQUEST_BYTES {
         return Ok(None);
     }
-    Ok(Some(Key::new(alloc, opened.number, opened.epoch, body)?))
+    Ok(Some(Key::new(alloc, revision.number, revision.epoch, body)?))
 }

@@ -1,6 +1,6 @@
-//! How a connection ended.
+//! How a connection ended that was driven.
 
-/// How a connection ended.
+/// How a connection ended that `drive` has driven.
 #[derive(Clone, Copy, Debug, PartialEq, Eq)]
 pub enum Driven {
     /// Its stream has ended, or its session: by a message that closes it, or by a fault, which was

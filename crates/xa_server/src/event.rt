@@ -1,4 +1,4 @@
-//! What is done with the connections of a front, one thing after another.
+//! Calls of `Front` as values, which `play` makes one after another, and what they have given.
 use crate::front_error::FrontError;
 use crate::lines::Conn;
 use crate::replies::Reply;
@@ -13,7 +13,7 @@ pub struct Answer {
     pub last: bool,
 }
 
-/// A call of `Front`, with its arguments.
+/// Something that comes of a connection, or is to be done for it: a call of `Front`, with its arguments.
 #[derive(Clone, Copy)]
 pub enum Event<'a> {
     /// `open`.
@@ -26,7 +26,7 @@ pub enum Event<'a> {
     Finish(Conn),
 }
 
-/// What that call has given.
+/// What came of an event: what that call has given.
 #[derive(Debug, Drop)]
 pub enum Outcome {
     /// Of `Begin`.

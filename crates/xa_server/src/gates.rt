@@ -1,10 +1,10 @@
 //! The gates that are remembered: of each domain at most one, under its name.
 ghost use Rattle.std.specs.Prelude.{◌≡◌, ◌⊎◌, [], IfOk, None, bytes_eq};
 ghost use Rattle.std.specs.Map.{lookup};
-ghost use Rattle.xa_server.specs.Gates.{opened_in, used, with_gate, without_gate};
+ghost use Rattle.xa_server.specs.Gates.{revision_in, used, with_gate, without_gate};
 ghost use Rattle.xa_server.specs.Tokens.{role_in};
 
-use crate::opened::Opened;
+use crate::revision::Revision;
 use lru::LruCache;
 use std::alloc::{AllocError, Global};
 use std::marker::Model;
@@ -60,17 +60,14 @@ impl Gates {
         })
     }
 
-    /// The number and the epoch of the domain of that name, where its gate is remembered and one of its
-    /// tokens has that digest: one look-up.
-    pub(crate) fn find(&self, name: &Text, digest: &Digest) -> Option<Opened>
-        ensures { result ≡ opened_in name.now digest.now self.now }
+    /// The revision of the domain of that name, where its gate is remembered and one of its tokens has
+    /// that digest: one look-up.
+    pub(crate) fn find(&self, name: &Text, digest: &Digest) -> Option<Revision>
+        ensures { result ≡ revision_in name.now digest.now self.now }
     {
         let gate = self.gates.peek(name)?;
         match role_in(gate.tokens.as_slice(), digest) {
-            Some(_) => Some(Opened {
-                number: gate.number,
-                epoch: gate.epoch,
-            }),
+            Some(_) => Some(Revision::of(gate)),
             None => None,
         }
     }

@@ -2,15 +2,13 @@
 #![tactic(auto)]
 
 mod admission;
-mod answer;
-mod answering;
-mod ask;
-mod asking;
+mod asks;
 mod authorization;
 mod changes;
 mod clock;
 mod course;
 mod decisions;
+mod dispatch;
 mod document_key;
 mod driven;
 mod error_code;
@@ -23,16 +21,17 @@ mod limits;
 mod lines;
 mod multiplexer;
 mod name;
-mod opened;
 mod reader;
 mod readings;
 mod ready;
 mod received;
 mod replies;
 mod resources;
+mod revision;
 mod sending;
 mod server;
 mod stop;
+mod turns;
 mod unread;
 mod view;
 mod views;

@@ -13,7 +13,7 @@ use xa_http::{Look, Session};
 const CONNECTIONS: usize = 64;
 
 /// How many bytes a connection holds at most.
-const MAX_HELD_BYTES: usize = 1_048_576;
+const MAX_CONNECTION_BYTES: usize = 1_048_576;
 
 /// A connection of a front, by its number. Once it is closed, no call takes it, until its number is
 /// opened again; then it is that new connection.
@@ -135,7 +135,7 @@ fn feed(line: &mut Option<Session>, piece: &[u8]) -> Result<(), FrontError>
     let Some(session) = line else {
         return Err(FrontError::NoSuchConnection);
     };
-    if session.held_len().saturating_add(piece.len()) > MAX_HELD_BYTES {
+    if session.held_len().saturating_add(piece.len()) > MAX_CONNECTION_BYTES {
         return Err(FrontError::Full);
     }
     session.feed(piece)?;

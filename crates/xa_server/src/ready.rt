@@ -2,6 +2,7 @@
 ghost use Rattle.std.specs.Prelude.{◌≡◌, ◌*◌};
 ghost use Rattle.xa_server.specs.Views.{added, bytes_of_tree, bytes_of_view, times};
 
+use crate::revision::Revision;
 use xa_decide::View;
 
 /// The bytes that any view takes: the 524,288 of the longest body that gives a domain its rows of
@@ -19,10 +20,12 @@ const BYTES_OF_A_TEXT_BYTE: usize = 8;
 /// The bytes that a place of the linked tree takes: a set's list has room for its children and no more.
 const PLACE_BYTES: usize = 24;
 
-/// What decides in a domain in the state of that epoch.
+/// What decides in a domain at a revision of it.
 #[derive(Drop)]
 pub(crate) struct Ready {
-    pub(crate) epoch: u64,
+    /// Whose view it is, and of which state.
+    pub(crate) revision: Revision,
+    /// The view.
     pub(crate) view: View,
     /// The memory that it takes, by an estimate.
     pub(crate) bytes: usize,

@@ -2,13 +2,13 @@
 //! decisions that are held, the gates that are remembered, and what the decision on a message may cost.
 ghost use Rattle.std.specs.Prelude.{◌≡◌, ◌⊎◌, [], IfOk, IsSome, None, bytes_eq};
 ghost use Rattle.std.specs.Map.{lookup};
-ghost use Rattle.xa_server.specs.Gates.{opened_in};
+ghost use Rattle.xa_server.specs.Gates.{revision_in};
 ghost use Rattle.xa_server.specs.Stock.{empty_stock, forgetting, remembering, using_gate};
 
 use crate::decisions::Decisions;
 use crate::gates::Gates;
 use crate::limits::Limits;
-use crate::opened::Opened;
+use crate::revision::Revision;
 use crate::unread::Unread;
 use crate::views::Views;
 use std::alloc::{AllocError, Global};
@@ -81,17 +81,16 @@ impl Resources {
         self.limits = limits;
     }
 
-    /// The number and the epoch of the domain of that name, where its gate is remembered and one of its
-    /// tokens has that digest. That is the gate's newest use then; where it has no such token it is
-    /// none.
-    pub(crate) fn domain_by_gate(&mut self, name: &Text, digest: &Digest) -> Option<Opened>
-        ensures opened { result ≡ opened_in name.now digest.now self.old.gates }
+    /// The revision of the domain of that name, where its gate is remembered and one of its tokens has
+    /// that digest. That is the gate's newest use then; where it has no such token it is none.
+    pub(crate) fn revision_by_gate(&mut self, name: &Text, digest: &Digest) -> Option<Revision>
+        ensures revision { result ≡ revision_in name.now digest.now self.old.gates }
         ensures uses { IsSome result → self.new ≡ using_gate name.now self.old }
         ensures left { result ≡ None → self.new ≡ self.old }
     {
-        let opened = self.gates.find(name, digest)?;
+        let revision = self.gates.find(name, digest)?;
         self.gates.touch(name);
-        Some(opened)
+        Some(revision)
     }
 
     /// Remembers the gate under that name, where there is memory.

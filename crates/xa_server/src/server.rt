@@ -3,7 +3,7 @@ ghost use Rattle.std.specs.Prelude.{◌≡◌, IfOk, OnErr, MatchResult};
 ghost use Rattle.xa_server.specs.Isolation.{TwoWorldsAgree};
 ghost use Rattle.xa_server.specs.Handling.{IsReplyOf};
 
-use crate::answer::answer;
+use crate::dispatch::reply_to_message;
 use crate::limits::Limits;
 use crate::received::Received;
 use crate::replies::Reply;
@@ -98,8 +98,7 @@ impl<R: Records> Server<R> {
     {
         let limits = Limits {
             work: units,
-            reply: self.resources.limits.reply,
-            reading: self.resources.limits.reading,
+            ..self.resources.limits
         };
         self.with_limits(limits)
     }
@@ -114,9 +113,8 @@ impl<R: Records> Server<R> {
         ensures { result ≡ self }
     {
         let limits = Limits {
-            work: self.resources.limits.work,
             reply: bytes,
-            reading: self.resources.limits.reading,
+            ..self.resources.limits
         };
         self.with_limits(limits)
     }
@@ -132,9 +130,8 @@ impl<R: Records> Server<R> {
         ensures { result ≡ self }
     {
         let limits = Limits {
-            work: self.resources.limits.work,
-            reply: self.resources.limits.reply,
             reading: bytes,
+            ..self.resources.limits
         };
         self.with_limits(limits)
     }
@@ -227,7 +224,7 @@ impl<R: Records> Server<R> {
             message,
             moment,
         };
-        let answered = answer(
+        let answered = reply_to_message(
             self.alloc,
             &self.routes,
             &mut self.resources,

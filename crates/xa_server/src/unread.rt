@@ -1,4 +1,5 @@
 //! Domains whose policies take more to read than a message may have read.
+use crate::revision::Revision;
 use lru::LruCache;
 use std::alloc::{AllocError, Global};
 use std::num::NonZeroUsize;
@@ -29,18 +30,18 @@ impl Unread {
         self.epochs.clear();
     }
 
-    /// Whether the domain of that number is one of them, at that epoch: one look-up.
-    pub(crate) fn has(&self, number: u64, epoch: u64) -> bool {
-        match self.epochs.peek(&number) {
-            Some(found) => *found == epoch,
+    /// Whether the domain of that revision is one of them, at its epoch: one look-up.
+    pub(crate) fn has(&self, revision: Revision) -> bool {
+        match self.epochs.peek(&revision.number) {
+            Some(epoch) => *epoch == revision.epoch,
             None => false,
         }
     }
 
-    /// Remembers the domain of that number, at that epoch, where that was found and there is memory.
-    pub(crate) fn remember_if(&mut self, found: bool, number: u64, epoch: u64) {
+    /// Remembers the domain of that revision, at its epoch, where that was found and there is memory.
+    pub(crate) fn remember_if(&mut self, found: bool, revision: Revision) {
         if found {
-            let _ = self.epochs.put(number, epoch);
+            let _ = self.epochs.put(revision.number, revision.epoch);
         }
     }
 }

@@ -6,6 +6,7 @@ ghost use Rattle.xa_server.specs.Views.{fitting, in_front, shortened, touched};
 ghost use Rattle.xa_server.specs.Views.{view_ready, with_view, without};
 
 use crate::ready::Ready;
+use crate::revision::Revision;
 use lru::LruCache;
 use std::alloc::{AllocError, Global};
 use std::cmp;
@@ -16,7 +17,7 @@ use xa_decide::View;
 const MAX_VIEWS: usize = 128;
 
 /// The most bytes that they take together, by their estimates, where nothing else is said: 256 MiB.
-const BYTES: usize = 268_435_456;
+const DEFAULT_TOTAL_BYTES: usize = 268_435_456;
 
 /// Views that are kept ready, each under its domain's number. The map would hold any number of them: how
 /// many stay is said here.
@@ -50,7 +51,7 @@ impl Views {
         Ok(Views {
             ready: LruCache::unbounded(alloc)?,
             most: MAX_VIEWS,
-            bytes: BYTES,
+            bytes: DEFAULT_TOTAL_BYTES,
         })
     }
 
@@ -77,12 +78,13 @@ impl Views {
         self.bytes = bytes;
     }
 
-    /// The view under that number, if it is of that epoch: one look-up.
-    pub(crate) fn find(&self, number: u64, epoch: u64) -> Option<&View>
-        ensures { option_map (λ view. view.now) result ≡ view_ready number epoch self.now.views }
+    /// The view of that revision: the one under its number, if it is of its epoch. One look-up.
+    pub(crate) fn find(&self, revision: Revision) -> Option<&View>
+        ensures { option_map (λ view. view.now) result
+            ≡ view_ready revision.number revision.epoch self.now.views }
     {
-        match self.ready.peek(&number) {
-            Some(ready) if ready.epoch == epoch => Some(&ready.view),
+        match self.ready.peek(&revision.number) {
+            Some(ready) if ready.revision.epoch == revision.epoch => Some(&ready.view),
             _ => None,
         }
     }
@@ -94,15 +96,16 @@ impl Views {
         self.ready.promote(&number);
     }
 
-    /// Keeps the view under that number, in the place of any that was there, as the one that was used
-    /// last, and answers whether it was kept: not where it is too large, nor where there is no memory
+    /// Keeps the view under its domain's number, in the place of any that was there, as the one that was
+    /// used last, and answers whether it was kept: not where it is too large, nor where there is no memory
     /// for it. The one that was not used for longest goes, until there is room for all. What this costs
     /// grows with the views that are kept, of which each is looked at once, and with those that go.
-    pub(crate) fn keep(&mut self, number: u64, ready: Ready) -> bool
-        ensures kept { result ≡ true → self.new ≡ with_view number ready self.old }
-        ensures left { result ≡ false → self.new ≡ without number self.old }
+    pub(crate) fn keep(&mut self, ready: Ready) -> bool
+        ensures kept { result ≡ true → self.new ≡ with_view ready.revision.number ready self.old }
+        ensures left { result ≡ false → self.new ≡ without ready.revision.number self.old }
         ensures too_large { nat_le ready.bytes self.old.bytes ≡ false → result ≡ false }
     {
+        let number = ready.revision.number;
         if self.most == 0 || ready.bytes > self.bytes {
             self.ready.pop(&number);
             return false;

@@ -9,25 +9,25 @@ use Rattle.xa_server.proofs.server.Server.serve.Goals as goal
 pub returns-clause-served : goal.returns-clause-served
 returns-clause-served g c = λ sound.
     let received : Received = record { operator = c.self.inside.operator; message = c.args.message; moment = c.args.moment } in
-    let stand = c.self.invariant (c.answer-answered.ensures.keeper.sound sound) in
+    let stand = c.self.invariant (c.reply_to_message-answered.ensures.keeper.sound sound) in
     rw (← c.self.view_is)
-    (served received (g.R.Records.custody c.self.inside.records).kept _ c.answer-answered.result _ (c.answer-answered.ensures.answers stand sound) c.reply_of.ensures refl)
+    (served received (g.R.Records.custody c.self.inside.records).kept _ c.reply_to_message-answered.result _ (c.reply_to_message-answered.ensures.answers stand sound) c.reply_of.ensures refl)
 
 pub returns-clause-counts : goal.returns-clause-counts
-returns-clause-counts g c = rw (← c.self.view_is) (counted _ _ c.answer-answered.result _ c.answer-answered.ensures.keeper.counts c.reply_of.ensures)
+returns-clause-counts g c = rw (← c.self.view_is) (counted _ _ c.reply_to_message-answered.result _ c.reply_to_message-answered.ensures.keeper.counts c.reply_of.ensures)
 
 pub returns-clause-stays : goal.returns-clause-stays
-returns-clause-stays g c = rw (← c.self.view_is) (λ clean sound. if_sent _ c.answer-answered.result _ (c.answer-answered.ensures.keeper.stays clean sound) c.reply_of.ensures)
+returns-clause-stays g c = rw (← c.self.view_is) (λ clean sound. if_sent _ c.reply_to_message-answered.result _ (c.reply_to_message-answered.ensures.keeper.stays clean sound) c.reply_of.ensures)
 
 pub returns-clause-crash : goal.returns-clause-crash
 returns-clause-crash g c = rw (← c.self.view_is) (λ clean sound.
     let received : Received = record { operator = c.self.inside.operator; message = c.args.message; moment = c.args.moment } in
-    step_left _ _ received (g.R.Records.custody c.self.inside.records).kept (owner c.args.message.now) (c.answer-answered.ensures.keeper.leaves clean sound))
+    step_left _ _ received (g.R.Records.custody c.self.inside.records).kept (owner c.args.message.now) (c.reply_to_message-answered.ensures.keeper.leaves clean sound))
 
 pub returns-clause-work : goal.returns-clause-work
 returns-clause-work g c = λ sound.
-    let stand = c.self.invariant (c.answer-answered.ensures.keeper.sound sound) in
-    rw (← c.self.view_is) (work_of _ c.args.message.now.body _ c.answer-answered.result _ _ _ (c.answer-answered.ensures.shared.works stand sound) c.reply_of.ensures)
+    let stand = c.self.invariant (c.reply_to_message-answered.ensures.keeper.sound sound) in
+    rw (← c.self.view_is) (work_of _ c.args.message.now.body _ c.reply_to_message-answered.result _ _ _ (c.reply_to_message-answered.ensures.shared.works stand sound) c.reply_of.ensures)
 
 pub invariant_of-self : goal.invariant_of-self
-invariant_of-self g c = λ sound. c.answer-answered.ensures.shared.stands (c.self.invariant (c.answer-answered.ensures.keeper.sound sound)) sound
+invariant_of-self g c = λ sound. c.reply_to_message-answered.ensures.shared.stands (c.self.invariant (c.reply_to_message-answered.ensures.keeper.sound sound)) sound

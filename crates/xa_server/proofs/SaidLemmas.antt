@@ -1,0 +1,107 @@
+-- What a front says of its keeper, and after which messages it is asked.
+use Rattle.std.proofs.Common.{◌≡◌, ℕ, Bool, true, false, List, [], ◌∷◌, ◌++◌, refl, sym, ap, subst, ◌∙◌, Option, Some, None, Ok, Err, inl, inr}
+use Rattle.std.specs.Prelude.{ℤ, not}
+use Rattle.std.proofs.lemmas.Bool.{false≢true}
+use Rattle.std.proofs.lemmas.List.{append_assoc}
+use Rattle.xa_http.specs.declared.fault.SessionFault.{SessionFault}
+use Rattle.xa_records.specs.declared.refusal.Failure.TheVariants.{Memory, Store}
+use Rattle.xa_server.specs.declared.driven.Driven.{Driven}
+use Rattle.xa_server.specs.declared.driven.Driven.TheVariants as driven
+use Rattle.xa_server.specs.declared.turns.Turn.{Turn}
+use Rattle.xa_server.specs.declared.turns.Turn.TheVariants.{Ends}
+use Rattle.xa_server.specs.declared.event.Answer.{Answer}
+use Rattle.xa_server.specs.declared.front_error.FrontError.{FrontError}
+use Rattle.xa_server.specs.declared.lines.Conn.{Conn}
+use Rattle.xa_server.specs.declared.replies.Reply.{Reply}
+use Rattle.xa_server.specs.declared.replies.Reply.TheVariants.{Refused, Sent}
+use Rattle.xa_server.specs.Driven.{HaveSaid, goes_on_after}
+use Rattle.xa_server.specs.Driving.{AnswersOne, IsAnsweredAt, IsAsked, IsSentAs}
+use Rattle.xa_server.specs.Front.{FrontState, IsAnswered}
+use Rattle.xa_server.specs.Transfers.{Grows, WriteEnd}
+use Rattle.xa_server.proofs.TransferLemmas.{grows_none}
+
+pub asked_so : (goes_on shut : Bool) (said saying : Option (List Bool)) → Grows said saying (goes_on ∷ []) → shut ≡ not goes_on → IsAsked true (Refused Store) shut said saying
+asked_so true shut said saying grows same = subst (λ (b : Bool). IsAsked true (Refused Store) b said saying) (sym same) grows
+asked_so false shut said saying grows same = subst (λ (b : Bool). IsAsked true (Refused Store) b said saying) (sym same) grows
+
+says_same : (said saying : Option (List Bool)) → saying ≡ said → Grows said saying []
+says_same said saying same = subst (λ (z : Option (List Bool)). Grows said z []) (sym same) (grows_none said)
+
+-- its keeper can go on
+pub asked_on : (reply : Reply) (said saying : Option (List Bool)) → IsAsked true reply false said saying → Grows said saying (goes_on_after (reply ∷ []))
+asked_on (Refused Store) said saying asked = asked
+asked_on (Refused Memory) said saying asked = says_same said saying asked.1
+asked_on (Sent bytes) said saying asked = says_same said saying asked.1
+
+-- or can't
+pub asked_shut : (reply : Reply) (said saying : Option (List Bool)) → IsAsked true reply true said saying → (reply ≡ Refused Store) × Grows said saying (false ∷ [])
+asked_shut (Refused Store) said saying asked = (refl, asked)
+asked_shut (Refused Memory) said saying asked = absurd (false≢true (sym asked.0))
+asked_shut (Sent bytes) said saying asked = absurd (false≢true (sym asked.0))
+
+-- it isn't asked after a write that failed
+pub unasked : (reply : Reply) (shut : Bool) (said saying : Option (List Bool)) → IsAsked false reply shut said saying → Grows said saying []
+unasked reply shut said saying asked = says_same said saying asked.1
+
+-- nor after a message that wasn't refused
+pub asked_none : (whole shut : Bool) (reply : Reply) (bytes : List ℕ) (said saying : Option (List Bool)) → reply ≡ Sent bytes → IsAsked whole reply shut said saying
+    → (shut ≡ false) × Grows said saying []
+asked_none whole shut reply bytes said saying same asked = by_write whole (subst (λ (r : Reply). IsAsked whole r shut said saying) same asked)
+  where
+    by_write : (w : Bool) → IsAsked w (Sent bytes) shut said saying → (shut ≡ false) × Grows said saying []
+    by_write true is = (is.0, says_same said saying is.1)
+    by_write false is = (is.0, says_same said saying is.1)
+
+-- ---- one reply after another
+
+pub goes_on_trans : (rs qs : List Reply) → goes_on_after (rs ++ qs) ≡ goes_on_after rs ++ goes_on_after qs
+goes_on_trans [] qs = refl
+goes_on_trans (Refused Store ∷ rs) qs = ap (λ (bs : List Bool). true ∷ bs) (goes_on_trans rs qs)
+goes_on_trans (Refused Memory ∷ rs) qs = goes_on_trans rs qs
+goes_on_trans (Sent bytes ∷ rs) qs = goes_on_trans rs qs
+
+pub said_on : (rs qs : List Reply) (bs cs : List Bool) → bs ≡ goes_on_after rs → cs ≡ goes_on_after qs → bs ++ cs ≡ goes_on_after (rs ++ qs)
+said_on rs qs bs cs first later =
+    ap (λ (xs : List Bool). xs ++ cs) first ∙ ap (λ (xs : List Bool). goes_on_after rs ++ xs) later ∙ sym (goes_on_trans rs qs)
+
+joined : (rs before : List Reply) (last : Reply) (qs : List Reply) → qs ≡ before ++ last ∷ [] → rs ++ qs ≡ (rs ++ before) ++ last ∷ []
+joined rs before last qs same = ap (λ (xs : List Reply). rs ++ xs) same ∙ sym (append_assoc rs before (last ∷ []))
+
+pub said_after : (driven : Driven) (fault : Option SessionFault) (rs qs : List Reply) (bs cs : List Bool) → bs ≡ goes_on_after rs → HaveSaid driven fault qs cs
+    → HaveSaid driven fault (rs ++ qs) (bs ++ cs)
+said_after driven.Shut fault rs qs bs cs first (before, run, said) = (
+  rs ++ before,
+  joined rs before (Refused Store) qs run,
+  ap (λ (xs : List Bool). bs ++ xs) said
+      ∙ sym (append_assoc bs (goes_on_after before) (false ∷ []))
+      ∙ ap (λ (xs : List Bool). xs ++ false ∷ []) (said_on rs before bs (goes_on_after before) first refl),
+)
+said_after driven.WriteFault None rs qs bs cs first (before, last, run, said) =
+    (rs ++ before, last, joined rs before last qs run, said_on rs before bs cs first said)
+said_after driven.WriteFault (Some fault) rs qs bs cs first said = said_on rs qs bs cs first said
+said_after driven.Ended fault rs qs bs cs first said = said_on rs qs bs cs first said
+said_after driven.ReadFault fault rs qs bs cs first said = said_on rs qs bs cs first said
+said_after driven.NoClock fault rs qs bs cs first said = said_on rs qs bs cs first said
+said_after driven.TooManyReads fault rs qs bs cs first said = said_on rs qs bs cs first said
+said_after driven.Memory fault rs qs bs cs first said = said_on rs qs bs cs first said
+
+-- ---- one answer
+
+-- it was given, and then sent
+pub answered_with : (turn : Turn) (answer : Option Answer) (conn : Conn) (moment : ℤ) (old mid new : FrontState) (f g h : Option (List Bool)) (c d : Option (List ℕ))
+    (w v : Option (List WriteEnd)) (o n p : Option (List Bool)) → AnswersOne conn moment old mid f g (Ok answer) → n ≡ o → new ≡ mid → h ≡ g
+    → IsSentAs turn answer c d w v n p → IsAnsweredAt turn conn moment old new f h c d w v o p
+answered_with turn answer conn moment old mid new f g h c d w v o n p (given, is, grows) saying same memory sent = inl (
+  answer,
+  given,
+  subst (λ (s : FrontState). IsAnswered conn moment old (Some given) (Ok answer) s) (sym same) is,
+  subst (λ (z : Option (List Bool)). Grows f z (true ∷ [])) (sym memory) grows,
+  subst (λ (z : Option (List Bool)). IsSentAs turn answer c d w v z p) saying sent,
+)
+
+-- it wasn't, for want of memory
+pub answered_without : (error : FrontError) (conn : Conn) (moment : ℤ) (old new : FrontState) (f g : Option (List Bool)) (c : Option (List ℕ)) (w : Option (List WriteEnd))
+    (o p : Option (List Bool)) → AnswersOne conn moment old new f g (Err error) → p ≡ o
+    → IsAnsweredAt (Ends driven.Memory) conn moment old new f g c c w w o p
+answered_without error conn moment old new f g c w o p (inl is) saying = inr (inl (refl, is.0, is.1, refl, refl, saying))
+answered_without error conn moment old new f g c w o p (inr closed) saying = inr (inr closed)

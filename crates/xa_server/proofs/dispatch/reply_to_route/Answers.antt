@@ -1,0 +1,19 @@
+-- A decision changes nothing.
+use Rattle.std.specs.Option.{option_and_then}
+use Rattle.xa_http.specs.Routes.{named_by}
+use Rattle.xa_server.specs.Owner.{name_if}
+use Rattle.xa_server.proofs.CrashLemmas.{no_more_route}
+use Rattle.xa_server.proofs.dispatch.reply_to_route.Goals as goal
+
+pub returns-in-Decide-clause-keeper : goal.returns-in-Decide-clause-keeper
+returns-in-Decide-clause-keeper g c = record {
+  sound = c.decision_route.ensures.keeper.sound;
+  clean = c.decision_route.ensures.keeper.clean;
+  stays = c.decision_route.ensures.keeper.stays;
+  leaves = λ clean sound.
+      let before = (g.R.Records.custody c.args.records.now).may_leave in
+      let after = (g.R.Records.custody c.decision_route.new.records).may_leave in
+      no_more_route before after c.args.received.now _ (option_and_then name_if (named_by c.args.route)) c.args.route
+      (c.decision_route.ensures.keeper.leaves clean sound);
+  counts = c.decision_route.ensures.keeper.counts;
+}

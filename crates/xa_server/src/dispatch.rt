@@ -1,0 +1,275 @@
+//! The reply to one message: the questions in their order, and then what is done on the route that it
+//! takes. Changes, readings and asks are in files of their own.
+ghost use Rattle.std.specs.Prelude.{IsTrue};
+ghost use Rattle.xa_http.specs.Routes.{named_by};
+ghost use Rattle.xa_http.specs.declared.route.Route.TheVariants as to;
+ghost use Rattle.xa_records.specs.DomainName.{is_domain_name};
+ghost use Rattle.xa_server.specs.Handling.{AnswersMessage, AnswersRoute, HandlesChange};
+ghost use Rattle.xa_server.specs.Handling.{Keeping, LeavesMessage, LeavesRoute, OnlyForgets};
+ghost use Rattle.xa_server.specs.Handling.{OnlyReads, Sharing, WorksMessage, WorksRoute};
+ghost use Rattle.xa_server.specs.Machine.{by_document_command, by_domain_command, by_operator_command};
+ghost use Rattle.xa_server.specs.Owner.{name_if, owner};
+ghost use Rattle.xa_server.specs.Stock.{AllStand};
+ghost use Rattle.std.specs.Option.{option_and_then};
+
+use crate::admission::{admission, admitting_domain, by_operator};
+use crate::asks::{Ask, reply_to_ask};
+use crate::changes::{
+    create, delete, drop_token, put_token, remove, set_active, set_root, set_source, upload,
+};
+use crate::document_key::key_of_parts;
+use crate::error_code::ErrorCode;
+use crate::name::name_if;
+use crate::readings::{domains, list, show, source};
+use crate::received::Received;
+use crate::resources::Resources;
+use crate::stop::Stop;
+use std::alloc::Global;
+use xa_http::{DocumentCommand, DocumentParts, DomainCommand, OperatorCommand, Route, Routes};
+use xa_policy::DocumentKey;
+use xa_records::{Records, Refusal};
+use xa_value::{Items, Text};
+
+/// Does what the operator asks for of a domain.
+fn by_operator_command<R: Records>(
+    alloc: Global,
+    records: &mut R,
+    name: &Text,
+    command: OperatorCommand,
+    body: &[u8],
+) -> Result<Items<u8>, Stop>
+    requires { IsTrue (is_domain_name name.now) }
+    ensures { HandlesChange (R.custody records.old) (R.custody records.new) name.now result
+        (by_operator_command command body.now) }
+{
+    match command {
+        OperatorCommand::Create => create(alloc, records, name),
+        OperatorCommand::Remove => remove(alloc, records, name),
+        OperatorCommand::PutToken => put_token(alloc, records, name, body),
+        OperatorCommand::DropToken => drop_token(alloc, records, name, body),
+    }
+}
+
+/// Does what is asked for in a domain.
+fn by_domain_command<R: Records>(
+    alloc: Global,
+    records: &mut R,
+    name: &Text,
+    command: DomainCommand,
+    body: &[u8],
+) -> Result<Items<u8>, Stop>
+    ensures { HandlesChange (R.custody records.old) (R.custody records.new) name.now result
+        (by_domain_command command body.now) }
+{
+    match command {
+        DomainCommand::Upload => upload(alloc, records, name, body),
+        DomainCommand::List => list(alloc, records, name),
+        DomainCommand::SetRoot => set_root(alloc, records, name, body),
+        DomainCommand::SetSource => set_source(alloc, records, name, body),
+        DomainCommand::Source => source(alloc, records, name),
+    }
+}
+
+/// Does what is asked for of a document.
+fn by_document_command<R: Records>(
+    alloc: Global,
+    records: &mut R,
+    name: &Text,
+    command: DocumentCommand,
+    key: &DocumentKey,
+) -> Result<Items<u8>, Stop>
+    ensures { HandlesChange (R.custody records.old) (R.custody records.new) name.now result
+        (by_document_command command key.now) }
+{
+    match command {
+        DocumentCommand::Show => show(alloc, records, name, key),
+        DocumentCommand::Delete => delete(alloc, records, name, key),
+        DocumentCommand::Activate => set_active(alloc, records, name, key, true),
+        DocumentCommand::Deactivate => set_active(alloc, records, name, key, false),
+    }
+}
+
+/// Answers a message to one of the operator's paths of a domain. Once it is let in the domain's gate is
+/// forgotten, since it may change.
+#[tactic(auto, using(crate::proofs::GateLemmas::changed_stands))]
+fn operator_route<R: Records>(
+    alloc: Global,
+    resources: &mut Resources,
+    records: &mut R,
+    received: &Received<'_>,
+    domain: Items<u8>,
+    command: OperatorCommand,
+) -> Result<Items<u8>, Stop>
+    ensures answers { (R.custody records.new).sound
+        → AnswersRoute received.now (R.custody records.old).kept (R.custody records.new).kept (name_if domain)
+        (to.Operator domain command) result }
+    ensures shared { OnlyForgets (R.custody records.old) (R.custody records.new) resources.old resources.new }
+    ensures keeper { Keeping (R.custody records.old) (R.custody records.new) result
+        (LeavesRoute (R.custody records.old).may_leave (R.custody records.new).may_leave received.now
+        (R.custody records.old).kept (name_if domain) (to.Operator domain command)) }
+{
+    by_operator(received.operator, received.message)?;
+    let name = name_if(domain).ok_or(ErrorCode::BadDomain)?;
+    resources.forget(&name);
+    by_operator_command(
+        alloc,
+        records,
+        &name,
+        command,
+        received.message.body.as_slice(),
+    )
+}
+
+/// Answers a message that asks for a decision in a domain.
+#[tactic(auto, using(crate::proofs::GateLemmas::same_stands))]
+fn decision_route<R: Records>(
+    alloc: Global,
+    resources: &mut Resources,
+    records: &mut R,
+    received: &Received<'_>,
+    domain: Items<u8>,
+) -> Result<Items<u8>, Stop>
+    ensures answers { AllStand (R.custody records.old).kept resources.old → (R.custody records.new).sound
+        → AnswersRoute received.now (R.custody records.old).kept (R.custody records.new).kept (name_if domain)
+        (to.Decide domain) result }
+    ensures shared { Sharing (R.custody records.old) (R.custody records.new)
+        resources.old resources.new result
+        (WorksRoute received.now (R.custody records.old).kept
+        (to.Decide domain) result resources.old.tally resources.new.tally) }
+    ensures keeper { OnlyReads (R.custody records.old) (R.custody records.new) result }
+{
+    let name = name_if(domain).ok_or(ErrorCode::Unauthorized)?;
+    let revision = admitting_domain(alloc, resources, records, &name, received.message)?;
+    let ask = Ask {
+        name: &name,
+        revision,
+        moment: received.moment,
+    };
+    reply_to_ask(
+        alloc,
+        resources,
+        records,
+        &ask,
+        received.message.body.as_slice(),
+    )
+}
+
+/// Answers a message that asks for something else in a domain. Once it is let in the domain's gate is
+/// forgotten, since it may change.
+#[tactic(auto, using(crate::proofs::GateLemmas::changed_stands))]
+fn domain_route<R: Records>(
+    alloc: Global,
+    resources: &mut Resources,
+    records: &mut R,
+    received: &Received<'_>,
+    domain: Items<u8>,
+    command: DomainCommand,
+) -> Result<Items<u8>, Stop>
+    ensures answers { (R.custody records.new).sound
+        → AnswersRoute received.now (R.custody records.old).kept (R.custody records.new).kept (name_if domain)
+        (to.Domain domain command) result }
+    ensures shared { OnlyForgets (R.custody records.old) (R.custody records.new) resources.old resources.new }
+    ensures keeper { Keeping (R.custody records.old) (R.custody records.new) result
+        (LeavesRoute (R.custody records.old).may_leave (R.custody records.new).may_leave received.now
+        (R.custody records.old).kept (name_if domain) (to.Domain domain command)) }
+{
+    let name = name_if(domain).ok_or(ErrorCode::Unauthorized)?;
+    admission(alloc, records, &name, received.message)?;
+    resources.forget(&name);
+    by_domain_command(
+        alloc,
+        records,
+        &name,
+        command,
+        received.message.body.as_slice(),
+    )
+}
+
+/// Answers a message to the path of a document. Once it is let in the domain's gate is forgotten, since
+/// it may change.
+#[tactic(auto, using(crate::proofs::GateLemmas::changed_stands))]
+fn document_route<R: Records>(
+    alloc: Global,
+    resources: &mut Resources,
+    records: &mut R,
+    received: &Received<'_>,
+    domain: Items<u8>,
+    parts: DocumentParts,
+    command: DocumentCommand,
+) -> Result<Items<u8>, Stop>
+    ensures answers { (R.custody records.new).sound
+        → AnswersRoute received.now (R.custody records.old).kept (R.custody records.new).kept (name_if domain)
+        (to.Document domain parts command) result }
+    ensures shared { OnlyForgets (R.custody records.old) (R.custody records.new) resources.old resources.new }
+    ensures keeper { Keeping (R.custody records.old) (R.custody records.new) result
+        (LeavesRoute (R.custody records.old).may_leave (R.custody records.new).may_leave received.now
+        (R.custody records.old).kept (name_if domain) (to.Document domain parts command)) }
+{
+    let name = name_if(domain).ok_or(ErrorCode::Unauthorized)?;
+    admission(alloc, records, &name, received.message)?;
+    let key = key_of_parts(parts).ok_or(ErrorCode::Refused(Refusal::Absent))?;
+    resources.forget(&name);
+    by_document_command(alloc, records, &name, command, &key)
+}
+
+/// The reply to a message that takes this route.
+fn reply_to_route<R: Records>(
+    alloc: Global,
+    resources: &mut Resources,
+    records: &mut R,
+    received: &Received<'_>,
+    route: Route,
+) -> Result<Items<u8>, Stop>
+    ensures answers { AllStand (R.custody records.old).kept resources.old → (R.custody records.new).sound
+        → AnswersRoute received.now (R.custody records.old).kept (R.custody records.new).kept
+        (option_and_then name_if (named_by route)) route result }
+    ensures shared { Sharing (R.custody records.old) (R.custody records.new)
+        resources.old resources.new result
+        (WorksRoute received.now
+        (R.custody records.old).kept route result resources.old.tally resources.new.tally) }
+    ensures keeper { Keeping (R.custody records.old) (R.custody records.new) result
+        (LeavesRoute (R.custody records.old).may_leave (R.custody records.new).may_leave received.now
+        (R.custody records.old).kept (option_and_then name_if (named_by route)) route) }
+{
+    match route {
+        Route::Domains => {
+            by_operator(received.operator, received.message)?;
+            domains(alloc, records)
+        }
+        Route::Operator { domain, command } => {
+            operator_route(alloc, resources, records, received, domain, command)
+        }
+        Route::Decide { domain } => decision_route(alloc, resources, records, received, domain),
+        Route::Domain { domain, command } => {
+            domain_route(alloc, resources, records, received, domain, command)
+        }
+        Route::Document {
+            domain,
+            parts,
+            command,
+        } => document_route(alloc, resources, records, received, domain, parts, command),
+    }
+}
+
+/// The reply to a message, by the first question that it doesn't pass.
+pub(crate) fn reply_to_message<R: Records>(
+    alloc: Global,
+    routes: &Routes,
+    resources: &mut Resources,
+    records: &mut R,
+    received: &Received<'_>,
+) -> Result<Items<u8>, Stop>
+    ensures answers { AllStand (R.custody records.old).kept resources.old → (R.custody records.new).sound
+        → AnswersMessage received.now (R.custody records.old).kept (R.custody records.new).kept
+        (owner received.now.message.now) result }
+    ensures shared { Sharing (R.custody records.old) (R.custody records.new)
+        resources.old resources.new result
+        (WorksMessage received.now
+        (R.custody records.old).kept result resources.old.tally resources.new.tally) }
+    ensures keeper { Keeping (R.custody records.old) (R.custody records.new) result
+        (LeavesMessage (R.custody records.old).may_leave (R.custody records.new).may_leave received.now
+        (R.custody records.old).kept (owner received.now.message.now)) }
+{
+    let route = routes.route(alloc, received.message)?;
+    reply_to_route(alloc, resources, records, received, route)
+}

@@ -1,0 +1,252 @@
+//! The turns of a connection: in each the next message that it holds is answered, and the reply is sent.
+ghost use Rattle.std.specs.Prelude.{◌≡◌, ℕ, false, true, IsTrue, List, MatchResult, Option, Some, pos};
+ghost use Rattle.xa_http.specs.Stream.{Stream};
+ghost use Rattle.xa_server.specs.Driven.{KeepsOpen, known};
+ghost use Rattle.xa_server.specs.declared.turns.Turn.TheVariants as turn;
+ghost use Rattle.xa_server.specs.declared.driven.Driven.TheVariants as driven;
+ghost use Rattle.xa_server.specs.Driving.{AnswersOne, IsAnsweredAt, IsAnsweredNow, IsAsked};
+ghost use Rattle.xa_server.specs.Driving.{IsHeldAnswered, IsSentAs, IsTurn, PlaysOne, answer_of};
+ghost use Rattle.xa_server.specs.Fronting.{DoesLines};
+ghost use Rattle.xa_server.specs.Lines.{IsOpen, line_at};
+ghost use Rattle.xa_server.specs.Transfers.{ReadEnd};
+
+use crate::clock::Clock;
+use crate::driven::Driven;
+use crate::event::{Answer, Event, Outcome};
+use crate::front_error::FrontError;
+use crate::lines::Conn;
+use crate::multiplexer::Multiplexer;
+use crate::replies::Reply;
+use crate::sending::send_whole;
+use crate::writer::Writer;
+use std::alloc::AllocError;
+use std::slice;
+use xa_http::Look;
+use xa_records::Failure;
+use xa_value::Moment;
+
+/// What a turn came to.
+enum Turn {
+    /// A message was answered.
+    Answered,
+    /// There is no whole message yet.
+    Waits,
+    /// The connection has ended.
+    Ends(Driven),
+}
+
+/// Plays one event, and gives its outcome.
+pub(crate) fn play_one<F: Multiplexer>(
+    front: &mut F,
+    event: &Event<'_>,
+) -> Result<Outcome, AllocError>
+    ensures played { F.is_sound front.new
+        → PlaysOne event.now (F.state front.old) (F.state front.new)
+        (F.had_memory front.old) (F.had_memory front.new) result }
+    ensures lines { MatchResult result
+        (λ outcome. DoesLines event.now (F.state front.old).lines outcome (F.state front.new).lines)
+        (λ _. (F.state front.new).lines ≡ (F.state front.old).lines) }
+    ensures said { F.said front.new ≡ F.said front.old }
+    ensures sound { F.is_sound front.new → F.is_sound front.old }
+{
+    let mut outcomes = front.play(slice::from_ref(event))?;
+    match outcomes.pop() {
+        Some(outcome) => Ok(outcome),
+        None => unreachable!(),
+    }
+}
+
+/// What an outcome says of an answer.
+fn answer_of(outcome: Outcome) -> Result<Option<Answer>, FrontError>
+    ensures { result ≡ answer_of outcome }
+{
+    match outcome {
+        Outcome::Answered(answered) => answered,
+        _ => Err(FrontError::Memory),
+    }
+}
+
+/// Has the next of an open connection answered.
+#[tactic(auto, using(crate::proofs::OpenLemmas::open_kept))]
+fn play_answer<F: Multiplexer>(
+    front: &mut F,
+    conn: Conn,
+    moment: Moment,
+) -> Result<Option<Answer>, FrontError>
+    ensures answered { F.is_sound front.new
+        → AnswersOne conn moment (F.state front.old) (F.state front.new)
+        (F.had_memory front.old) (F.had_memory front.new) result }
+    ensures stays_open { KeepsOpen conn (F.state front.old).lines (F.state front.new).lines }
+    ensures said { F.said front.new ≡ F.said front.old }
+    ensures sound { F.is_sound front.new → F.is_sound front.old }
+{
+    match play_one(front, &Event::Answer(conn, moment)) {
+        Ok(outcome) => answer_of(outcome),
+        Err(_) => Err(FrontError::Memory),
+    }
+}
+
+/// Whether the keeper behind a front can't go on: that is asked after a message that was refused for want
+/// of storage.
+#[tactic(auto, using(crate::proofs::SaidLemmas::asked_so))]
+fn is_shut<F: Multiplexer>(front: &mut F, reply: &Reply) -> bool
+    ensures asked { IsAsked true reply.now result (F.said front.old) (F.said front.new) }
+    ensures shut { IsTrue result → F.goes_on front.new ≡ false }
+    ensures same { F.state front.new ≡ F.state front.old }
+    ensures memory { F.had_memory front.new ≡ F.had_memory front.old }
+    ensures sound { F.is_sound front.new → F.is_sound front.old }
+{
+    match reply {
+        Reply::Refused(Failure::Store) => !front.can_go_on(),
+        Reply::Refused(Failure::Memory) => false,
+        Reply::Sent(_) => false,
+    }
+}
+
+/// Sends the reply of an answer.
+fn send_answer<F: Multiplexer, W: Writer>(front: &mut F, writer: &mut W, answer: &Answer) -> Turn
+    ensures sent { IsSentAs result (Some answer.now) (W.contents writer.old) (W.contents writer.new)
+        (W.writes writer.old) (W.writes writer.new) (F.said front.old) (F.said front.new) }
+    ensures shut { result ≡ turn.Ends driven.Shut → F.goes_on front.new ≡ false }
+    ensures same { F.state front.new ≡ F.state front.old }
+    ensures memory { F.had_memory front.new ≡ F.had_memory front.old }
+    ensures sound { F.is_sound front.new → F.is_sound front.old }
+{
+    if !send_whole(writer, answer.reply.bytes()) {
+        return Turn::Ends(Driven::WriteFault);
+    }
+    if is_shut(front, &answer.reply) {
+        return Turn::Ends(Driven::Shut);
+    }
+    if answer.last {
+        Turn::Ends(Driven::Ended)
+    } else {
+        Turn::Answered
+    }
+}
+
+/// Answers the next of an open connection at that moment, and sends the reply.
+fn turn_at<F: Multiplexer, W: Writer>(
+    front: &mut F,
+    conn: Conn,
+    moment: Moment,
+    writer: &mut W,
+) -> Turn
+    ensures answered { F.is_sound front.new
+        → IsAnsweredAt result conn moment (F.state front.old) (F.state front.new)
+        (F.had_memory front.old) (F.had_memory front.new) (W.contents writer.old) (W.contents writer.new)
+        (W.writes writer.old) (W.writes writer.new) (F.said front.old) (F.said front.new) }
+    ensures stays_open { KeepsOpen conn (F.state front.old).lines (F.state front.new).lines }
+    ensures shut { result ≡ turn.Ends driven.Shut → F.goes_on front.new ≡ false }
+    ensures sound { F.is_sound front.new → F.is_sound front.old }
+{
+    match play_answer(front, conn, moment) {
+        Ok(Some(answer)) => send_answer(front, writer, &answer),
+        Ok(None) => Turn::Waits,
+        Err(_) => Turn::Ends(Driven::Memory),
+    }
+}
+
+/// Answers the message at the front of a connection at the clock's moment, and sends the reply.
+#[tactic(auto, using(crate::proofs::OpenLemmas::open_kept))]
+fn message_turn<F: Multiplexer, W: Writer, C: Clock>(
+    front: &mut F,
+    conn: Conn,
+    writer: &mut W,
+    clock: &mut C,
+) -> Turn
+    ensures answered { F.is_sound front.new
+        → IsAnsweredNow result conn (F.state front.old) (F.state front.new)
+        (F.had_memory front.old) (F.had_memory front.new) (W.contents writer.old) (W.contents writer.new)
+        (W.writes writer.old) (W.writes writer.new) (C.told clock.old) (C.told clock.new)
+        (F.said front.old) (F.said front.new) }
+    ensures stays_open { KeepsOpen conn (F.state front.old).lines (F.state front.new).lines }
+    ensures shut { result ≡ turn.Ends driven.Shut → F.goes_on front.new ≡ false }
+    ensures sound { F.is_sound front.new → F.is_sound front.old }
+{
+    let Some(moment) = clock.now() else {
+        return Turn::Ends(Driven::NoClock);
+    };
+    turn_at(front, conn, moment, writer)
+}
+
+/// Answers the fault by which the stream of a connection ends, and sends the reply. No moment is in it.
+fn fault_turn<F: Multiplexer, W: Writer>(front: &mut F, conn: Conn, writer: &mut W) -> Turn
+    ensures answered { F.is_sound front.new
+        → IsAnsweredAt result conn (pos 0) (F.state front.old) (F.state front.new)
+        (F.had_memory front.old) (F.had_memory front.new) (W.contents writer.old) (W.contents writer.new)
+        (W.writes writer.old) (W.writes writer.new) (F.said front.old) (F.said front.new) }
+    ensures stays_open { KeepsOpen conn (F.state front.old).lines (F.state front.new).lines }
+    ensures shut { result ≡ turn.Ends driven.Shut → F.goes_on front.new ≡ false }
+    ensures sound { F.is_sound front.new → F.is_sound front.old }
+{
+    let Some(moment) = Moment::new(0) else {
+        unreachable!()
+    };
+    turn_at(front, conn, moment, writer)
+}
+
+/// Answers the next whole message that the connection holds, or the fault by which its stream ends. No
+/// clock is asked where there is no message.
+#[tactic(auto, using(crate::proofs::OpenLemmas::open_kept, crate::proofs::OpenLemmas::open_trans))]
+fn next_turn<F: Multiplexer, W: Writer, C: Clock>(
+    front: &mut F,
+    conn: Conn,
+    writer: &mut W,
+    clock: &mut C,
+) -> Turn
+    ensures turn { F.is_sound front.new
+        → (stream : Stream) (left : Option (List ℕ)) (reads : Option (List ReadEnd))
+        → IsOpen conn (F.state front.old).lines stream
+        → IsTurn result conn (F.state front.old) (F.state front.new) stream
+        (known (F.had_memory front.old) left reads (W.contents writer.old) (W.writes writer.old)
+        (C.told clock.old) (F.said front.old))
+        (known (F.had_memory front.new) left reads (W.contents writer.new) (W.writes writer.new)
+        (C.told clock.new) (F.said front.new)) }
+    ensures stays_open { KeepsOpen conn (F.state front.old).lines (F.state front.new).lines }
+    ensures shut { result ≡ turn.Ends driven.Shut → F.goes_on front.new ≡ false }
+    ensures sound { F.is_sound front.new → F.is_sound front.old }
+{
+    match front.look(conn) {
+        Ok(Look::Message) => message_turn(front, conn, writer, clock),
+        Ok(Look::Fault(_)) => fault_turn(front, conn, writer),
+        Ok(Look::More) => Turn::Waits,
+        Ok(Look::Ended) => Turn::Ends(Driven::Ended),
+        Err(_) => Turn::Ends(Driven::Memory),
+    }
+}
+
+/// Answers all whole messages that the connection holds. How it has ended, if it has; one that isn't
+/// open has.
+#[tactic(auto, using(crate::proofs::OpenLemmas::open_kept, crate::proofs::OpenLemmas::open_trans))]
+pub(crate) fn answer_held<F: Multiplexer, W: Writer, C: Clock>(
+    front: &mut F,
+    conn: Conn,
+    writer: &mut W,
+    clock: &mut C,
+) -> Option<Driven>
+    ensures held { F.is_sound front.new → (left : Option (List ℕ)) (reads : Option (List ReadEnd))
+        → IsHeldAnswered result (line_at conn (F.state front.old).lines) conn
+        (F.state front.old) (F.state front.new)
+        (known (F.had_memory front.old) left reads (W.contents writer.old) (W.writes writer.old)
+        (C.told clock.old) (F.said front.old))
+        (known (F.had_memory front.new) left reads (W.contents writer.new) (W.writes writer.new)
+        (C.told clock.new) (F.said front.new)) }
+    ensures stays_open { KeepsOpen conn (F.state front.old).lines (F.state front.new).lines }
+    ensures shut { result ≡ Some driven.Shut → F.goes_on front.new ≡ false }
+    ensures sound { F.is_sound front.new → F.is_sound front.old }
+{
+    let Some(held) = front.held(conn) else {
+        return Some(Driven::Ended);
+    };
+    // A message has more than one byte, so a connection holds fewer than that.
+    let turns = held.saturating_add(1);
+    for _turn in 0..turns {
+        match next_turn(front, conn, writer, clock) {
+            Turn::Answered => {}
+            Turn::Waits => return None,
+            Turn::Ends(driven) => return Some(driven),
+        }
+    }
+    Some(Driven::Memory)
+}
