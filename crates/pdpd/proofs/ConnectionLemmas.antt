@@ -14,7 +14,7 @@ use Rattle.xa_server.specs.Front.{Does, FrontState, IsPlayed, Plays}
 use Rattle.xa_server.specs.Fronting.{DoesEvent, DoesLines, PlaysLines}
 use Rattle.xa_server.specs.Lines.{IsOpen, Lines, empty_stream, first_free, line_at, none_open, with_line}
 use Rattle.xa_server.proofs.OpenLemmas.{lines_of_one}
-use Rattle.pdpd.specs.declared.connection.Connection.{Connection}
+use Rattle.pdpd.specs.declared.transcript_connection.TranscriptConnection.{TranscriptConnection}
 use Rattle.pdpd.specs.Replay.{all_open}
 use Rattle.pdpd.specs.Replaying.{AreOf, HasFree, IsBegun, IsLine, IsOneOpen, connections_from}
 
@@ -79,10 +79,10 @@ begins_unrefused o result refused old new free does is error =
     let found = begins o old new free does in
     begun_so o found.0 refused found.1 (is ∙ ap outcome.Begun error)
 
-pub begun : (connection : Connection) (conn : Conn) (old new : Lines) → DoesLines event.Begin old (outcome.Begun (Ok conn)) new
+pub begun : (connection : TranscriptConnection) (conn : Conn) (old new : Lines) → DoesLines event.Begin old (outcome.Begun (Ok conn)) new
     → connection ≡ record { conn = conn; has_ended = false } → IsBegun connection old new
 begun connection conn old new does same =
-    subst (λ (c : Connection). IsBegun c old new) (sym same) (record { least = does.0; lines = does.1; goes_on = refl })
+    subst (λ (c : TranscriptConnection). IsBegun c old new) (sym same) (record { least = does.0; lines = does.1; goes_on = refl })
 
 pub begun_server : (result : Result Conn FrontError) (old new : FrontState) → DoesEvent event.Begin old (outcome.Begun result) new → new.server ≡ old.server
 begun_server result old new (None, does) = does.1
@@ -150,13 +150,13 @@ held_behind number zero (suc others) =
     ap (λ (n : ℕ). record { conn = record { number = n }; has_ended = false } ∷ []) (sym same)
 held_behind number (suc count) others =
     let same : suc number + count ≡ number + suc count = omega arith in
-    ap (λ (cs : List Connection). record { conn = record { number = number }; has_ended = false } ∷ cs)
+    ap (λ (cs : List TranscriptConnection). record { conn = record { number = number }; has_ended = false } ∷ cs)
     (held_behind (suc number) count others
     ∙ ap (λ (n : ℕ). connections_from (suc number) (replicate count (Some empty_stream) ++ None ∷ replicate others None)
     ++ record { conn = record { number = n }; has_ended = false } ∷ []) same)
 
 -- so many connections were opened, where none was before
-unfoldable pub BegunTo : ℕ → List Connection → Lines → Type 0
+unfoldable pub BegunTo : ℕ → List TranscriptConnection → Lines → Type 0
 BegunTo count connections lines = (lines ≡ opened_to count (64 - count)) × (connections ≡ connections_from 0 (opened_to count (64 - count)))
 
 pub none_begun : (lines : Lines) → lines ≡ none_open → BegunTo 0 [] lines
@@ -164,7 +164,7 @@ unfolding BegunTo
 none_begun lines closed = (closed, refl)
 
 -- before all are, one is free
-pub free_to : (count : ℕ) (connections : List Connection) (lines : Lines) → count < 64 → BegunTo count connections lines → HasFree lines
+pub free_to : (count : ℕ) (connections : List TranscriptConnection) (lines : Lines) → count < 64 → BegunTo count connections lines → HasFree lines
 unfolding BegunTo HasFree
 free_to count connections lines within begun_before =
     let others = 64 - (count + 1) in
@@ -174,14 +174,14 @@ free_to count connections lines within begun_before =
     )
 
 -- a connection of that number, whose session goes on
-by_number : (connection : Connection) (number : ℕ) → connection.conn.number ≡ number → connection.has_ended ≡ false
+by_number : (connection : TranscriptConnection) (number : ℕ) → connection.conn.number ≡ number → connection.has_ended ≡ false
     → connection ≡ record { conn = record { number = number }; has_ended = false }
 by_number connection number same goes_on = λ i. record { conn = record { number = same i }; has_ended = goes_on i }
 
 pub some_number : (m n : ℕ) → Some m ≡ Some n → m ≡ n
 some_number m n same = cc
 
-pub one_more_begun : (count : ℕ) (connections : List Connection) (connection : Connection) (mid new : Lines) → count < 64
+pub one_more_begun : (count : ℕ) (connections : List TranscriptConnection) (connection : TranscriptConnection) (mid new : Lines) → count < 64
     → BegunTo count connections mid → IsBegun connection mid new → BegunTo (count + 1) (connections ++ connection ∷ []) new
 unfolding BegunTo
 one_more_begun count connections connection mid new within was is =
@@ -203,14 +203,14 @@ one_more_begun count connections connection mid new within was is =
     let held : connections ≡ connections_from 0 (replicate count (Some empty_stream) ++ None ∷ replicate others None)
     = was.1 ∙ ap (λ (n : ℕ). connections_from 0 (opened_to count n)) more in (
       set,
-      ap (λ (cs : List Connection). cs ++ connection ∷ []) held
-          ∙ ap (λ (c : Connection). connections_from 0 (replicate count (Some empty_stream) ++ None ∷ replicate others None) ++ c ∷ [])
+      ap (λ (cs : List TranscriptConnection). cs ++ connection ∷ []) held
+          ∙ ap (λ (c : TranscriptConnection). connections_from 0 (replicate count (Some empty_stream) ++ None ∷ replicate others None) ++ c ∷ [])
           (by_number connection (0 + count) (least ∙ none_more) is.goes_on)
           ∙ sym (held_behind 0 count others)
           ∙ ap (connections_from 0) opened,
     )
 
-pub all_begun : (connections : List Connection) (lines : Lines) → BegunTo 64 connections lines → (lines ≡ all_open) × AreOf connections all_open
+pub all_begun : (connections : List TranscriptConnection) (lines : Lines) → BegunTo 64 connections lines → (lines ≡ all_open) × AreOf connections all_open
 unfolding BegunTo
 all_begun connections lines was =
     let whole : opened_to 64 0 ≡ all_open = append-nil all_open in
@@ -221,7 +221,7 @@ all_begun connections lines was =
 pub some_stream : (s t : Stream) → Some s ≡ Some t → s ≡ t
 some_stream s t same = cc
 
-some_connection : (c d : Connection) → Some c ≡ Some d → c ≡ d
+some_connection : (c d : TranscriptConnection) → Some c ≡ Some d → c ≡ d
 some_connection c d same = cc
 
 -- what is put at the place of an open connection stands there
@@ -232,19 +232,19 @@ line_set (line ∷ lines) zero was is open_before = refl
 line_set (line ∷ lines) (suc number) was is open_before = line_set lines number was is open_before
 
 -- a connection that is held is a line
-found : (lines : Lines) (first number : ℕ) (connection : Connection) → slice_get (connections_from first lines) number ≡ Some connection
+found : (lines : Lines) (first number : ℕ) (connection : TranscriptConnection) → slice_get (connections_from first lines) number ≡ Some connection
     → (stream : Stream) × (slice_index_or lines number None ≡ Some stream) × (connection.conn.number ≡ first + number) × (connection.has_ended ≡ stream.ended)
     × (first_free (slice_set lines number None) ≡ Some number)
-found [] first number connection held = absurd (none_some Connection connection held)
-found (None ∷ lines) first number connection held = absurd (none_some Connection connection held)
+found [] first number connection held = absurd (none_some TranscriptConnection connection held)
+found (None ∷ lines) first number connection held = absurd (none_some TranscriptConnection connection held)
 found (Some stream ∷ lines) first zero connection held =
     let same : record { conn = record { number = first }; has_ended = stream.ended } ≡ connection
     = some_connection (record { conn = record { number = first }; has_ended = stream.ended }) connection held in
     let zeroth : first ≡ first + 0 = omega arith in (
       stream,
       refl,
-      ap (λ (c : Connection). c.conn.number) (sym same) ∙ zeroth,
-      ap (λ (c : Connection). c.has_ended) (sym same),
+      ap (λ (c : TranscriptConnection). c.conn.number) (sym same) ∙ zeroth,
+      ap (λ (c : TranscriptConnection). c.has_ended) (sym same),
       refl,
     )
 found (Some stream ∷ lines) first (suc number) connection held =
@@ -252,10 +252,10 @@ found (Some stream ∷ lines) first (suc number) connection held =
     let further : suc first + number ≡ first + suc number = omega arith in
     (is.0, is.1, is.2 ∙ further, is.3, ap (option_map suc) is.4)
 
-pub line_found : (connections : List Connection) (lines : Lines) (number : ℕ) (connection : Connection) → AreOf connections lines
+pub line_found : (connections : List TranscriptConnection) (lines : Lines) (number : ℕ) (connection : TranscriptConnection) → AreOf connections lines
     → slice_get connections number ≡ Some connection → (stream : Stream) × IsLine connection lines stream × (connection.conn ≡ record { number = number })
 line_found connections lines number connection are held =
-    let is = found lines 0 number connection (ap (λ (cs : List Connection). slice_get cs number) (sym are) ∙ held) in
+    let is = found lines 0 number connection (ap (λ (cs : List TranscriptConnection). slice_get cs number) (sym are) ∙ held) in
     let none_more : 0 + number ≡ number = omega arith in
     let numbered : connection.conn.number ≡ number = is.2 ∙ none_more in
     let same : connection.conn ≡ record { number = number } = λ i. record { number = numbered i } in (
@@ -269,27 +269,27 @@ line_found connections lines number connection are held =
     )
 
 -- what is held of a connection is put at its place
-put_from : (lines : Lines) (first number : ℕ) (was : Connection) (is : Stream) → slice_get (connections_from first lines) number ≡ Some was
+put_from : (lines : Lines) (first number : ℕ) (was : TranscriptConnection) (is : Stream) → slice_get (connections_from first lines) number ≡ Some was
     → connections_from first (slice_set lines number (Some is))
     ≡ slice_set (connections_from first lines) number (record { conn = record { number = first + number }; has_ended = is.ended })
 put_from [] first number was is held = refl
-put_from (None ∷ lines) first number was is held = absurd (none_some Connection was held)
+put_from (None ∷ lines) first number was is held = absurd (none_some TranscriptConnection was held)
 put_from (Some stream ∷ lines) first zero was is held =
     let zeroth : first ≡ first + 0 = omega arith in
     ap (λ (n : ℕ). record { conn = record { number = n }; has_ended = is.ended } ∷ connections_from (suc first) lines) zeroth
 put_from (Some stream ∷ lines) first (suc number) was is held =
     let further : suc first + number ≡ first + suc number = omega arith in
-    ap (λ (cs : List Connection). record { conn = record { number = first }; has_ended = stream.ended } ∷ cs)
+    ap (λ (cs : List TranscriptConnection). record { conn = record { number = first }; has_ended = stream.ended } ∷ cs)
     (put_from lines (suc first) number was is held
     ∙ ap (λ (n : ℕ). slice_set (connections_from (suc first) lines) number (record { conn = record { number = n }; has_ended = is.ended })) further)
 
-pub line_put : (connections : List Connection) (lines : Lines) (number : ℕ) (was is : Connection) (stream : Stream) → AreOf connections lines
+pub line_put : (connections : List TranscriptConnection) (lines : Lines) (number : ℕ) (was is : TranscriptConnection) (stream : Stream) → AreOf connections lines
     → slice_get connections number ≡ Some was → is.conn ≡ record { number = number } → is.has_ended ≡ stream.ended
     → AreOf (slice_set connections number is) (slice_set lines number (Some stream))
 line_put connections lines number was is stream are held same ended =
     let none_more : number ≡ 0 + number = omega arith in
     let numbered : is.conn ≡ record { number = 0 + number } = same ∙ ap (λ (n : ℕ). record { number = n }) none_more in
     let now : is ≡ record { conn = record { number = 0 + number }; has_ended = stream.ended } = λ i. record { conn = numbered i; has_ended = ended i } in
-    ap (λ (cs : List Connection). slice_set cs number is) are
-    ∙ ap (λ (c : Connection). slice_set (connections_from 0 lines) number c) now
-    ∙ sym (put_from lines 0 number was stream (ap (λ (cs : List Connection). slice_get cs number) (sym are) ∙ held))
+    ap (λ (cs : List TranscriptConnection). slice_set cs number is) are
+    ∙ ap (λ (c : TranscriptConnection). slice_set (connections_from 0 lines) number c) now
+    ∙ sym (put_from lines 0 number was stream (ap (λ (cs : List TranscriptConnection). slice_get cs number) (sym are) ∙ held))

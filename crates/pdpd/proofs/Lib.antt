@@ -8,5 +8,6 @@ pub mod ReadyLemmas
 pub mod ReplayLemmas
 pub mod ServingLemmas
 pub mod StoreLemmas
+pub mod TakingLemmas
 pub mod TellingLemmas
 pub mod TokenLemmas

@@ -7,7 +7,7 @@ use Rattle.std.proofs.lemmas.List.Elements.{All-head, All-replicate, All-set, Al
 use Rattle.xa_http.specs.Stream.{Stream}
 use Rattle.xa_server.specs.declared.lines.Conn.{Conn}
 use Rattle.xa_server.specs.Lines.{IsOpen, Lines, empty_stream, first_free, with_line}
-use Rattle.pdpd.specs.declared.connection.Connection.{Connection}
+use Rattle.pdpd.specs.declared.transcript_connection.TranscriptConnection.{TranscriptConnection}
 use Rattle.pdpd.specs.Replay.{all_open}
 use Rattle.pdpd.specs.Replaying.{AreOf, AreReady, HasFree, IsBegun, IsOneOpen, IsReady, StaysReady, connections_from}
 use Rattle.pdpd.specs.Telling.{HasRoom, LeavesAt, TakesPieces, progress_at}
@@ -23,33 +23,33 @@ room_at [] number s opens all = absurd (none_some Stream s opens)
 room_at (line ∷ lines) zero s opens all = subst (λ (l : Option Stream). HasRoom l) opens (All-head HasRoom line lines all)
 room_at (line ∷ lines) (suc number) s opens all = room_at lines number s opens (All-tail HasRoom line lines all)
 
-pub ready_within : (connections : List Connection) (lines : Lines) (number : ℕ) → AreReady connections lines → number < 64 → number < length connections
+pub ready_within : (connections : List TranscriptConnection) (lines : Lines) (number : ℕ) → AreReady connections lines → number < 64 → number < length connections
 unfolding AreReady
 ready_within connections lines number ready within = omega (arith, within, ready.1)
 
-pub ready_one : (connections : List Connection) (lines : Lines) (number : ℕ) (was : Connection) → AreReady connections lines → slice_get connections number ≡ Some was
+pub ready_one : (connections : List TranscriptConnection) (lines : Lines) (number : ℕ) (was : TranscriptConnection) → AreReady connections lines → slice_get connections number ≡ Some was
     → IsReady was lines
 unfolding AreReady IsReady
 ready_one connections lines number was ready held =
     let found = line_found connections lines number was ready.0 held in
     (found.0, found.1, room_at lines was.conn.number found.0 found.1.line ready.2)
 
-pub ready_open : (was : Connection) (lines : Lines) → IsReady was lines → IsOneOpen was.conn lines
+pub ready_open : (was : TranscriptConnection) (lines : Lines) → IsReady was lines → IsOneOpen was.conn lines
 unfolding IsReady IsOneOpen
 ready_open was lines (s, line, room) = (s, line.line)
 
-pub ready_free : (was : Connection) (old mid : Lines) → IsReady was old → mid ≡ with_line was.conn None old → HasFree mid
+pub ready_free : (was : TranscriptConnection) (old mid : Lines) → IsReady was old → mid ≡ with_line was.conn None old → HasFree mid
 unfolding IsReady HasFree
 ready_free was old mid (s, line, room) put = (was.conn.number, ap first_free put ∙ line.free)
 
-pub ready_takes : (was : Connection) (lines : Lines) → IsReady was lines → was.has_ended ≡ false → TakesPieces was.conn lines
+pub ready_takes : (was : TranscriptConnection) (lines : Lines) → IsReady was lines → was.has_ended ≡ false → TakesPieces was.conn lines
 unfolding IsReady TakesPieces
 ready_takes was lines (s, line, room) on = (s, line.line, sym line.ended ∙ on, room)
 
 -- ---- what was done with it
 
 -- it was closed, and the next begun in its place
-pub stays_closed : (was is : Connection) (old mid new : Lines) → IsReady was old → mid ≡ with_line was.conn None old → IsBegun is mid new → StaysReady was is old new
+pub stays_closed : (was is : TranscriptConnection) (old mid new : Lines) → IsReady was old → mid ≡ with_line was.conn None old → IsBegun is mid new → StaysReady was is old new
 unfolding IsReady StaysReady
 stays_closed was is old mid new (s, line, room) put begun =
     let least : is.conn.number ≡ was.conn.number = some_number is.conn.number was.conn.number (sym begun.least ∙ ap first_free put ∙ line.free) in
@@ -65,12 +65,12 @@ stays_closed was is old mid new (s, line, room) put begun =
     )
 
 -- nothing was
-pub stays_over : (was : Connection) (lines : Lines) → IsReady was lines → StaysReady was was lines lines
+pub stays_over : (was : TranscriptConnection) (lines : Lines) → IsReady was lines → StaysReady was was lines lines
 unfolding IsReady StaysReady
 stays_over was lines (s, line, room) = (s, sym (set_same lines was.conn.number s line.line), refl, line.ended, room)
 
 -- it took bytes
-pub stays_taken : (was : Connection) (has_ended : Bool) (old new : Lines) → LeavesAt was.conn old new (progress_at has_ended)
+pub stays_taken : (was : TranscriptConnection) (has_ended : Bool) (old new : Lines) → LeavesAt was.conn old new (progress_at has_ended)
     → StaysReady was (record { conn = was.conn; has_ended = has_ended }) old new
 unfolding LeavesAt StaysReady
 stays_taken was true old new (after, opens, over, lines) = (after, lines, refl, sym over, λ on. absurd (false≢true (sym on ∙ over)))
@@ -78,7 +78,7 @@ stays_taken was false old new (after, opens, waits, lines) = (after, lines, refl
 
 -- ---- all of them
 
-pub begun_ready : (connections : List Connection) (lines : Lines) → lines ≡ all_open → AreOf connections all_open → AreReady connections lines
+pub begun_ready : (connections : List TranscriptConnection) (lines : Lines) → lines ≡ all_open → AreOf connections all_open → AreReady connections lines
 unfolding AreReady
 begun_ready connections lines opened are = (
   subst (λ (ls : Lines). AreOf connections ls) (sym opened) are,
@@ -86,7 +86,7 @@ begun_ready connections lines opened are = (
   subst (λ (ls : Lines). All HasRoom ls) (sym opened) (All-replicate HasRoom 64 (Some empty_stream) (λ on. omega arith)),
 )
 
-pub ready_put : (connections are : List Connection) (lines new : Lines) (number : ℕ) (was is : Connection) → AreReady connections lines
+pub ready_put : (connections are : List TranscriptConnection) (lines new : Lines) (number : ℕ) (was is : TranscriptConnection) → AreReady connections lines
     → slice_get connections number ≡ Some was → StaysReady was is lines new → are ≡ slice_set connections number is → AreReady are new
 unfolding AreReady StaysReady
 ready_put connections are lines new number was is ready held (after, put, same, ended, room) set =

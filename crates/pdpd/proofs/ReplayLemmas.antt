@@ -1,127 +1,28 @@
 -- The entries of a transcript, read and answered one after another.
-use Rattle.std.proofs.Common.{◌≡◌, ◌≢◌, ℕ, ◌+◌, Bool, true, false, List, [], ◌∷◌, ◌++◌, length, Option, Some, None, Ok, Err, refl, sym, ap, subst, ◌∙◌, append_assoc, append-nil, length-append, set-set, arith, ◌⊎◌, inl, inr}
-use Rattle.std.specs.Prelude.{⊤, ◌<◌, IfOk, IsFalse, IsTrue, OnOk, Result, slice_get, slice_set}
+use Rattle.std.proofs.Common.{◌≡◌, ℕ, ◌+◌, Bool, true, false, List, [], ◌∷◌, ◌++◌, length, Option, Some, None, Err, refl, sym, ap, subst, ◌∙◌, append_assoc, append-nil, length-append, arith, ◌⊎◌, inl, inr}
+use Rattle.std.specs.Prelude.{⊤, IsFalse, IsTrue}
 use Rattle.std.specs.Io.KnownBytes.{Appends, Consumes, Keeps, append_known}
 use Rattle.std.proofs.lemmas.Bool.{false≢true}
 use Rattle.xa_http.specs.Stream.{Stream}
-use Rattle.xa_server.specs.declared.lines.Conn.{Conn}
 use Rattle.xa_server.specs.declared.replies.Reply.{Reply}
 use Rattle.xa_server.specs.Alone.{Event}
 use Rattle.xa_records.specs.Keeper.{Custody}
 use Rattle.xa_server.specs.Front.{Fronted, FrontState, ServerState, front_state, server_state}
-use Rattle.xa_server.specs.Lines.{IsOpen, Lines, empty_stream, first_free, with_line}
 use Rattle.xa_server.specs.Served.{IsRun}
 use Rattle.xa_server.specs.Tally.{nothing_held}
 use Rattle.xa_server.specs.World.{World}
 use Rattle.xa_server.proofs.ConnectionLemmas.{appends_none, appends_trans, consumes_none, consumes_trans, run_trans}
 use Rattle.xa_server.proofs.IsolationLemmas.{isolated}
-use Rattle.pdpd.specs.declared.connection.Connection.{Connection}
+use Rattle.pdpd.specs.declared.transcript_connection.TranscriptConnection.{TranscriptConnection}
 use Rattle.pdpd.specs.declared.exit.Exit.{Exit}
 use Rattle.pdpd.specs.declared.exit.Exit.TheVariants as exit
 use Rattle.pdpd.specs.declared.heading.Heading.{Heading}
 use Rattle.pdpd.specs.declared.transcript.ReadFault.{ReadFault}
 use Rattle.pdpd.specs.declared.transcript.ReadFault.TheVariants as read
-use Rattle.pdpd.specs.declared.transcript_fault.TranscriptFault.{TranscriptFault}
 use Rattle.pdpd.specs.Exit.{breaks_off, exit_of_read, tells_of_entries}
 use Rattle.pdpd.specs.Replay.{AreEntries, AreReplied, ConnectionTakes, Entry, Exchange, Gave, IsEntryReplied, IsReplayed, IsTranscriptRead, OpenTakes, Replays, StreamTakes, all_open, beginning, followed, no_exchange}
-use Rattle.pdpd.specs.Replaying.{AreOf, AreReady, IsBegun, Takes, TakesAsHeld, TakesOpen, Writes, connections_from}
+use Rattle.pdpd.specs.Replaying.{AreOf, AreReady, TakesAsHeld, Writes}
 use Rattle.pdpd.specs.Transcript.{IsEntry, IsNoEntry, Rejects, TakesEntry, TakesOrRejects}
-use Rattle.pdpd.proofs.ConnectionLemmas.{line_found, line_put, some_number}
-use Rattle.pdpd.proofs.PieceLemmas.{set_same}
-
--- ---- what a connection takes
-
--- no bytes close it, and the next begins in its place
-pub closed : (heading : Heading) (bytes : List ℕ) (was is : Connection) (old mid new : FrontState) (before : Option (List ℕ)) → bytes ≡ []
-    → mid.lines ≡ with_line was.conn None old.lines → mid.server ≡ old.server → IsBegun is mid.lines new.lines → new.server ≡ mid.server
-    → Takes heading bytes was is old new before before
-unfolding Takes
-closed heading bytes was is old mid new before none finished first begun later = λ stream line.
-    let least : is.conn.number ≡ was.conn.number
-    = some_number is.conn.number was.conn.number (sym begun.least ∙ ap first_free finished ∙ line.free) in
-    let same : is.conn ≡ was.conn = λ i. record { number = least i } in
-    let server : new.server ≡ old.server = later ∙ first in
-    record {
-      after = empty_stream;
-      takes = (
-        no_exchange,
-        appends_none before,
-        subst (λ (bs : List ℕ). ConnectionTakes heading bs stream empty_stream old new no_exchange) (sym none) (refl, server, refl),
-      );
-      lines =
-          begun.lines
-          ∙ ap (λ (c : Conn). with_line c (Some empty_stream) mid.lines) same
-          ∙ ap (λ (ls : Lines). with_line was.conn (Some empty_stream) ls) finished
-          ∙ set-set old.lines was.conn.number None (Some empty_stream);
-      same = same;
-      ended = begun.goes_on;
-    }
-
-pub closed_as : (sound : Type 0) (heading : Heading) (bytes : List ℕ) (was : Connection) (old mid new : FrontState) (before : Option (List ℕ)) (result : Result Connection Exit) → bytes ≡ []
-    → mid.lines ≡ with_line was.conn None old.lines → (sound → mid.server ≡ old.server) → IfOk result (λ is. IsBegun is mid.lines new.lines)
-    → OnOk result (sound → new.server ≡ mid.server) → IfOk result (λ is. sound → Takes heading bytes was is old new before before)
-closed_as sound heading bytes was old mid new before (Ok is) none finished first begun later = λ kept.
-    closed heading bytes was is old mid new before none finished (first kept) begun (later kept)
-closed_as sound heading bytes was old mid new before (Err exit) none finished first begun later = tt
-
--- bytes are passed over where its session has ended
-pub passed_over : (heading : Heading) (bytes : List ℕ) (was : Connection) (front : FrontState) (before : Option (List ℕ)) → bytes ≢ [] → was.has_ended ≡ true
-    → Takes heading bytes was was front front before before
-unfolding Takes
-passed_over heading [] was front before some ended = absurd (some refl)
-passed_over heading (byte ∷ bytes) was front before some ended = λ stream line.
-    let over : stream.ended ≡ true = sym line.ended ∙ ended in
-    record {
-      after = stream;
-      takes = (
-        no_exchange,
-        appends_none before,
-        subst (λ (b : Bool). OpenTakes b heading (byte ∷ bytes) stream stream front front no_exchange) (sym over) (refl, refl, refl),
-      );
-      lines = sym (set_same front.lines was.conn.number stream line.line);
-      same = refl;
-      ended = line.ended;
-    }
-
--- and else taken
-pub gone_on : (heading : Heading) (bytes : List ℕ) (was : Connection) (has_ended : Bool) (old new : FrontState) (before now : Option (List ℕ)) → bytes ≢ []
-    → was.has_ended ≡ false → TakesOpen was.conn heading bytes old new has_ended before now
-    → Takes heading bytes was (record { conn = was.conn; has_ended = has_ended }) old new before now
-unfolding Takes TakesOpen
-gone_on heading [] was has_ended old new before now some goes_on takes = absurd (some refl)
-gone_on heading (byte ∷ bytes) was has_ended old new before now some goes_on takes = λ stream line.
-    let on : stream.ended ≡ false = sym line.ended ∙ goes_on in
-    let is = takes stream line.line on in
-    record {
-      after = is.after;
-      takes = (
-        is.takes.0,
-        is.takes.1,
-        subst (λ (b : Bool). OpenTakes b heading (byte ∷ bytes) stream is.after old new is.takes.0) (sym on) is.takes.2,
-      );
-      lines = is.lines;
-      same = refl;
-      ended = is.ended;
-    }
-
--- ---- an entry's connection
-
-pub entry_taken : (heading : Heading) (bytes : List ℕ) (held are : List Connection) (was is : Connection) (old new : FrontState) (before now : Option (List ℕ))
-    → slice_get held heading.connection ≡ Some was → Takes heading bytes was is old new before now → are ≡ slice_set held heading.connection is
-    → TakesAsHeld heading bytes held are old new before now
-unfolding Takes TakesAsHeld
-entry_taken heading bytes held are was is old new before now at takes put = λ known.
-    let conn : Conn = record { number = heading.connection } in
-    let there = line_found held old.lines heading.connection was known at in
-    let taken = takes there.0 there.1 in
-    let same : was.conn ≡ conn = there.2 in
-    let line : IsOpen conn old.lines there.0 = subst (λ (c : Conn). IsOpen c old.lines there.0) same there.1.line in
-    let lines : new.lines ≡ with_line conn (Some taken.after) old.lines = taken.lines ∙ ap (λ (c : Conn). with_line c (Some taken.after) old.lines) same in (
-      (taken.takes.0, taken.takes.1, (there.0, taken.after, line, taken.takes.2, lines)),
-      put
-          ∙ line_put held old.lines heading.connection was is taken.after known at (taken.same ∙ same) taken.ended
-          ∙ sym (ap (connections_from 0) lines),
-    )
 
 -- ---- what an entry takes is a run
 
@@ -301,7 +202,7 @@ unfoldable pub ReadTo : Option (List ℕ) → Option (List ℕ) → ℕ → Type
 ReadTo left rest number = SoFar (λ _. ⊤) left rest number
 
 -- and answered
-unfoldable pub AnsweredTo : List Connection → List Connection → FrontState → FrontState → Option (List ℕ) → Option (List ℕ) → Option (List ℕ) → Option (List ℕ) → ℕ → Type 0
+unfoldable pub AnsweredTo : List TranscriptConnection → List TranscriptConnection → FrontState → FrontState → Option (List ℕ) → Option (List ℕ) → Option (List ℕ) → Option (List ℕ) → ℕ → Type 0
 AnsweredTo held are old new left rest before now number = AreOf held old.lines → SoFar (Replays old new before now) left rest number × AreOf are new.lines
 
 pub given_none : (left : Option (List ℕ)) → ReadTo left left 1
@@ -323,11 +224,11 @@ pub given_badly : (left mid rest : Option (List ℕ)) (number : ℕ) (is : Optio
 unfolding ReadTo
 given_badly left mid rest number is f so_far rejects = read_badly (λ _. ⊤) left mid rest number is f so_far rejects
 
-pub answered_none : (held : List Connection) (front : FrontState) (left before : Option (List ℕ)) → AnsweredTo held held front front left left before before 1
+pub answered_none : (held : List TranscriptConnection) (front : FrontState) (left before : Option (List ℕ)) → AnsweredTo held held front front left left before before 1
 unfolding AnsweredTo
 answered_none held front left before = λ known. (read_none (Replays front front before before) left (replays_none front before), known)
 
-pub answered_more : (held were are : List Connection) (old mid new : FrontState) (left between rest before written now : Option (List ℕ)) (number : ℕ) (heading : Heading)
+pub answered_more : (held were are : List TranscriptConnection) (old mid new : FrontState) (left between rest before written now : Option (List ℕ)) (number : ℕ) (heading : Heading)
     (bytes : List ℕ) → AnsweredTo held were old mid left between before written number → TakesEntry between rest bytes (Some heading)
     → TakesAsHeld heading bytes were are mid new written now → AnsweredTo held are old new left rest before now (number + 1)
 unfolding AnsweredTo TakesAsHeld
@@ -339,14 +240,14 @@ answered_more held were are old mid new left between rest before written now num
       is.1,
     )
 
-pub answered_all : (held are : List Connection) (old new : FrontState) (left mid rest before now : Option (List ℕ)) (number : ℕ) (bytes : List ℕ)
+pub answered_all : (held are : List TranscriptConnection) (old new : FrontState) (left mid rest before now : Option (List ℕ)) (number : ℕ) (bytes : List ℕ)
     → AnsweredTo held are old new left mid before now number → TakesEntry mid rest bytes None → AreOf held old.lines
     → IsTranscriptRead (Replays old new before now) left rest exit.Done
 unfolding AnsweredTo
 answered_all held are old new left mid rest before now number bytes so_far none known =
     read_all (Replays old new before now) left mid rest number bytes (so_far known).0 none
 
-pub answered_badly : (held are : List Connection) (old new : FrontState) (left mid rest before now : Option (List ℕ)) (number : ℕ) (is : Option Heading → Type 0)
+pub answered_badly : (held are : List TranscriptConnection) (old new : FrontState) (left mid rest before now : Option (List ℕ)) (number : ℕ) (is : Option Heading → Type 0)
     (f : ReadFault) → AnsweredTo held are old new left mid before now number → TakesOrRejects is (Rejects IsNoEntry mid rest) (Err f) → AreOf held old.lines
     → IsTranscriptRead (Replays old new before now) left rest (exit_of_read number f)
 unfolding AnsweredTo
@@ -370,7 +271,7 @@ replays_flushed old new before written now entries keeps r = record {
   wrote = flushed before written now r.exchange.written r.wrote keeps;
 }
 
-pub replayed_all : (connections : List Connection) (old mid new : FrontState) (left rest before written now : Option (List ℕ)) (exit : Exit) → mid.lines ≡ all_open
+pub replayed_all : (connections : List TranscriptConnection) (old mid new : FrontState) (left rest before written now : Option (List ℕ)) (exit : Exit) → mid.lines ≡ all_open
     → mid.server ≡ old.server → AreReady connections mid.lines
     → (AreOf connections mid.lines → IsTranscriptRead (Replays mid new before written) left rest exit)
     → Keeps written (append_known now [])

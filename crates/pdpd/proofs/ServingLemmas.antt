@@ -25,9 +25,11 @@ use Rattle.xa_server.proofs.IsolationLemmas.{isolated}
 use Rattle.pdpd.specs.Connections.{AreIsolated, IsConnectionServed}
 use Rattle.pdpd.specs.declared.fault.Fault.{Fault}
 use Rattle.pdpd.specs.declared.fault.Fault.TheVariants as variant
-use Rattle.pdpd.specs.declared.fault.Fault.TheVariants.{Address, Work, Reading, Views, Idle, TokenUnread, TokenBad, Store, Shut, Socket, Connection, Clock, Output, Memory}
+use Rattle.pdpd.specs.declared.fault.Fault.TheVariants.{Address, TokenUnread, TokenBad, Store, Shut, Socket, Connection, Clock, Output, Memory}
+use Rattle.pdpd.specs.declared.setting.Setting.{Setting}
+use Rattle.pdpd.specs.declared.setting.Setting.TheVariants as set
 use Rattle.pdpd.specs.Fault.{IsNoAddress, IsOfConnections, IsOfFiles, IsOfServing, IsOfSetting, IsOfStore, IsOfToken, fault_of_end}
-use Rattle.pdpd.specs.Serving.{Serves, ServesOne}
+use Rattle.pdpd.specs.Serving.{IsOfSettings, Serves, ServesOne}
 use Rattle.pdpd.specs.Token.{IsOperator}
 use Rattle.pdpd.proofs.ConnectionLemmas.{none_some, some_number}
 
@@ -193,23 +195,29 @@ served_last count others old mid new same before is = subst (λ (n : ℕ). Serve
 
 -- ---- faults that are no fault of the address
 
-pub setting_not_address : (setting fault : Fault) → setting ≢ Address → IsOfSetting setting fault → fault ≢ Address
-setting_not_address setting fault other (inl same) = λ is. other (sym same ∙ is)
-setting_not_address setting fault other (inr same) = λ is. memory_not_address (sym same ∙ is)
-  where
-    memory_not_address : Memory ≡ Address → ⊥
-    memory_not_address same = cc
+set_not_address : (setting : Setting) → variant.Setting setting ≡ Address → ⊥
+set_not_address setting same = cc
+
+memory_not_address : Memory ≡ Address → ⊥
+memory_not_address same = cc
+
+setting_not_address : (setting : Setting) (fault : Fault) → IsOfSetting setting fault → fault ≢ Address
+setting_not_address setting fault (inl same) = λ is. set_not_address setting (sym same ∙ is)
+setting_not_address setting fault (inr same) = λ is. memory_not_address (sym same ∙ is)
+
+pub settings_not_address : (fault : Fault) → IsOfSettings fault → fault ≢ Address
+settings_not_address fault (inl is) = setting_not_address set.Work fault is
+settings_not_address fault (inr (inl is)) = setting_not_address set.Reply fault is
+settings_not_address fault (inr (inr (inl is))) = setting_not_address set.Reading fault is
+settings_not_address fault (inr (inr (inr (inl is)))) = setting_not_address set.Views fault is
+settings_not_address fault (inr (inr (inr (inr is)))) = setting_not_address set.Idle fault is
 
 pub token_not_address : (fault : Fault) → IsOfToken fault → fault ≢ Address
 token_not_address Address none = absurd none
 token_not_address TokenUnread is = λ same. cc
 token_not_address TokenBad is = λ same. cc
 token_not_address Memory is = λ same. cc
-token_not_address Work none = absurd none
-token_not_address variant.Reply none = absurd none
-token_not_address Reading none = absurd none
-token_not_address Views none = absurd none
-token_not_address Idle none = absurd none
+token_not_address (variant.Setting setting) none = absurd none
 token_not_address (Store fault) none = absurd none
 token_not_address Socket none = absurd none
 token_not_address Connection none = absurd none
@@ -223,11 +231,7 @@ store_not_address (Store fault) is = λ same. cc
 store_not_address Memory is = λ same. cc
 store_not_address TokenUnread none = absurd none
 store_not_address TokenBad none = absurd none
-store_not_address Work none = absurd none
-store_not_address variant.Reply none = absurd none
-store_not_address Reading none = absurd none
-store_not_address Views none = absurd none
-store_not_address Idle none = absurd none
+store_not_address (variant.Setting setting) none = absurd none
 store_not_address Socket none = absurd none
 store_not_address Connection none = absurd none
 store_not_address Clock none = absurd none
@@ -245,11 +249,7 @@ connections_are_served (Err Clock) is = tt
 connections_are_served (Err Shut) is = tt
 connections_are_served (Err Memory) is = tt
 connections_are_served (Err Address) none = absurd none
-connections_are_served (Err Work) none = absurd none
-connections_are_served (Err variant.Reply) none = absurd none
-connections_are_served (Err Reading) none = absurd none
-connections_are_served (Err Views) none = absurd none
-connections_are_served (Err Idle) none = absurd none
+connections_are_served (Err (variant.Setting setting)) none = absurd none
 connections_are_served (Err TokenUnread) none = absurd none
 connections_are_served (Err TokenBad) none = absurd none
 connections_are_served (Err (Store fault)) none = absurd none
@@ -267,11 +267,7 @@ serving_not_address Memory is = λ same. cc
 serving_not_address (Store fault) none = absurd none
 serving_not_address TokenUnread none = absurd none
 serving_not_address TokenBad none = absurd none
-serving_not_address Work none = absurd none
-serving_not_address variant.Reply none = absurd none
-serving_not_address Reading none = absurd none
-serving_not_address Views none = absurd none
-serving_not_address Idle none = absurd none
+serving_not_address (variant.Setting setting) none = absurd none
 
 -- where an address was found, its serving says that none was only if the text writes none
 pub address_found : {X : Type 0} (text : List ℕ) (address : SocketAddr) (result : Result X Fault) → IsSocketText text address → IfErr result IsOfServing

@@ -1,5 +1,5 @@
--- The command line, and the variables PDPD_WORK, PDPD_REPLY, PDPD_READING, PDPD_VIEWS and PDPD_IDLE of the environment.
-use Rattle.std.specs.Prelude.{ℕ, ◌==◌, ◌^◌, ◌-◌, List, [], ◌∷◌, Option, Some}
+-- The command line.
+use Rattle.std.specs.Prelude.{ℕ, ◌==◌, List, [], ◌∷◌, Option, Some}
 use Rattle.std.specs.Prelude.{None, if◌then◌else◌, bytes_eq, codes, option_map}
 use Rattle.std.specs.Option.{option_and_then}
 use Rattle.xa_value.specs.Digits.{number_up_to}
@@ -30,31 +30,3 @@ command_of (program ∷ word ∷ token ∷ []) = if bytes_eq word (codes "replay
 command_of (program ∷ word ∷ database ∷ address ∷ token_file ∷ connections ∷ []) =
     if bytes_eq word (codes "serve") then serving_of database address token_file connections else None
 command_of _ = None
-
--- the limit of work for one message, by what PDPD_WORK is set to, if it is: a number; 0 for none
-abbrev pub work_of : Option (List ℕ) → Option ℕ
-work_of None = Some 150_000_000
-work_of (Some text) = number_up_to 18_446_744_073_709_551_615 text
-
--- how many bytes the body of a response may have, by what PDPD_REPLY is set to, if it is: a number; 0 for any number
-abbrev pub reply_of : Option (List ℕ) → Option ℕ
-reply_of None = Some 16_777_216
-reply_of (Some text) = number_up_to 18_446_744_073_709_551_615 text
-
--- how many bytes of policies may be read for one message, by what PDPD_READING is set to, if it is: a number; 0 for
--- any number
-abbrev pub reading_of : Option (List ℕ) → Option ℕ
-reading_of None = Some 16_000_000
-reading_of (Some text) = number_up_to 18_446_744_073_709_551_615 text
-
--- how many bytes of memory the views of domains may take that are kept ready, by what PDPD_VIEWS is set to, if it is:
--- a number
-abbrev pub views_of : Option (List ℕ) → Option ℕ
-views_of None = Some 268_435_456
-views_of (Some text) = number_up_to 18_446_744_073_709_551_615 text
-
--- for how many seconds a connection may give nothing, or take nothing, by what PDPD_IDLE is set to, if it is: a
--- number; 0 for ever
-abbrev pub idle_of : Option (List ℕ) → Option ℕ
-idle_of None = Some 30
-idle_of (Some text) = number_up_to 18_446_744_073_709_551_615 text

@@ -10,18 +10,15 @@ use Rattle.xa_server.specs.declared.driven.Driven.TheVariants as driven
 use Rattle.pdpd.specs.declared.exit.Exit.{Exit}
 use Rattle.pdpd.specs.declared.exit.Exit.TheVariants as exit
 use Rattle.pdpd.specs.declared.fault.Fault.{Fault}
-use Rattle.pdpd.specs.declared.fault.Fault.TheVariants.{Address, Work, Reply, Reading, Views}
-use Rattle.pdpd.specs.declared.fault.Fault.TheVariants.{Idle, TokenUnread, TokenBad, Store, Shut}
+use Rattle.pdpd.specs.declared.fault.Fault.TheVariants as variant
+use Rattle.pdpd.specs.declared.fault.Fault.TheVariants.{Address, TokenUnread, TokenBad, Store, Shut}
 use Rattle.pdpd.specs.declared.fault.Fault.TheVariants.{Socket, Connection, Clock, Output, Memory}
+use Rattle.pdpd.specs.declared.setting.Setting.{Setting}
 
 -- how the program ends
 abbrev pub exit_of_fault : Fault → Exit
 exit_of_fault Address = exit.Usage
-exit_of_fault Work = exit.Usage
-exit_of_fault Reply = exit.Usage
-exit_of_fault Reading = exit.Usage
-exit_of_fault Views = exit.Usage
-exit_of_fault Idle = exit.Usage
+exit_of_fault (variant.Setting _) = exit.Usage
 exit_of_fault TokenUnread = exit.Usage
 exit_of_fault TokenBad = exit.Usage
 exit_of_fault (Store _) = exit.Store
@@ -70,8 +67,8 @@ IsOfServing Memory = ⊤
 IsOfServing _ = ⊥
 
 -- a setting
-abbrev pub IsOfSetting : Fault → Fault → Type 0
-IsOfSetting setting fault = (fault ≡ setting) ⊎ (fault ≡ Memory)
+abbrev pub IsOfSetting : Setting → Fault → Type 0
+IsOfSetting setting fault = (fault ≡ variant.Setting setting) ⊎ (fault ≡ Memory)
 
 -- a text writes no address
 abbrev pub IsNoAddress : List ℕ → Type 0

@@ -10,6 +10,7 @@ pub mod Reading
 pub mod Replay
 pub mod Replaying
 pub mod Serving
+pub mod Setting
 pub mod Telling
 pub mod Token
 pub mod Transcript

@@ -7,7 +7,7 @@ use Rattle.xa_http.specs.Stream.{Stream}
 use Rattle.xa_server.specs.Front.{FrontState}
 use Rattle.xa_server.specs.declared.lines.Conn.{Conn}
 use Rattle.xa_server.specs.Lines.{IsOpen, Lines, empty_stream, first_free, none_open, with_line}
-use Rattle.pdpd.specs.declared.connection.Connection.{Connection}
+use Rattle.pdpd.specs.declared.transcript_connection.TranscriptConnection.{TranscriptConnection}
 use Rattle.pdpd.specs.declared.exit.Exit.{Exit}
 use Rattle.pdpd.specs.declared.exit.Exit.TheVariants.{Done}
 use Rattle.pdpd.specs.declared.heading.Heading.{Heading}
@@ -25,24 +25,24 @@ Writes before now is = (exchange : Exchange) × Appends before now exchange.writ
 
 -- the connections from that number on, as far as they are open: each with its own number, and whether its session
 -- has ended
-abbrev pub connections_from : ℕ → Lines → List Connection
+abbrev pub connections_from : ℕ → Lines → List TranscriptConnection
 connections_from number [] = []
 connections_from number (None ∷ lines) = []
 connections_from number (Some stream ∷ lines) =
     record { conn = record { number = number }; has_ended = stream.ended } ∷ connections_from (suc number) lines
 
 -- the connections that are held are those of the lines
-abbrev pub AreOf : List Connection → Lines → Type 0
+abbrev pub AreOf : List TranscriptConnection → Lines → Type 0
 AreOf connections lines = connections ≡ connections_from 0 lines
 
 -- what is held of a connection that is open with the stream: were it closed, it would be the least that is free
-pub record IsLine (connection : Connection) (lines : Lines) (stream : Stream) : Type 0 where
+pub record IsLine (connection : TranscriptConnection) (lines : Lines) (stream : Stream) : Type 0 where
   pub line : IsOpen connection.conn lines stream
   pub ended : connection.has_ended ≡ stream.ended
   pub free : first_free (with_line connection.conn None lines) ≡ Some connection.conn.number
 
 -- the connection was opened: it is the least that was free, and holds nothing
-pub record IsBegun (connection : Connection) (old new : Lines) : Type 0 where
+pub record IsBegun (connection : TranscriptConnection) (old new : Lines) : Type 0 where
   pub least : first_free old ≡ Some connection.conn.number
   pub lines : new ≡ with_line connection.conn (Some empty_stream) old
   pub goes_on : connection.has_ended ≡ false
@@ -72,37 +72,37 @@ TakesOpen conn heading bytes old new has_ended before now =
 
 -- a connection took the bytes of an entry, and the replies were written; it stays the one of its number, and no other
 -- connection has changed
-pub record HasTaken (heading : Heading) (bytes : List ℕ) (was is : Connection) (old new : FrontState) (stream : Stream)
-    (before now : Option (List ℕ)) : Type 0 where
+pub record HasTaken (heading : Heading) (bytes : List ℕ) (was is : TranscriptConnection) (old new : FrontState)
+    (stream : Stream) (before now : Option (List ℕ)) : Type 0 where
   pub after : Stream
   pub takes : Writes before now (ConnectionTakes heading bytes stream after old new)
   pub lines : new.lines ≡ with_line was.conn (Some after) old.lines
   pub same : is.conn ≡ was.conn
   pub ended : is.has_ended ≡ after.ended
 
-unfoldable pub Takes : Heading → List ℕ → Connection → Connection → FrontState → FrontState → Option (List ℕ)
-    → Option (List ℕ) → Type 0
+unfoldable pub Takes : Heading → List ℕ → TranscriptConnection → TranscriptConnection → FrontState → FrontState
+    → Option (List ℕ) → Option (List ℕ) → Type 0
 Takes heading bytes was is old new before now =
     (stream : Stream) → IsLine was old.lines stream → HasTaken heading bytes was is old new stream before now
 
 -- an entry was answered, and the replies written; what is held of the connections is right afterwards, if it was before
-unfoldable pub TakesAsHeld : Heading → List ℕ → List Connection → List Connection → FrontState → FrontState
-    → Option (List ℕ) → Option (List ℕ) → Type 0
+unfoldable pub TakesAsHeld : Heading → List ℕ → List TranscriptConnection → List TranscriptConnection → FrontState
+    → FrontState → Option (List ℕ) → Option (List ℕ) → Type 0
 TakesAsHeld heading bytes was are old new before now =
     AreOf was old.lines → Writes before now (IsEntryReplied heading bytes old new) × AreOf are new.lines
 
 -- ---- between entries, whatever the keeper does
 
 -- what is held of the connections is right, all 64 are held, and each whose session goes on has room for a piece
-unfoldable pub AreReady : List Connection → Lines → Type 0
+unfoldable pub AreReady : List TranscriptConnection → Lines → Type 0
 AreReady connections lines = AreOf connections lines × (length connections ≡ 64) × All HasRoom lines
 
 -- so it is with one of them
-unfoldable pub IsReady : Connection → Lines → Type 0
+unfoldable pub IsReady : TranscriptConnection → Lines → Type 0
 IsReady connection lines = (stream : Stream) × IsLine connection lines stream × HasRoom (Some stream)
 
 -- and stays, after what was done with it; no other has changed
-unfoldable pub StaysReady : Connection → Connection → Lines → Lines → Type 0
+unfoldable pub StaysReady : TranscriptConnection → TranscriptConnection → Lines → Lines → Type 0
 StaysReady was is old new =
     (after : Stream) × (new ≡ with_line was.conn (Some after) old) × (is.conn ≡ was.conn)
     × (is.has_ended ≡ after.ended) × HasRoom (Some after)

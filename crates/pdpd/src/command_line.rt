@@ -1,6 +1,5 @@
-//! The command line, and the variables PDPD_WORK, PDPD_REPLY, PDPD_READING, PDPD_VIEWS and PDPD_IDLE of
-//! the environment.
-ghost use Rattle.std.specs.Prelude.{◌≡◌, map, option_map, string_bytes};
+//! The command line.
+ghost use Rattle.std.specs.Prelude.{◌≡◌, map, string_bytes};
 ghost use Rattle.pdpd.specs.CommandLine as spec;
 
 use std::alloc::Allocator;
@@ -8,23 +7,6 @@ use xa_value::{TextRef, number_up_to};
 
 /// At most this many connections are served.
 const MAX_CONNECTIONS: usize = 1_000_000;
-
-/// The limit of work for one message where PDPD_WORK isn't set: some 0.3 seconds, in which everybody else
-/// waits. The dearest honest ask measured takes 3,500,000.
-const WORK: usize = 150_000_000;
-
-/// How many bytes the body of a response may have where PDPD_REPLY isn't set: 16 MiB.
-const REPLY: usize = 16_777_216;
-
-/// How many bytes of policies may be read for one message where PDPD_READING isn't set.
-const READING: usize = 16_000_000;
-
-/// How many bytes of memory the views of domains may take that are kept ready where PDPD_VIEWS isn't set:
-/// 256 MiB.
-const VIEWS: usize = 268_435_456;
-
-/// For how many seconds a connection may give nothing, or take nothing, where PDPD_IDLE isn't set.
-const IDLE: usize = 30;
 
 /// What `pdpd serve` is asked to do.
 #[derive(Drop)]
@@ -118,57 +100,5 @@ pub fn command_of<A: Allocator>(words: &[String<A>]) -> Option<Command<'_>>
             )
         }
         _ => None,
-    }
-}
-
-/// The limit of work for one message, by what PDPD_WORK is set to; 0 for none.
-pub fn work_of(set: Option<&str>) -> Option<usize>
-    ensures { result ≡ spec.work_of (option_map (λ text. text.now) set.entry) }
-{
-    match set {
-        None => Some(WORK),
-        Some(text) => number_up_to(usize::MAX, text.as_bytes()),
-    }
-}
-
-/// How many bytes the body of a response may have, by what PDPD_REPLY is set to; 0 for any number.
-pub fn reply_of(set: Option<&str>) -> Option<usize>
-    ensures { result ≡ spec.reply_of (option_map (λ text. text.now) set.entry) }
-{
-    match set {
-        None => Some(REPLY),
-        Some(text) => number_up_to(usize::MAX, text.as_bytes()),
-    }
-}
-
-/// How many bytes of policies may be read for one message, by what PDPD_READING is set to; 0 for any number.
-pub fn reading_of(set: Option<&str>) -> Option<usize>
-    ensures { result ≡ spec.reading_of (option_map (λ text. text.now) set.entry) }
-{
-    match set {
-        None => Some(READING),
-        Some(text) => number_up_to(usize::MAX, text.as_bytes()),
-    }
-}
-
-/// How many bytes of memory the views of domains may take that are kept ready, by what PDPD_VIEWS is set
-/// to; by 0 none is kept.
-pub fn views_of(set: Option<&str>) -> Option<usize>
-    ensures { result ≡ spec.views_of (option_map (λ text. text.now) set.entry) }
-{
-    match set {
-        None => Some(VIEWS),
-        Some(text) => number_up_to(usize::MAX, text.as_bytes()),
-    }
-}
-
-/// For how many seconds a connection may give nothing, or take nothing, by what PDPD_IDLE is set
-/// to; 0 for ever.
-pub fn idle_of(set: Option<&str>) -> Option<usize>
-    ensures { result ≡ spec.idle_of (option_map (λ text. text.now) set.entry) }
-{
-    match set {
-        None => Some(IDLE),
-        Some(text) => number_up_to(usize::MAX, text.as_bytes()),
     }
 }

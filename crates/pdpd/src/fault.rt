@@ -5,6 +5,7 @@ ghost use Rattle.pdpd.specs.Fault.{exit_of_fault};
 
 use crate::command_line::Serving;
 use crate::exit::Exit;
+use crate::setting::Setting;
 use std::alloc::{AllocError, AllocFailed};
 use std::fmt;
 
@@ -66,16 +67,8 @@ impl StoreFault {
 pub enum Fault {
     /// The address is no IP address with a port.
     Address,
-    /// PDPD_WORK is no number.
-    Work,
-    /// PDPD_REPLY is no number.
-    Reply,
-    /// PDPD_READING is no number.
-    Reading,
-    /// PDPD_VIEWS is no number.
-    Views,
-    /// PDPD_IDLE is no number.
-    Idle,
+    /// The variable of that setting is set to no number.
+    Setting(Setting),
     /// The token file can't be read.
     TokenUnread,
     /// Its first line is no token.
@@ -103,14 +96,9 @@ impl Fault {
         ensures serving { IsTrue (ends_serving result) }
     {
         match self {
-            Fault::Address
-            | Fault::Work
-            | Fault::Reply
-            | Fault::Reading
-            | Fault::Views
-            | Fault::Idle
-            | Fault::TokenUnread
-            | Fault::TokenBad => Exit::Usage,
+            Fault::Address | Fault::Setting(_) | Fault::TokenUnread | Fault::TokenBad => {
+                Exit::Usage
+            }
             Fault::Store(_) | Fault::Shut => Exit::Store,
             Fault::Socket | Fault::Connection | Fault::Clock => Exit::Socket,
             Fault::Output => Exit::Failed,
@@ -122,13 +110,7 @@ impl Fault {
     fn advice(self) -> &'static str {
         match self {
             Fault::Address => "not an IP address, `:` and a port, such as 127.0.0.1:8080",
-            Fault::Work => "PDPD_WORK is to be a number of units of work, or 0 for no limit",
-            Fault::Reply => "PDPD_REPLY is to be a number of bytes, or 0 for no limit",
-            Fault::Reading => {
-                "PDPD_READING is to be a number of bytes of policies, or 0 for no limit"
-            }
-            Fault::Views => "PDPD_VIEWS is to be a number of bytes of memory, or 0 for none",
-            Fault::Idle => "PDPD_IDLE is to be a number of seconds, or 0 for no limit",
+            Fault::Setting(setting) => setting.advice(),
             Fault::TokenUnread =>
                 "can't be read; its first line is to be the operator's token (8 to 64 visible ASCII characters)",
             Fault::TokenBad => "its first line is no token (8 to 64 visible ASCII characters)",
@@ -150,14 +132,7 @@ impl Fault {
             Fault::TokenUnread | Fault::TokenBad => Some(serving.token_file.as_str()),
             Fault::Store(_) | Fault::Shut => Some(serving.database.as_str()),
             Fault::Address | Fault::Socket | Fault::Connection => Some(serving.address.as_str()),
-            Fault::Work
-            | Fault::Reply
-            | Fault::Reading
-            | Fault::Views
-            | Fault::Idle
-            | Fault::Clock
-            | Fault::Output
-            | Fault::Memory => None,
+            Fault::Setting(_) | Fault::Clock | Fault::Output | Fault::Memory => None,
         }
     }
 }

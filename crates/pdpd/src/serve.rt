@@ -8,23 +8,25 @@ ghost use Rattle.xa_server.specs.Front.{FrontState, front_state};
 ghost use Rattle.xa_server.specs.Lines.{none_open};
 ghost use Rattle.xa_server.specs.Tally.{nothing_held};
 ghost use Rattle.xa_store.specs.KeeperReading.{custody_by};
-ghost use Rattle.pdpd.specs.declared.fault.Fault.TheVariants.{Address, Connection, Idle, Memory};
-ghost use Rattle.pdpd.specs.declared.fault.Fault.TheVariants.{Reading, Reply, Views, Work};
+ghost use Rattle.pdpd.specs.declared.fault.Fault.TheVariants.{Address, Connection};
 ghost use Rattle.pdpd.specs.Connections.{AreIsolated, IsConnectionServed};
-ghost use Rattle.pdpd.specs.Fault.{IsNoAddress, IsOfConnections, IsOfFiles, IsOfServing, IsOfSetting};
+ghost use Rattle.pdpd.specs.Fault.{IsNoAddress, IsOfConnections, IsOfFiles, IsOfServing};
 ghost use Rattle.pdpd.specs.Fault.{fault_of_end, goes_on_after, is_of_network, is_passing, is_want_of_room};
 ghost use Rattle.pdpd.specs.Serving.{Serves, ServesOne};
 ghost use Rattle.pdpd.specs.Token.{IsOperator};
 
-use crate::command_line::{Serving, idle_of, reading_of, reply_of, views_of, work_of};
+use crate::command_line::Serving;
+use crate::errno::{
+    EHOSTDOWN, EMFILE, ENFILE, ENOBUFS, ENOMEM, ENONET, ENOPROTOOPT, EOPNOTSUPP, EPROTO,
+};
 use crate::fault::Fault;
 use crate::settings::{Settings, front_of_tables};
 use crate::store::{FileRecords, records_in_file};
 use crate::token::operator_of_file;
 use crate::wall_clock::WallClock;
-use std::env::{self, VarError};
 use std::io::{self, ErrorKind};
 use std::net::{SocketAddr, TcpListener, TcpStream};
+use std::rt::HostRuntime;
 use std::thread;
 use std::time::Duration;
 use xa_records::Records;
@@ -55,19 +57,21 @@ fn is_passing(kind: ErrorKind) -> bool
     )
 }
 
-/// Whether a failure of that number was the network's: EPROTO, ENOPROTOOPT, EHOSTDOWN, ENONET or
-/// EOPNOTSUPP, which have no kind of their own.
+/// Whether a failure of that number, which has no kind of its own, was the network's.
 fn is_of_network(number: u32) -> bool
     ensures { result ≡ is_of_network number }
 {
-    matches!(number, 71 | 92 | 112 | 64 | 95)
+    matches!(
+        number,
+        EPROTO | ENOPROTOOPT | EHOSTDOWN | ENONET | EOPNOTSUPP
+    )
 }
 
-/// Whether by a failure of that number there was no room for a connection: EMFILE, ENFILE, ENOMEM or ENOBUFS.
+/// Whether by a failure of that number there was no room for a connection.
 fn is_want_of_room(number: u32) -> bool
     ensures { result ≡ is_want_of_room number }
 {
-    matches!(number, 24 | 23 | 12 | 105)
+    matches!(number, EMFILE | ENFILE | ENOMEM | ENOBUFS)
 }
 
 /// The system's number of a failure; 0 where it has none.
@@ -89,19 +93,6 @@ fn wait_after(rt: &HostRuntime, kind: ErrorKind, number: u32) -> Result<(), Faul
     }
     if is_passing(kind) || is_of_network(number) {
         return Ok(());
-    }
-    Err(Fault::Connection)
-}
-
-/// The next connection.
-fn next_connection(rt: &HostRuntime, listener: &TcpListener) -> Result<TcpStream, Fault>
-    ensures { IfErr result (λ fault. fault ≡ Connection) }
-{
-    for _ in 0..MAX_FAILURES {
-        match listener.accept() {
-            Ok((stream, _peer)) => return Ok(stream),
-            Err(error) => wait_after(rt, error.kind(), number_of(&error))?,
-        }
     }
     Err(Fault::Connection)
 }
@@ -132,6 +123,33 @@ fn prepare(stream: &TcpStream, idle: usize) {
     // These fail only at a wait of no time, or of a stream that is gone, where the next read fails.
     let _ = stream.set_read_timeout(Some(wait));
     let _ = stream.set_write_timeout(Some(wait));
+}
+
+/// Where connections are taken.
+#[derive(Drop)]
+struct Listening {
+    rt: HostRuntime,
+    listener: TcpListener,
+    /// For how many seconds each may give nothing, or take nothing; 0 for ever.
+    idle: usize,
+}
+
+impl Listening {
+    /// The next connection, prepared.
+    fn next_connection(&self) -> Result<TcpStream, Fault>
+        ensures { IfErr result (λ fault. fault ≡ Connection) }
+    {
+        for _ in 0..MAX_FAILURES {
+            match self.listener.accept() {
+                Ok((stream, _peer)) => {
+                    prepare(&stream, self.idle);
+                    return Ok(stream);
+                }
+                Err(error) => wait_after(&self.rt, error.kind(), number_of(&error))?,
+            }
+        }
+        Err(Fault::Connection)
+    }
 }
 
 /// Serves a connection, each message at the clock's moment, until it ends (`xa_server`, `drive`).
@@ -166,11 +184,9 @@ fn serve_connection<R: Records, I: Reader, W: Writer, C: Clock>(
 /// Takes a connection and serves it.
 #[tactic(auto, using(crate::proofs::ServingLemmas::served_one))]
 fn serve_next<R: Records, C: Clock>(
-    rt: &HostRuntime,
     front: &mut Front<R>,
-    listener: &TcpListener,
+    listening: &Listening,
     clock: &mut C,
-    idle: usize,
 ) -> Result<(), Fault>
     requires { front.old.lines ≡ none_open }
     ensures served { OnOk result ((R.custody front.new.server.records).sound
@@ -179,8 +195,7 @@ fn serve_next<R: Records, C: Clock>(
     ensures sound { (R.custody front.new.server.records).sound → (R.custody front.old.server.records).sound }
     ensures err { IfErr result IsOfConnections }
 {
-    let stream = next_connection(rt, listener)?;
-    prepare(&stream, idle);
+    let stream = listening.next_connection()?;
     serve_connection(front, &mut &stream, &mut &stream, clock)
 }
 
@@ -188,12 +203,10 @@ fn serve_next<R: Records, C: Clock>(
 /// come: who comes later is refused at once.
 #[tactic(auto, using(crate::proofs::ServingLemmas::served_none, crate::proofs::ServingLemmas::served_one, crate::proofs::ServingLemmas::served_more, crate::proofs::ServingLemmas::served_last))]
 fn serve_connections<R: Records, C: Clock>(
-    rt: &HostRuntime,
     front: &mut Front<R>,
-    listener: TcpListener,
+    listening: Listening,
     clock: &mut C,
     connections: usize,
-    idle: usize,
 ) -> Result<(), Fault>
     requires { front.old.lines ≡ none_open }
     ensures served { OnOk result ((R.custody front.new.server.records).sound
@@ -206,11 +219,10 @@ fn serve_connections<R: Records, C: Clock>(
         return Ok(());
     };
     for _ in 0..others {
-        serve_next(rt, front, &listener, clock, idle)?;
+        serve_next(front, &listening, clock)?;
     }
-    let stream = next_connection(rt, &listener)?;
-    drop(listener);
-    prepare(&stream, idle);
+    let stream = listening.next_connection()?;
+    drop(listening);
     serve_connection(front, &mut &stream, &mut &stream, clock)
 }
 
@@ -236,13 +248,16 @@ fn serve_at<R: Records>(
     if println!(rt; "listening {}", serving.address.as_str()).is_err() {
         return Err(Fault::Output);
     }
-    serve_connections(
-        rt,
-        front,
+    let listening = Listening {
+        rt: *rt,
         listener,
+        idle,
+    };
+    serve_connections(
+        front,
+        listening,
         &mut WallClock::new(rt),
         serving.connections,
-        idle,
     )
 }
 
@@ -255,71 +270,6 @@ fn address_of(word: &str) -> Result<SocketAddr, Fault>
         Ok(address) => Ok(address),
         Err(_) => Err(Fault::Address),
     }
-}
-
-/// The limit of work for one message, by the environment; 0 for none.
-fn work(rt: &HostRuntime) -> Result<usize, Fault>
-    ensures { IfErr result (IsOfSetting Work) }
-{
-    let work = match env::var(rt, "PDPD_WORK") {
-        Ok(set) => work_of(Some(set.as_str())),
-        Err(VarError::NotPresent) => work_of(None),
-        Err(VarError::NotUnicode) => None,
-        Err(VarError::OutOfMemory) => return Err(Fault::Memory),
-    };
-    work.ok_or(Fault::Work)
-}
-
-/// How many bytes the body of a response may have, by the environment; 0 for any number.
-fn reply(rt: &HostRuntime) -> Result<usize, Fault>
-    ensures { IfErr result (IsOfSetting Reply) }
-{
-    let bytes = match env::var(rt, "PDPD_REPLY") {
-        Ok(set) => reply_of(Some(set.as_str())),
-        Err(VarError::NotPresent) => reply_of(None),
-        Err(VarError::NotUnicode) => None,
-        Err(VarError::OutOfMemory) => return Err(Fault::Memory),
-    };
-    bytes.ok_or(Fault::Reply)
-}
-
-/// How many bytes of policies may be read for one message, by the environment; 0 for any number.
-fn reading(rt: &HostRuntime) -> Result<usize, Fault>
-    ensures { IfErr result (IsOfSetting Reading) }
-{
-    let bytes = match env::var(rt, "PDPD_READING") {
-        Ok(set) => reading_of(Some(set.as_str())),
-        Err(VarError::NotPresent) => reading_of(None),
-        Err(VarError::NotUnicode) => None,
-        Err(VarError::OutOfMemory) => return Err(Fault::Memory),
-    };
-    bytes.ok_or(Fault::Reading)
-}
-
-/// How many bytes of memory the views of domains may take that are kept ready, by the environment.
-fn views(rt: &HostRuntime) -> Result<usize, Fault>
-    ensures { IfErr result (IsOfSetting Views) }
-{
-    let bytes = match env::var(rt, "PDPD_VIEWS") {
-        Ok(set) => views_of(Some(set.as_str())),
-        Err(VarError::NotPresent) => views_of(None),
-        Err(VarError::NotUnicode) => None,
-        Err(VarError::OutOfMemory) => return Err(Fault::Memory),
-    };
-    bytes.ok_or(Fault::Views)
-}
-
-/// For how many seconds a connection may give nothing, or take nothing, by the environment; 0 for ever.
-fn idle(rt: &HostRuntime) -> Result<usize, Fault>
-    ensures { IfErr result (IsOfSetting Idle) }
-{
-    let idle = match env::var(rt, "PDPD_IDLE") {
-        Ok(set) => idle_of(Some(set.as_str())),
-        Err(VarError::NotPresent) => idle_of(None),
-        Err(VarError::NotUnicode) => None,
-        Err(VarError::OutOfMemory) => return Err(Fault::Memory),
-    };
-    idle.ok_or(Fault::Idle)
 }
 
 /// The front of a server over the store in the file, for the operator whose token is the first line
@@ -343,7 +293,7 @@ fn front_of_files(
 /// token file. Gives back the front as they have left it. Faults are looked for in this order: the
 /// address, PDPD_WORK, PDPD_REPLY, PDPD_READING, PDPD_VIEWS, PDPD_IDLE, the token file, the store, the
 /// socket.
-#[tactic(auto, using(crate::proofs::ServingLemmas::setting_not_address, crate::proofs::ServingLemmas::files_not_address, crate::proofs::ServingLemmas::serving_not_address, crate::proofs::ServingLemmas::address_found))]
+#[tactic(auto, using(crate::proofs::ServingLemmas::settings_not_address, crate::proofs::ServingLemmas::files_not_address, crate::proofs::ServingLemmas::serving_not_address, crate::proofs::ServingLemmas::address_found))]
 pub fn serve(rt: &HostRuntime, serving: &Serving<'_>) -> Result<Front<FileRecords>, Fault>
     ensures served { IfOk result (λ front. (custody_by over_files front.server.records).sound
         → (old : FrontState) × IsOperator old.server.world.operator × (old.server.tally ≡ nothing_held)
@@ -352,19 +302,9 @@ pub fn serve(rt: &HostRuntime, serving: &Serving<'_>) -> Result<Front<FileRecord
     ensures address { (result ≡ Err Address) ↔ IsNoAddress serving.now.address }
 {
     let address = address_of(serving.address.as_str())?;
-    let work = work(rt)?;
-    let reply = reply(rt)?;
-    let reading = reading(rt)?;
-    let views = views(rt)?;
-    let idle = idle(rt)?;
-    let settings = Settings {
-        work,
-        reply,
-        reading,
-        views,
-    };
+    let settings = Settings::read(rt)?;
     let mut front = front_of_files(rt, serving, settings)?;
-    match serve_at(rt, &mut front, address, serving, idle) {
+    match serve_at(rt, &mut front, address, serving, settings.idle) {
         Ok(()) => Ok(front),
         Err(fault) => Err(fault),
     }

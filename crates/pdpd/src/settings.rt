@@ -4,15 +4,18 @@ ghost use Rattle.std.specs.Prelude.{◌≡◌, IfErr, IfOk};
 ghost use Rattle.xa_server.specs.Lines.{none_open};
 ghost use Rattle.xa_server.specs.Tally.{nothing_held};
 ghost use Rattle.pdpd.specs.declared.fault.Fault.TheVariants.{Memory};
+ghost use Rattle.pdpd.specs.Serving.{IsOfSettings};
 
 use crate::fault::Fault;
+use crate::setting::Setting;
 use sqlite::Alter;
 use std::alloc::Global;
 use xa_records::{Digest, Records};
 use xa_server::{Front, Server};
 use xa_store::SqlRecords;
 
-/// What an operator has set of the limits of a message, each 0 for none, and of the room for views.
+/// What an operator has set of the limits of a message, each 0 for none, of the room for views, and of how
+/// long a connection is waited for.
 #[derive(Clone, Copy)]
 pub struct Settings {
     /// The units of work of a decision.
@@ -23,6 +26,23 @@ pub struct Settings {
     pub reading: usize,
     /// The bytes of memory that the views of domains may take, which are kept ready.
     pub views: usize,
+    /// For how many seconds a connection may give nothing, or take nothing; 0 for ever.
+    pub idle: usize,
+}
+
+impl Settings {
+    /// What the environment sets, or the fault of the first variable that is set to no number.
+    pub fn read(rt: &HostRuntime) -> Result<Settings, Fault>
+        ensures { IfErr result IsOfSettings }
+    {
+        Ok(Settings {
+            work: Setting::Work.value(rt)?,
+            reply: Setting::Reply.value(rt)?,
+            reading: Setting::Reading.value(rt)?,
+            views: Setting::Views.value(rt)?,
+            idle: Setting::Idle.value(rt)?,
+        })
+    }
 }
 
 /// The server with that limit of work for one message; 0 for none.

@@ -1,5 +1,5 @@
 use Rattle.pdpd.proofs.ConnectionLemmas.{finishes_unrefused}
-use Rattle.pdpd.proofs.connection.finish.Goals as goal
+use Rattle.pdpd.proofs.transcript_connection.finish.Goals as goal
 
 pub unreachable-requires-in-Err : goal.unreachable-requires-in-Err
 unreachable-requires-in-Err g c =

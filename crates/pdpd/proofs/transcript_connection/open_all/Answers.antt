@@ -1,6 +1,6 @@
 use Rattle.std.proofs.Common.{◌≡◌, ℕ, arith, subst}
 use Rattle.pdpd.proofs.ConnectionLemmas.{BegunTo, all_begun}
-use Rattle.pdpd.proofs.connection.open_all.Goals as goal
+use Rattle.pdpd.proofs.transcript_connection.open_all.Goals as goal
 
 pub returns-clause-opened : goal.returns-clause-opened
 returns-clause-opened g c =

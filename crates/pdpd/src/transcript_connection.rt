@@ -17,7 +17,7 @@ use xa_server::{Conn, Event, Front, Outcome};
 /// One of the connections of a transcript: each is open from the beginning on, and where it is
 /// closed another begins in its place.
 #[derive(Clone, Copy)]
-pub struct Connection {
+pub struct TranscriptConnection {
     /// The connection of the front: it has the same number.
     pub conn: Conn,
     /// Whether its session has ended. Its further entries are passed over then, until it is closed.
@@ -42,7 +42,7 @@ fn outcome_of<R: Records>(front: &mut Front<R>, event: &Event<'_>) -> Result<Out
 
 /// Opens the connection of the least number that is free.
 #[tactic(auto, using(crate::proofs::ConnectionLemmas::begun, crate::proofs::ConnectionLemmas::begun_server))]
-pub fn begin<R: Records>(front: &mut Front<R>) -> Result<Connection, Exit>
+pub fn begin<R: Records>(front: &mut Front<R>) -> Result<TranscriptConnection, Exit>
     requires { HasFree front.old.lines }
     ensures begun { IfOk result (λ connection. IsBegun connection front.old.lines front.new.lines) }
     ensures server { OnOk result ((R.custody front.new.server.records).sound
@@ -54,7 +54,7 @@ pub fn begin<R: Records>(front: &mut Front<R>) -> Result<Connection, Exit>
         unreachable!()
     };
     match begun {
-        Ok(conn) => Ok(Connection {
+        Ok(conn) => Ok(TranscriptConnection {
             conn,
             has_ended: false,
         }),
@@ -83,7 +83,10 @@ pub fn finish<R: Records>(front: &mut Front<R>, conn: Conn) -> Result<(), Exit>
 
 /// Opens all connections, in the order of their numbers, where none is open.
 #[tactic(auto, using(crate::proofs::ConnectionLemmas::none_begun, crate::proofs::ConnectionLemmas::free_to, crate::proofs::ConnectionLemmas::one_more_begun, crate::proofs::ConnectionLemmas::all_begun))]
-pub fn open_all<R: Records>(alloc: Global, front: &mut Front<R>) -> Result<Vec<Connection>, Exit>
+pub fn open_all<R: Records>(
+    alloc: Global,
+    front: &mut Front<R>,
+) -> Result<Vec<TranscriptConnection>, Exit>
     requires { front.old.lines ≡ none_open }
     ensures opened { IfOk result (λ connections.
         (front.new.lines ≡ all_open) × AreOf connections.items all_open) }

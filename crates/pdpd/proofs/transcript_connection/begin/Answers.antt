@@ -1,5 +1,5 @@
 use Rattle.pdpd.proofs.ConnectionLemmas.{begins_unrefused}
-use Rattle.pdpd.proofs.connection.begin.Goals as goal
+use Rattle.pdpd.proofs.transcript_connection.begin.Goals as goal
 
 pub unreachable-requires-in-Err : goal.unreachable-requires-in-Err
 unreachable-requires-in-Err g c =

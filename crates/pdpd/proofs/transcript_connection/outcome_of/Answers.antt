@@ -2,7 +2,7 @@ use Rattle.std.proofs.Common.{List, rules, subst}
 use Rattle.xa_server.specs.declared.event.Event.{Event}
 use Rattle.xa_server.specs.Fronting.{PlaysLines}
 use Rattle.xa_server.proofs.OpenLemmas.{some_outcome}
-use Rattle.pdpd.proofs.connection.outcome_of.Goals as goal
+use Rattle.pdpd.proofs.transcript_connection.outcome_of.Goals as goal
 
 pub unreachable-requires : goal.unreachable-requires
 unreachable-requires g c =

@@ -3,7 +3,7 @@ use Rattle.std.specs.Io.Buffered.{writer_contents}
 use Rattle.xa_http.specs.Stream.{fed}
 use Rattle.xa_server.specs.Front.{front_state}
 use Rattle.pdpd.specs.Telling.{HasTold, LeavesAt, left_to_answer}
-use Rattle.pdpd.proofs.replay.Replayer.take_piece.Given as goal
+use Rattle.pdpd.proofs.replayer.Replayer.take_piece.Given as goal
 
 -- some messages are answered
 abbrev pub invariant-loop-progress : goal.invariant-loop-progress

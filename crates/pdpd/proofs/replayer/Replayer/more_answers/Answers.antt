@@ -6,7 +6,7 @@ use Rattle.xa_server.specs.Front.{front_state}
 use Rattle.pdpd.specs.Telling.{IsAnswer}
 use Rattle.pdpd.proofs.LineLemmas.{all_answers, answers_fewer, answers_left}
 use Rattle.pdpd.proofs.PieceLemmas.{asked_as}
-use Rattle.pdpd.proofs.replay.Replayer.more_answers.Goals as goal
+use Rattle.pdpd.proofs.replayer.Replayer.more_answers.Goals as goal
 
 pub write_outcomes-requires : goal.write_outcomes-requires
 write_outcomes-requires g c =

@@ -3,7 +3,7 @@ use Rattle.std.specs.Io.Buffered.{writer_contents}
 use Rattle.xa_server.specs.Front.{front_state}
 use Rattle.pdpd.specs.Telling.{LeavesRoom}
 use Rattle.pdpd.proofs.PieceLemmas.{TakenTo}
-use Rattle.pdpd.proofs.replay.Replayer.take.Given as goal
+use Rattle.pdpd.proofs.replayer.Replayer.take.Given as goal
 
 -- the bytes before the rest are handed over, and the session goes on
 abbrev pub invariant-loop-rest : goal.invariant-loop-rest

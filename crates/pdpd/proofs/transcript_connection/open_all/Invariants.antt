@@ -1,7 +1,7 @@
 use Rattle.std.proofs.Common.{◌≡◌}
 use Rattle.xa_server.specs.Front.{server_state}
 use Rattle.pdpd.proofs.ConnectionLemmas.{BegunTo}
-use Rattle.pdpd.proofs.connection.open_all.Given as goal
+use Rattle.pdpd.proofs.transcript_connection.open_all.Given as goal
 
 -- so many connections are opened
 abbrev pub invariant-loop : goal.invariant-loop

@@ -2,8 +2,8 @@ use Rattle.std.proofs.Common.{rules}
 use Rattle.std.proofs.lemmas.List.{nil_from_length}
 use Rattle.std.specs.Io.Buffered.{writer_contents}
 use Rattle.xa_server.specs.Front.{front_state}
-use Rattle.pdpd.proofs.ReplayLemmas.{closed_as}
-use Rattle.pdpd.proofs.replay.Replayer.connection_after.Goals as goal
+use Rattle.pdpd.proofs.TakingLemmas.{closed_as}
+use Rattle.pdpd.proofs.replayer.Replayer.connection_after.Goals as goal
 
 pub returns-then-is_empty-clause-taken : goal.returns-then-is_empty-clause-taken
 returns-then-is_empty-clause-taken g c =

@@ -6,7 +6,7 @@ use Rattle.xa_server.specs.Front.{front_state}
 use Rattle.pdpd.specs.Telling.{HasTold, LeavesAt, progress_at}
 use Rattle.pdpd.proofs.LineLemmas.{room_left, room_more}
 use Rattle.pdpd.proofs.PieceLemmas.{taken_ended, taken_more}
-use Rattle.pdpd.proofs.replay.Replayer.take.Goals as goal
+use Rattle.pdpd.proofs.replayer.Replayer.take.Goals as goal
 
 pub returns-then-branch-clause-taken : goal.returns-then-branch-clause-taken
 returns-then-branch-clause-taken g c = λ sound.

@@ -1,0 +1,22 @@
+-- The settings that the environment gives by the variables PDPD_WORK, PDPD_REPLY, PDPD_READING, PDPD_VIEWS and
+-- PDPD_IDLE.
+use Rattle.std.specs.Prelude.{ℕ, List, Option, Some, None}
+use Rattle.xa_value.specs.Digits.{number_up_to}
+use Rattle.pdpd.specs.declared.setting.Setting.{Setting}
+use Rattle.pdpd.specs.declared.setting.Setting.TheVariants.{Work, Reply, Reading, Views, Idle}
+
+-- what each is where its variable isn't set: the limit of work for one message, 0 for none; how many bytes the body of
+-- a response may have, and how many bytes of policies may be read for one message, 0 for any number; how many bytes of
+-- memory the views of domains may take that are kept ready; for how many seconds a connection may give nothing, or
+-- take nothing, 0 for ever
+abbrev pub default_of : Setting → ℕ
+default_of Work = 150_000_000
+default_of Reply = 16_777_216
+default_of Reading = 16_000_000
+default_of Views = 268_435_456
+default_of Idle = 30
+
+-- what it is, by what its variable is set to, if it is: a number
+abbrev pub value_of : Setting → Option (List ℕ) → Option ℕ
+value_of setting None = Some (default_of setting)
+value_of setting (Some text) = number_up_to 18_446_744_073_709_551_615 text

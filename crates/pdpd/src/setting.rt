@@ -1,0 +1,102 @@
+//! The settings that the environment gives by its variables, each a number.
+ghost use Rattle.std.specs.Prelude.{◌≡◌, IfErr, option_map};
+ghost use Rattle.pdpd.specs.Fault.{IsOfSetting};
+ghost use Rattle.pdpd.specs.Setting.{default_of, value_of};
+
+use crate::fault::Fault;
+use std::env::{self, VarError};
+use xa_value::number_up_to;
+
+/// The limit of work for one message where PDPD_WORK isn't set: some 0.3 seconds, in which everybody else
+/// waits. The dearest honest ask measured takes 3,500,000.
+const WORK: usize = 150_000_000;
+
+/// How many bytes the body of a response may have where PDPD_REPLY isn't set: 16 MiB.
+const REPLY: usize = 16_777_216;
+
+/// How many bytes of policies may be read for one message where PDPD_READING isn't set.
+const READING: usize = 16_000_000;
+
+/// How many bytes of memory the views of domains may take that are kept ready where PDPD_VIEWS isn't set:
+/// 256 MiB.
+const VIEWS: usize = 268_435_456;
+
+/// For how many seconds a connection may give nothing, or take nothing, where PDPD_IDLE isn't set.
+const IDLE: usize = 30;
+
+/// A setting that the environment gives.
+#[derive(Clone, Copy)]
+pub enum Setting {
+    /// The limit of work for one message; 0 for none.
+    Work,
+    /// How many bytes the body of a response may have; 0 for any number.
+    Reply,
+    /// How many bytes of policies may be read for one message; 0 for any number.
+    Reading,
+    /// How many bytes of memory the views of domains may take that are kept ready; by 0 none is kept.
+    Views,
+    /// For how many seconds a connection may give nothing, or take nothing; 0 for ever.
+    Idle,
+}
+
+impl Setting {
+    /// The name of its variable.
+    fn variable(self) -> &'static str {
+        match self {
+            Setting::Work => "PDPD_WORK",
+            Setting::Reply => "PDPD_REPLY",
+            Setting::Reading => "PDPD_READING",
+            Setting::Views => "PDPD_VIEWS",
+            Setting::Idle => "PDPD_IDLE",
+        }
+    }
+
+    /// What to do where its variable is set to no number.
+    pub fn advice(self) -> &'static str {
+        match self {
+            Setting::Work => "PDPD_WORK is to be a number of units of work, or 0 for no limit",
+            Setting::Reply => "PDPD_REPLY is to be a number of bytes, or 0 for no limit",
+            Setting::Reading => {
+                "PDPD_READING is to be a number of bytes of policies, or 0 for no limit"
+            }
+            Setting::Views => "PDPD_VIEWS is to be a number of bytes of memory, or 0 for none",
+            Setting::Idle => "PDPD_IDLE is to be a number of seconds, or 0 for no limit",
+        }
+    }
+
+    /// What it is where its variable isn't set.
+    fn default_value(self) -> usize
+        ensures { result ≡ default_of self }
+    {
+        match self {
+            Setting::Work => WORK,
+            Setting::Reply => REPLY,
+            Setting::Reading => READING,
+            Setting::Views => VIEWS,
+            Setting::Idle => IDLE,
+        }
+    }
+
+    /// What it is, by what its variable is set to, if it is; none exactly where that is no number.
+    fn value_of(self, set: Option<&str>) -> Option<usize>
+        ensures { result ≡ value_of self (option_map (λ text. text.now) set.entry) }
+    {
+        match set {
+            None => Some(self.default_value()),
+            Some(text) => number_up_to(usize::MAX, text.as_bytes()),
+        }
+    }
+
+    /// What it is, by the environment.
+    pub fn value(self, rt: &HostRuntime) -> Result<usize, Fault>
+        ensures { IfErr result (IsOfSetting self) }
+    {
+        let value = match env::var(rt, self.variable()) {
+            Ok(set) => self.value_of(Some(set.as_str())),
+            Err(VarError::NotPresent) => self.value_of(None),
+            Err(VarError::NotUnicode) => None,
+            Err(VarError::OutOfMemory) => return Err(Fault::Memory),
+        };
+        value.ok_or(Fault::Setting(self))
+    }
+}
