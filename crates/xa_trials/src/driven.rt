@@ -4,8 +4,8 @@
 //! with all that, and begins with another peer.
 use crate::answer::Answer;
 use crate::clock::StandingClock;
+use crate::connections::Fronted;
 use crate::field::{bytes_of, number_of};
-use crate::fronts::Fronted;
 use crate::keepers::tables;
 use crate::no_answer::NoAnswer;
 use crate::peer::{Receiver, Sender};

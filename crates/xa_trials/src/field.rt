@@ -1,4 +1,5 @@
-//! What the text of a field stands for, and how bytes are written as a field.
+//! What the text of a field stands for, and how bytes are written as a field. The escapes of rows in
+//! short are others (`words.rt`): when a field is read, they have given way to what they stand for.
 use crate::no_answer::NoAnswer;
 use std::alloc::{AllocError, Global};
 use std::str::FromStr;

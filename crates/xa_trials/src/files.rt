@@ -72,6 +72,20 @@ pub fn copies_of(
     })
 }
 
+/// Files that hold what these do, of which the one that the word names passes on so many calls.
+pub fn files_of(
+    alloc: Global,
+    held: &Files<File>,
+    word: &str,
+    calls: u64,
+) -> Result<Files<File>, NoAnswer> {
+    match word {
+        "log" => copies_of(alloc, held, calls, u64::MAX),
+        "db" => copies_of(alloc, held, u64::MAX, calls),
+        _ => Err(NoAnswer::Malformed),
+    }
+}
+
 /// What a crash leaves at its two ends: what was synced alone, and all that was written.
 pub fn after_crash(
     alloc: Global,

@@ -8,6 +8,8 @@ use xa_server::FrontError;
 pub enum NoAnswer {
     /// There was no memory.
     Memory,
+    /// A row of its kind has another number of fields.
+    FieldCount,
     /// The row is none of those that the program knows.
     Malformed,
     /// A socket of this machine failed.

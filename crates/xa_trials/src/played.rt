@@ -1,8 +1,8 @@
 //! Rows of events that are played: as rows of connections, of the calls of a front and of moments alone.
 use crate::answer::Answer;
+use crate::connections::Fronted;
 use crate::decisions::moment_of;
 use crate::field::bytes_of;
-use crate::fronts::Fronted;
 use crate::keepers::tables;
 use crate::no_answer::NoAnswer;
 use crate::runs::push_last;

@@ -1,12 +1,13 @@
 //! Rows of a keeper that fails: a script of messages over keepers of which each fails at another
 //! call, and a server's row over a keeper that fails at one.
 use crate::answer::Answer;
+use crate::calls::{CALLS, Call};
 use crate::decisions::moment_of;
 use crate::field::{bytes_of, number_of};
 use crate::keepers::tables;
 use crate::no_answer::NoAnswer;
 use crate::server::{answered, server_over, stream, take_messages};
-use crate::tripping::{CALLS, Call, Tripping};
+use crate::tripping::Tripping;
 use sqlite::MemStore;
 use std::alloc::Global;
 use xa_http::{Message, Next, Session};

@@ -2,6 +2,7 @@
 ghost use Rattle.std.specs.Prelude.{◌≡◌};
 ghost use Rattle.xa_records.specs.Keeper.{Custody, CountsReading, IsOneMore};
 
+use crate::calls::Call;
 use crate::keepers::Reopen;
 use crate::no_answer::NoAnswer;
 use std::alloc::Global;
@@ -12,43 +13,6 @@ use xa_records::{
     ChangeError, Digest, Failure, Gate, KeptView, Listed, Records, Upload, count_failure,
 };
 use xa_value::{Items, Text};
-
-/// A call of a keeper: a method of `Records` that may fail.
-#[derive(Clone, Copy, Debug, PartialEq, Eq)]
-pub enum Call {
-    Gate,
-    View,
-    Document,
-    List,
-    Domains,
-    Create,
-    Remove,
-    PutToken,
-    DropToken,
-    Upload,
-    SetActive,
-    Delete,
-    SetRoot,
-    SetSource,
-}
-
-/// All of them, in the order of the trait's methods.
-pub const CALLS: [Call; 14] = [
-    Call::Gate,
-    Call::View,
-    Call::Document,
-    Call::List,
-    Call::Domains,
-    Call::Create,
-    Call::Remove,
-    Call::PutToken,
-    Call::DropToken,
-    Call::Upload,
-    Call::SetActive,
-    Call::Delete,
-    Call::SetRoot,
-    Call::SetSource,
-];
 
 /// Which call fails: the one that comes after so many others.
 #[derive(Drop)]

@@ -2,7 +2,8 @@
 //! `\[COUNT,TEXT\]` for the text so often, and `\[FIRST-LAST,TEXT\]` for the text once with each
 //! of these numbers, in which `\#` stands for the number and `\-` for the one before.
 //! Repetitions may stand in one another: a number is that of the innermost that has numbers. All
-//! else stays as it is.
+//! else stays as it is, with its backslash, two of these too: those escapes are read where the field
+//! is (`field.rt`), which repeats a text of its own, as `\{COUNT,TEXT\}`, and knows no numbers.
 use crate::field::number_of;
 use crate::no_answer::NoAnswer;
 use std::alloc::Global;

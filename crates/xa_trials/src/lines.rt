@@ -1,0 +1,102 @@
+//! The connections of a front: what waits for each, and what it was answered.
+use crate::no_answer::NoAnswer;
+use std::alloc::Global;
+use xa_records::Records;
+use xa_server::{Conn, Front};
+use xa_value::Moment;
+
+/// How many connections there are.
+const CONNECTIONS: usize = 64;
+
+/// A connection, what waits for it, how many of these bytes are handed over, and what was answered to them.
+#[derive(Drop)]
+pub struct Line {
+    /// The connection.
+    pub conn: Conn,
+    /// What waits for it.
+    pub waiting: Vec<u8>,
+    /// How many of these bytes are handed over.
+    pub at: usize,
+    /// What was answered to them.
+    pub output: Output,
+}
+
+/// What a connection was answered: the bytes of how many replies, and whether it has ended with them.
+#[derive(Drop)]
+pub struct Output {
+    /// The bytes of the replies.
+    pub bytes: Vec<u8>,
+    /// How many replies there were.
+    pub count: usize,
+    /// Whether the connection has ended with them.
+    pub is_last: bool,
+}
+
+impl Output {
+    /// No reply as yet.
+    pub fn new(alloc: Global) -> Output {
+        Output {
+            bytes: Vec::new(alloc),
+            count: 0,
+            is_last: false,
+        }
+    }
+}
+
+/// All connections of the front, by their numbers. None is open then.
+pub fn lines_of<R: Records + Drop>(
+    alloc: Global,
+    front: &mut Front<R>,
+) -> Result<Vec<Line>, NoAnswer> {
+    let mut lines = Vec::new(alloc);
+    for _ in 0..CONNECTIONS {
+        lines.push(Line {
+            conn: front.open()?,
+            waiting: Vec::new(alloc),
+            at: 0,
+            output: Output::new(alloc),
+        })?;
+    }
+    for line in &lines {
+        front.close(line.conn)?;
+    }
+    Ok(lines)
+}
+
+/// Asks for all answers that there are.
+pub fn answer_all<R: Records + Drop>(
+    front: &mut Front<R>,
+    conn: Conn,
+    moment: Moment,
+    output: &mut Output,
+) -> Result<(), NoAnswer> {
+    for _ in 0..u64::MAX {
+        let Some(given) = front.answer(conn, moment)? else {
+            return Ok(());
+        };
+        output.bytes.extend_from_slice(given.reply.bytes())?;
+        output.count = output.count.saturating_add(1);
+        output.is_last = given.last;
+    }
+    Ok(())
+}
+
+/// Hands over the next bytes of those that wait for a connection, so many at most, and asks for all
+/// answers. Whether there were some.
+pub fn turn<R: Records + Drop>(
+    front: &mut Front<R>,
+    line: &mut Line,
+    moment: Moment,
+    size: usize,
+) -> Result<bool, NoAnswer> {
+    let rest = line.waiting.get(line.at..).unwrap_or(&[]);
+    let piece = rest.get(..size).unwrap_or(rest);
+    let count = piece.len();
+    if count == 0 {
+        return Ok(false);
+    }
+    front.piece(line.conn, piece)?;
+    line.at = line.at.saturating_add(count);
+    answer_all(front, line.conn, moment, &mut line.output)?;
+    Ok(true)
+}

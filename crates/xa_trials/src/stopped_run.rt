@@ -1,0 +1,72 @@
+//! A run of a script over files of which one may be frozen: it ends with the first message that is
+//! refused, the one that the stop has struck.
+use crate::files::{File, files_under, keeper_of};
+use crate::no_answer::NoAnswer;
+use crate::server::server_over;
+use sqlite::{Alter, Files};
+use sqlite_disk::Disk;
+use std::alloc::Global;
+use xa_http::Message;
+use xa_records::Records;
+use xa_server::{Reply, Server};
+use xa_store::SqlRecords;
+use xa_value::Moment;
+
+/// What has become of a run of the script.
+#[derive(Drop)]
+pub enum Run {
+    /// A stop has struck the message of this number, from 1; or 0, before the first, where the store
+    /// wasn't opened. These are the files.
+    Stopped(usize, Files<File>),
+    /// All messages were answered.
+    Ended,
+}
+
+/// The number of the first message that is refused, from 1; 0 if none is.
+fn first_refused<R: Records>(server: &mut Server<R>, messages: &[(Moment, Message)]) -> usize {
+    let mut number = 0usize;
+    for event in messages {
+        number = number.saturating_add(1);
+        if let Reply::Refused(_) = server.serve(event.0, &event.1) {
+            return number;
+        }
+    }
+    0
+}
+
+/// The same of a server over the keeper, which is given back.
+fn first_refused_over<S: Alter + Drop>(
+    alloc: Global,
+    records: SqlRecords<S>,
+    messages: &[(Moment, Message)],
+) -> Result<(usize, SqlRecords<S>), NoAnswer> {
+    let mut server = server_over(alloc, records)?;
+    let refused = first_refused(&mut server, messages);
+    Ok((refused, server.into_records()))
+}
+
+/// Whether a file is frozen, as far as its next call tells.
+fn is_frozen(files: &mut Files<File>) -> bool {
+    !files.may_be_used() || files.log.len().is_err() || files.db.len().is_err()
+}
+
+/// Runs the script over the files, up to the stop. One that no message has shown has struck the last.
+pub fn run_of(
+    alloc: Global,
+    files: Files<File>,
+    messages: &[(Moment, Message)],
+) -> Result<Run, NoAnswer> {
+    let records = match keeper_of(alloc, files) {
+        Ok(records) => records,
+        Err(files) => return Ok(Run::Stopped(0, files)),
+    };
+    let (refused, records) = first_refused_over(alloc, records, messages)?;
+    let mut files = files_under(records.into_connection());
+    if refused > 0 {
+        return Ok(Run::Stopped(refused, files));
+    }
+    if is_frozen(&mut files) {
+        return Ok(Run::Stopped(messages.len(), files));
+    }
+    Ok(Run::Ended)
+}
