@@ -429,10 +429,11 @@ def read_page(text):
 def check_tables():
     """The lists above are those of the definitions."""
     definitions = lambda path: open(f"{TOP}/crates/{path}", encoding="utf-8").read()
-    patterns = re.findall(r'\(codes "(/[^"]*)", place\.', definitions("xa_http/specs/Table.antt"))
+    patterns = re.findall(r'\(codes "(/[^"]*)",\s+place\.', definitions("xa_http/specs/Table.antt"))
     need(sorted(patterns) == sorted({route.path for route in ROUTES}), "the paths of crates/xa_http/specs/Table.antt are others than those of tests/api.py")
-    commands = re.findall(r"^commands place\.\w+ = (.*) ∷ \[\]$", definitions("xa_http/specs/Table.antt"), re.M)
-    methods = [[method.upper() for method in re.findall(r"\((\w+), asks\.", row)] for row in commands]
+    # a row goes on in the lines that are indented
+    commands = re.findall(r"^commands place\.\w+ =(.*(?:\n +.*)*)", definitions("xa_http/specs/Table.antt"), re.M)
+    methods = [[method.upper() for method in re.findall(r"\((\w+),\s+asks\.", row)] for row in commands]
     need(sorted(methods) == sorted(methods_of(path) for path in set(patterns)), "the methods of crates/xa_http/specs/Table.antt are others than those of tests/api.py")
     codes = re.findall(r'row \(codes "(\w+)"\)', definitions("xa_server/specs/ErrorCode.antt"))
     need(sorted(codes + ["Unavailable"]) == sorted(CODES), "the codes of crates/xa_server/specs/ErrorCode.antt are others than those of tests/api.py")
@@ -477,7 +478,7 @@ def check_page(text, routes):
     need(routes == [name_of(route) for route in ROUTES], f"{PAGE}: the routes are {routes}")
     listed = [(code_spans(row[0])[0], row[1].split(", ")) for row in table_after(text, "| Route |")]
     need(listed == [(name_of(route), route.roles) for route in ROUTES], f"{PAGE}: the table of routes")
-    rows = {code_spans(row[0])[0]: int(row[1]) for row in table_after(text, "| Code |")}
+    rows = {code_spans(row[0])[0]: int(row[1]) for row in table_after(text, "| Code | Status |")}
     need(rows == CODES, f"{PAGE}: the table of error codes has other codes or statuses: {set(rows.items()) ^ set(CODES.items())}")
 
 

@@ -1,6 +1,7 @@
 """The names of the functions (XACML 3.0, core, appendix A.3), each with the function that it names and its signature.
 
-NAMES has each function by its URI: the function's families, and what it takes and gives, as the program writes them.
+NAMES has each function by its URI: the function's families, and what it takes and gives, as the program writes them. A function that no version of the
+standard has is of the version "", and its name is the whole URI.
 """
 from values import TYPES
 
@@ -12,7 +13,7 @@ NAMES = {}
 
 
 def uri(version, name):
-    return f"urn:oasis:names:tc:xacml:{version}:function:{name}"
+    return f"urn:oasis:names:tc:xacml:{version}:function:{name}" if version else name
 
 
 def word(name):
@@ -82,7 +83,7 @@ for version, verb in [("3.0", v) for v in ("any-of", "all-of", "any-of-any", "ma
 
 
 def rows():
-    """Each name under each of the three versions, with what it names."""
-    for name in dict.fromkeys(held.rsplit(":", 1)[1] for held in NAMES):
-        for version in VERSIONS:
-            yield ["function", uri(version, name)], list(NAMES.get(uri(version, name), ["!None"]))
+    """Each name under each of the three versions, and one of no version as it is, with what it names."""
+    asked = [uri(version, held.rsplit(":", 1)[-1]) for held in NAMES for version in VERSIONS]
+    for name in dict.fromkeys([*asked, *NAMES]):
+        yield ["function", name], list(NAMES.get(name, ["!None"]))
