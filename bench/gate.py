@@ -1,15 +1,17 @@
 #!/usr/bin/env python3
 """Measures the gate from nothing: runs `make prove` in a fresh clone of what is committed, by a copy of the
 toolchain whose store is empty (its files by further names where the disk allows, so that it takes no room), and
-writes what it took into docs/GATE.md, in place of what stood there for as many processors.
+writes what it took into docs/GATE.md, in place of what stood there for as many processors. With the word `test`
+it does the same of `make test`, which compiles the programs without proof there.
 
-usage: bench/gate.py                     with all processors, and nothing else running
-       taskset -c 0,1 bench/gate.py      with two
+usage: bench/gate.py [test]                     with all processors, and nothing else running
+       taskset -c 0,1 bench/gate.py [test]      with two
 """
 import json
 import os
 import pathlib
 import re
+import resource
 import shutil
 import subprocess
 import sys
@@ -20,8 +22,8 @@ TOP = pathlib.Path(__file__).resolve().parent.parent
 PAGE = TOP / "docs" / "GATE.md"
 
 
-def marks(processors):
-    return f"<!-- bench/gate.py, {processors} processors -->", f"<!-- end of {processors} processors -->"
+def marks(processors, word=""):
+    return f"<!-- bench/gate.py{word}, {processors} processors -->", f"<!-- end of{word} {processors} processors -->"
 
 
 def copy_of_kit(folder):
@@ -35,60 +37,86 @@ def copy_of_kit(folder):
     return to
 
 
-def gate(folder):
-    """Runs the gate from nothing, and gives its status and what it took."""
+def fresh(folder):
+    """A fresh clone, and the surroundings in which it has the copy of the toolchain."""
     clone = folder / "clone"
     subprocess.run(["git", "clone", "-q", TOP, clone], check=True)
-    surroundings = {**os.environ, "PATH": f"{copy_of_kit(folder) / 'bin'}:{os.environ['PATH']}", "CI": "true"}
+    return clone, {**os.environ, "PATH": f"{copy_of_kit(folder) / 'bin'}:{os.environ['PATH']}", "CI": "true"}
+
+
+def gate(folder):
+    """Runs the gate from nothing, and gives its status and what it took."""
+    clone, surroundings = fresh(folder)
     status = subprocess.run(["make", "prove"], cwd=clone, stdin=subprocess.DEVNULL, env=surroundings, check=False).returncode
     figures = clone / "build" / "gate.json"
     return status, json.loads(figures.read_text(encoding="utf-8")) if figures.is_file() else None
 
 
+def tests(folder):
+    """Runs the tests from nothing, and gives their status and what they took, in words."""
+    clone, surroundings = fresh(folder)
+    began = time.time()
+    ran = subprocess.run(["make", "test"], cwd=clone, stdin=subprocess.DEVNULL, env=surroundings, stdout=subprocess.PIPE, text=True, check=False)
+    print(ran.stdout, end="")
+    took = resource.getrusage(resource.RUSAGE_CHILDREN)
+    last = [line for line in ran.stdout.splitlines() if re.fullmatch(r"\d+ passed, \d+ failed", line)]
+    clock, processor = (time.time() - began) / 60, (took.ru_utime + took.ru_stime) / 60
+    return ran.returncode, (f"{clock:.1f} minutes by the clock, {processor:.0f} processor-minutes:\n"
+                            f"{last[-1] if last else 'no last line'}.")
+
+
+def head():
+    return subprocess.check_output(["git", "rev-parse", "--short", "HEAD"], cwd=TOP, text=True).strip()
+
+
 def table(found):
     """What the gate took, as lines of the page."""
-    head = subprocess.check_output(["git", "rev-parse", "--short", "HEAD"], cwd=TOP, text=True).strip()
     events = sorted([*found["proved"].items(), *found["marks"].items()], key=lambda it: it[1])
     cells = [(f"`{name}`" if name in found["proved"] else name, f"{at:.0f}") for name, at in events]
     day, kit = time.strftime("%Y-%m-%d", time.gmtime()), found["kit"].split()[0]
-    told = (f"**{found['processors']} processors**, {day}, `{head}`, `{kit}`: {found['clock']:.0f} minutes by the\n"
+    told = (f"**{found['processors']} processors**, {day}, `{head()}`, `{kit}`: {found['clock']:.0f} minutes by the\n"
             f"clock, {found['processor']:.0f} processor-minutes, at the most {found['most']:.1f} GB of memory, on\n"
             f"{found['model']} with {found['memory']} GB. When each crate was proved, in minutes:")
     rows = ["| " + " | ".join(cell[at] for cell in cells) + " |" for at in (0, 1)]
     return [told, "", rows[0], "|---" * len(cells) + "|", rows[1]]
 
 
-def write(found):
+def write(processors, lines, word=""):
     """Writes the lines between their marks; of a number of processors that the page doesn't have, behind the
     others."""
-    first, last = marks(found["processors"])
-    text, block = PAGE.read_text(encoding="utf-8"), "\n".join([first, *table(found), last])
+    first, last = marks(processors, word)
+    text, block = PAGE.read_text(encoding="utf-8"), "\n".join([first, *lines, last])
     if first in text:
         text = re.sub(f"{re.escape(first)}.*?{re.escape(last)}", lambda _: block, text, flags=re.S)
     else:
-        at = text.rindex("<!-- end of ")
+        at = text.rindex(f"<!-- end of{word} ")
         at = text.index("\n", at) + 1
         text = f"{text[:at]}\n{block}\n{text[at:]}"
     PAGE.write_text(text, encoding="utf-8")
 
 
 def main():
-    if sys.argv[1:]:
+    if sys.argv[1:] not in ([], ["test"]):
         print(__doc__, file=sys.stderr)
         return 2
     folder = pathlib.Path(tempfile.mkdtemp(prefix="gate-from-nothing-"))
     # (rt runs programs as nobody)
     folder.chmod(0o711)
     try:
-        status, found = gate(folder)
+        status, found = tests(folder) if sys.argv[1:] else gate(folder)
     finally:
         shutil.rmtree(folder, ignore_errors=True)
-    if status or found is None or found["kept"]:
-        kept = ", and what earlier runs had kept" if found and found["kept"] else ""
-        print(f"The gate ended with status {status}{kept}: nothing is written.")
+    kept = not sys.argv[1:] and found and found["kept"]
+    if status or found is None or kept:
+        print(f"It ended with status {status}{', and took what earlier runs had kept' if kept else ''}: nothing is written.")
         return 1
-    write(found)
-    print(f"docs/GATE.md has what it took on {found['processors']} processors.")
+    processors = len(os.sched_getaffinity(0))
+    if sys.argv[1:]:
+        day = time.strftime("%Y-%m-%d", time.gmtime())
+        write(processors, [f"**{processors} processors**, {day}, `{head()}`: {found}"], " test")
+    else:
+        write(processors, table(found))
+    print(f"docs/GATE.md has what it took on {processors} processors.")
     return 0
 
 

@@ -175,8 +175,9 @@ def show_instructions():
     kinds = {"ten rules": ({"d0": ten_rules()}, ASKS), f"ten rules, {DOMAINS:,} domains in turn": ({f"d{place}": ten_rules() for place in range(DOMAINS)}, ASKS),
              "255 policies under a root": ({"d0": referred()}, FEW_ASKS),
              **{f"{size} of policies under a root": ({"d0": sized(rules_with_matches, count)}, 1) for size, count in SMALL.items()}}
-    places = [(instructions, domains, views, count, 2 * count) for domains, count in kinds.values() for views in (128, 0)]
-    found = in_turn(of_an_ask, places)
+    # (few asks that find their view differ by what lists take as they grow)
+    places = [(instructions, domains, views, ASKS if views else count) for domains, count in kinds.values() for views in (128, 0)]
+    found = in_turn(of_an_ask, [(*place, 2 * place[-1]) for place in places])
     print(f"{'instructions an ask':36}{'128 views':>14}{'no view':>14}{'ratio':>9}")
     for kind in kinds:
         kept, unkept = next(found), next(found)
