@@ -5,7 +5,8 @@ crate was proved, what it took, and 'N passed, M failed'.
 usage: tests/prove.py
 
 `rt ci` gives each crate of a chain one processor as long as there are wrong bodies to try. So a forerunner,
-an `rt ci` over a copy without wrong bodies, goes ahead of it and proves each crate with two. `rt ci` itself,
+an `rt ci` over a copy without wrong bodies, goes ahead of it and proves each crate with two. First it proves
+those for which most others wait, in a run by name; those beside them are left to the judge. `rt ci` itself,
 the judge, which is run whole in this checkout, takes from the toolchain's store on this machine what was
 proved of the same files, and tries the wrong bodies beside. The judge alone decides: where the forerunner
 fails or ends, the judge proves all itself.
@@ -37,9 +38,14 @@ COPIED = ("src", "specs", "proofs", "args", "status")
 # Gigabytes of disk that two runs of `rt ci` want; the store keeps nothing where fewer than five are free.
 ROOM_WANTED = 10
 # How long the judge waits for the forerunner to begin, and how often memory is looked at, in seconds.
-BEGINS_WITHIN, LOOKED_EVERY = 90, 5
+BEGINS_WITHIN, LOOKED_EVERY = 180, 5
+# The forerunner's runs, one after another: a crate with those below it, and then all.
+STAGES = (["xa_link"], [])
 # How much the judge and its wrong bodies stand back behind the forerunner.
 NICE = 10
+# Bytes of memory that have to be free for the judge to try wrong bodies without asking for more: `rt ci` counts
+# the crates that the judge waits for as if it proved them, too, and lets no wrong body run beside the last two.
+FREE_WANTED = 16_000_000_000
 FIGURES = TOP / "build" / "gate.json"
 
 
@@ -49,14 +55,14 @@ def crates():
     return [row.partition(":")[0].split()[0] for row in rows if row.strip()]
 
 
-def descendants():
-    """This process's children, and theirs."""
+def descendants(of=None):
+    """A process's children, and theirs; this one's, if none is named."""
     below = {}
     for process in pathlib.Path("/proc").glob("[0-9]*"):
         with contextlib.suppress(OSError):
             parent = int((process / "stat").read_text().rpartition(")")[2].split()[1])
             below.setdefault(parent, []).append(int(process.name))
-    found = list(below.get(os.getpid(), []))
+    found = list(below.get(of or os.getpid(), []))
     for one in found:
         found += below.get(one, [])
     return found
@@ -75,6 +81,13 @@ def ends_with_us(behind=0):
     stand back that much."""
     ctypes.CDLL(None).prctl(1, signal.SIGKILL)
     os.nice(behind)
+
+
+def wait_for(is_so):
+    """Waits until it is so, but not for ever."""
+    until = time.time() + BEGINS_WITHIN
+    while time.time() < until and not is_so():
+        time.sleep(0.2)
 
 
 class Watch:
@@ -107,10 +120,10 @@ class Watch:
 class Run:
     """A running `rt ci`, whose lines are noted, and written to a file or on standard output."""
 
-    def __init__(self, folder, watch, log, behind=0, **how):
-        self.watch, self.log, self.seen, self.last = watch, log, set(), ""
+    def __init__(self, folder, watch, log, names=(), behind=0, **how):
+        self.watch, self.log, self.seen, self.last, self.waits = watch, log, set(), "", False
         how = {"stdin": subprocess.DEVNULL, "stdout": subprocess.PIPE, "stderr": subprocess.STDOUT, **how}
-        self.process = subprocess.Popen(["rt", "ci"], cwd=folder, text=True, errors="replace",
+        self.process = subprocess.Popen(["rt", "ci", *names], cwd=folder, text=True, errors="replace",
                                         preexec_fn=lambda: ends_with_us(behind), **how)
 
     def read(self):
@@ -120,6 +133,7 @@ class Run:
             self.log.flush()
             self.watch.hears(line)
             self.last = line.strip() or self.last
+            self.waits = self.waits or line.endswith("waiting for it\n")
             if found := re.match(r"rt: (\w+) (?:proved|is kept|NOT PROVED)\b", line):
                 self.seen.add(found[1])
                 self.has_seen(len(self.seen))
@@ -128,17 +142,46 @@ class Run:
     def has_seen(self, number):
         """What follows once it has told of so many crates."""
 
+    def has_begun(self):
+        """Whether it is at a proof, or has waited for another run's. Before its first proof, the compiler only
+        lays out files."""
+        for process in descendants(self.process.pid):
+            with contextlib.suppress(OSError):
+                if b"--crate-name" in pathlib.Path(f"/proc/{process}/cmdline").read_bytes().split(b"\0"):
+                    return True
+        return self.waits
+
+    def has_ended(self):
+        return self.process.poll() is not None
+
     def stop(self):
         """Ends it; what it has started ends with it."""
         self.process.kill()
         self.process.wait()
 
 
+class Stage(Run):
+    """A run of the forerunner, of the crates of these names and those below them, or of all."""
+
+    def __init__(self, forerunner, copied, names):
+        # (`CI` refuses a run by names, which is no gate)
+        surroundings = {name: value for name, value in os.environ.items() if name != "CI"}
+        surroundings["TMPDIR"] = str(forerunner.folder / "tmp")
+        super().__init__(copied, forerunner.watch, forerunner.log, names, env=surroundings)
+        self.forerunner, self.names = forerunner, names
+
+    def has_seen(self, number):
+        # else the judge were first at the crate that the next stage begins with
+        if self.names and self.seen.issuperset(self.names):
+            self.forerunner.send_to_judge(signal.SIGSTOP)
+
+
 class Forerunner:
-    """The run that goes ahead, over a copy in a folder of its own."""
+    """The runs that go ahead, one after another, over a copy in a folder of its own."""
 
     def __init__(self, watch):
-        self.watch, self.run, self.folder = watch, None, None
+        self.watch, self.run, self.folder, self.log, self.judge = watch, None, None, None, None
+        self.turn, self.is_stopped = threading.Lock(), False
 
     def why_not(self):
         """Why there is none, if so."""
@@ -175,20 +218,33 @@ class Forerunner:
             shutil.copytree(path, to) if path.is_dir() else shutil.copyfile(path, to)
         for name in ("crates.txt", "HANDLES"):
             shutil.copyfile(TOP / name, copied / name)
-        surroundings = {**os.environ, "TMPDIR": str(self.folder / "tmp")}
-        self.run = Run(copied, self.watch, open(self.folder / "log", "w"), env=surroundings)
-        threading.Thread(target=self.run.read, daemon=True).start()
-        self.wait_for_its_first_proof()
+        self.log = open(self.folder / "log", "w")
+        self.run = Stage(self, copied, STAGES[0])
+        reader = threading.Thread(target=self.goes_on, args=(copied,), daemon=True)
+        reader.start()
+        # (a stage whose crates are all kept ends without a proof)
+        wait_for(lambda: self.run.has_begun() or not reader.is_alive())
 
-    def wait_for_its_first_proof(self):
-        """Waits until it is at a first crate, so that it comes first to each."""
-        until = time.time() + BEGINS_WITHIN
-        while time.time() < until and self.run.process.poll() is None:
-            for process in descendants():
-                with contextlib.suppress(OSError):
-                    if pathlib.Path(f"/proc/{process}/comm").read_text().startswith("rattle"):
-                        return
-            time.sleep(0.2)
+    def goes_on(self, copied):
+        """Reads the first run to its end, and goes on with the others, as long as none fails."""
+        status = self.run.read()
+        for names in STAGES[1:]:
+            with self.turn:
+                if status or self.is_stopped:
+                    break
+                self.run = Stage(self, copied, names)
+            threading.Thread(target=self.begins, args=(self.run,), daemon=True).start()
+            status = self.run.read()
+        self.send_to_judge(signal.SIGCONT)
+
+    def begins(self, stage):
+        """Lets the judge go on once a stage is at its first crate."""
+        wait_for(lambda: stage.has_begun() or stage.has_ended())
+        self.send_to_judge(signal.SIGCONT)
+
+    def send_to_judge(self, number):
+        if self.judge:
+            self.judge.process.send_signal(number)
 
     def told(self):
         """The last lines that it wrote."""
@@ -197,8 +253,10 @@ class Forerunner:
         return "\n".join(lines[-60:])
 
     def stop(self):
-        if self.run:
-            self.run.stop()
+        with self.turn:
+            self.is_stopped = True
+            if self.run:
+                self.run.stop()
 
     def remove(self):
         if self.folder:
@@ -209,8 +267,18 @@ class Judge(Run):
     """The run that decides."""
 
     def __init__(self, watch, forerunner):
-        super().__init__(TOP, watch, sys.stdout, NICE if forerunner.run else 0)
         self.forerunner = forerunner
+        behind = NICE if forerunner.run else 0
+        super().__init__(TOP, watch, sys.stdout, behind=behind, env={**os.environ, **self.lanes()})
+        forerunner.judge = self
+
+    def lanes(self):
+        """How many tasks it has at once, where a forerunner proves for it: one waits for a crate, and half the
+        processors have wrong bodies."""
+        memory = re.search(r"^MemAvailable:\s+(\d+)", pathlib.Path("/proc/meminfo").read_text(), re.M)
+        if not self.forerunner.run or not memory or 1024 * int(memory[1]) < FREE_WANTED:
+            return {}
+        return {"RT_JOBS": str(len(os.sched_getaffinity(0)) // 2 + 1)}
 
     def has_seen(self, number):
         # every crate is proved: nothing is left for the forerunner
