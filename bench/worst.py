@@ -343,6 +343,8 @@ DEAREST = [
     "200 matches among 2000 attributes", "200 matches by issuers among 2000 attributes", "200 matches among 1000 categories", "200 matches among 1000 source rows",
     "individual requests of 1000 categories", "1,400 obligations and a fault",
     "anyURI-from-string, 1 byte", "string-from-anyURI, 1 byte", "string-normalize-space, 1 byte",
+    "variables that each copy a text of a byte", "a bag of 600 literals", "or of or of one",
+    "10 assignments of 200 string, 100 bytes as '\"'", "90 assignments of string, 100 bytes as '\"'",
 ]
 
 

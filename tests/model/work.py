@@ -24,7 +24,9 @@ LIST = 16
 # beside its texts and values: an attribute, a Category object, an obligation and a result
 MEMBERS = 128
 # a byte that an escape adds to a text
-ESCAPED = 5
+ESCAPED = 7
+# beside the step of its expression: a literal, a call of a function of booleans; a variable that is worked out, beside its expression
+LITERAL, LOGIC, VARIABLE = VALUE, LOOK, STEP
 # what is printed takes so much beside its value, by its type
 PRINTING = {"dateTime": 192, "dayTimeDuration": 192, "time": 128, "date": 96, "yearMonthDuration": 64, "hexBinary": 64, "base64Binary": 64, "boolean": 32, "integer": 32,
             "string": 0, "anyURI": 0}
@@ -91,7 +93,7 @@ def units(values):
 
 
 def escaped(text):
-    """What it is to write a text: its bytes, and five for each byte that its escapes add in JSON."""
+    """What it is to write a text: its bytes, and seven for each byte that its escapes add in JSON."""
     if text is None:
         return 0
     short = sum(text.count(one) for one in '"\\\b\f\n\r\t')
@@ -238,6 +240,7 @@ class Charged:
         if len(self.results) < len(self.expressions):
             last = self.last_variable(expression)
             while len(self.results) <= last:
+                self.spend(VARIABLE)
                 try:
                     self.results.append(self.value(self.expressions[len(self.results)]))
                 except Fault as fault:
@@ -259,7 +262,7 @@ class Charged:
         self.spend(STEP)
         form, held = expression
         if form == "value":
-            self.spend(units_of(held))
+            self.spend(LITERAL + units_of(held))
             return held
         if form == "designator":
             return self.bag(held)
@@ -269,6 +272,8 @@ class Charged:
         verb = name.rsplit(":", 1)[1]
         if name in HIGHER_ORDER:
             return self.higher(HIGHER_ORDER[name], arguments[0][1], arguments[1:])
+        if verb in ("or", "and", "n-of", "not"):
+            self.spend(LOGIC)
         if verb in ("or", "and"):
             return self.by_places(verb == "or", arguments)
         if verb == "n-of":

@@ -87,7 +87,7 @@ impl Writing {
 }
 
 /// The units of each byte that escapes add to a text: what is escaped is written by itself.
-const ESCAPED: u64 = 5;
+const ESCAPED: u64 = 7;
 
 /// Whether JSON has an escape for the byte.
 fn is_escaped(byte: u8) -> bool {

@@ -8,7 +8,8 @@ use xa_bag::{Bag, ValueOrBag};
 use xa_func::{BagFunction, FuncId, HigherOrder};
 use xa_value::{DataType, Value};
 
-/// The units of one step: an expression evaluated, a match, a call of its function, an obligation.
+/// The units of one step: an expression evaluated, a variable worked out, a match, a call of its function,
+/// an obligation.
 pub const STEP: u64 = 32;
 
 /// The units of a call of an inner function, for which a list of copies of its arguments is made.
@@ -18,10 +19,12 @@ pub(crate) const CALL: u64 = 2 * STEP;
 pub(crate) const LIST: u64 = STEP / 2;
 
 /// The units of a look at something that costs less than a step: a value that is compared where it is,
-/// or a part of a target or of an expression that is passed on the way to others.
+/// or a part of a target or of an expression that is passed on the way to others; and those that a call
+/// of a function of booleans takes beside a step.
 pub const LOOK: u64 = STEP / 4;
 
-/// The units of a value that is made, copied or compared, beside the bytes of its text.
+/// The units of a value that is made, copied or compared, beside the bytes of its text. A literal takes
+/// them once more.
 pub(crate) const VALUE: u64 = 16;
 
 /// With how many values of a bag another is compared at most where it is searched for: from that many on
