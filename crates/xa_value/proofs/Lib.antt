@@ -31,3 +31,4 @@ pub mod TypeLemmas
 pub mod DayLemmas
 pub mod PlainLemmas
 pub mod TextLemmas
+pub mod GivesLemmas

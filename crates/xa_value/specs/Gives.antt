@@ -1,6 +1,7 @@
 -- What a call that may grow something answers, beside the answer that its definition gives. No definition knows want
 -- of memory.
-use Rattle.std.specs.Prelude.{◌≡◌, Result, Ok, Err}
+use Rattle.std.specs.Prelude.{◌≡◌, Result, Ok, Err, alloc_error}
+use Rattle.std.specs.declared.alloc.AllocError.{AllocError}
 use Rattle.xa_value.specs.declared.or_memory.OrMemory.{OrMemory}
 use Rattle.xa_value.specs.declared.or_memory.OrMemory.TheVariants.{Memory, Error}
 
@@ -14,6 +15,28 @@ Gives (Err (Error e)) given = given ≡ Err e
 abbrev pub answered : {X E : Type 0} → Result X E → Result X (OrMemory E)
 answered (Ok x) = Ok x
 answered (Err e) = Err (Error e)
+
+-- the definition's answer, where want of memory alone is an error
+abbrev pub memory_apart : {X E : Type 0} → Result X (OrMemory E) → Result (Result X E) AllocError
+memory_apart (Ok x) = Ok (Ok x)
+memory_apart (Err Memory) = Err alloc_error
+memory_apart (Err (Error e)) = Ok (Err e)
+
+-- of what a call answers: P of its value, N where there was no memory, and Q of its error
+abbrev pub MatchGiven : {X E : Type 0} → Result X (OrMemory E) → (X → Type 0) → Type 0 → (E → Type 0) → Type 0
+MatchGiven (Ok x) P N Q = P x
+MatchGiven (Err Memory) P N Q = N
+MatchGiven (Err (Error e)) P N Q = Q e
+
+-- it is an error, and P holds of it
+abbrev pub IsErrorAnd : {X E : Type 0} → Result X (OrMemory E) → (E → Type 0) → Type 0
+IsErrorAnd (Ok x) P = ⊥
+IsErrorAnd (Err Memory) P = ⊥
+IsErrorAnd (Err (Error e)) P = P e
+
+-- P of its error, in the form for a `requires`
+abbrev pub ForError : {X E : Type 0} → Result X (OrMemory E) → (E → Type 0) → Type 0
+ForError {X} {E} given P = (e : E) → given ≡ Err (Error e) → P e
 
 -- the second step, where the first gave a value
 infixl 10 ◌>>=◌

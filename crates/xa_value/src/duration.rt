@@ -13,15 +13,21 @@ ghost use Rattle.xa_value.specs.parsing.Duration.{total_nanos, nanos_of, has_sho
 
 use crate::lexical::{begins_with, digit_count, number};
 use crate::read_error::ReadError;
-use crate::time::{SECOND, fraction_length, fraction_nanos};
+use crate::time::{LONGEST_FRACTION, SECOND, fraction_length, fraction_nanos};
 use std::marker::Model;
 
 /// 10,000 years, in months: more than lie between any two dates, of the years 1 to 9999.
-const MOST_MONTHS: u128 = 120_000;
+const MOST_MONTHS: i32 = 120_000;
+
+/// The most months of a text, whose sign is read apart.
+const MOST_MONTHS_WRITTEN: u128 = MOST_MONTHS as u128;
 
 /// 10,000 years of 365.25 days, in nanoseconds: more than lie between any two moments, of the years
 /// 1 to 9999.
-const MOST_NANOS: u128 = 315_576_000_000_000_000_000;
+const MOST_NANOS: i128 = 315_576_000_000_000_000_000;
+
+/// The most nanoseconds of a text, whose sign is read apart.
+const MOST_NANOS_WRITTEN: u128 = MOST_NANOS as u128;
 
 /// A duration in years and months, as months: at most 120,000 to either side.
 #[derive(Clone, Copy, Debug, PartialEq, Eq)]
@@ -47,7 +53,7 @@ impl YearMonthDuration {
     pub fn new(months: i32) -> Option<YearMonthDuration>
         ensures { SomeIff result (IsMonths months) months }
     {
-        if -120_000 <= months && months <= 120_000 {
+        if -MOST_MONTHS <= months && months <= MOST_MONTHS {
             Some(YearMonthDuration { months })
         } else {
             None
@@ -88,7 +94,7 @@ impl DayTimeDuration {
     pub fn new(nanos: i128) -> Option<DayTimeDuration>
         ensures { SomeIff result (IsNanos nanos) nanos }
     {
-        if -315_576_000_000_000_000_000 <= nanos && nanos <= 315_576_000_000_000_000_000 {
+        if -MOST_NANOS <= nanos && nanos <= MOST_NANOS {
             Some(DayTimeDuration { nanos })
         } else {
             None
@@ -197,7 +203,7 @@ fn months_within(negative: bool, years: u64, months: u64) -> Result<YearMonthDur
     ensures { result ≡ within most_months negative (years * 12 + months) }
 {
     let magnitude = u128::from(years) * 12 + u128::from(months);
-    if magnitude > MOST_MONTHS {
+    if magnitude > MOST_MONTHS_WRITTEN {
         return Err(ReadError::OutOfRange);
     }
     let months = magnitude as i32;
@@ -267,7 +273,7 @@ fn seconds_fraction(seconds: &[u8]) -> &[u8]
 fn has_short_fraction(clock: &[u8]) -> bool
     ensures { result ≡ has_short_fraction clock.now }
 {
-    fraction_length(seconds_fraction(seconds_of(clock))) <= 10
+    fraction_length(seconds_fraction(seconds_of(clock))) <= LONGEST_FRACTION
 }
 
 /// The duration of this many days, hours, minutes, seconds and nanoseconds, where it is in range.
@@ -285,7 +291,7 @@ fn total_within(
     let hours = u128::from(days) * 24 + u128::from(hours);
     let seconds = (hours * 60 + u128::from(minutes)) * 60 + u128::from(seconds);
     let magnitude = seconds * u128::from(SECOND) + u128::from(fraction);
-    if magnitude > MOST_NANOS {
+    if magnitude > MOST_NANOS_WRITTEN {
         return Err(ReadError::OutOfRange);
     }
     let nanos = magnitude as i128;

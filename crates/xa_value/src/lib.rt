@@ -38,7 +38,7 @@ pub use digits::{is_number, number_up_to};
 pub use duration::{DayTimeDuration, YearMonthDuration};
 pub use items::Items;
 pub use moment::Moment;
-pub use or_memory::OrMemory;
+pub use or_memory::{OrMemory, map_error, memory_apart};
 pub use plain::Plain;
 pub use read_error::ReadError;
 pub use shared::Shared;

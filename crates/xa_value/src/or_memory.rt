@@ -1,7 +1,8 @@
 //! One road for want of memory: a call that may grow something answers as its definition does, or
 //! that there was no memory.
-ghost use Rattle.std.specs.Prelude.{◌≡◌};
+ghost use Rattle.std.specs.Prelude.{◌≡◌, Ok, Err, IfOk, is_ok};
 ghost use Rattle.xa_value.specs.declared.or_memory.OrMemory.TheVariants.{Memory};
+ghost use Rattle.xa_value.specs.Gives.{answered, memory_apart, ForError, IsErrorAnd, MatchGiven};
 
 use std::alloc::{AllocError, AllocFailed};
 use std::fmt::Display;
@@ -35,5 +36,35 @@ impl<E, T: Drop> From<AllocFailed<T>> for OrMemory<E> {
 
     fn from(_error: AllocFailed<T>) -> OrMemory<E> {
         OrMemory::Memory
+    }
+}
+
+/// The answer that the definition gives, apart from want of memory: that alone is the error, so that
+/// `?` passes it on, and a match of two arms is left.
+pub fn memory_apart<T, E>(given: Result<T, OrMemory<E>>) -> Result<Result<T, E>, AllocError>
+    ensures value { result ≡ memory_apart given }
+    ensures answer { IfOk result (λ answer. given ≡ answered answer) }
+{
+    match given {
+        Ok(value) => Ok(Ok(value)),
+        Err(OrMemory::Memory) => Err(AllocError),
+        Err(OrMemory::Error(error)) => Ok(Err(error)),
+    }
+}
+
+/// The same answer, whose error, where it is one, is made into another. Want of memory stays.
+pub fn map_error<T, E, D, F: FnOnce(E) -> D>(
+    given: Result<T, OrMemory<E>>,
+    change: F,
+) -> Result<T, OrMemory<D>>
+    requires { ForError given (F.pre change) }
+    ensures cases { MatchGiven given (λ value. result ≡ Ok value) (result ≡ Err Memory)
+        (λ error. IsErrorAnd result (F.post change error)) }
+    ensures variant { is_ok result ≡ is_ok given }
+{
+    match given {
+        Ok(value) => Ok(value),
+        Err(OrMemory::Memory) => Err(OrMemory::Memory),
+        Err(OrMemory::Error(error)) => Err(OrMemory::Error(change(error))),
     }
 }

@@ -25,6 +25,9 @@ pub(crate) const HOUR: u64 = 3_600_000_000_000;
 /// The nanoseconds of a day.
 pub const DAY: u64 = 86_400_000_000_000;
 
+/// The length of the longest fraction of a second: its point and nine digits.
+pub(crate) const LONGEST_FRACTION: usize = 10;
+
 /// A time of day, in nanoseconds since midnight, with or without a zone.
 #[derive(Clone, Copy, Debug, PartialEq, Eq)]
 pub struct Time {
@@ -105,7 +108,7 @@ fn is_clock(text: &[u8]) -> bool
     two_digits(text, 0) <= 23
         && two_digits(text, 3) <= 59
         && two_digits(text, 6) <= 59
-        && fraction_length(&text[8..]) <= 10
+        && fraction_length(&text[8..]) <= LONGEST_FRACTION
 }
 
 /// The time in its zone, where a clock shows it.

@@ -9,6 +9,9 @@ use crate::read_error::ReadError;
 use std::alloc::AllocError;
 use std::marker::Model;
 
+/// The greatest distance from UTC, in minutes, of a text, whose sign is read apart: 14 hours.
+const MOST_WRITTEN: u32 = Offset::MOST as u32;
+
 /// The minutes by which a zone is ahead of UTC, at most 14 hours to either side.
 #[derive(Clone, Copy, Debug, PartialEq, Eq)]
 pub struct Offset {
@@ -78,7 +81,7 @@ fn read_offset(text: &[u8]) -> Result<Option<Offset>, ReadError>
     ensures { result ≡ read_offset text.now }
 {
     let minutes = two_digits(text, 1) * 60 + two_digits(text, 4);
-    if two_digits(text, 4) <= 59 && minutes <= 840 {
+    if two_digits(text, 4) <= 59 && minutes <= MOST_WRITTEN {
         Ok(Some(signed_offset(begins_with(b'-', text), minutes as i16)))
     } else {
         Err(ReadError::OutOfRange)
