@@ -123,6 +123,32 @@ pub rest_decides : {F : Type 0} (stop answer : Bool) (here next whole : Result B
     → then_verdict stop here next ≡ whole → here ≡ Ok answer → beq answer stop ≡ false → next ≡ whole
 rest_decides stop answer here next whole so_far at differ = sym (then_next stop answer next differ) ∙ sym (ap (λ x. then_verdict stop x next) at) ∙ so_far
 
+-- so it is where the boolean that stops is sought under another name
+pub sought_decides : {F : Type 0} (stop sought answer : Bool) (here next whole : Result Bool F)
+    → sought ≡ stop → then_verdict stop here next ≡ whole → here ≡ Ok answer → beq answer sought ≡ true → whole ≡ Ok sought
+sought_decides stop sought answer here next whole is so_far at same =
+    stop_decides stop answer here next whole so_far at (ap (beq answer) (sym is) ∙ same) ∙ ap Ok (sym is)
+
+pub unsought_passes : {F : Type 0} (stop sought answer : Bool) (here next whole : Result Bool F)
+    → sought ≡ stop → then_verdict stop here next ≡ whole → here ≡ Ok answer → beq answer sought ≡ false → next ≡ whole
+unsought_passes stop sought answer here next whole is so_far at differ =
+    rest_decides stop answer here next whole so_far at (ap (beq answer) (sym is) ∙ differ)
+
+-- and where nothing is left, the other boolean is the result
+none_left : {F : Type 0} (stop sought : Bool) (rs : List (Result Bool F)) (whole : Result Bool F)
+    → sought ≡ stop → rs ≡ [] → verdict stop rs ≡ whole → whole ≡ Ok (not sought)
+none_left true sought rs whole is none so_far = sym so_far ∙ ap (verdict true) none ∙ ap (λ b. Ok (not b)) (sym is)
+none_left false sought rs whole is none so_far = sym so_far ∙ ap (verdict false) none ∙ ap (λ b. Ok (not b)) (sym is)
+
+-- of a walk with several results each, and with one
+pub none_left_of_each : {F : Type 0} (stop sought : Bool) (g : Value → List (Result Bool F)) (vs : List Value) (whole : Result Bool F)
+    → sought ≡ stop → vs ≡ [] → verdict stop (flat_map g vs) ≡ whole → whole ≡ Ok (not sought)
+none_left_of_each stop sought g vs whole is none so_far = none_left stop sought (flat_map g vs) whole is (ap (flat_map g) none) so_far
+
+pub none_left_of_one : {F : Type 0} (stop sought : Bool) (h : Value → Result Bool F) (vs : List Value) (whole : Result Bool F)
+    → sought ≡ stop → vs ≡ [] → verdict stop (map h vs) ≡ whole → whole ≡ Ok (not sought)
+none_left_of_one stop sought h vs whole is none so_far = none_left stop sought (map h vs) whole is (ap (map h) none) so_far
+
 -- all of two lists, where both are given
 abbrev pub appended : {X F : Type 0} → Result (List X) F → Result (List X) F → Result (List X) F
 appended (Ok xs) (Ok ys) = Ok (xs ++ ys)

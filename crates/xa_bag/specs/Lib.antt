@@ -3,6 +3,7 @@ pub mod Bag
 pub mod Fault
 pub mod HigherOrder
 pub mod LogicAtOnce
+pub mod Quantifier
 pub mod Relation
 pub mod Sets
 pub mod ValueOrBag

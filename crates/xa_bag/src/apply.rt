@@ -9,10 +9,11 @@ ghost use Rattle.xa_func.specs.Signature.{AcceptsKinds, bag_signature};
 ghost use Rattle.xa_bag.specs.HigherOrder.{EachInItsPlace};
 ghost use Rattle.xa_bag.specs.ValueOrBag.{kind_of_argument, kind_of_each};
 ghost use Rattle.xa_bag.specs.Applying.{bag_applied, grows, IsOfResultKind};
-ghost use Rattle.xa_bag.specs.Applying.{boolean, higher_order_applied, kind_given};
+ghost use Rattle.xa_bag.specs.Applying.{higher_order_applied, kind_given};
 
 use crate::arguments::{one_bag, two_bags, value_and_bag};
 use crate::fault::BagFault;
+use crate::higher_order::{all_of, all_of_all, all_of_any, any_of, any_of_any};
 use crate::inner::Inner;
 use crate::value_or_bag::ValueOrBag;
 use crate::{higher_order, sets};
@@ -45,13 +46,6 @@ pub fn apply_bag_function<F>(
         BagFunction::Subset => whether_subset(data_type, arguments),
         BagFunction::SetEquals => whether_equal(data_type, arguments),
     }
-}
-
-/// The boolean, as a value.
-fn boolean(answer: bool) -> ValueOrBag
-    ensures { result ≡ boolean answer }
-{
-    ValueOrBag::Value(Value::Boolean(answer))
 }
 
 /// The one value of a bag.
@@ -92,7 +86,7 @@ fn whether_in<F>(
     ensures typed { IfOk result (IsOfResultKind (bag_signature bag_function.IsIn data_type)) }
 {
     let (value, bag) = value_and_bag(data_type, arguments);
-    Ok(boolean(sets::is_in(value, bag)))
+    Ok(ValueOrBag::boolean(sets::is_in(value, bag)))
 }
 
 /// The bag of the values.
@@ -148,7 +142,7 @@ fn whether_some<F>(
     ensures typed { IfOk result (IsOfResultKind (bag_signature bag_function.AtLeastOneMemberOf data_type)) }
 {
     let (first, second) = two_bags(data_type, arguments);
-    Ok(boolean(sets::at_least_one_member_of(first, second)))
+    Ok(ValueOrBag::boolean(sets::at_least_one_member_of(first, second)))
 }
 
 /// Whether the second bag has all values of the first.
@@ -162,7 +156,7 @@ fn whether_subset<F>(
     ensures typed { IfOk result (IsOfResultKind (bag_signature bag_function.Subset data_type)) }
 {
     let (first, second) = two_bags(data_type, arguments);
-    Ok(boolean(sets::subset(first, second)))
+    Ok(ValueOrBag::boolean(sets::subset(first, second)))
 }
 
 /// Whether two bags have the same values.
@@ -176,7 +170,7 @@ fn whether_equal<F>(
     ensures typed { IfOk result (IsOfResultKind (bag_signature bag_function.SetEquals data_type)) }
 {
     let (first, second) = two_bags(data_type, arguments);
-    Ok(boolean(sets::set_equals(first, second)))
+    Ok(ValueOrBag::boolean(sets::set_equals(first, second)))
 }
 
 /// What the higher-order function gives for the inner function and the arguments after it, of each
@@ -199,12 +193,13 @@ pub fn apply_higher_order<F: Inner>(
     ensures law { EachInItsPlace }
 {
     match function.at_once(higher_order, arguments) {
-        Some(answer) => Ok(boolean(answer?)),
+        Some(answer) => Ok(ValueOrBag::boolean(answer?)),
         None => choice_by_choice(alloc, higher_order, function, arguments),
     }
 }
 
-/// The same, by a call of the inner function for each choice of its arguments, up to the one that decides.
+/// What the higher-order function gives, by a call of the inner function for each choice of its
+/// arguments, up to the one that decides.
 fn choice_by_choice<F: Inner>(
     alloc: Global,
     higher_order: HigherOrder,
@@ -219,9 +214,9 @@ fn choice_by_choice<F: Inner>(
         kind_of_argument given ≡ kind_given higher_order (F.result_type function.now)) }
 {
     match higher_order {
-        HigherOrder::AnyOf => Ok(boolean(higher_order::any_of(alloc, function, arguments)?)),
-        HigherOrder::AllOf => Ok(boolean(higher_order::all_of(alloc, function, arguments)?)),
-        HigherOrder::AnyOfAny => Ok(boolean(higher_order::any_of_any(alloc, function, arguments)?)),
+        HigherOrder::AnyOf => Ok(ValueOrBag::boolean(any_of(alloc, function, arguments)?)),
+        HigherOrder::AllOf => Ok(ValueOrBag::boolean(all_of(alloc, function, arguments)?)),
+        HigherOrder::AnyOfAny => Ok(ValueOrBag::boolean(any_of_any(alloc, function, arguments)?)),
         HigherOrder::Map => Ok(ValueOrBag::Bag(higher_order::map(alloc, function, arguments)?)),
         HigherOrder::AllOfAny => each_with_some(alloc, function, arguments),
         HigherOrder::AllOfAll => each_with_each(alloc, function, arguments),
@@ -242,7 +237,7 @@ fn each_with_some<F: Inner>(
 {
     match arguments {
         [ValueOrBag::Bag(first), ValueOrBag::Bag(second)] => {
-            Ok(boolean(higher_order::all_of_any(alloc, function, first, second)?))
+            Ok(ValueOrBag::boolean(all_of_any(alloc, function, first, second)?))
         }
         _ => Err(OrMemory::Error(BagFault::NotOne)),
     }
@@ -262,7 +257,7 @@ fn each_with_each<F: Inner>(
 {
     match arguments {
         [ValueOrBag::Bag(first), ValueOrBag::Bag(second)] => {
-            Ok(boolean(higher_order::all_of_all(alloc, function, first, second)?))
+            Ok(ValueOrBag::boolean(all_of_all(alloc, function, first, second)?))
         }
         _ => Err(OrMemory::Error(BagFault::NotOne)),
     }

@@ -9,14 +9,16 @@ ghost use Rattle.xa_func.specs.Logic.{or_of, and_of};
 ghost use Rattle.xa_func.specs.Signature.{kind_of};
 ghost use Rattle.xa_bag.specs.HigherOrder.{choices, is_true, holds, outcome, collected, as_bag};
 ghost use Rattle.xa_bag.specs.HigherOrder.{any_of, all_of, all_of_any, all_of_all, bag_of_results};
+ghost use Rattle.xa_bag.specs.Quantifier.{settling};
 ghost use Rattle.xa_bag.specs.ValueOrBag.{kind_of_each};
 
 use crate::bag::Bag;
 use crate::fault::BagFault;
 use crate::inner::Inner;
+use crate::quantifier::Quantifier;
 use crate::value_or_bag::ValueOrBag;
 use std::alloc::{AllocError, Global};
-use xa_value::{OrMemory, Value};
+use xa_value::{OrMemory, Value, map_error};
 
 /// Whether the value is True.
 pub(crate) fn is_true(value: &Value) -> bool
@@ -35,11 +37,8 @@ fn outcome<F: Inner>(
     ensures value { Gives result (outcome (F.gives function.now arguments.now)) }
     ensures of_type { IfOk result (λ v. type_of v ≡ F.result_type function.now) }
 {
-    match function.call(alloc, arguments) {
-        Ok(value) => Ok(value),
-        Err(OrMemory::Memory) => Err(OrMemory::Memory),
-        Err(OrMemory::Error(fault)) => Err(OrMemory::Error(BagFault::Inner(fault))),
-    }
+    let given = function.call(alloc, arguments);
+    map_error(given, |fault| BagFault::Inner(fault))
 }
 
 /// Whether the function gives True for the arguments.
@@ -56,7 +55,7 @@ fn holds<F: Inner>(
 }
 
 /// Puts a copy of the value at the end.
-fn push_copy(values: &mut Vec<Value>, value: &Value) -> Result<(), AllocError>
+pub fn push_copy(values: &mut Vec<Value>, value: &Value) -> Result<(), AllocError>
     ensures { IfOk result (λ _. values.new.items ≡ values.old.items ++ value.now ∷ []) }
 {
     values.push(value.clone()?)?;
@@ -70,34 +69,35 @@ fn drop_last(values: &mut Vec<Value>)
     values.pop();
 }
 
-/// Whether the function gives True for some of the choices that begin with those chosen, where
-/// `stop` is True, and for each of them, where it is False. No choice is tried after one for which
-/// it gives `stop` or a fault.
-fn verdict<F: Inner>(
+/// Whether the function gives True for any or all of the choices that begin with those chosen. No
+/// choice is tried after one that settles it or gives a fault.
+#[tactic(auto, using(crate::proofs::JoiningLemmas::verdict_one))]
+fn holds_of_choices<F: Inner>(
     alloc: Global,
     function: &F,
-    stop: bool,
+    quantifier: Quantifier,
     chosen: &mut Vec<Value>,
     arguments: &[ValueOrBag],
 ) -> Result<bool, OrMemory<BagFault<F::Fault>>>
     requires { F.can function.now (map kind_of chosen.old.items ++ map kind_of_each arguments.now) }
     ensures value { let found = map (λ vs. holds (F.gives function.now) (chosen.old.items ++ vs))
         (choices arguments.now) in
-        Gives result (if stop then or_of found else and_of found) }
+        Gives result (if settling quantifier then or_of found else and_of found) }
     ensures kept { IfOk result (λ _. chosen.new.items ≡ chosen.old.items) }
 {
     let [argument, rest @ ..] = arguments else {
         return holds(alloc, function, chosen.as_slice());
     };
+    let sought = quantifier.settling();
     for value in argument.values() {
         push_copy(chosen, value)?;
-        let answer = verdict(alloc, function, stop, chosen, rest)?;
+        let answer = holds_of_choices(alloc, function, quantifier, chosen, rest)?;
         drop_last(chosen);
-        if answer == stop {
-            return Ok(stop);
+        if answer == sought {
+            return Ok(sought);
         }
     }
-    Ok(!stop)
+    Ok(!sought)
 }
 
 /// Puts what the function gives for each of the choices that begin with those chosen, up to the first fault.
@@ -149,22 +149,21 @@ fn push_result<F: Inner>(
     Ok(results)
 }
 
-/// For each value of the first bag, whether the function gives True with some value of the second,
-/// where `stop` is True, and with each, where it is False.
+/// Whether for each value of the first bag the function gives True with any or all values of the second.
 fn each_with<F: Inner>(
     alloc: Global,
     function: &F,
-    stop: bool,
+    quantifier: Quantifier,
     first: &Bag,
     second: &Bag,
 ) -> Result<bool, OrMemory<BagFault<F::Fault>>>
     requires { F.can function.now (kind.Value first.now.data_type ∷ kind.Value second.now.data_type ∷ []) }
     ensures { Gives result (and_of
         (map (λ v. let found = map (λ w. holds (F.gives function.now) (v ∷ w ∷ [])) second.now.values in
-        if stop then or_of found else and_of found) first.now.values)) }
+        if settling quantifier then or_of found else and_of found) first.now.values)) }
 {
     for value in first.values() {
-        let answer = one_with(alloc, function, stop, value, second)?;
+        let answer = one_with(alloc, function, quantifier, value, second)?;
         if !answer {
             return Ok(false);
         }
@@ -172,26 +171,26 @@ fn each_with<F: Inner>(
     Ok(true)
 }
 
-/// Whether the function gives True for the value with some value of the bag, where `stop` is True,
-/// and with each, where it is False.
+/// Whether the function gives True for the value with any or all values of the bag.
 fn one_with<F: Inner>(
     alloc: Global,
     function: &F,
-    stop: bool,
+    quantifier: Quantifier,
     value: &Value,
     second: &Bag,
 ) -> Result<bool, OrMemory<BagFault<F::Fault>>>
     requires { F.can function.now (kind_of value.now ∷ kind.Value second.now.data_type ∷ []) }
     ensures { let found = map (λ w. holds (F.gives function.now) (value.now ∷ w ∷ [])) second.now.values in
-        Gives result (if stop then or_of found else and_of found) }
+        Gives result (if settling quantifier then or_of found else and_of found) }
 {
+    let sought = quantifier.settling();
     for other in second.values() {
         let found = holds_of_both(alloc, function, value, other)?;
-        if found == stop {
-            return Ok(stop);
+        if found == sought {
+            return Ok(sought);
         }
     }
-    Ok(!stop)
+    Ok(!quantifier.settling())
 }
 
 /// Whether the function gives True for the two arguments.
@@ -221,7 +220,7 @@ pub(crate) fn any_of<F: Inner>(
     ensures { Gives result (any_of (F.gives function.now) arguments.now) }
 {
     let mut chosen = Vec::new(alloc);
-    verdict(alloc, function, true, &mut chosen, arguments)
+    holds_of_choices(alloc, function, Quantifier::Any, &mut chosen, arguments)
 }
 
 /// All-of: whether the function gives True with each value of the bag in the bag's place, where one
@@ -235,7 +234,7 @@ pub(crate) fn all_of<F: Inner>(
     ensures { Gives result (all_of (F.gives function.now) arguments.now) }
 {
     let mut chosen = Vec::new(alloc);
-    verdict(alloc, function, false, &mut chosen, arguments)
+    holds_of_choices(alloc, function, Quantifier::All, &mut chosen, arguments)
 }
 
 /// Any-of-any: whether the function gives True for some choice of a value of each argument, the
@@ -278,7 +277,7 @@ pub(crate) fn all_of_any<F: Inner>(
     requires { F.can function.now (kind.Value first.now.data_type ∷ kind.Value second.now.data_type ∷ []) }
     ensures { Gives result (all_of_any (F.gives function.now) first.now.values second.now.values) }
 {
-    each_with(alloc, function, true, first, second)
+    each_with(alloc, function, Quantifier::Any, first, second)
 }
 
 /// All-of-all: whether for each value of the first bag the function gives True with each value of the second.
@@ -291,5 +290,5 @@ pub(crate) fn all_of_all<F: Inner>(
     requires { F.can function.now (kind.Value first.now.data_type ∷ kind.Value second.now.data_type ∷ []) }
     ensures { Gives result (all_of_all (F.gives function.now) first.now.values second.now.values) }
 {
-    each_with(alloc, function, false, first, second)
+    each_with(alloc, function, Quantifier::All, first, second)
 }

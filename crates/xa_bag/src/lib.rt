@@ -12,6 +12,7 @@ mod higher_order;
 mod inner;
 mod logic_at_once;
 mod members;
+mod quantifier;
 mod relation;
 mod sets;
 mod value_or_bag;
@@ -19,8 +20,10 @@ mod value_or_bag;
 pub use apply::{apply_bag_function, apply_higher_order};
 pub use bag::Bag;
 pub use fault::BagFault;
+pub use higher_order::push_copy;
 pub use inner::Inner;
 pub use members::Members;
+pub use quantifier::Quantifier;
 pub use sets::{
     at_least_one_member_of, bag_size, intersection, is_in, one_and_only, set_equals, subset,
 };

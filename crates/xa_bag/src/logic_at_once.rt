@@ -89,7 +89,7 @@ fn n_of_counted(trues: usize, booleans: usize, wanted: i64) -> Result<bool, Func
     are_this_many(wanted.unsigned_abs() as usize, trues, booleans)
 }
 
-/// The same by the value of its first argument.
+/// N-of by its number as a value, where so many of so many booleans are True.
 fn n_of_value(trues: usize, booleans: usize, value: &Value) -> Result<bool, FuncFault>
     ensures { result ≡ n_of_value trues booleans value.now }
 {

@@ -1,5 +1,6 @@
 //! What an expression gives, and so what a function takes as an argument: a value or a bag.
 ghost use Rattle.std.specs.Prelude.{◌≡◌};
+ghost use Rattle.xa_bag.specs.Applying.{boolean};
 ghost use Rattle.xa_bag.specs.Bag.{OfType};
 ghost use Rattle.xa_bag.specs.ValueOrBag.{values_of, type_of_each, kind_of_argument};
 
@@ -18,6 +19,13 @@ pub enum ValueOrBag {
 }
 
 impl ValueOrBag {
+    /// The boolean, as a value.
+    pub fn boolean(answer: bool) -> ValueOrBag
+        ensures { result ≡ boolean answer }
+    {
+        ValueOrBag::Value(Value::Boolean(answer))
+    }
+
     /// The one value, or those of the bag.
     pub fn values(&self) -> &[Value]
         ensures values { result.now ≡ values_of self.now }

@@ -31,7 +31,7 @@ use crate::text::{concatenation, has_part, substring};
 use std::alloc::Global;
 use xa_value::{DataType, OrMemory, Value};
 
-/// Whether two values of the type are equal.
+/// Whether two values of the type are equal. The type is of the contract alone.
 fn equal(data_type: DataType, arguments: &[Value]) -> Result<Value, FuncFault>
     requires { AcceptsKinds (signature_of (function_id.Equal data_type)) (map kind_of arguments.now) }
     ensures value { result ≡ applied (function_id.Equal data_type) arguments.now }
@@ -41,7 +41,7 @@ fn equal(data_type: DataType, arguments: &[Value]) -> Result<Value, FuncFault>
     Ok(Value::Boolean(left.same(right)))
 }
 
-/// How two values of the type lie in their order.
+/// How two values of the type lie in their order. The type is of the contract alone.
 fn compare(
     comparison: Comparison,
     ordered: OrderedType,
@@ -74,7 +74,7 @@ fn integer_abs(arguments: &[Value]) -> Result<Value, FuncFault>
     Ok(Value::Integer(absolute(integer_of(one(arguments)))?))
 }
 
-/// The text of a value.
+/// The text of a value. The type that is printed is of the contract alone.
 fn string_from(
     alloc: Global,
     printed: PrintedType,

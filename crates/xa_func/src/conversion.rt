@@ -7,7 +7,7 @@ ghost use Rattle.xa_func.specs.Conversion.{value_of};
 
 use crate::fault::FuncFault;
 use std::alloc::Global;
-use xa_value::{DataType, OrMemory, Value};
+use xa_value::{DataType, OrMemory, Value, map_error};
 
 /// The value of the type that the text stands for.
 #[tactic(auto, using(crate::proofs::TypingLemmas::read_typed))]
@@ -20,9 +20,5 @@ pub(crate) fn value_of(
     ensures exact { grows data_type ≡ false → result ≡ answered (value_of data_type text.now) }
     ensures typed { IfOk result (λ v. type_of v ≡ data_type) }
 {
-    match Value::read(alloc, data_type, text) {
-        Ok(value) => Ok(value),
-        Err(OrMemory::Memory) => Err(OrMemory::Memory),
-        Err(OrMemory::Error(_)) => Err(OrMemory::Error(FuncFault::BadText)),
-    }
+    map_error(Value::read(alloc, data_type, text), |_| FuncFault::BadText)
 }

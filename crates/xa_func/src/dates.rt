@@ -95,10 +95,8 @@ fn day_at(number: i64) -> Result<civil::Date, FuncFault>
     ensures value { day_result result ≡ day_at number }
     ensures later { IfOk result (λ d. pos 1 ≤ℤ d.year) }
 {
-    match civil::Date::from_unix_epoch_day(number) {
-        Ok(day) => from_year_one(day),
-        Err(_) => Err(FuncFault::CalendarRange),
-    }
+    let day = civil::Date::from_unix_epoch_day(number).map_err(|_| FuncFault::CalendarRange)?;
+    from_year_one(day)
 }
 
 /// The nanoseconds as written, this many later.

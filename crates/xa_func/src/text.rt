@@ -93,7 +93,7 @@ pub(crate) fn substring(
     let characters = characters(alloc, text)?;
     let last = end_of(end, characters.len());
     if !is_range(begin, last, characters.len()) {
-        return Err(OrMemory::Error(FuncFault::Position));
+        return Err(FuncFault::Position.into());
     }
     let part = &characters[begin as usize..last as usize];
     Ok(text_of_characters(alloc, part)?)

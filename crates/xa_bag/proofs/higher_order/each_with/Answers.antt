@@ -1,6 +1,7 @@
 use Rattle.std.proofs.Common.{◌∙◌, ap, refl, [], ◌∷◌, map, true, false}
 use Rattle.std.specs.Prelude.{Ok}
 use Rattle.xa_bag.specs.HigherOrder.{holds}
+use Rattle.xa_bag.specs.Quantifier.{settling}
 use Rattle.xa_bag.proofs.JoiningLemmas.{verdict}
 use Rattle.xa_bag.proofs.SetLemmas.{walked}
 use Rattle.xa_bag.proofs.BagLemmas.{of_type_at, can_take}
@@ -15,18 +16,18 @@ one_with-requires g c =
 
 pub returns-in_err-answer : goal.returns-in_err-answer
 returns-in_err-answer g c =
-    let so_far = taken_one false (λ v. verdict c.args.stop (map (λ w. holds (g.F.Inner.gives c.args.function.now) (v ∷ w ∷ [])) c.args.second.now.values)) _ _ _ _
+    let so_far = taken_one false (λ v. verdict (settling c.args.quantifier) (map (λ w. holds (g.F.Inner.gives c.args.function.now) (v ∷ w ∷ [])) c.args.second.now.values)) _ _ _ _
     (walked _ _ _ c.value-item.is c.loop-value-test.true) c.loop-value.invariant in
     fault_decides false _ _ _ _ c.in_err-answer.field-0.0 so_far c.from_residual.ensures.1 c.in_err-answer.ensures
 
 pub returns-then-not-answer : goal.returns-then-not-answer
 returns-then-not-answer g c =
-    let so_far = taken_one false (λ v. verdict c.args.stop (map (λ w. holds (g.F.Inner.gives c.args.function.now) (v ∷ w ∷ [])) c.args.second.now.values)) _ _ _ _
+    let so_far = taken_one false (λ v. verdict (settling c.args.quantifier) (map (λ w. holds (g.F.Inner.gives c.args.function.now) (v ∷ w ∷ [])) c.args.second.now.values)) _ _ _ _
     (walked _ _ _ c.value-item.is c.loop-value-test.true) c.loop-value.invariant in
     stop_decides false false _ _ _ so_far (c.in_ok-answer.ensures ∙ ap (λ b. Ok b) c.if-not-answer.true) refl
 
 pub loop-value-preserved : goal.loop-value-preserved
 loop-value-preserved g c =
-    let so_far = taken_one false (λ v. verdict c.args.stop (map (λ w. holds (g.F.Inner.gives c.args.function.now) (v ∷ w ∷ [])) c.args.second.now.values)) _ _ _ _
+    let so_far = taken_one false (λ v. verdict (settling c.args.quantifier) (map (λ w. holds (g.F.Inner.gives c.args.function.now) (v ∷ w ∷ [])) c.args.second.now.values)) _ _ _ _
     (walked _ _ _ c.value-item.is c.loop-value-test.true) c.loop-value.invariant in
     rest_decides false true _ _ _ so_far (c.in_ok-answer.ensures ∙ ap (λ b. Ok b) c.if-not-answer.false) refl

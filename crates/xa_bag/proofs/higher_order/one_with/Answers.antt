@@ -1,9 +1,11 @@
 use Rattle.std.proofs.Common.{[], ◌∷◌}
+use Rattle.std.proofs.lemmas.List.{drop_all}
 use Rattle.xa_bag.specs.HigherOrder.{holds}
+use Rattle.xa_bag.specs.Quantifier.{settling}
 use Rattle.xa_func.specs.Signature.{kind_of}
 use Rattle.xa_bag.proofs.SetLemmas.{walked}
 use Rattle.xa_bag.proofs.BagLemmas.{of_type_at, can_take}
-use Rattle.xa_bag.proofs.JoiningLemmas.{taken_one, fault_decides, stop_decides, rest_decides}
+use Rattle.xa_bag.proofs.JoiningLemmas.{taken_one, fault_decides, sought_decides, unsought_passes, none_left_of_one}
 use Rattle.xa_bag.proofs.higher_order.one_with.Goals as goal
 
 pub holds_of_both-requires : goal.holds_of_both-requires
@@ -13,18 +15,23 @@ holds_of_both-requires g c =
 
 pub returns-in_err-found : goal.returns-in_err-found
 returns-in_err-found g c =
-    let so_far = taken_one c.args.stop (λ w. holds (g.F.Inner.gives c.args.function.now) (c.args.value.now ∷ w ∷ [])) _ _ _ _
+    let so_far = taken_one (settling c.args.quantifier) (λ w. holds (g.F.Inner.gives c.args.function.now) (c.args.value.now ∷ w ∷ [])) _ _ _ _
     (walked _ _ _ c.other-item.is c.loop-other-test.true) c.loop-other.invariant in
-    fault_decides _ _ _ _ _ c.in_err-found.field-0.0 so_far c.from_residual.ensures.1 c.in_err-found.ensures
+    fault_decides (settling c.args.quantifier) _ _ _ _ c.in_err-found.field-0.0 so_far c.from_residual.ensures.1 c.in_err-found.ensures
 
-pub returns-then-found-stop : goal.returns-then-found-stop
-returns-then-found-stop g c =
-    let so_far = taken_one c.args.stop (λ w. holds (g.F.Inner.gives c.args.function.now) (c.args.value.now ∷ w ∷ [])) _ _ _ _
+pub returns-then-found-sought : goal.returns-then-found-sought
+returns-then-found-sought g c =
+    let so_far = taken_one (settling c.args.quantifier) (λ w. holds (g.F.Inner.gives c.args.function.now) (c.args.value.now ∷ w ∷ [])) _ _ _ _
     (walked _ _ _ c.other-item.is c.loop-other-test.true) c.loop-other.invariant in
-    stop_decides _ c.in_ok-found.found _ _ _ so_far c.in_ok-found.ensures c.if-found-stop.true
+    sought_decides (settling c.args.quantifier) c.settling-sought.result c.in_ok-found.found _ _ _ c.settling-sought.ensures so_far c.in_ok-found.ensures c.if-found-sought.true
 
 pub loop-other-preserved : goal.loop-other-preserved
 loop-other-preserved g c =
-    let so_far = taken_one c.args.stop (λ w. holds (g.F.Inner.gives c.args.function.now) (c.args.value.now ∷ w ∷ [])) _ _ _ _
+    let so_far = taken_one (settling c.args.quantifier) (λ w. holds (g.F.Inner.gives c.args.function.now) (c.args.value.now ∷ w ∷ [])) _ _ _ _
     (walked _ _ _ c.other-item.is c.loop-other-test.true) c.loop-other.invariant in
-    rest_decides _ c.in_ok-found.found _ _ _ so_far c.in_ok-found.ensures c.if-found-stop.false
+    unsought_passes (settling c.args.quantifier) c.settling-sought.result c.in_ok-found.found _ _ _ c.settling-sought.ensures so_far c.in_ok-found.ensures c.if-found-sought.false
+
+pub returns : goal.returns
+returns g c =
+    none_left_of_one (settling c.args.quantifier) c.settling.result (λ w. holds (g.F.Inner.gives c.args.function.now) (c.args.value.now ∷ w ∷ [])) _ _
+    c.settling.ensures (drop_all _ _ c.loop-other-test.false) c.loop-other.invariant
