@@ -1,5 +1,5 @@
 -- Or, and, n-of, place by place, as far as the places decide.
-use Rattle.std.proofs.Common.{◌≡◌, refl, ap, sym, ◌∙◌, ℕ, zero, suc, ◌+◌, ◌-◌, ◌<◌, ◌≤◌, arith, Bool, true, false, List, [], ◌∷◌, map, length, drop}
+use Rattle.std.proofs.Common.{◌≡◌, refl, ap, sym, ◌∙◌, ℕ, zero, suc, ◌+◌, ◌-◌, ◌<◌, ◌≤◌, arith, Bool, true, false, not, List, [], ◌∷◌, map, length, drop}
 use Rattle.std.specs.Prelude.{Result, Ok, Err, IsErrAnd}
 use Rattle.std.proofs.lemmas.List.{length-drop}
 use mathlib.Core.Bool.{beq}
@@ -7,7 +7,7 @@ use Rattle.xa_value.specs.declared.or_memory.OrMemory.{OrMemory}
 use Rattle.xa_value.specs.Gives.{Gives}
 use Rattle.xa_func.specs.Logic.{n_places, n_among}
 use Rattle.xa_func.proofs.LogicLemmas.{n_among_short, n_among_enough, n_places_false, n_places_short}
-use Rattle.xa_bag.proofs.JoiningLemmas.{verdict, then_verdict, verdict_cons, stop_decides, rest_decides}
+use Rattle.xa_bag.proofs.JoiningLemmas.{verdict, then_verdict, verdict_cons, sought_decides, unsought_passes}
 use Rattle.xa_bag.specs.declared.value_or_bag.ValueOrBag.{ValueOrBag}
 use Rattle.xa_expr.specs.declared.fault.Fault.{Fault}
 use Rattle.xa_expr.specs.declared.fault.Fault.TheVariants.{ProcessingError}
@@ -26,13 +26,24 @@ pub place_stops : (stop : Bool) (here : Outcome) (next whole : Result Bool Fault
 place_stops stop here next whole r e so_far same gives =
     fault_passed e r here whole (λ f at. sym so_far ∙ ap (λ x. then_verdict stop (place x) next) at) same gives
 
-pub place_decides : (stop answer : Bool) (given : ValueOrBag) (here : Outcome) (next whole : Result Bool Fault)
-    → then_verdict stop (place here) next ≡ whole → here ≡ Ok given → answer ≡ truth given → beq answer stop ≡ true → whole ≡ Ok stop
-place_decides stop answer given here next whole so_far at is same = stop_decides stop answer (place here) next whole so_far (ap place at ∙ ap (λ b. Ok b) (sym is)) same
+-- the answer that is sought, which stops, and the other, which doesn't
+pub place_decides : (stop sought answer : Bool) (given : ValueOrBag) (here : Outcome) (next whole : Result Bool Fault)
+    → sought ≡ stop → then_verdict stop (place here) next ≡ whole → here ≡ Ok given → answer ≡ truth given → beq answer sought ≡ true → whole ≡ Ok sought
+place_decides stop sought answer given here next whole stops so_far at is same =
+    sought_decides stop sought answer (place here) next whole stops so_far (ap place at ∙ ap (λ b. Ok b) (sym is)) same
 
-pub place_passes : (stop answer : Bool) (given : ValueOrBag) (here : Outcome) (next whole : Result Bool Fault)
-    → then_verdict stop (place here) next ≡ whole → here ≡ Ok given → answer ≡ truth given → beq answer stop ≡ false → next ≡ whole
-place_passes stop answer given here next whole so_far at is differ = rest_decides stop answer (place here) next whole so_far (ap place at ∙ ap (λ b. Ok b) (sym is)) differ
+pub place_passes : (stop sought answer : Bool) (given : ValueOrBag) (here : Outcome) (next whole : Result Bool Fault)
+    → sought ≡ stop → then_verdict stop (place here) next ≡ whole → here ≡ Ok given → answer ≡ truth given → beq answer sought ≡ false → next ≡ whole
+place_passes stop sought answer given here next whole stops so_far at is differ =
+    unsought_passes stop sought answer (place here) next whole stops so_far (ap place at ∙ ap (λ b. Ok b) (sym is)) differ
+
+-- no place is left
+pub no_place_left : {A : Type 0} (stop sought : Bool) (v : A → Outcome) (ts : List A) (whole : Result Bool Fault)
+    → sought ≡ stop → ts ≡ [] → verdict stop (map place (map v ts)) ≡ whole → whole ≡ Ok (not sought)
+no_place_left true sought v ts whole stops none so_far =
+    sym so_far ∙ ap (λ ss. verdict true (map place (map v ss))) none ∙ ap (λ b. Ok (not b)) (sym stops)
+no_place_left false sought v ts whole stops none so_far =
+    sym so_far ∙ ap (λ ss. verdict false (map place (map v ss))) none ∙ ap (λ b. Ok (not b)) (sym stops)
 
 -- n of the places: none is True at once
 pub n_none : {F : Type 0} (fault : F) (rs : List (Result Bool F)) → n_among fault 0 rs ≡ Ok true

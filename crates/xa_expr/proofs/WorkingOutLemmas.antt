@@ -5,7 +5,8 @@ use Rattle.std.proofs.lemmas.List.{drop_all, length-append}
 use Rattle.std.proofs.lemmas.Bool.Decides.{nat_tests}
 use Rattle.std.proofs.lemmas.Option.{slice_get-get_or}
 use Rattle.xa_value.specs.declared.or_memory.OrMemory.{OrMemory}
-use Rattle.xa_value.specs.Gives.{Gives}
+use Rattle.xa_value.specs.Gives.{Gives, answered}
+use Rattle.xa_value.proofs.GivesLemmas.{told_apart}
 use Rattle.xa_func.specs.declared.signature.Kind.{Kind}
 use Rattle.xa_bag.proofs.SetLemmas.{walked}
 use Rattle.xa_bag.specs.declared.value_or_bag.ValueOrBag.{ValueOrBag}
@@ -131,7 +132,7 @@ kinds_next [] rs d r typed is within here = absurd (omega arith)
 kinds_next (a ∷ ds) [] d r typed is within here = (subst (λ (e : Definition). IsOfKind (kind_of_typed e.expression) r) is here, tt)
 kinds_next (a ∷ ds) (s ∷ rs) d r typed is within here = (typed.0, kinds_next ds rs d r typed.1 is (omega arith) here)
 
-pub first_next : (values_of : Attributes) (ds : List Definition) (rs : List Outcome) (d : Definition) (r : Outcome) → AreFirst values_of ds rs
+first_next : (values_of : Attributes) (ds : List Definition) (rs : List Outcome) (d : Definition) (r : Outcome) → AreFirst values_of ds rs
     → d ≡ get_or ds (length rs) d → length rs < length ds → outcome values_of rs d.expression ≡ r → IsOfKind (kind_of_typed d.expression) r
     → AreFirst values_of ds (rs ++ r ∷ [])
 first_next values_of ds rs d r right is within value here = record {
@@ -141,3 +142,15 @@ first_next values_of ds rs d r right is within value here = record {
       ∙ ap (outcomes_after values_of rs) (sym (walked ds (length rs) d is within)) ∙ right.value;
   typed = kinds_next ds rs d r right.typed is within here;
 }
+
+-- and so where it is told apart from want of memory
+pub apart_next : {E : Type 0} (values_of : Attributes) (ds : List Definition) (rs : List Outcome) (d : Definition) (given : Result ValueOrBag (OrMemory Fault)) (apart : Result Outcome E)
+    → AreFirst values_of ds rs → d ≡ get_or ds (length rs) d → length rs < length ds → Gives given (outcome values_of rs d.expression)
+    → IfOk given (λ g. kind_of_argument g ≡ kind_of_typed d.expression) → IfOk apart (λ answer. given ≡ answered answer)
+    → IfOk apart (λ r. AreFirst values_of ds (rs ++ r ∷ []))
+apart_next values_of ds rs d given (Ok (Ok v)) right is within gives typed same =
+    let P : Result ValueOrBag (OrMemory Fault) → Type 0 = λ r. IfOk r (λ g. kind_of_argument g ≡ kind_of_typed d.expression) in
+    first_next values_of ds rs d (Ok v) right is within (told_apart given (outcome values_of rs d.expression) (Ok v) same gives) (subst P same typed)
+apart_next values_of ds rs d given (Ok (Err e)) right is within gives typed same =
+    first_next values_of ds rs d (Err e) right is within (told_apart given (outcome values_of rs d.expression) (Err e) same gives) tt
+apart_next values_of ds rs d given (Err e) right is within gives typed same = tt

@@ -56,7 +56,7 @@ fn check_at(
     ensures unknown { depth ≤ 24 → AppliesNone expression.now → result ≡ Err (Error UnknownFunction) }
 {
     if depth > MAX_DEPTH {
-        return Err(OrMemory::Error(CheckError::TooDeep));
+        return Err(CheckError::TooDeep.into());
     }
     match expression {
         Expr::Value(value) => Ok(Typed::Literal(value.clone()?)),
@@ -121,7 +121,7 @@ fn check_higher_order(
     ensures typed { IfOk result (IsTyped (kinds variables.now)) }
 {
     let [first, others @ ..] = arguments else {
-        return Err(OrMemory::Error(CheckError::WrongCount));
+        return Err(CheckError::WrongCount.into());
     };
     check_function_and_others(alloc, function, first, others, variables, depth)
 }

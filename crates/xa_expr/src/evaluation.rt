@@ -7,8 +7,9 @@ ghost use Rattle.xa_func.specs.Logic.{or_of, and_of, n_among};
 ghost use Rattle.xa_func.specs.Signature.{AcceptsKinds, TakesKinds, kind_of, signature_of};
 ghost use Rattle.xa_func.specs.Signature.{bag_signature, of_each, result_type_of};
 ghost use Rattle.xa_bag.specs.declared.value_or_bag.ValueOrBag.TheVariants as given_variant;
-ghost use Rattle.xa_bag.specs.Applying.{boolean, kind_given};
+ghost use Rattle.xa_bag.specs.Applying.{kind_given};
 ghost use Rattle.xa_bag.specs.HigherOrder.{collected};
+ghost use Rattle.xa_bag.specs.Quantifier.{settling};
 ghost use Rattle.xa_bag.specs.ValueOrBag.{kind_of_argument};
 ghost use Rattle.xa_expr.specs.declared.fault.Fault.TheVariants.{ProcessingError};
 ghost use Rattle.xa_expr.specs.Arguments.{AreTypedUnder, AreValueKinds, value_result};
@@ -23,9 +24,9 @@ use crate::fault::Fault;
 use crate::function::{of_bags, of_function, of_values};
 use crate::scope::{Scope, attribute};
 use crate::typed::Typed;
-use crate::work::{LIST, STEP, units_of};
+use crate::work::{LIST, LOOK, STEP, VALUE, units_of};
 use std::alloc::{AllocError, Global};
-use xa_bag::ValueOrBag;
+use xa_bag::{Quantifier, ValueOrBag};
 use xa_func::{BagFunction, FuncId, HigherOrder, Logic};
 use xa_value::{DataType, Items, OrMemory, Value};
 
@@ -59,11 +60,12 @@ pub(crate) fn evaluate<'a, C: Context>(
     }
 }
 
-/// A copy of the literal, whose units are taken before it is made.
+/// A copy of the literal. Its units are taken before it is made, and those of another value beside them:
+/// literals were measured to take longer than their units.
 fn literal<C: Context>(context: &C, value: &Value) -> Result<ValueOrBag, AllocError>
     ensures { IfOk result (λ given. given ≡ given_variant.Value value.now) }
 {
-    context.spend(units_of(value))?;
+    context.spend(units_of(value).saturating_add(VALUE))?;
     Ok(ValueOrBag::Value(value.clone()?))
 }
 
@@ -91,7 +93,8 @@ fn apply<'a, C: Context>(
     }
 }
 
-/// What the function of booleans comes to on the arguments.
+/// What the function of booleans comes to on the arguments. It takes a look, beside the step of its
+/// expression, before anything is done.
 #[cycle(evaluation)]
 fn apply_logic<'a, C: Context>(
     alloc: Global,
@@ -109,19 +112,13 @@ fn apply_logic<'a, C: Context>(
     ensures typed { IfOk result (λ given.
         kind_of_argument given ≡ result_kind (signature_of (function_id.Logic function))) }
 {
+    scope.context.spend(LOOK)?;
     match function {
-        Logic::Or => Ok(boolean(decide(alloc, scope, true, arguments)?)),
-        Logic::And => Ok(boolean(decide(alloc, scope, false, arguments)?)),
-        Logic::NOf => Ok(boolean(n_of(alloc, scope, arguments)?)),
+        Logic::Or => Ok(ValueOrBag::boolean(decide(alloc, scope, Quantifier::Any, arguments)?)),
+        Logic::And => Ok(ValueOrBag::boolean(decide(alloc, scope, Quantifier::All, arguments)?)),
+        Logic::NOf => Ok(ValueOrBag::boolean(n_of(alloc, scope, arguments)?)),
         Logic::Not => apply_to_values(alloc, scope, FuncId::Logic(function), arguments),
     }
-}
-
-/// A boolean, as what an expression gives.
-fn boolean(answer: bool) -> ValueOrBag
-    ensures { result ≡ boolean answer }
-{
-    ValueOrBag::Value(Value::Boolean(answer))
 }
 
 /// Whether what an argument gives is True.
@@ -130,6 +127,7 @@ fn truth(given: &ValueOrBag) -> bool
 {
     match given {
         ValueOrBag::Value(Value::Boolean(boolean)) => *boolean,
+        // a type check lets no other through: `MeetsNoMisfit` of specs/Misfits
         _ => false,
     }
 }
@@ -140,6 +138,7 @@ fn number(given: &ValueOrBag) -> i64
 {
     match given {
         ValueOrBag::Value(Value::Integer(number)) => *number,
+        // a type check lets no other through: `MeetsNoMisfit` of specs/Misfits
         _ => 0,
     }
 }
@@ -150,32 +149,34 @@ fn value_in(given: ValueOrBag) -> Value
 {
     match given {
         ValueOrBag::Value(value) => value,
+        // a type check lets no other through: `MeetsNoMisfit` of specs/Misfits
         ValueOrBag::Bag(_) => Value::Boolean(false),
     }
 }
 
-/// Or, where `stop` is true, and and, where it is false: no argument is evaluated after one that gives
-/// `stop` or a fault.
+/// Whether any or all of the arguments are True. No argument is evaluated after one that settles it or
+/// gives a fault.
 #[cycle(evaluation)]
 fn decide<'a, C: Context>(
     alloc: Global,
     scope: &Scope<'a, C>,
-    stop: bool,
+    quantifier: Quantifier,
     arguments: &[Typed],
 ) -> Result<bool, OrMemory<Fault>>
     requires right { AreOfKinds (kinds scope.now.definitions.now) scope.now.results.now }
     requires typed { AreTypedUnder (kinds scope.now.definitions.now) arguments.now }
     ensures { let found = map place
         (map (outcome (C.values_of scope.now.context.now) scope.now.results.now) arguments.now) in
-        Gives result (if stop then or_of found else and_of found) }
+        Gives result (if settling quantifier then or_of found else and_of found) }
 {
+    let sought = quantifier.settling();
     for argument in arguments {
         let given = evaluate(alloc, scope, argument)?;
-        if truth(&given) == stop {
-            return Ok(stop);
+        if truth(&given) == sought {
+            return Ok(sought);
         }
     }
-    Ok(!stop)
+    Ok(!quantifier.settling())
 }
 
 /// N-of: the number first, and then the booleans, as far as they are needed.

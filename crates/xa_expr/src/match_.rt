@@ -3,7 +3,7 @@ ghost use Rattle.std.specs.Prelude.{◌≡◌, ◌∷◌, [], IsTrue};
 ghost use Rattle.xa_expr.specs.MatchTypes.{argument_kinds, may_ask};
 ghost use Rattle.xa_expr.specs.Typed.{accepted};
 
-use crate::answering::{answer_for, push_copy};
+use crate::answering::answer_for;
 use crate::check_error::CheckError;
 use crate::context::Context;
 use crate::designator::Designator;
@@ -13,8 +13,9 @@ use crate::rates::units_of_calls;
 use crate::scope::attribute;
 use crate::work::{STEP, units_of, units_of_values};
 use std::alloc::{AllocError, Global};
+use xa_bag::push_copy;
 use xa_func::{FuncId, HasKind, Kind, Signature};
-use xa_value::{DataType, OrMemory, Value};
+use xa_value::{DataType, Value, memory_apart};
 
 /// A match (core, section 5.9): whether the function is true of the literal and some value of the
 /// designator's bag. The function takes two such values and gives a boolean.
@@ -102,10 +103,9 @@ impl Match {
     fn true_in<C: Context>(&self, alloc: Global, context: &C) -> Result<Matching, AllocError>
         ensures { IfOk result (λ m. m ≡ match_value (C.values_of context.now) self.now) }
     {
-        match attribute(alloc, context, &self.designator) {
+        match memory_apart(attribute(alloc, context, &self.designator))? {
             Ok(bag) => self.found_in(alloc, context, bag.values()),
-            Err(OrMemory::Error(fault)) => Ok(Matching::Indeterminate(fault)),
-            Err(OrMemory::Memory) => Err(AllocError),
+            Err(fault) => Ok(Matching::Indeterminate(fault)),
         }
     }
 
@@ -167,7 +167,7 @@ impl Match {
         ensures kept { IfOk result (λ _. arguments.new.items ≡ arguments.old.items) }
     {
         push_copy(arguments, value)?;
-        let answer = answer_for(self.function, alloc, arguments.as_slice())?;
+        let answer = answer_for(alloc, self.function, arguments.as_slice())?;
         arguments.pop();
         Ok(answer)
     }

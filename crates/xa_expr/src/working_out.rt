@@ -11,10 +11,10 @@ use crate::fault::Fault;
 use crate::scope::Scope;
 use crate::typed::Typed;
 use crate::variables::Definition;
-use crate::work::LOOK;
+use crate::work::{LOOK, STEP};
 use std::alloc::{AllocError, Global};
 use xa_bag::ValueOrBag;
-use xa_value::OrMemory;
+use xa_value::memory_apart;
 
 /// The place of the last variable that the expression names. Its cost is the expression's size, and
 /// counted: more may be looked at here than is evaluated afterwards.
@@ -57,7 +57,8 @@ fn later(first: Option<usize>, second: Option<usize>) -> Option<usize>
     }
 }
 
-/// What the first variable without a result comes to.
+/// What the first variable without a result comes to. It takes a step, beside that of its expression,
+/// before anything is done.
 fn next_outcome<C: Context>(
     alloc: Global,
     context: &C,
@@ -70,21 +71,18 @@ fn next_outcome<C: Context>(
     ensures { IfOk result (λ outcome.
         AreFirst (C.values_of context.now) definitions.now (results.now ++ outcome ∷ [])) }
 {
+    context.spend(STEP)?;
     let place = results.len();
     let scope = Scope {
         context,
         definitions: &definitions[..place],
         results,
     };
-    match evaluate(alloc, &scope, &definitions[place].expression) {
-        Ok(given) => Ok(Ok(given)),
-        Err(OrMemory::Error(fault)) => Ok(Err(fault)),
-        Err(OrMemory::Memory) => Err(AllocError),
-    }
+    memory_apart(evaluate(alloc, &scope, &definitions[place].expression))
 }
 
-/// The same. The values of a bag of many are lent from now on, so that what names the variable takes no
-/// time to copy them.
+/// What an expression gave, the values of a bag of many lent from now on: what names the variable takes
+/// no time to copy them.
 fn lent(given: ValueOrBag) -> Result<ValueOrBag, AllocError>
     ensures { IfOk result (λ lent. lent ≡ given) }
 {
@@ -94,7 +92,7 @@ fn lent(given: ValueOrBag) -> Result<ValueOrBag, AllocError>
     }
 }
 
-/// The same outcome, whose values are lent.
+/// What a variable came to, its values lent.
 fn lent_outcome(outcome: Result<ValueOrBag, Fault>) -> Result<Result<ValueOrBag, Fault>, AllocError>
     ensures { IfOk result (λ lent. lent ≡ outcome) }
 {

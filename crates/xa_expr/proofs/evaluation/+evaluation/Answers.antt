@@ -7,8 +7,9 @@ use Rattle.xa_expr.specs.declared.typed.Typed.TheViews.{the_lemmas}
 use Rattle.xa_expr.specs.Arguments.{value_result}
 use Rattle.xa_expr.specs.Typed.{kind_of_typed}
 use Rattle.xa_expr.proofs.typed.Typed.TheLaws.{the_size}
-use Rattle.xa_expr.proofs.PlaceLemmas.{next_place, place_stops, place_decides, place_passes, n_whole, n_fault, n_too_few, n_none, n_ends, n_last, n_passes, n_less, left_behind}
+use Rattle.xa_expr.proofs.PlaceLemmas.{next_place, place_stops, place_decides, place_passes, no_place_left, n_whole, n_fault, n_too_few, n_none, n_ends, n_last, n_passes, n_less, left_behind}
 use Rattle.xa_func.specs.Signature.{TakesKinds, of_each, kind_of}
+use Rattle.xa_bag.specs.Quantifier.{settling}
 use Rattle.xa_bag.specs.ValueOrBag.{kind_of_argument, kind_of_each}
 use Rattle.xa_expr.specs.declared.typed.Typed.TheVariants as typed
 use Rattle.xa_expr.specs.Evaluation.{outcome}
@@ -57,18 +58,23 @@ decide-evaluate-requires g t c κs within =
 
 pub decide-returns-in_err-given : goal.decide-returns-in_err-given
 decide-returns-in_err-given g t c =
-    let so_far = next_place c.args.stop (outcome (g.C.Context.values_of c.args.scope.now.context.now) c.args.scope.now.results.now) _ _ _ _ (walked _ _ _ c.argument-item.is c.loop-argument-test.true) c.loop-argument.invariant in
-    place_stops c.args.stop _ _ _ _ c.in_err-given.field-0.0 so_far c.from_residual.ensures.1 c.in_err-given.ensures.value
+    let so_far = next_place (settling c.args.quantifier) (outcome (g.C.Context.values_of c.args.scope.now.context.now) c.args.scope.now.results.now) _ _ _ _ (walked _ _ _ c.argument-item.is c.loop-argument-test.true) c.loop-argument.invariant in
+    place_stops (settling c.args.quantifier) _ _ _ _ c.in_err-given.field-0.0 so_far c.from_residual.ensures.1 c.in_err-given.ensures.value
 
-pub decide-returns-then-truth-stop : goal.decide-returns-then-truth-stop
-decide-returns-then-truth-stop g t c =
-    let so_far = next_place c.args.stop (outcome (g.C.Context.values_of c.args.scope.now.context.now) c.args.scope.now.results.now) _ _ _ _ (walked _ _ _ c.argument-item.is c.loop-argument-test.true) c.loop-argument.invariant in
-    place_decides c.args.stop _ c.in_ok-given.given _ _ _ so_far c.in_ok-given.ensures.value c.truth.ensures c.if-truth-stop.true
+pub decide-returns-then-truth-sought : goal.decide-returns-then-truth-sought
+decide-returns-then-truth-sought g t c =
+    let so_far = next_place (settling c.args.quantifier) (outcome (g.C.Context.values_of c.args.scope.now.context.now) c.args.scope.now.results.now) _ _ _ _ (walked _ _ _ c.argument-item.is c.loop-argument-test.true) c.loop-argument.invariant in
+    place_decides (settling c.args.quantifier) c.settling-sought.result _ c.in_ok-given.given _ _ _ c.settling-sought.ensures so_far c.in_ok-given.ensures.value c.truth.ensures c.if-truth-sought.true
 
 pub decide-loop-argument-preserved : goal.decide-loop-argument-preserved
 decide-loop-argument-preserved g t c =
-    let so_far = next_place c.args.stop (outcome (g.C.Context.values_of c.args.scope.now.context.now) c.args.scope.now.results.now) _ _ _ _ (walked _ _ _ c.argument-item.is c.loop-argument-test.true) c.loop-argument.invariant in
-    place_passes c.args.stop _ c.in_ok-given.given _ _ _ so_far c.in_ok-given.ensures.value c.truth.ensures c.if-truth-stop.false
+    let so_far = next_place (settling c.args.quantifier) (outcome (g.C.Context.values_of c.args.scope.now.context.now) c.args.scope.now.results.now) _ _ _ _ (walked _ _ _ c.argument-item.is c.loop-argument-test.true) c.loop-argument.invariant in
+    place_passes (settling c.args.quantifier) c.settling-sought.result _ c.in_ok-given.given _ _ _ c.settling-sought.ensures so_far c.in_ok-given.ensures.value c.truth.ensures c.if-truth-sought.false
+
+pub decide-returns : goal.decide-returns
+decide-returns g t c =
+    no_place_left (settling c.args.quantifier) c.settling.result (outcome (g.C.Context.values_of c.args.scope.now.context.now) c.args.scope.now.results.now) _ _
+    c.settling.ensures (drop_all _ _ c.loop-argument-test.false) c.loop-argument.invariant
 
 pub all_values-evaluate-requires : goal.all_values-evaluate-requires
 all_values-evaluate-requires g t c κs within =

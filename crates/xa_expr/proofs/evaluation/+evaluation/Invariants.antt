@@ -3,6 +3,7 @@ use Rattle.std.specs.Prelude.{Ok}
 use Rattle.xa_func.specs.Signature.{kind_of}
 use Rattle.xa_bag.proofs.JoiningLemmas.{verdict}
 use Rattle.xa_bag.specs.HigherOrder.{collected}
+use Rattle.xa_bag.specs.Quantifier.{settling}
 use Rattle.xa_bag.specs.ValueOrBag.{kind_of_argument}
 use Rattle.xa_expr.specs.Arguments.{value_result}
 use Rattle.xa_expr.specs.Evaluation.{outcome, place}
@@ -50,7 +51,7 @@ decreases-apply g l = 8 * most the_size l.arguments.now + 4
 abbrev pub invariant-decide-loop-argument : goal.invariant-decide-loop-argument
 invariant-decide-loop-argument g l =
     let v = outcome (g.C.Context.values_of l.scope.context.now) l.scope.results.now in
-    verdict l.stop (map place (map v (drop l.argument-index l.arguments))) ≡ verdict l.stop (map place (map v l.arguments))
+    verdict (settling l.quantifier) (map place (map v (drop l.argument-index l.arguments))) ≡ verdict (settling l.quantifier) (map place (map v l.arguments))
 
 -- those that are missing, of the rest, are those that are wanted, of all
 abbrev pub invariant-n_among-loop-boolean : goal.invariant-n_among-loop-boolean
