@@ -51,13 +51,13 @@ impl Routes {
             named_by route ≡ option_and_then named_part (address_of message.now.target)) }
     {
         let Some((place, path)) = self.address_of(message.target.as_slice()) else {
-            return Err(OrMemory::Error(RouteFault::NoRoute));
+            return Err(RouteFault::NoRoute.into());
         };
         let Some(command) = place.command(message.method.as_slice()) else {
-            return Err(OrMemory::Error(RouteFault::BadMethod(place)));
+            return Err(RouteFault::BadMethod(place).into());
         };
         if !takes_body(message, command) {
-            return Err(OrMemory::Error(RouteFault::BadMediaType));
+            return Err(RouteFault::BadMediaType.into());
         }
         Ok(route_to(alloc, path, command)?)
     }

@@ -16,7 +16,7 @@ use std::alloc::{AllocError, Global};
 use std::marker::Model;
 use xa_notation::Parsed;
 use xa_shelf::TextReader;
-use xa_value::{OrMemory, Shared};
+use xa_value::{Shared, memory_apart};
 
 /// What is known of a place among active documents.
 #[derive(Drop)]
@@ -76,10 +76,7 @@ fn keep(
 fn share_of(found: &Option<Shared<Placed>>) -> Result<Option<Shared<Placed>>, AllocError>
     ensures { IfOk result (λ share. share ≡ found.now) }
 {
-    match found {
-        Some(document) => Ok(Some(document.clone()?)),
-        None => Ok(None),
-    }
+    found.clone()
 }
 
 /// What is known of the place.
@@ -98,10 +95,9 @@ fn read_if(reader: &mut TextReader<'_>, text: &[u8]) -> Result<Option<Shared<Par
     ensures spends { reader.new ≡ asked (length text.now) reader.old }
     ensures within { IfOk result (λ _. length text.now ≤ reader.old.left) }
 {
-    match reader.read(text) {
+    match memory_apart(reader.read(text))? {
         Ok(document) => Ok(Some(document)),
-        Err(OrMemory::Error(_)) => Ok(None),
-        Err(OrMemory::Memory) => Err(AllocError),
+        Err(_) => Ok(None),
     }
 }
 

@@ -14,16 +14,13 @@ use crate::tables::Object;
 use serde_json::Value as Json;
 use std::alloc::Global;
 use xa_expr::Designator;
-use xa_value::{DataType, OrMemory, Plain, TextRef, Value};
+use xa_value::{DataType, OrMemory, Plain, TextRef, Value, map_error};
 
 /// The whole number, where the value is one.
 fn whole_number(value: &Json) -> Option<i128>
     ensures { result ≡ option_and_then as_integer (as_number (view value.now)) }
 {
-    match value.as_number() {
-        Some(number) => number.as_i128(),
-        None => None,
-    }
+    value.as_number()?.as_i128()
 }
 
 /// A text, a boolean or a whole number.
@@ -36,10 +33,7 @@ fn plain_value(value: &Json) -> Option<Plain<TextRef<'_>>>
     if let Some(value) = value.as_bool() {
         return Some(Plain::Boolean(value));
     }
-    match whole_number(value) {
-        Some(number) => Some(Plain::Integer(number)),
-        None => None,
-    }
+    Some(Plain::Integer(whole_number(value)?))
 }
 
 /// The value of the plain member.
@@ -50,11 +44,8 @@ fn typed_value(
 ) -> Result<Value, OrMemory<NotationError>>
     ensures { Gives result (or_bad (from_plain data_type plain.now)) }
 {
-    match Value::from_plain(alloc, data_type, plain) {
-        Ok(value) => Ok(value),
-        Err(OrMemory::Memory) => Err(OrMemory::Memory),
-        Err(OrMemory::Error(_)) => Err(OrMemory::Error(NotationError::BadValue)),
-    }
+    let value = Value::from_plain(alloc, data_type, plain);
+    map_error(value, |_| NotationError::BadValue)
 }
 
 /// The value of the type that a text, a boolean or a whole number stands for; the fault is BadValue.
@@ -65,10 +56,8 @@ pub fn literal(
 ) -> Result<Value, OrMemory<NotationError>>
     ensures { Gives result (literal data_type (view value.now)) }
 {
-    match plain_value(value) {
-        Some(plain) => typed_value(alloc, data_type, &plain),
-        None => Err(OrMemory::Error(NotationError::BadValue)),
-    }
+    let plain = plain_value(value).ok_or(NotationError::BadValue)?;
+    typed_value(alloc, data_type, &plain)
 }
 
 /// A literal (XACML 3.0, core, section 5.31).

@@ -11,7 +11,7 @@ use crate::typing::typed_tree;
 use crate::written::{WrittenDocument, WrittenTree};
 use std::alloc::{AllocError, Global};
 use xa_policy::{DocumentKey, DocumentKind, Policy, PolicySet, Reference, Version};
-use xa_value::{Items, OrMemory, Shared, Text};
+use xa_value::{Items, OrMemory, Shared, Text, map_error};
 
 /// The most bytes of a document: a bound of this project's own.
 const MAX_DOCUMENT_BYTES: usize = 65_536;
@@ -46,7 +46,7 @@ impl Parsed {
         ensures exact { IsTrue (nat_lt 65_536 (length text.now)) → result ≡ answered (document_of text.now) }
     {
         if text.len() > MAX_DOCUMENT_BYTES {
-            return Err(OrMemory::Error(NotationError::TooLarge));
+            return Err(NotationError::TooLarge.into());
         }
         typed_document(alloc, document_written(alloc, text)?)
     }
@@ -104,11 +104,7 @@ fn document_written(alloc: Global, text: &[u8]) -> Result<WrittenDocument, OrMem
 fn document_tree(alloc: Global, tree: WrittenTree) -> Result<Document, OrMemory<NotationError>>
     ensures { Gives result (or_ill_typed (tree_typed tree)) }
 {
-    match typed_tree(alloc, tree) {
-        Ok(document) => Ok(document),
-        Err(OrMemory::Error(fault)) => Err(OrMemory::Error(NotationError::IllTyped(fault))),
-        Err(OrMemory::Memory) => Err(OrMemory::Memory),
-    }
+    map_error(typed_tree(alloc, tree), NotationError::IllTyped)
 }
 
 /// The typed document.

@@ -44,10 +44,7 @@ pub fn member_at(value: &Json, name: Member) -> Option<&Json>
 pub fn needed_member(value: &Json, name: Member) -> Result<&Json, NotationError>
     ensures { result_map_both (λ v. view v.now) (λ e. e) result ≡ needed_member name (view value.now) }
 {
-    match member_at(value, name) {
-        Some(member) => Ok(member),
-        None => Err(NotationError::MissingMember(name)),
-    }
+    member_at(value, name).ok_or(NotationError::MissingMember(name))
 }
 
 /// The members of an object.
@@ -55,10 +52,7 @@ fn members(value: &Json) -> Result<&Map<String, Json>, NotationError>
     ensures { result_map_both (λ m. members_view m.now.entries) (λ e. e) result
         ≡ ok_or (as_object (view value.now)) NotationError.BadValue }
 {
-    match value.as_object() {
-        Some(members) => Ok(members),
-        None => Err(NotationError::BadValue),
-    }
+    value.as_object().ok_or(NotationError::BadValue)
 }
 
 /// Whether the table has a member of the name.
@@ -176,10 +170,7 @@ pub(crate) fn chosen_member(value: &Json, choice: Choice) -> Result<Member, Nota
 pub(crate) fn text(value: &Json) -> Result<&str, NotationError>
     ensures { result_map_both (λ t. t.now) (λ e. e) result ≡ text (view value.now) }
 {
-    match value.as_str() {
-        Some(text) => Ok(text),
-        None => Err(NotationError::BadValue),
-    }
+    value.as_str().ok_or(NotationError::BadValue)
 }
 
 /// A copy of a text; the fault is BadValue.
@@ -213,10 +204,8 @@ pub(crate) fn flag(value: &Json) -> Result<bool, NotationError>
 pub fn items(value: &Json) -> Result<&[Json], NotationError>
     ensures { result_map_both (λ vs. items_view vs.now) (λ e. e) result ≡ items (view value.now) }
 {
-    match value.as_array() {
-        Some(items) => Ok(items.as_slice()),
-        None => Err(NotationError::BadValue),
-    }
+    let items = value.as_array().ok_or(NotationError::BadValue)?;
+    Ok(items.as_slice())
 }
 
 /// The items of an array that may be left out.

@@ -24,7 +24,7 @@ pub(crate) fn id(alloc: Global, value: &Json) -> Result<Text, OrMemory<NotationE
 {
     let id = text(value)?;
     if id.is_empty() || id.len() > MAX_ID_BYTES {
-        return Err(OrMemory::Error(NotationError::BadValue));
+        return Err(NotationError::BadValue.into());
     }
     Ok(Text::new(alloc, id)?)
 }
@@ -32,20 +32,14 @@ pub(crate) fn id(alloc: Global, value: &Json) -> Result<Text, OrMemory<NotationE
 pub(crate) fn version(value: &Json) -> Result<Version, NotationError>
     ensures { result ≡ version (view value.now) }
 {
-    match Version::read(text(value)?) {
-        Ok(version) => Ok(version),
-        Err(_) => Err(NotationError::BadValue),
-    }
+    Version::read(text(value)?).map_err(|_| NotationError::BadValue)
 }
 
 /// A pattern of versions.
 pub(crate) fn pattern(value: &Json) -> Result<Pattern, NotationError>
     ensures { result ≡ pattern (view value.now) }
 {
-    match Pattern::read(text(value)?) {
-        Ok(pattern) => Ok(pattern),
-        Err(_) => Err(NotationError::BadValue),
-    }
+    Pattern::read(text(value)?).map_err(|_| NotationError::BadValue)
 }
 
 /// A version that may be left out.
@@ -92,30 +86,21 @@ pub(crate) fn effect(value: &Json) -> Result<Effect, NotationError>
 pub(crate) fn rule_algorithm(value: &Json) -> Result<Alg, NotationError>
     ensures { result ≡ rule_algorithm (view value.now) }
 {
-    match rule_algorithm_named(text(value)?) {
-        Some(algorithm) => Ok(algorithm),
-        None => Err(NotationError::UnknownAlgorithm),
-    }
+    rule_algorithm_named(text(value)?).ok_or(NotationError::UnknownAlgorithm)
 }
 
 /// The algorithm of a policy set.
 pub(crate) fn policy_algorithm(value: &Json) -> Result<Alg, NotationError>
     ensures { result ≡ policy_algorithm (view value.now) }
 {
-    match policy_algorithm_named(text(value)?) {
-        Some(algorithm) => Ok(algorithm),
-        None => Err(NotationError::UnknownAlgorithm),
-    }
+    policy_algorithm_named(text(value)?).ok_or(NotationError::UnknownAlgorithm)
 }
 
 /// A data type, by its URI or its name alone; the fault is BadValue.
 pub fn data_type(value: &Json) -> Result<DataType, NotationError>
     ensures { result ≡ data_type (view value.now) }
 {
-    match DataType::from_uri(text(value)?) {
-        Some(data_type) => Ok(data_type),
-        None => Err(NotationError::BadValue),
-    }
+    DataType::from_uri(text(value)?).ok_or(NotationError::BadValue)
 }
 
 /// A copy of the URI of a category, of which the value is the shorthand or any text; the fault is BadValue.

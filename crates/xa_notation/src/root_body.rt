@@ -25,7 +25,7 @@ fn root_named(
     match name {
         Member::PolicyIdReference => reference(alloc, DocumentKind::Policy, value),
         Member::PolicySetIdReference => reference(alloc, DocumentKind::PolicySet, value),
-        _ => Err(OrMemory::Error(NotationError::UnknownMember)),
+        _ => Err(NotationError::UnknownMember.into()),
     }
 }
 

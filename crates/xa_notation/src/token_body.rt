@@ -49,7 +49,7 @@ fn token(alloc: Global, value: &Json) -> Result<Text, OrMemory<NotationError>>
 {
     let token = text(value)?;
     if !is_token(token.as_bytes()) {
-        return Err(OrMemory::Error(NotationError::BadValue));
+        return Err(NotationError::BadValue.into());
     }
     Ok(Text::new(alloc, token)?)
 }

@@ -68,7 +68,7 @@ impl Definitions {
     {
         let name = Text::new(alloc, name)?;
         if self.is_taken(&name) {
-            return Err(OrMemory::Error(NotationError::BadValue));
+            return Err(NotationError::BadValue.into());
         }
         Ok(name)
     }

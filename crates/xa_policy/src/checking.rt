@@ -30,7 +30,7 @@ fn check_condition(
     };
     let condition = check(alloc, condition, variables)?;
     if condition.kind() != Kind::Value(DataType::Boolean) {
-        return Err(OrMemory::Error(CheckError::WrongType));
+        return Err(CheckError::WrongType.into());
     }
     Ok(Some(condition))
 }

@@ -129,17 +129,14 @@ fn permit_overrides_of_two(first: Decision, second: Decision) -> Decision
 
 /// First-applicable of one. The algorithm doesn't track extended Indeterminates, so its own is {DP}
 /// (appendix C.1).
-#[tactic(auto, unfolding(crate::specs::Combining::first_applicable))]
+#[tactic(auto, using(crate::proofs::FirstApplicableLemmas::first_applicable_alone))]
 pub(crate) fn first_applicable_of_one(decision: Decision) -> Decision
     ensures { result ≡ first_applicable (decision ∷ []) }
 {
-    match decision {
-        Decision::Permit => Decision::Permit,
-        Decision::Deny => Decision::Deny,
-        Decision::NotApplicable => Decision::NotApplicable,
-        Decision::IndeterminatePermit
-        | Decision::IndeterminateDeny
-        | Decision::IndeterminateDenyPermit => Decision::IndeterminateDenyPermit,
+    if decision.is_indeterminate() {
+        Decision::IndeterminateDenyPermit
+    } else {
+        decision
     }
 }
 

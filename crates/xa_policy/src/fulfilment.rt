@@ -20,7 +20,7 @@ use crate::verdict::Verdict;
 use std::alloc::{AllocError, Global};
 use xa_bag::ValueOrBag;
 use xa_expr::{Context, Evaluator, Fault, LOOK, STEP, Typed, units_of_given};
-use xa_value::{Items, OrMemory, Text, Value};
+use xa_value::{Items, OrMemory, Text, Value, memory_apart};
 
 /// The assignment, with the value.
 fn with_value(
@@ -185,13 +185,12 @@ fn with_own_of<'a, C: Context>(
     ensures kept { evaluator.new ≡ evaluator.old }
 {
     evaluator.spend(evaluated.duties.units_of_moving())?;
-    match own_duties(alloc, evaluator, effect, own) {
+    match memory_apart(own_duties(alloc, evaluator, effect, own))? {
         Ok(duties) => {
             evaluated.duties.append(duties)?;
             Ok(evaluated)
         }
-        Err(OrMemory::Error(fault)) => Ok(Verdict::left_open(alloc, effect, fault)),
-        Err(OrMemory::Memory) => Err(AllocError),
+        Err(fault) => Ok(Verdict::left_open(alloc, effect, fault)),
     }
 }
 

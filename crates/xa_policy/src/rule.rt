@@ -15,7 +15,7 @@ use std::alloc::{AllocError, Global};
 use xa_bag::ValueOrBag;
 use xa_expr::{Context, Evaluator, Fault, Matching, Target, Typed};
 use xa_func::Status;
-use xa_value::{OrMemory, Value};
+use xa_value::{OrMemory, Value, memory_apart};
 
 /// A rule (XACML 3.0, core, section 5.21). `E` is how expressions stand there: as read, or checked.
 #[derive(Debug, Drop)]
@@ -62,14 +62,13 @@ fn by_condition<'a, C: Context>(
         (condition_value (value_of (C.values_of evaluator.old.0) evaluator.old.1) condition.now)) }
     ensures kept { evaluator.new ≡ evaluator.old }
 {
-    match condition_value(alloc, evaluator, condition) {
+    match memory_apart(condition_value(alloc, evaluator, condition))? {
         Ok(true) => {
             let decision = effect.decision();
             Ok(Verdict::without_duties(alloc, decision, Status::Ok))
         }
         Ok(false) => Ok(Verdict::not_applicable(alloc)),
-        Err(OrMemory::Error(fault)) => Ok(Verdict::left_open(alloc, effect, fault)),
-        Err(OrMemory::Memory) => Err(AllocError),
+        Err(fault) => Ok(Verdict::left_open(alloc, effect, fault)),
     }
 }
 

@@ -20,7 +20,7 @@ use crate::request_error::RequestError;
 use json::Value as Json;
 use std::alloc::Global;
 use xa_bag::Bag;
-use xa_value::{DataType, Items, OrMemory, Plain, Text, TextRef, Value};
+use xa_value::{DataType, Items, OrMemory, Plain, Text, TextRef, Value, map_error};
 
 /// An attribute of a request (JSON Profile, section 4.2).
 #[derive(Debug, Drop)]
@@ -58,10 +58,8 @@ impl Reader for KindReader {
 
     #[tactic(auto, unfolding(crate::specs::Attribute::kind))]
     fn read(&self, _alloc: Global, value: &Json<'_>) -> Result<DataType, OrMemory<RequestError>> {
-        match plain_of(value) {
-            Some(plain) => Ok(plain.data_type()),
-            None => Err(OrMemory::Error(RequestError::NotProfile)),
-        }
+        let plain = plain_of(value).ok_or(RequestError::NotProfile)?;
+        Ok(plain.data_type())
     }
 }
 
@@ -130,13 +128,10 @@ fn value_of(
     ensures of_type { IfOk result (λ v. type_of v ≡ data_type) }
 {
     let Some(plain) = plain_of(json) else {
-        return Err(OrMemory::Error(RequestError::NotProfile));
+        return Err(RequestError::NotProfile.into());
     };
-    match Value::from_plain(alloc, data_type, &plain) {
-        Ok(value) => Ok(value),
-        Err(OrMemory::Memory) => Err(OrMemory::Memory),
-        Err(OrMemory::Error(_)) => Err(OrMemory::Error(RequestError::NotProfile)),
-    }
+    let value = Value::from_plain(alloc, data_type, &plain);
+    map_error(value, |_| RequestError::NotProfile)
 }
 
 /// The bag of the values. Where they are many they are lent to whoever copies the bag.

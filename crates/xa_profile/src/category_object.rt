@@ -32,10 +32,10 @@ pub struct CategoryObject {
 fn category_named(alloc: Global, value: Option<&Json<'_>>) -> Result<Text, OrMemory<RequestError>>
     ensures { Gives result (named_category (option_map (λ v. view v.now) value.entry)) }
 {
-    match value.and_then(Json::as_str) {
-        Some(name) => Ok(Text::new(alloc, category_uri(name))?),
-        None => Err(OrMemory::Error(RequestError::NotProfile)),
-    }
+    let name = value
+        .and_then(Json::as_str)
+        .ok_or(RequestError::NotProfile)?;
+    Ok(Text::new(alloc, category_uri(name))?)
 }
 
 /// The category of an object, under a shorthand or not.

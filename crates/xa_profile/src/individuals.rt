@@ -108,10 +108,8 @@ fn places_named(
 fn category_at(objects: &[CategoryObject], place: usize) -> Option<&str>
     ensures { option_map (λ c. c.now) result ≡ category_at objects.now place }
 {
-    match objects.get(place) {
-        Some(object) => Some(object.category.as_str()),
-        None => None,
-    }
+    let object = objects.get(place)?;
+    Some(object.category.as_str())
 }
 
 /// The categories of the objects at the places.
@@ -176,7 +174,7 @@ fn individuals_named(
         → result ≡ answered (at_most_64 (map (individual_named objects.now) references.now)) }
 {
     if references.len() > MOST {
-        return Err(OrMemory::Error(TooMany));
+        return Err(TooMany.into());
     }
     let by_id = ObjectsById::new(alloc, objects)?;
     let mut individuals = Items::new(alloc);

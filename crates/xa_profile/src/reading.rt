@@ -53,10 +53,8 @@ pub(crate) fn check_object(value: &Json<'_>) -> Result<(), RequestError>
 pub(crate) fn text(alloc: Global, value: &Json<'_>) -> Result<Text, OrMemory<RequestError>>
     ensures { Gives result (text (view value.now)) }
 {
-    match value.as_str() {
-        Some(text) => Ok(Text::new(alloc, text)?),
-        None => Err(OrMemory::Error(RequestError::NotProfile)),
-    }
+    let text = value.as_str().ok_or(RequestError::NotProfile)?;
+    Ok(Text::new(alloc, text)?)
 }
 
 /// A copy of a text that has to be there.
@@ -66,10 +64,8 @@ pub(crate) fn needed_text(
 ) -> Result<Text, OrMemory<RequestError>>
     ensures { Gives result (needed_text (option_map (λ v. view v.now) value.entry)) }
 {
-    match value {
-        Some(value) => text(alloc, value),
-        None => Err(OrMemory::Error(RequestError::NotProfile)),
-    }
+    let value = value.ok_or(RequestError::NotProfile)?;
+    text(alloc, value)
 }
 
 /// A copy of a text that may be left out.

@@ -58,10 +58,8 @@ impl Reader for ReferenceReader {
 
     #[tactic(auto, unfolding(crate::specs::Request::reference))]
     fn read(&self, alloc: Global, value: &Json<'_>) -> Result<Items<Text>, OrMemory<RequestError>> {
-        match member_at(value, Member::ReferenceId) {
-            Some(ids) => each(alloc, &TextReader, items_or_itself(ids)),
-            None => Err(OrMemory::Error(RequestError::NotProfile)),
-        }
+        let ids = member_at(value, Member::ReferenceId).ok_or(RequestError::NotProfile)?;
+        each(alloc, &TextReader, items_or_itself(ids))
     }
 }
 
@@ -73,10 +71,8 @@ fn references_in(
 ) -> Result<Items<Items<Text>>, OrMemory<RequestError>>
     ensures { Gives result (references_in (view value.now)) }
 {
-    match member_at(value, Member::RequestReference) {
-        Some(references) => each(alloc, &ReferenceReader, items_or_itself(references)),
-        None => Err(OrMemory::Error(RequestError::NotProfile)),
-    }
+    let references = member_at(value, Member::RequestReference).ok_or(RequestError::NotProfile)?;
+    each(alloc, &ReferenceReader, items_or_itself(references))
 }
 
 /// The requests of MultiRequests, and none where it is left out.
@@ -142,9 +138,7 @@ impl Request {
     {
         let mut scratch = Scratch::new(alloc);
         let value = json(alloc, body, &mut scratch)?;
-        match member_at(&value, Member::Request) {
-            Some(member) => request_from(alloc, member),
-            None => Err(OrMemory::Error(RequestError::NotProfile)),
-        }
+        let member = member_at(&value, Member::Request).ok_or(RequestError::NotProfile)?;
+        request_from(alloc, member)
     }
 }
