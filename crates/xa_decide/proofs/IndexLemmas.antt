@@ -129,7 +129,7 @@ module _ {K X : Type 0} {R : K → K → Ordering} (o : IsTotalOrder R) (key : X
 
 pub compare_total : IsTotalOrder compare_keys
 compare_total =
-    then_total (then_total (then_total (then_total (on_total (λ k. k.number) nat_cmp_total) (on_texts (λ k. k.first))) (on_texts (λ k. k.second))) (on_texts (λ k. k.third))) (on_texts (λ k. k.fourth))
+    then_total (then_total (then_total (then_total (on_total (λ k. k.number) nat_cmp_total) (on_texts (λ k. k.category))) (on_texts (λ k. k.entity))) (on_texts (λ k. k.id))) (on_texts (λ k. k.issuer))
 
 pub keys_total : IsTotalOrder (option_cmp compare_keys)
 keys_total = options_total compare_total

@@ -94,7 +94,7 @@ issued_name : (id : List ℕ) (t : DataType) (issuer : List ℕ) (a : Attribute)
 issued_name id t issuer a e =
     let parts = named_parts id t (Some issuer) a e in
     ap (λ o. issuer_key a.id a.values.data_type o) (same_issuer issuer a.issuer parts.2)
-    ∙ ap (λ n. sought (11 + n) a.id issuer [] []) parts.1 ∙ ap (λ i. sought (11 + place_of t) i issuer [] []) parts.0
+    ∙ ap (λ n. sought (11 + n) [] [] a.id issuer) parts.1 ∙ ap (λ i. sought (11 + place_of t) [] [] i issuer) parts.0
 
 name_found : (id : List ℕ) (t : DataType) (issuer : Option (List ℕ)) (all found : List Attribute) → issuer ≡ None
     → with_key name_key_of (issuer_key id t issuer) found ≡ with_key name_key_of (issuer_key id t issuer) all

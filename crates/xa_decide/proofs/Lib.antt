@@ -1,3 +1,4 @@
+mod ApartLemmas
 pub mod AskedLemmas
 mod IndexLemmas
 mod KeyLemmas

@@ -1,11 +1,23 @@
 //! Whether a body asks the policies.
 ghost use Rattle.std.specs.Prelude.{◌≡◌, IfOk};
+ghost use Rattle.xa_profile.specs.Individuals.{individuals};
 ghost use Rattle.xa_decide.specs.Asked.{OthersAreAnsweredAlike, asks_policies, request_asks};
 
 use crate::request_body::RequestBody;
 use std::alloc::{AllocError, Global};
-use xa_profile::Request;
-use xa_value::OrMemory;
+use xa_profile::{Individual, Request, TooMany};
+use xa_value::{Items, memory_apart};
+
+/// The individual requests of a request, or that there are too many of them. Want of memory is the only
+/// error.
+pub(crate) fn individuals_of(
+    alloc: Global,
+    request: &Request,
+) -> Result<Result<Items<Individual>, TooMany>, AllocError>
+    ensures { IfOk result (λ them. them ≡ individuals request.now) }
+{
+    memory_apart(request.individuals(alloc))
+}
 
 /// Whether a request asks the policies: not where one decision for all individual requests is wanted,
 /// nor where there are more than 64 of them.
@@ -15,11 +27,7 @@ fn request_asks(alloc: Global, request: &Request) -> Result<bool, AllocError>
     if request.combined_decision {
         return Ok(false);
     }
-    match request.individuals(alloc) {
-        Ok(_) => Ok(true),
-        Err(OrMemory::Memory) => Err(AllocError),
-        Err(OrMemory::Error(_)) => Ok(false),
-    }
+    Ok(individuals_of(alloc, request)?.is_ok())
 }
 
 /// Whether the body of a request asks the policies. One that is no JSON or no request doesn't, nor does

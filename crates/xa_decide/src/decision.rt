@@ -8,6 +8,7 @@ ghost use Rattle.xa_decide.specs.Decision.{objects_at, by_tree, result_without_o
 ghost use Rattle.xa_decide.specs.Decision.{result_of, decided, body_of, answer};
 ghost use Rattle.xa_decide.specs.Timeless.{is_timeless_answer, is_timeless_request, is_timeless_tree};
 
+use crate::asked::individuals_of;
 use crate::context::IndividualContext;
 use crate::indexed_object::IndexedObject;
 use crate::order::units_of_order;
@@ -20,7 +21,7 @@ use xa_expr::{Context, Fault, STEP};
 use xa_link::LinkError;
 use xa_policy::{Evaluated, Linked, evaluate};
 use xa_profile::{CategoryObject, Individual, Request, RequestError, Response, ResultObject};
-use xa_value::{Items, Moment, OrMemory};
+use xa_value::{Items, Moment};
 
 /// The response to a request, and whether it is the same at every moment.
 #[derive(Debug, Drop)]
@@ -231,10 +232,9 @@ fn outcome_by(
     if request.combined_decision {
         return one_outcome(alloc, Fault::ProcessingError);
     }
-    match request.individuals(alloc) {
+    match individuals_of(alloc, request)? {
         Ok(individuals) => outcome_of_individuals(alloc, view, request, moment, work, individuals),
-        Err(OrMemory::Memory) => Err(AllocError),
-        Err(OrMemory::Error(_)) => one_outcome(alloc, Fault::ProcessingError),
+        Err(_) => one_outcome(alloc, Fault::ProcessingError),
     }
 }
 
@@ -282,21 +282,36 @@ pub fn decide<'a>(
     })
 }
 
+/// The body of a response, if it may have so many bytes, beside what is said of it: whether it is the same
+/// at every moment.
+fn respond_with(
+    alloc: Global,
+    view: &View,
+    response: &Response<'_>,
+    timeless: bool,
+) -> Result<Responded, AllocError>
+    ensures body { IfOk result (λ sent.
+        sent.body ≡ response_body response.now.objects.now response.now.results) }
+    ensures timeless { IfOk result (λ sent. sent.timeless ≡ timeless) }
+{
+    let body = view.within_reply_limit(response.to_body(alloc)?)?;
+    Ok(Responded {
+        body: Items::from_vec(body),
+        timeless,
+    })
+}
+
 /// What is responded to a body that is no request.
 fn respond_to_no_request(alloc: Global, view: &View) -> Result<Responded, AllocError>
-    ensures body { IfOk result (λ responded.
-        responded.body ≡ response_body [] (result_without_objects SyntaxError ∷ [])) }
-    ensures timeless { IfOk result (λ responded. responded.timeless ≡ true) }
+    ensures body { IfOk result (λ sent.
+        sent.body ≡ response_body [] (result_without_objects SyntaxError ∷ [])) }
+    ensures timeless { IfOk result (λ sent. sent.timeless ≡ true) }
 {
     let response = Response {
         objects: &[],
         results: one_result(alloc, Fault::SyntaxError)?,
     };
-    let body = view.within_reply_limit(response.to_body(alloc)?)?;
-    Ok(Responded {
-        body: Items::from_vec(body),
-        timeless: true,
-    })
+    respond_with(alloc, view, &response, true)
 }
 
 /// What is responded to the request.
@@ -306,17 +321,13 @@ fn respond_to_request(
     request: &Request,
     moment: Moment,
 ) -> Result<Responded, AllocError>
-    ensures body { IfOk result (λ responded.
-        responded.body ≡ response_body request.now.objects (decided view.now request.now moment)) }
-    ensures timeless { IfOk result (λ responded.
-        responded.timeless ≡ is_timeless_request view.now request.now) }
+    ensures body { IfOk result (λ sent.
+        sent.body ≡ response_body request.now.objects (decided view.now request.now moment)) }
+    ensures timeless { IfOk result (λ sent.
+        sent.timeless ≡ is_timeless_request view.now request.now) }
 {
     let decided = decide(alloc, view, request, moment)?;
-    let body = view.within_reply_limit(decided.response.to_body(alloc)?)?;
-    Ok(Responded {
-        body: Items::from_vec(body),
-        timeless: decided.timeless,
-    })
+    respond_with(alloc, view, &decided.response, decided.timeless)
 }
 
 /// The body of the response to the body of a request, at the moment, and whether it is the same at every

@@ -135,7 +135,7 @@ impl<'a> IndexedObject<'a> {
     }
 
     /// The values of the attribute, which has the place, to be searched; none, where they are looked at
-    /// one by one.
+    /// one by one. The contract alone speaks of `attribute`: they are found by the place.
     pub(crate) fn members(&self, place: usize, attribute: &Attribute) -> Option<&Members<'a>>
         requires { Some attribute.now ≡ slice_get self.now.attributes place }
         ensures { IfSome result (λ members. members.now ≡ attribute.now.values) }

@@ -1,5 +1,4 @@
-//! The keys of an index: a number and four texts, and their order.
-ghost use Rattle.std.specs.Prelude.{◌≡◌};
+//! The keys of an index: a number and texts, and their order.
 ghost use Rattle.std.specs.Cmp.{partial_order_from_own_ties};
 ghost use Rattle.std.specs.Cmp.Rules.{comparing};
 ghost use Rattle.std.specs.Ordering.{as_partial_cmp};
@@ -8,14 +7,16 @@ ghost use Rattle.std.proofs.Common.{rules};
 use std::cmp::Ordering;
 use std::marker::Model;
 
-/// What is looked up in an index: a number and texts.
+/// What is looked up in an index: a number, and the texts of an attribute or a row, each empty where the
+/// index doesn't go by it.
 #[derive(Debug, Drop)]
 pub(crate) struct Key<'a> {
-    number: usize,
-    first: &'a str,
-    second: &'a str,
-    third: &'a str,
-    fourth: &'a str,
+    /// A data type's number, moved past those of all types where an issuer is a part of the key.
+    pub(crate) number: usize,
+    pub(crate) category: &'a str,
+    pub(crate) entity: &'a str,
+    pub(crate) id: &'a str,
+    pub(crate) issuer: &'a str,
 }
 
 impl<'a> Model for Key<'a> {
@@ -25,34 +26,11 @@ impl<'a> Model for Key<'a> {
 
     ghost view = { λ k. record {
       number = k.number;
-      first = k.first.now;
-      second = k.second.now;
-      third = k.third.now;
-      fourth = k.fourth.now;
+      category = k.category.now;
+      entity = k.entity.now;
+      id = k.id.now;
+      issuer = k.issuer.now;
     } };
-}
-
-impl<'a> Key<'a> {
-    ghost use Rattle.xa_decide.specs.indexing.Index.{sought};
-
-    /// The key of this number and these texts.
-    pub(crate) fn new(
-        number: usize,
-        first: &'a str,
-        second: &'a str,
-        third: &'a str,
-        fourth: &'a str,
-    ) -> Key<'a>
-        ensures { result ≡ sought number first.now second.now third.now fourth.now }
-    {
-        Key {
-            number,
-            first,
-            second,
-            third,
-            fourth,
-        }
-    }
 }
 
 impl<'a> PartialEq for Key<'a> {
@@ -64,10 +42,10 @@ impl<'a> PartialEq for Key<'a> {
 
     fn eq(&self, other: &Key<'a>) -> bool {
         self.number == other.number
-            && self.first == other.first
-            && self.second == other.second
-            && self.third == other.third
-            && self.fourth == other.fourth
+            && self.category == other.category
+            && self.entity == other.entity
+            && self.id == other.id
+            && self.issuer == other.issuer
     }
 }
 
@@ -89,10 +67,10 @@ impl<'a> Ord for Key<'a> {
     fn cmp(&self, other: &Key<'a>) -> Ordering {
         self.number
             .cmp(&other.number)
-            .then_with(|| self.first.cmp(other.first))
-            .then_with(|| self.second.cmp(other.second))
-            .then_with(|| self.third.cmp(other.third))
-            .then_with(|| self.fourth.cmp(other.fourth))
+            .then_with(|| self.category.cmp(other.category))
+            .then_with(|| self.entity.cmp(other.entity))
+            .then_with(|| self.id.cmp(other.id))
+            .then_with(|| self.issuer.cmp(other.issuer))
     }
 }
 

@@ -10,7 +10,8 @@ use crate::source_row::SourceRow;
 use xa_profile::Attribute;
 use xa_value::{DataType, Text};
 
-/// How many data types there are.
+/// How many data types there are, `DataType::ALL`: a key without an issuer has its type's number, from 0
+/// to 10, and one with an issuer has that number and this, from 11 to 21.
 const TYPES: usize = 11;
 
 /// A key that nobody asks for, past those of all types. Attributes without values have it: they give
@@ -18,14 +19,26 @@ const TYPES: usize = 11;
 fn unsought_key<'a>() -> Key<'a>
     ensures { result ≡ unsought }
 {
-    Key::new(2 * TYPES, "", "", "", "")
+    Key {
+        number: 2 * TYPES,
+        category: "",
+        entity: "",
+        id: "",
+        issuer: "",
+    }
 }
 
 /// The key of an attribute's id and type.
 pub(crate) fn name_key(id: &str, data_type: DataType) -> Key<'_>
     ensures { result ≡ name_key id.now data_type }
 {
-    Key::new(usize::from(data_type.number()), id, "", "", "")
+    Key {
+        number: usize::from(data_type.number()),
+        category: "",
+        entity: "",
+        id,
+        issuer: "",
+    }
 }
 
 /// The key of an attribute's id, type and issuer, where it has one.
@@ -34,9 +47,12 @@ pub(crate) fn issuer_key<'a>(id: &'a str, data_type: DataType, issuer: &'a Optio
 {
     match issuer {
         None => name_key(id, data_type),
-        Some(issuer) => {
-            let number = TYPES + usize::from(data_type.number());
-            Key::new(number, id, issuer.as_str(), "", "")
+        Some(issuer) => Key {
+            number: TYPES + usize::from(data_type.number()),
+            category: "",
+            entity: "",
+            id,
+            issuer: issuer.as_str(),
         },
     }
 }
@@ -45,7 +61,13 @@ pub(crate) fn issuer_key<'a>(id: &'a str, data_type: DataType, issuer: &'a Optio
 pub(crate) fn category_key(category: &str) -> Key<'_>
     ensures { result ≡ category_key category.now }
 {
-    Key::new(0, category, "", "", "")
+    Key {
+        number: 0,
+        category,
+        entity: "",
+        id: "",
+        issuer: "",
+    }
 }
 
 /// The key of a row's category, entity, id and type.
@@ -57,8 +79,13 @@ pub(crate) fn row_key<'a>(
 ) -> Key<'a>
     ensures { result ≡ row_key category.now entity.now id.now data_type }
 {
-    let number = usize::from(data_type.number());
-    Key::new(number, category, entity, id, "")
+    Key {
+        number: usize::from(data_type.number()),
+        category,
+        entity,
+        id,
+        issuer: "",
+    }
 }
 
 /// The key of a row's category, entity, id, type and issuer, where it has one.
@@ -73,9 +100,12 @@ pub(crate) fn issued_row_key<'a>(
 {
     match issuer {
         None => row_key(category, entity, id, data_type),
-        Some(issuer) => {
-            let number = TYPES + usize::from(data_type.number());
-            Key::new(number, category, entity, id, issuer.as_str())
+        Some(issuer) => Key {
+            number: TYPES + usize::from(data_type.number()),
+            category,
+            entity,
+            id,
+            issuer: issuer.as_str(),
         },
     }
 }

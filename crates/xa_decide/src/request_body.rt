@@ -5,7 +5,7 @@ ghost use Rattle.xa_profile.specs.Request.{request_of};
 use std::alloc::{AllocError, Global};
 use std::marker::Model;
 use xa_profile::{Request, RequestError};
-use xa_value::OrMemory;
+use xa_value::memory_apart;
 
 /// The body of a request, with what was read of it, so that it is read once whatever is asked of
 /// it. Contracts see its bytes.
@@ -32,17 +32,8 @@ impl<'a> RequestBody<'a> {
     pub fn read(alloc: Global, bytes: &'a [u8]) -> Result<RequestBody<'a>, AllocError>
         ensures { IfOk result (λ body. body ≡ bytes.now) }
     {
-        match Request::read(alloc, bytes) {
-            Ok(request) => Ok(RequestBody {
-                bytes,
-                request: Ok(request),
-            }),
-            Err(OrMemory::Memory) => Err(AllocError),
-            Err(OrMemory::Error(error)) => Ok(RequestBody {
-                bytes,
-                request: Err(error),
-            }),
-        }
+        let request = memory_apart(Request::read(alloc, bytes))?;
+        Ok(RequestBody { bytes, request })
     }
 
     /// The request that it is, or why it is none.

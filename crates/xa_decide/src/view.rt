@@ -16,7 +16,7 @@ use xa_expr::Budget;
 use xa_link::{Active, LinkError, link};
 use xa_policy::{Linked, Reference};
 use xa_shelf::TextReader;
-use xa_value::{Items, OrMemory};
+use xa_value::{Items, memory_apart};
 
 /// What a domain's decisions depend on: the tree that its root stands for among its active documents, if
 /// it has one, and its source rows; made ready for any number of requests: the tree is linked, and the
@@ -62,11 +62,7 @@ fn linked_tree(
     ensures refused { reader.old.is_spent ≡ false → reader.new.is_spent ≡ true
         → reader.old.left < reading active.now root.now }
 {
-    match link(alloc, reader, active, root) {
-        Ok(linked) => Ok(Ok(linked)),
-        Err(OrMemory::Memory) => Err(AllocError),
-        Err(OrMemory::Error(error)) => Ok(Err(error)),
-    }
+    memory_apart(link(alloc, reader, active, root))
 }
 
 /// The tree that decides, where there is one.
@@ -160,21 +156,19 @@ impl View {
     }
 
     /// The same view, under which a message may ask for this many units of work, as `Budget` counts them.
-    pub fn with_limit(self, units: u64) -> View
+    pub fn with_limit(mut self, units: u64) -> View
         ensures { result ≡ self }
     {
-        let mut view = self;
-        view.limit = units;
-        view
+        self.limit = units;
+        self
     }
 
     /// The same view, under which the body of a response may have this many bytes.
-    pub fn with_reply_limit(self, bytes: u64) -> View
+    pub fn with_reply_limit(mut self, bytes: u64) -> View
         ensures { result ≡ self }
     {
-        let mut view = self;
-        view.reply_limit = bytes;
-        view
+        self.reply_limit = bytes;
+        self
     }
 
     /// The work that one message may ask for.

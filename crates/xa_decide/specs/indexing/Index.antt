@@ -8,17 +8,17 @@ use Rattle.std.specs.Option.{option_cmp}
 use Rattle.std.specs.Ordering.{nat_cmp, on, then_cmp, is_eq}
 use Rattle.std.specs.declared.cmp.Ordering.{Ordering}
 
--- what is looked up: a number and texts
+-- what is looked up: a number, and texts, each empty where it isn't a part of the key
 pub record Sought : Type 0 where
   pub number : ℕ
-  pub first : List ℕ
-  pub second : List ℕ
-  pub third : List ℕ
-  pub fourth : List ℕ
+  pub category : List ℕ
+  pub entity : List ℕ
+  pub id : List ℕ
+  pub issuer : List ℕ
 
 abbrev pub sought : ℕ → List ℕ → List ℕ → List ℕ → List ℕ → Sought
-sought number first second third fourth =
-    record { number = number; first = first; second = second; third = third; fourth = fourth }
+sought number category entity id issuer =
+    record { number = number; category = category; entity = entity; id = id; issuer = issuer }
 
 abbrev pub compare_texts : List ℕ → List ℕ → Ordering
 compare_texts = slice_cmp nat_cmp
@@ -27,15 +27,15 @@ compare_texts = slice_cmp nat_cmp
 abbrev pub compare_keys : Sought → Sought → Ordering
 compare_keys =
     then_cmp
-    (then_cmp (then_cmp (then_cmp (on (λ k. k.number) nat_cmp) (on (λ k. k.first) compare_texts))
-    (on (λ k. k.second) compare_texts))
-    (on (λ k. k.third) compare_texts))
-    (on (λ k. k.fourth) compare_texts)
+    (then_cmp (then_cmp (then_cmp (on (λ k. k.number) nat_cmp) (on (λ k. k.category) compare_texts))
+    (on (λ k. k.entity) compare_texts))
+    (on (λ k. k.id) compare_texts))
+    (on (λ k. k.issuer) compare_texts)
 
 abbrev pub equal_keys : Sought → Sought → Bool
 equal_keys j k =
-    ((((j.number == k.number) && bytes_eq j.first k.first) && bytes_eq j.second k.second) && bytes_eq j.third k.third)
-    && bytes_eq j.fourth k.fourth
+    ((((j.number == k.number) && bytes_eq j.category k.category) && bytes_eq j.entity k.entity) && bytes_eq j.id k.id)
+    && bytes_eq j.issuer k.issuer
 
 -- the key of the item at a place
 abbrev pub key_at : {X : Type 0} → (X → Sought) → List X → ℕ → Option Sought

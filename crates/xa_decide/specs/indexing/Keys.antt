@@ -12,12 +12,12 @@ use Rattle.xa_decide.specs.indexing.Index.{Sought, sought}
 
 -- an attribute's id and type
 abbrev pub name_key : List ℕ → DataType → Sought
-name_key id t = sought (place_of t) id [] [] []
+name_key id t = sought (place_of t) [] [] id []
 
 -- and its issuer, where it has one; one without an issuer has another number than any that has one
 abbrev pub issuer_key : List ℕ → DataType → Option (List ℕ) → Sought
 issuer_key id t None = name_key id t
-issuer_key id t (Some issuer) = sought (11 + place_of t) id issuer [] []
+issuer_key id t (Some issuer) = sought (11 + place_of t) [] [] id issuer
 
 -- what nobody asks for: its number is past those of all types
 abbrev pub unsought : Sought

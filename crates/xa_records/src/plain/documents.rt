@@ -70,9 +70,7 @@ impl Document {
 pub(crate) fn copy_of(alloc: Global, bytes: &[u8]) -> Result<Items<u8>, AllocError>
     ensures { IfOk result (λ copy. copy ≡ bytes.now) }
 {
-    let mut copy = Vec::with_capacity(alloc, bytes.len())?;
-    copy.extend_from_slice(bytes)?;
-    Ok(Items::from_vec(copy))
+    Ok(Items::from_vec(Vec::from_slice(alloc, bytes)?))
 }
 
 /// The document of that key as it is listed.
