@@ -1,9 +1,11 @@
 -- The numbers by which columns hold kinds, roles, activities and types.
-use Rattle.std.proofs.Common.{◌≡◌, ℕ, zero, suc, ℤ, pos, negsuc, Bool, true, false, Some, refl, sym, to_z, of_z, w64, arith}
-use Rattle.xa_store.proofs.Common.{ints, DocumentKind, Role, is_bit, type_numbered, bit, is_set, kind_in, kind_number, role_in, role_number, type_in}
+use Rattle.std.proofs.Common.{◌≡◌, ℕ, zero, suc, ℤ, pos, negsuc, Bool, true, false, if◌then◌else◌, Option, Some, None, IfOk, refl, sym, to_z, of_z, w64, arith}
+use Rattle.std.specs.Option.{ok_or}
+use Rattle.std.specs.Prelude.{unwrap_or}
+use Rattle.xa_store.proofs.Common.{ints, DocumentKind, Failure, Role, is_bit, is_count, nat_of, type_numbered, bit, is_set, kind_in, kind_number, role_in, role_number, type_in}
 use Rattle.xa_value.specs.declared.data_type.DataType.{DataType}
 use Rattle.xa_value.specs.declared.data_type.DataType.TheVariants.{String, Boolean, Integer, Date, Time, DateTime, DayTimeDuration, YearMonthDuration, AnyUri, HexBinary, Base64Binary}
-use Rattle.xa_value.specs.Types.{place_of}
+use Rattle.xa_value.specs.Types.{place_of, type_at}
 use Rattle.xa_policy.specs.declared.reference.DocumentKind.TheVariants.{Policy, PolicySet}
 use Rattle.xa_notation.specs.declared.token.Role.TheVariants.{Ask, Admin}
 
@@ -60,3 +62,12 @@ of_type YearMonthDuration = record { back = refl; named = refl; held = refl }
 of_type AnyUri = record { back = refl; named = refl; held = refl }
 of_type HexBinary = record { back = refl; named = refl; held = refl }
 of_type Base64Binary = record { back = refl; named = refl; held = refl }
+
+-- a number that names a type is read as it
+pub type_read : (n : ℤ) (e : Failure) → IfOk (ok_or (type_numbered n) e) (λ type. type ≡ type_in n)
+type_read n e = go (is_count n) (type_at (nat_of n))
+  where
+    go : (b : Bool) (o : Option DataType) → IfOk (ok_or (if b then o else None) e) (λ type. type ≡ unwrap_or o String)
+    go true (Some type) = refl
+    go true None = tt
+    go false o = tt

@@ -21,6 +21,7 @@ pub mod StepLemmas
 pub mod QuietLemmas
 pub mod TurnLemmas
 pub mod PlanLemmas
+pub mod AbsentLemmas
 pub mod RootPlans
 pub mod CreatePlans
 pub mod RemovePlans

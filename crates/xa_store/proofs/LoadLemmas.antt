@@ -14,6 +14,11 @@ use Rattle.xa_store.proofs.RiseLemmas.{both_true}
 pub both_checked : (x y : Bool) (r : Result (Unit {0}) OpenError) → x ≡ true → TellsSound y r → TellsSound (x && y) r
 both_checked x y r is h = subst (λ b. TellsSound b r) (sym (ap (λ b. b && y) is)) h
 
+-- what is told of a test is told of what it decides
+pub test_decides : (test sound : Bool) (r : Result (Unit {0}) OpenError) → (test ≡ true → sound ≡ true) → (test ≡ false → sound ≡ false) → TellsSound test r → TellsSound sound r
+test_decides true sound r holds fails told = subst (λ b. TellsSound b r) (sym (holds refl)) told
+test_decides false sound r holds fails told = subst (λ b. TellsSound b r) (sym (fails refl)) told
+
 -- a query that failed, and a first part that wasn't sound
 pub failure_checked : (b : Bool) (e : OpenError) → IsFailure e → TellsSound b (Err e)
 failure_checked b e (inl is) = subst (λ o. TellsSound b (Err o)) (sym is) tt

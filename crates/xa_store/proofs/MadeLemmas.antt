@@ -6,7 +6,7 @@ use Rattle.xa_store.specs.declared.schema.creation.Part.TheVariants as parts
 use Rattle.xa_store.specs.Check.{IsSoundIn, Made, Migrated}
 use Rattle.xa_store.specs.Creation.{AreMade, IsBefore}
 use Rattle.xa_store.specs.Migration.{IsDone, IsFirst, IsSoundFirst}
-use Rattle.xa_store.specs.Opening.{IsBlank, IsFailure, IsMade, IsMigrated}
+use Rattle.xa_store.specs.Opening.{AreNewTables, IsBlank, IsFailure, IsMigrated}
 use Rattle.xa_store.proofs.MigratedLemmas.{is_migrated}
 
 module _ {S : Type 0} (g : Ghosts S) (old mid last : Held S) where
@@ -46,8 +46,8 @@ module _ {S : Type 0} (g : Ghosts S) (old mid last : Held S) where
       from_blank : HasCleanDisk (state g mid) → IsTrue begun.in_transaction → IsBlank (state g old) → AreMade (state g mid).now
       from_blank clean inside blank = makes clean inside (record { schema = blank.schema; empty = tt })
 
-      leaves_made : Survives (state g old) (state g last) (λ db. IsBlank (state g old) → IsMade db)
-      leaves_made = survives (IsBlank (state g old)) AreMade from_blank IsMade (λ blank d all. all.made)
+      leaves_made : Survives (state g old) (state g last) (λ db. IsBlank (state g old) → AreNewTables db)
+      leaves_made = survives (IsBlank (state g old)) AreMade from_blank AreNewTables (λ blank d all. all.made)
 
       pub made : {X : Type 0} (x : X)
           → (HasCleanDisk (state g last) → IsTrue (state g mid).in_transaction × Shows (state g mid) (state g last) (state g mid).now (state g mid).now false × KeepsCounts (state g mid) (state g last) × ((state g last).marks ≡ []))

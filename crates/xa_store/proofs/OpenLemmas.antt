@@ -5,7 +5,7 @@ use Rattle.sqlite_schema.specs.Names.{same_name}
 use Rattle.sqlite_catalog.specs.Listing.{IsSound as IsSoundUnder}
 use Rattle.xa_store.specs.Check.{Checked, IsIdle, IsSoundIn, Loads, Made, Migrated, Tested}
 use Rattle.xa_store.specs.Keeper.{Keeper, IsKeeper, IsSound}
-use Rattle.xa_store.specs.Opening.{Gives, IsBlank, IsFailure, IsKnown, IsMade, IsMigrated, IsRefusal, Leaves, LeavesAlone, Makes, Migrates, Opens, Settles, has_room, is_free, no_tables, version_in}
+use Rattle.xa_store.specs.Opening.{AreNewTables, GivesOrFails, IsBlank, IsFailure, IsKnown, IsMigrated, IsRefusal, LeavesAlone, Makes, MayLeaveTables, Migrates, Opens, Settles, has_room, is_free, no_tables, schema_version_in}
 use Rattle.xa_store.proofs.ApartLemmas.{fails_no_refusal, survives_still}
 use Rattle.xa_store.proofs.AskedLemmas.{same_then}
 use Rattle.xa_store.proofs.KeeperReadingLemmas.{sound_store}
@@ -23,7 +23,7 @@ none_has_room Schema1 = refl
 none_has_room Schema2 = refl
 
 -- which schema it is, is told by the name that the second has more
-pub version_told : (version : SchemaVersion) → version_in (schema_of version) ≡ version
+pub version_told : (version : SchemaVersion) → schema_version_in (schema_of version) ≡ version
 unfolding same_name
 version_told Schema1 = refl
 version_told Schema2 = refl
@@ -35,11 +35,11 @@ module _ (a : State) where
   not_blank : has_room a.now.schema ≡ false → ¬ IsBlank a
   not_blank full blank = true≢false (sym blank_has_room ∙ ap has_room (sym blank.schema) ∙ full)
 
-  not_second : version_in a.now.schema ≡ Schema1 → ¬ Rests a
-  not_second first rests = absurd (let e : Schema1 ≡ Schema2 = sym first ∙ ap version_in rests.schema ∙ version_told Schema2 in cc)
+  not_second : schema_version_in a.now.schema ≡ Schema1 → ¬ Rests a
+  not_second first rests = absurd (let e : Schema1 ≡ Schema2 = sym first ∙ ap schema_version_in rests.schema ∙ version_told Schema2 in cc)
 
-  not_first : version_in a.now.schema ≡ Schema2 → ¬ RestsIn first_schema a
-  not_first second rests = absurd (let e : Schema2 ≡ Schema1 = sym second ∙ ap version_in rests.schema ∙ version_told Schema1 in cc)
+  not_first : schema_version_in a.now.schema ≡ Schema2 → ¬ RestsIn first_schema a
+  not_first second rests = absurd (let e : Schema2 ≡ Schema1 = sym second ∙ ap schema_version_in rests.schema ∙ version_told Schema1 in cc)
 
 -- what is left of tables that are known to be none of them
 nothing_known : (a : State) {P : Type 0} → ¬ Rests a → ¬ RestsIn first_schema a → (IsBlank a → P) → IsKnown a → P
@@ -107,16 +107,16 @@ not_tested version a = record {
 
 -- ---- the tables were made first, or there were some
 
-failure_given : (e : OpenError) (given : Result (Unit {0}) OpenError) → IsFailure e → Gives (Err e) given
-failure_given e given (inl is) = subst (λ o. Gives (Err o) given) (sym is) tt
-failure_given e given (inr is) = subst (λ o. Gives (Err o) given) (sym is) tt
+failure_given : (e : OpenError) (given : Result (Unit {0}) OpenError) → IsFailure e → GivesOrFails (Err e) given
+failure_given e given (inl is) = subst (λ o. GivesOrFails (Err o) given) (sym is) tt
+failure_given e given (inr is) = subst (λ o. GivesOrFails (Err o) given) (sym is) tt
 
 module _ (a b : State) (room : IsTrue (has_room a.now.schema)) where
-  leaves : (db : Trees) → (IsBlank a → IsMade db) → Leaves a db
+  leaves : (db : Trees) → (IsBlank a → AreNewTables db) → MayLeaveTables a db
   leaves db made = (second_of_both _ (is_free a.now.schema (codes "sources")) room, made, λ rests. absurd (no_rest a room Schema1 rests))
 
   -- of a failure
-  failed_loads : (c : State) (e : OpenError) → IsFailure e → Survives a c (Leaves a) → (HasCleanDisk c → IsBlank a → IsTrue c.is_open → SameNow a c ⊎ IsMade c.now.trees) → Loads a c (Err e)
+  failed_loads : (c : State) (e : OpenError) → IsFailure e → Survives a c (MayLeaveTables a) → (HasCleanDisk c → IsBlank a → IsTrue c.is_open → SameNow a c ⊎ AreNewTables c.now.trees) → Loads a c (Err e)
   failed_loads c e is survived there = record {
     survives = survived;
     left = λ refusal. absurd (fails_no_refusal e is refusal);
@@ -130,20 +130,20 @@ module _ (a b : State) (room : IsTrue (has_room a.now.schema)) where
   }
 
   pub not_made : (e : OpenError) → Made {X = Unit {0}} a b (Err e) → Loads a b (Err e)
-  not_made e made = failed_loads b e made.fails (survives_weaker a b _ (Leaves a) (λ _ db h. leaves db h) made.survives) (λ clean blank up. inl (made.same clean blank up))
+  not_made e made = failed_loads b e made.fails (survives_weaker a b _ (MayLeaveTables a) (λ _ db h. leaves db h) made.survives) (λ clean blank up. inl (made.same clean blank up))
 
   module _ (c : State) (x : Unit {0}) (made : Made a b (Ok x)) where
     module _ (r : Result Bool OpenError) (test : Tested Schema2 b c r) where
       between : HasCleanDisk c → HasCleanDisk b
       between clean = omega (arith, test.survives.clean)
 
-      left_at_last : Survives a c (Leaves a)
-      left_at_last = survives_then a b c (λ db. IsBlank a → IsMade db) (λ _. ⊥) (Leaves a) (λ _ db h. leaves db h) (λ _ db h. absurd h) made.survives test.survives
+      left_at_last : Survives a c (MayLeaveTables a)
+      left_at_last = survives_then a b c (λ db. IsBlank a → AreNewTables db) (λ _. ⊥) (MayLeaveTables a) (λ _ db h. leaves db h) (λ _ db h. absurd h) made.survives test.survives
 
-      is_made : HasCleanDisk c → IsBlank a → IsTrue c.is_open → IsMade c.now.trees
+      is_made : HasCleanDisk c → IsBlank a → IsTrue c.is_open → AreNewTables c.now.trees
       is_made clean blank up =
           let it = made.made (between clean) blank in
-          subst (λ (d : Database). IsMade d.trees) (sym (test.same clean it.1 up).now) it.2
+          subst (λ (d : Database). AreNewTables d.trees) (sym (test.same clean it.1 up).now) it.2
 
     pub made_failed : (e other : OpenError) → IsFailure e → Tested Schema2 b c (Err other) → Loads a c (Err e)
     made_failed e other is test = failed_loads c e is (left_at_last (Err other) test) (λ clean blank up. inr (is_made (Err other) test clean blank up))
@@ -164,10 +164,10 @@ module _ (a b : State) (room : IsTrue (has_room a.now.schema)) where
     }
 
 -- tables of schema 2
-module _ (a c : State) (full : has_room a.now.schema ≡ false) (second : version_in a.now.schema ≡ Schema2) where
+module _ (a c : State) (full : has_room a.now.schema ≡ false) (second : schema_version_in a.now.schema ≡ Schema2) where
   pub tested_loads : (r : Result Bool OpenError) → Tested Schema2 a c r → Loads a c r
   tested_loads r test = record {
-    survives = survives_weaker a c (λ _. ⊥) (Leaves a) (λ _ db h. absurd h) test.survives;
+    survives = survives_weaker a c (λ _. ⊥) (MayLeaveTables a) (λ _ db h. absurd h) test.survives;
     left = left r;
     refused = test.refused;
     opens = λ clean rests. (test.opened clean rests, test.known rests, test.same clean rests);
@@ -192,7 +192,7 @@ module _ (a c : State) (full : has_room a.now.schema ≡ false) (second : versio
       stays up (inr (inr blank)) = absurd (not_blank a full blank)
 
 -- tables of schema 1, which were checked, and then brought into schema 2
-module _ (a b : State) (full : has_room a.now.schema ≡ false) (first : version_in a.now.schema ≡ Schema1) where
+module _ (a b : State) (full : has_room a.now.schema ≡ false) (first : schema_version_in a.now.schema ≡ Schema1) where
   its_room : IsTrue (is_free a.now.schema (codes "sources"))
   its_room = go (is_free a.now.schema (codes "sources")) refl
     where
@@ -207,7 +207,7 @@ module _ (a b : State) (full : has_room a.now.schema ≡ false) (first : version
 
   pub first_refused : (e : OpenError) → Tested Schema1 a b (Err e) → Loads a b (Err e)
   first_refused e test = record {
-    survives = survives_weaker a b (λ _. ⊥) (Leaves a) (λ _ db h. absurd h) test.survives;
+    survives = survives_weaker a b (λ _. ⊥) (MayLeaveTables a) (λ _ db h. absurd h) test.survives;
     left = λ refusal. test.survives;
     refused = test.refused;
     opens = λ clean rests. absurd (not_second a first rests);
@@ -230,9 +230,9 @@ module _ (a b : State) (full : has_room a.now.schema ≡ false) (first : version
       first_between : HasCleanDisk c → HasCleanDisk b
       first_between clean = omega (arith, moved.survives.clean)
 
-      first_left_at_last : Survives a c (Leaves a)
+      first_left_at_last : Survives a c (MayLeaveTables a)
       first_left_at_last =
-          survives_then a b c (λ _. ⊥) (λ db. IsSoundIn Schema1 b → IsMigrated b.committed.trees db) (Leaves a) (λ _ db h. absurd h)
+          survives_then a b c (λ _. ⊥) (λ db. IsSoundIn Schema1 b → IsMigrated b.committed.trees db) (MayLeaveTables a) (λ _ db h. absurd h)
           (λ clean db h. (
             its_room,
             λ blank. absurd (not_blank a full blank),
@@ -274,7 +274,7 @@ module _ (a b : State) (full : has_room a.now.schema ≡ false) (first : version
 
 pub busy_loads : (a : State) → Loads a a (Err Store)
 busy_loads a = record {
-  survives = survives_weaker a a (λ _. ⊥) (Leaves a) (λ _ db h. absurd h) (survives_still a);
+  survives = survives_weaker a a (λ _. ⊥) (MayLeaveTables a) (λ _ db h. absurd h) (survives_still a);
   left = λ refusal. absurd (fails_no_refusal Store (inl refl) refusal);
   refused = λ clean up refusal. absurd (fails_no_refusal Store (inl refl) refusal);
   opens = λ clean rests. (tt, tt, λ up. record { now = refl; committed = refl; idle = rests.idle });

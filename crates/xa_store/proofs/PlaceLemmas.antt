@@ -24,7 +24,7 @@ meta_plain version = (meta_read_is version).2
 -- ---- places
 
 abbrev place_of : AttributeRow → Place
-place_of a = (a.number, a.place)
+place_of a = record { domain = a.number; place = a.place }
 
 abbrev shown_of : AttributeRow → Row
 shown_of a = Int a.number ∷ Int a.place ∷ []

@@ -2,8 +2,6 @@
 use Rattle.std.proofs.Common.{◌≡◌, inl, ℕ, ◌<◌, ◌≤◌, ℤ, pos, List, [], filter, Option, Some, None, option_map, Result, Ok, Err, refl, sym, ap, subst, ◌∙◌, arith}
 use Rattle.xa_store.proofs.Common.{get, IsKeyedBy, DomainState, ◌>>=◌, within, Becomes, Domain, Kept, IsChanged, IsNextEpoch, IsNextNumber, state_of, numbered_changed, DomainRow, nat_of, AreNumbered, AreWhole, Rows, state_at, domain_of, kept_of}
 use Rattle.xa_records.specs.declared.refusal.Refusal.{Refusal}
-use Rattle.xa_store.specs.declared.query.domain.DomainFound.{DomainFound}
-use Rattle.xa_store.specs.Lookup.{FindsDomain}
 use Rattle.xa_store.specs.Steps.{AllowsAll, after_all, is_named}
 use Rattle.xa_store.specs.Turns.{Plans}
 use Rattle.xa_store.specs.declared.step.Step.{Step}
@@ -13,11 +11,6 @@ use Rattle.xa_store.proofs.FilterLemmas.{find_none}
 -- no row has that name
 pub no_state : (rows : Rows) (name : List ℕ) → filter (is_named name) rows.domains ≡ [] → state_of name (kept_of rows) ≡ None
 no_state rows name none = ap (option_map (λ (domain : Domain). domain.state)) (kept_at rows name ∙ ap (option_map (domain_of rows)) (find_none (is_named name) rows.domains none))
-
--- no domain of that name was found
-pub absent_state : (rows : Rows) (name : List ℕ) (found : Option DomainFound) → FindsDomain name rows found → ((one : DomainFound) → found ≡ Some one → ⊥) → state_of name (kept_of rows) ≡ None
-absent_state rows name None finds none = no_state rows name finds
-absent_state rows name (Some one) finds none = absurd (none one refl)
 
 -- a domain goes over into the state that it has
 still : (kept : Kept) (name : List ℕ) (domain : Domain) → get kept.domains name ≡ Some domain → IsChanged kept kept name (Some domain.state)

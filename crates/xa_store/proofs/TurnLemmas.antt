@@ -119,7 +119,3 @@ pub told : {X : Type 0} (change : Change) (name : List ℕ) (old new : State) (x
 told change name old new x (Ok done) turns = record { was_open = turns.was_open; clean = turns.clean; does = turns.does; ours = turns.ours; stays = turns.stays; leaves = turns.leaves }
 told change name old new x (Err (Refused e)) turns = record { was_open = turns.was_open; clean = turns.clean; does = turns.does; ours = turns.ours; stays = turns.stays; leaves = turns.leaves }
 told change name old new x (Err (Failed failure)) turns = record { was_open = turns.was_open; clean = turns.clean; does = turns.does; ours = turns.ours; stays = turns.stays; leaves = turns.leaves }
-
-pub told_is : {X : Type 0} (x y : X) → x ≡ y → (r : Result (Unit {0}) ChangeError) → IfOk (told_by x r) (λ z. z ≡ y)
-told_is x y same (Ok done) = same
-told_is x y same (Err error) = tt

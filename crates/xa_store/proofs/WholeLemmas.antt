@@ -49,7 +49,7 @@ given_later next later n up h =
 pub places_at : (xs : List AttributeRow) (n : ℤ) → places_of (map place_of xs) n ≡ sort_by int_cmp (map (λ (a : AttributeRow). a.place) (attributes_at xs n))
 places_at xs n =
     ap (sort_by int_cmp)
-    (ap (map (λ (p : Place). p.1)) (filter-map (λ (p : Place). int_eq p.0 n) place_of xs) ∙ map-map (λ (p : Place). p.1) place_of (attributes_at xs n))
+    (ap (map (λ (p : Place). p.place)) (filter-map (λ (p : Place). int_eq p.domain n) place_of xs) ∙ map-map (λ (p : Place). p.place) place_of (attributes_at xs n))
 
 -- ---- all rows
 

@@ -18,6 +18,7 @@ use Rattle.sqlite.specs.Tree.{Trees}
 use Rattle.sqlite.specs.declared.error.Error.{Error}
 use Rattle.sqlite.specs.declared.error.Error.TheVariants.{SqliteFailure, SqlInputError}
 use Rattle.sqlite.specs.declared.error.ErrorCode.TheVariants.{NameTaken, OutOfMemory}
+use Rattle.xa_store.specs.declared.check.row.Place.{Place}
 use Rattle.xa_store.specs.declared.error.OpenError.{OpenError}
 use Rattle.xa_store.specs.declared.error.OpenError.TheVariants.{NotThisSchema, Damaged, Store, Memory}
 use Rattle.xa_store.specs.declared.schema.kind.Kind.{Kind}
@@ -25,8 +26,9 @@ use Rattle.xa_store.specs.declared.schema.kind.Kind.TheVariants.{Domains, Tokens
 use Rattle.xa_store.specs.declared.schema.version.SchemaVersion.{SchemaVersion}
 use Rattle.xa_store.specs.declared.schema.version.SchemaVersion.TheVariants.{Schema1, Schema2}
 use Rattle.xa_store.specs.Opened.{are_counted, as_read, is_left_empty, place_in, sources_in, tree_of, are_rising}
-use Rattle.xa_store.specs.Opened.{int_in, is_number, is_whole_row, row_number, Place, opened, schema_of}
-use Rattle.xa_store.specs.Opening.{Gives, IsBlank, IsFailure, IsKnown, IsMade, IsMigrated, IsRefusal, Leaves}
+use Rattle.xa_store.specs.Opened.{int_in, is_number, is_whole_row, row_number, opened, schema_of}
+use Rattle.xa_store.specs.Opening.{AreNewTables, GivesOrFails, IsBlank, IsFailure, IsKnown, IsMigrated}
+use Rattle.xa_store.specs.Opening.{IsRefusal, MayLeaveTables}
 use Rattle.xa_store.specs.Rows.{attribute_in, attribute_row}
 use Rattle.xa_store.specs.Sound.{AreRows, Ours, Rests, RestsIn, SameNow, same_place}
 use Rattle.xa_store.specs.Tables.{first_schema}
@@ -42,7 +44,7 @@ text_of Sources =
     codes "SELECT rowid, number, place, category, entity, attribute, value_type, value, issuer FROM sources ORDER BY rowid"
 
 -- it shows a row exactly where the rowids, as the table has them, are other than in their order: then the texts of
--- both differ
+-- both differ. The six texts differ in the name of the table alone.
 abbrev pub order_text_of : Kind → List ℕ
 order_text_of Domains =
     codes "WITH s(n) AS (SELECT rowid FROM domains ORDER BY rowid) SELECT 1 WHERE (SELECT group_concat(rowid) FROM domains) IS NOT (SELECT group_concat(n) FROM s)"
@@ -114,6 +116,10 @@ TellsSound sound (Err Damaged) = sound ≡ false
 TellsSound sound (Err NotThisSchema) = ⊥
 TellsSound sound (Err Store) = Unit {0}
 TellsSound sound (Err Memory) = Unit {0}
+
+-- this is found, of tables of the schema that are at rest
+abbrev pub FindsIn : SchemaVersion → State → State → Type 0 → Type 0
+FindsIn version old new claim = HasCleanDisk new → RestsIn (schema_of version) old → claim
 
 -- what the tables hold was checked by a test of them
 pub record CheckedBy (version : SchemaVersion) (sound : Trees → Bool) (old new : State)
@@ -209,7 +215,8 @@ Orders kind db result =
 
 -- the place comes after the one before: the first of a domain is 0
 abbrev pub counts_on : Place → Place → Bool
-counts_on last place = if int_eq place.0 last.0 then int_eq place.1 (last.1 +ℤ pos 1) else int_eq place.1 (pos 0)
+counts_on last place =
+    if int_eq place.domain last.domain then int_eq place.place (last.place +ℤ pos 1) else int_eq place.place (pos 0)
 
 abbrev pub count_on : Place → List Place → Bool
 count_on last [] = true
@@ -217,16 +224,17 @@ count_on last (place ∷ places) = counts_on last place && count_on place places
 
 -- a place before the first of any domain
 abbrev pub no_place : Place
-no_place = (negsuc 0, negsuc 0)
+no_place = record { domain = negsuc 0; place = negsuc 0 }
 
 -- by the domain, and then by the place
 abbrev pub place_cmp : Place → Place → Ordering
-place_cmp a b = ordering_then (int_cmp a.0 b.0) (int_cmp a.1 b.1)
+place_cmp a b = ordering_then (int_cmp a.domain b.domain) (int_cmp a.place b.place)
 
 -- a row shows a domain and a place
 abbrev pub place_told : Row → Option Place
 place_told row =
-    option_and_then (λ number. option_map (λ place. (number, place)) (int_in (column row 1))) (int_in (column row 0))
+    option_and_then (λ domain. option_map (λ place. record { domain = domain; place = place }) (int_in (column row 1)))
+    (int_in (column row 0))
 
 abbrev pub is_next : Place → Option Place → Bool
 is_next last None = false
@@ -261,7 +269,7 @@ GivesNext known (Err Memory) = Unit {0}
 -- what opening answers, whatever is found beside it
 abbrev pub GivesAs : {X : Type 0} → Result X OpenError → Result (Unit {0}) OpenError → Type 0
 GivesAs (Ok x) given = given ≡ Ok tt
-GivesAs (Err e) given = Gives (Err e) given
+GivesAs (Err e) given = GivesOrFails (Err e) given
 
 -- the tables were checked
 pub record Checked (version : SchemaVersion) (old new : State) (result : Result (Unit {0}) OpenError) : Type 0 where
@@ -311,8 +319,8 @@ pub record Tested (version : SchemaVersion) (old new : State) (result : Result B
 
 -- the tables were made, all or none
 pub record Made {X : Type 0} (old new : State) (result : Result X OpenError) : Type 0 where
-  pub survives : Survives old new (λ db. IsBlank old → IsMade db)
-  pub made : HasCleanDisk new → IsBlank old → OnOk result (IsTrue new.is_open × Rests new × IsMade new.now.trees)
+  pub survives : Survives old new (λ db. IsBlank old → AreNewTables db)
+  pub made : HasCleanDisk new → IsBlank old → OnOk result (IsTrue new.is_open × Rests new × AreNewTables new.now.trees)
   pub same : HasCleanDisk new → IsBlank old → IsTrue new.is_open → OnErr result (SameNow old new)
   pub fails : IfErr result IsFailure
 
@@ -331,14 +339,15 @@ OpensAs old new result =
 abbrev pub MigratesAs : State → State → Result Bool OpenError → Type 0
 MigratesAs old new (Ok ours) =
     (opened Schema1 old.now.trees ≡ Ok tt) × IsTrue ours × IsMigrated old.committed.trees new.now.trees
-MigratesAs old new (Err e) = Gives (Err e) (opened Schema1 old.now.trees) × (IsTrue new.is_open → SameNow old new)
+MigratesAs old new (Err e) =
+    GivesOrFails (Err e) (opened Schema1 old.now.trees) × (IsTrue new.is_open → SameNow old new)
 
 abbrev pub MakesAs : State → State → Result Bool OpenError → Type 0
-MakesAs old new (Ok ours) = IsTrue ours × IsMade new.now.trees
-MakesAs old new (Err e) = IsTrue new.is_open → SameNow old new ⊎ IsMade new.now.trees
+MakesAs old new (Ok ours) = IsTrue ours × AreNewTables new.now.trees
+MakesAs old new (Err e) = IsTrue new.is_open → SameNow old new ⊎ AreNewTables new.now.trees
 
 pub record Loads (old new : State) (result : Result Bool OpenError) : Type 0 where
-  pub survives : Survives old new (Leaves old)
+  pub survives : Survives old new (MayLeaveTables old)
   pub left : IfErr result (λ e. IsRefusal e → Survives old new (λ _. ⊥))
   pub refused : HasCleanDisk new → IsTrue new.is_open → IfErr result (λ e. IsRefusal e → SameNow old new)
   pub opens : HasCleanDisk new → Rests old → OpensAs old new result

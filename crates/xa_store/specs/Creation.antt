@@ -6,7 +6,7 @@ use Rattle.sqlite.specs.Effect.{Database}
 use Rattle.sqlite.specs.Schema.{Schema}
 use Rattle.xa_store.specs.declared.schema.creation.Part.{Part}
 use Rattle.xa_store.specs.declared.schema.creation.Part.TheVariants as part
-use Rattle.xa_store.specs.Opening.{no_tables, IsMade}
+use Rattle.xa_store.specs.Opening.{no_tables, AreNewTables}
 use Rattle.xa_store.specs.Tables.{first_schema, our_schema, meta, domains, tokens, policies, roots}
 use Rattle.xa_store.specs.Texts as text
 
@@ -69,7 +69,7 @@ IsBefore part = AreEmpty (before part) (trees_before part)
 -- all are there
 pub record AreMade (db : Database) : Type 0 where
   pub schema : db.schema ≡ our_schema
-  pub made : IsMade db.trees
+  pub made : AreNewTables db.trees
 
 abbrev pub IsAfter : Part → Database → Type 0
 IsAfter part.Meta = IsBefore part.Domains

@@ -40,6 +40,11 @@ abbrev pub Takes : {X : Type 0} → Step → State → State → Result X Failur
 Takes step old new result =
     HasCleanDisk new → IsInside old → Allows step (rows_of old.now.trees) → OnOk result (Took (step ∷ []) old new)
 
+-- a statement took the step in the transaction
+pub record IsTaken {X : Type 0} (step : Step) (old new : State) (result : Result X Failure) : Type 0 where
+  pub stays : StaysInside old new result
+  pub takes : Takes step old new result
+
 -- the tables are the rows after the steps
 pub record Holds (steps : List Step) (before : Rows) (db : Trees) : Type 0 where
   pub database : IsOurDatabase db

@@ -6,6 +6,9 @@ use Rattle.xa_notation.specs.declared.token.Role.{Role}
 use Rattle.xa_policy.specs.declared.document_key.DocumentKey.{DocumentKey}
 use Rattle.xa_records.specs.declared.gate.Gate.{Gate}
 use Rattle.xa_records.specs.declared.gate.Token.{Token}
+use Rattle.xa_records.specs.declared.refusal.ChangeError.{ChangeError}
+use Rattle.xa_records.specs.declared.refusal.ChangeError.TheVariants.{Failed, Refused}
+use Rattle.xa_records.specs.declared.refusal.Refusal.TheVariants.{Absent}
 use Rattle.xa_store.specs.declared.query.document_row.DocumentFound.{DocumentFound}
 use Rattle.xa_store.specs.declared.query.domain.DomainFound.{DomainFound}
 use Rattle.xa_store.specs.Rows.{DomainRow, DocumentRow, nat_of}
@@ -52,6 +55,11 @@ found_of d = record { text = d.text; active = d.active }
 -- the document of that key of the domain of that number
 abbrev pub FindsDocument : ℤ → DocumentKey → Rows → Option DocumentFound → Type 0
 FindsDocument number key rows = FindsOne (is_document number key) found_of rows.documents
+
+-- the change is refused since what it is of is absent, or the look for it failed
+abbrev pub TellsAbsent : Type 0 → ChangeError → Type 0
+TellsAbsent is_absent (Refused e) = (e ≡ Absent) × is_absent
+TellsAbsent is_absent (Failed failure) = Unit {0}
 
 -- the gate of a domain that was found: its number and its epoch, and these tokens
 abbrev pub TellsGate : DomainFound → List Token → Option Gate → Type 0

@@ -28,6 +28,7 @@ use Rattle.xa_notation.specs.declared.document.Parsed.{Parsed}
 use Rattle.xa_notation.specs.declared.notation_error.NotationError.{NotationError}
 use Rattle.xa_notation.specs.Document.{document_of}
 use Rattle.xa_records.specs.DomainName.{is_domain_name}
+use Rattle.xa_store.specs.declared.check.row.Place.{Place}
 use Rattle.xa_store.specs.declared.error.OpenError.{OpenError}
 use Rattle.xa_store.specs.declared.error.OpenError.TheVariants.{NotThisSchema, Damaged}
 use Rattle.xa_store.specs.declared.schema.kind.Kind.{Kind}
@@ -168,16 +169,13 @@ are_sound_rows kind next rows = list_all (is_whole_row kind next) rows && are_ri
 
 -- ---- places
 
--- a domain and a place in its source
-abbrev pub Place : Type 0
-Place = ℤ × ℤ
-
 abbrev pub place_in : Row → Place
-place_in row = (int_of (column row 1), int_of (column row 2))
+place_in row = record { domain = int_of (column row 1); place = int_of (column row 2) }
 
 -- the places in the source of one domain, sorted
 abbrev pub places_of : List Place → ℤ → List ℤ
-places_of places number = sort_by int_cmp (map (λ place. place.1) (filter (λ place. int_eq place.0 number) places))
+places_of places number =
+    sort_by int_cmp (map (λ place. place.place) (filter (λ place. int_eq place.domain number) places))
 
 -- they are that number, the one after it, and so on
 abbrev pub count_from : ℤ → List ℤ → Bool
@@ -186,7 +184,7 @@ count_from n (place ∷ places) = int_eq place n && count_from (n +ℤ pos 1) pl
 
 -- the places of the rows of each domain are 0 to n - 1, each once
 abbrev pub are_counted : List Place → Bool
-are_counted places = list_all (λ place. count_from (pos 0) (places_of places place.0)) places
+are_counted places = list_all (λ place. count_from (pos 0) (places_of places place.domain)) places
 
 -- ---- the two schemas
 

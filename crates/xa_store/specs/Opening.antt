@@ -36,8 +36,8 @@ has_room schema =
     && is_free schema (codes "sources")
 
 -- which schema it is, if it has a keeper's tables: in the first there is none of the name that the second has more
-abbrev pub version_in : Schema → SchemaVersion
-version_in schema = if is_free schema (codes "sources") then Schema1 else Schema2
+abbrev pub schema_version_in : Schema → SchemaVersion
+schema_version_in schema = if is_free schema (codes "sources") then Schema1 else Schema2
 
 -- there is no table, and nothing waits for a commit
 pub record IsBlank (s : State) : Type 0 where
@@ -46,7 +46,7 @@ pub record IsBlank (s : State) : Type 0 where
   pub idle : s.in_transaction ≡ false
 
 -- the tables as they are made, and no others: without domains, of which the first will have the number 1
-pub record IsMade (db : Trees) : Type 0 where
+pub record AreNewTables (db : Trees) : Type 0 where
   pub database : IsOurDatabase db
   pub meta : db 0 ≡ meta_row (pos 1) ∷ []
   pub empty : (kind : Kind) → db (tree_of kind) ≡ []
@@ -61,10 +61,10 @@ abbrev pub IsKnown : State → Type 0
 IsKnown s = Rests s ⊎ (RestsIn first_schema s ⊎ IsBlank s)
 
 -- an answer as the definition gives it, or want of memory or a failure of the store
-abbrev pub Gives : Result (Unit {0}) OpenError → Result (Unit {0}) OpenError → Type 0
-Gives (Err Store) given = Unit {0}
-Gives (Err Memory) given = Unit {0}
-Gives answer given = given ≡ answer
+abbrev pub GivesOrFails : Result (Unit {0}) OpenError → Result (Unit {0}) OpenError → Type 0
+GivesOrFails (Err Store) given = Unit {0}
+GivesOrFails (Err Memory) given = Unit {0}
+GivesOrFails answer given = given ≡ answer
 
 -- it was made of the keeper's tables by nothing that happened, or by want of memory or a failure of the store
 abbrev pub IsFailure : OpenError → Type 0
@@ -94,7 +94,8 @@ module _ {S : Type 0} (g : Ghosts S) where
       × (world_of (state g k.conn).now.trees ≡ world_of old.committed.trees)
   Opens old (Err e) =
       HasCleanDisk (state g e.1)
-      → Gives (Err e.0) (opened Schema2 old.now.trees) × (IsTrue (state g e.1).is_open → SameNow old (state g e.1))
+      → GivesOrFails (Err e.0) (opened Schema2 old.now.trees)
+      × (IsTrue (state g e.1).is_open → SameNow old (state g e.1))
 
   -- of a store with the tables of schema 1: sound ones are brought into schema 2, and others are left as they are
   abbrev pub Migrates : State → Result (Keeper S) (OpenError × Held S) → Type 0
@@ -103,15 +104,16 @@ module _ {S : Type 0} (g : Ghosts S) where
       → (opened Schema1 old.now.trees ≡ Ok tt) × Holds k × IsMigrated old.committed.trees (state g k.conn).now.trees
   Migrates old (Err e) =
       HasCleanDisk (state g e.1)
-      → Gives (Err e.0) (opened Schema1 old.now.trees) × (IsTrue (state g e.1).is_open → SameNow old (state g e.1))
+      → GivesOrFails (Err e.0) (opened Schema1 old.now.trees)
+      × (IsTrue (state g e.1).is_open → SameNow old (state g e.1))
 
   -- of a store without any table: all are made, or none
   abbrev pub Makes : State → Result (Keeper S) (OpenError × Held S) → Type 0
   Makes old (Ok k) =
       HasCleanDisk (state g k.conn)
-      → IsMade (state g k.conn).now.trees × Holds k × (world_of (state g k.conn).now.trees ≡ nothing_kept)
+      → AreNewTables (state g k.conn).now.trees × Holds k × (world_of (state g k.conn).now.trees ≡ nothing_kept)
   Makes old (Err e) =
-      IsFailure e.0 × (IsTrue (state g e.1).is_open → SameNow old (state g e.1) ⊎ IsMade (state g e.1).now.trees)
+      IsFailure e.0 × (IsTrue (state g e.1).is_open → SameNow old (state g e.1) ⊎ AreNewTables (state g e.1).now.trees)
 
 -- the tables are as they were, and a crash leaves nothing that it couldn't leave before
 pub record LeavesAlone (old new : State) : Type 0 where
@@ -121,9 +123,9 @@ pub record LeavesAlone (old new : State) : Type 0 where
 -- what a crash may leave beside what it could leave before: something where the table of sources can be made, the
 -- tables as they are made where there is none, and tables of schema 2 that mean the same where those of schema 1
 -- are there
-abbrev pub Leaves : State → Trees → Type 0
-Leaves old db =
-    IsTrue (is_free old.now.schema (codes "sources")) × (IsBlank old → IsMade db)
+abbrev pub MayLeaveTables : State → Trees → Type 0
+MayLeaveTables old db =
+    IsTrue (is_free old.now.schema (codes "sources")) × (IsBlank old → AreNewTables db)
     × (RestsIn first_schema old → IsMigrated old.committed.trees db)
 
 -- a crash after it leaves what the keeper holds, in our tables

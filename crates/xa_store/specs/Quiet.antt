@@ -1,7 +1,9 @@
 -- What a call that only reads leaves of a connection.
-use Rattle.std.specs.Prelude.{IsTrue}
+use Rattle.std.specs.Prelude.{Result, IsTrue, OnOk}
 use Rattle.sqlite.specs.State.{State, HasCleanDisk}
 use Rattle.sqlite.specs.Tree.{Trees}
+use Rattle.xa_records.specs.declared.refusal.ChangeError.{ChangeError}
+use Rattle.xa_records.specs.Keeper.{IfAnswered}
 use Rattle.xa_store.specs.Sound.{Rests, SameNow}
 
 -- An open connection was open before, and a clean one clean. Over our tables it holds what it held, and a crash now
@@ -11,3 +13,13 @@ pub record Quiet (old new : State) : Type 0 where
   pub clean : HasCleanDisk new → HasCleanDisk old
   pub same : HasCleanDisk new → Rests old → IsTrue new.is_open → SameNow old new
   pub crash : HasCleanDisk new → Rests old → (db : Trees) → new.may_leave db → old.may_leave db
+
+-- a call that only reads: where it is answered, the store is open
+pub record OnlyReads {X E : Type 0} (old new : State) (result : Result X E) : Type 0 where
+  pub quiet : Quiet old new
+  pub opens : HasCleanDisk new → OnOk result (IsTrue new.is_open)
+
+-- and for a change: where it is refused, the store is open too
+pub record OnlyReadsForChange {X : Type 0} (old new : State) (result : Result X ChangeError) : Type 0 where
+  pub quiet : Quiet old new
+  pub opens : HasCleanDisk new → IfAnswered result (IsTrue new.is_open)

@@ -16,7 +16,8 @@ use Rattle.xa_decide.specs.declared.source_row.SourceRow.{SourceRow}
 use Rattle.xa_records.specs.DomainName.{is_domain_name}
 use Rattle.xa_records.specs.DomainState.{IsDocumentOf, compare_bytes, new_domain}
 use Rattle.xa_records.specs.Kept.{IsNumbered, Kept}
-use Rattle.xa_store.specs.Opened.{Place, count_from, holds_value, is_count, is_digest}
+use Rattle.xa_store.specs.declared.check.row.Place.{Place}
+use Rattle.xa_store.specs.Opened.{count_from, holds_value, is_count, is_digest}
 use Rattle.xa_store.specs.Opened.{is_given, is_pattern, is_version, opened, places_of}
 use Rattle.xa_store.specs.Rows.{DomainRow, TokenRow, DocumentRow, RootRow, AttributeRow, meta_row, next_in}
 use Rattle.xa_store.specs.Rows.{domain_row, domain_in, token_row, token_in, document_row, document_in, root_row}
@@ -89,7 +90,7 @@ AreSourceTexts row =
     × (holds_value (type_number row.value) (value_text row.value) ≡ true) × (is_if_any is_utf8 row.issuer ≡ true)
 
 abbrev pub place_of : AttributeRow → Place
-place_of a = (a.number, a.place)
+place_of a = record { domain = a.number; place = a.place }
 
 -- the columns of all rows hold what they should, beside what is said above: so opening finds them sound
 pub record AreWhole (rows : Rows) : Type 0 where

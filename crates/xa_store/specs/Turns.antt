@@ -11,7 +11,7 @@ use Rattle.xa_records.specs.Kept.{IsMade, state_of}
 use Rattle.xa_store.specs.declared.step.Step.{Step}
 use Rattle.xa_store.specs.Sound.{AreNumbered, AreOurs, AreWhole, Ours}
 use Rattle.xa_store.specs.Steps.{after_all, AllowsAll}
-use Rattle.xa_store.specs.World.{Rows, kept_of, world_of}
+use Rattle.xa_store.specs.World.{Rows, kept_of, rows_of, world_of}
 
 -- the steps make the change of the domain of that name, and may be taken
 pub record Plans (steps : List Step) (change : Change) (name : List ℕ) (rows : Rows) : Type 0 where
@@ -25,6 +25,10 @@ abbrev pub IsPlanned : Change → List ℕ → Rows → Result (List Step) Chang
 IsPlanned change name rows (Ok steps) = Plans steps change name rows
 IsPlanned change name rows (Err (Refused e)) = change (state_of name (kept_of rows)) ≡ Err e
 IsPlanned change name rows (Err (Failed failure)) = Unit {0}
+
+-- the change is planned by what our tables held
+abbrev pub PlansIn : Change → List ℕ → State → State → Result (List Step) ChangeError → Type 0
+PlansIn change name old new result = HasCleanDisk new → Ours old → IsPlanned change name (rows_of old.now.trees) result
 
 abbrev pub answer_of : Result (Unit {0}) Failure → Result (Unit {0}) ChangeError
 answer_of (Ok x) = Ok x

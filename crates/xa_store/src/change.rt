@@ -1,6 +1,6 @@
 //! Changes of domains. Each is planned by queries, which may refuse it, and then one transaction takes
 //! the steps of the plan.
-ghost use Rattle.std.specs.Prelude.{◌≡◌, Result, Err, IfErr, IfOk};
+ghost use Rattle.std.specs.Prelude.{◌≡◌, [], ◌∷◌, Result, Err, IfErr, IfOk};
 ghost use Rattle.sqlite.specs.Held.{state};
 ghost use Rattle.xa_records.specs.declared.refusal.Failure.{Failure as Failed};
 ghost use Rattle.xa_store.specs.Execution.{Runs};
@@ -8,6 +8,7 @@ ghost use Rattle.xa_store.specs.Turns.{answer_of};
 
 pub(crate) mod document;
 pub(crate) mod domain;
+pub(crate) mod found;
 pub(crate) mod number;
 pub(crate) mod root;
 pub(crate) mod source;
@@ -17,8 +18,8 @@ pub(crate) mod token;
 use crate::step::Step;
 use crate::step::transaction::run;
 use sqlite::{Alter, Connection};
-use std::alloc::Global;
-use xa_records::{ChangeError, Failure};
+use std::alloc::{AllocError, Global};
+use xa_records::ChangeError;
 use xa_value::Items;
 
 /// The epoch that a domain gets.
@@ -30,28 +31,25 @@ pub(crate) struct Revision {
     pub(crate) epoch: i64,
 }
 
-/// What the transaction of a change answers, as the answer of the change.
-pub(crate) fn answered(ran: Result<(), Failure>) -> Result<(), ChangeError>
-    ensures { result ≡ answer_of ran }
+/// One step alone.
+pub(crate) fn one_step(alloc: Global, step: Step) -> Result<Items<Step>, AllocError>
+    ensures { IfOk result (λ steps. steps ≡ step ∷ []) }
 {
-    match ran {
-        Ok(()) => Ok(()),
-        Err(failure) => Err(ChangeError::Failed(failure)),
-    }
+    let mut steps = Items::new(alloc);
+    steps.push(step)?;
+    Ok(steps)
 }
 
 /// Takes the steps of a plan in one transaction, or tells why there is no plan.
 pub(crate) fn carried_out<S: Alter>(
-    conn: &mut Connection<S>,
     alloc: Global,
+    conn: &mut Connection<S>,
     planned: Result<Items<Step>, ChangeError>,
 ) -> Result<(), ChangeError>
     ensures runs { IfOk planned (λ steps. (ran : Result (Unit {0}) Failed)
         × Runs steps (state S.Store conn.old) (state S.Store conn.new) ran × (result ≡ answer_of ran)) }
     ensures keeps { IfErr planned (λ error. (conn.new ≡ conn.old) × (result ≡ Err error)) }
 {
-    match planned {
-        Ok(steps) => answered(run(conn, alloc, steps.as_slice())),
-        Err(error) => Err(error),
-    }
+    let steps = planned?;
+    Ok(run(conn, alloc, steps.as_slice())?)
 }

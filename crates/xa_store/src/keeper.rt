@@ -10,6 +10,7 @@ pub(crate) mod health;
 pub(crate) mod laws;
 pub(crate) mod records;
 
+use crate::keeper::health::Health;
 use sqlite::{Alter, Connection};
 use std::marker::Model;
 
@@ -18,8 +19,7 @@ use std::marker::Model;
 pub struct SqlRecords<S: Alter> {
     pub(crate) conn: Connection<S>,
     pub(crate) ours: bool,
-    pub(crate) is_open: bool,
-    pub(crate) faults: u64,
+    pub(crate) health: Health,
 }
 
 impl<S: Alter> Model for SqlRecords<S> {
@@ -29,10 +29,12 @@ impl<S: Alter> Model for SqlRecords<S> {
 
     ghost coded = { keeper_code S.code };
 
-    ghost view = { λ r. record { conn = r.conn; ours = r.ours; is_open = r.is_open; faults = r.faults } };
+    ghost view = { λ r.
+        record { conn = r.conn; ours = r.ours; is_open = r.health.is_open; faults = r.health.faults } };
 
     ghost invariant = { λ r.
-        IsKeeper S.Store (record { conn = r.conn; ours = r.ours; is_open = r.is_open; faults = r.faults }) };
+        IsKeeper S.Store
+        (record { conn = r.conn; ours = r.ours; is_open = r.health.is_open; faults = r.health.faults }) };
 }
 
 impl<S: Alter> SqlRecords<S> {
@@ -44,8 +46,10 @@ impl<S: Alter> SqlRecords<S> {
         SqlRecords {
             conn,
             ours,
-            is_open: true,
-            faults: 0,
+            health: Health {
+                is_open: true,
+                faults: 0,
+            },
         }
     }
 
@@ -69,8 +73,7 @@ impl<S: Alter> SqlRecords<S> {
         let SqlRecords {
             conn,
             ours: _,
-            is_open: _,
-            faults: _,
+            health: _,
         } = self;
         conn
     }

@@ -6,8 +6,8 @@ ghost use Rattle.sqlite.specs.State.{HasCleanDisk, Survives};
 ghost use Rattle.xa_store.specs.Check.{IsIdle, Loads, Tested};
 ghost use Rattle.xa_store.specs.Keeper.{IsSound};
 ghost use Rattle.xa_store.specs.Opened.{schema_of};
-ghost use Rattle.xa_store.specs.Opening.{has_room, held_in, version_in, IsBlank, IsKnown, IsRefusal};
-ghost use Rattle.xa_store.specs.Opening.{Leaves, LeavesAlone, Makes, Migrates, Opens, Settles};
+ghost use Rattle.xa_store.specs.Opening.{has_room, held_in, schema_version_in, IsBlank, IsKnown, IsRefusal};
+ghost use Rattle.xa_store.specs.Opening.{LeavesAlone, Makes, MayLeaveTables, Migrates, Opens, Settles};
 ghost use Rattle.xa_store.specs.declared.error.OpenError.TheVariants.{Store};
 ghost use Rattle.xa_store.specs.declared.schema.version.SchemaVersion.TheVariants.{Schema1};
 ghost use Rattle.xa_store.specs.Sound.{Rests, RestsIn};
@@ -20,7 +20,7 @@ use crate::keeper::SqlRecords;
 use crate::refusal::failed_after;
 use crate::schema::creation::make;
 use crate::schema::migration::migrate;
-use crate::schema::shape::{has_room, is_of, version_in};
+use crate::schema::shape::{has_room, is_of, schema_version_in};
 use crate::schema::version::SchemaVersion;
 use sqlite::{Alter, Connection};
 use std::alloc::Global;
@@ -35,10 +35,8 @@ fn check_ours<S: Alter>(
     requires ours { (state S.Store conn.old).now.schema ≡ schema_of version }
     ensures { Tested version (state S.Store conn.old) (state S.Store conn.new) result }
 {
-    match check(alloc, conn, version) {
-        Ok(()) => Ok(true),
-        Err(error) => Err(error),
-    }
+    check(alloc, conn, version)?;
+    Ok(true)
 }
 
 /// Checks the tables as those of that schema, and says whether they are these and no others.
@@ -75,7 +73,7 @@ fn make_and_check<S: Alter>(alloc: Global, conn: &mut Connection<S>) -> Result<b
 /// Checks tables of schema 1, and then brings them into schema 2.
 fn check_and_migrate<S: Alter>(alloc: Global, conn: &mut Connection<S>) -> Result<bool, OpenError>
     requires taken { has_room (state S.Store conn.old).now.schema ≡ false }
-    requires first { version_in (state S.Store conn.old).now.schema ≡ Schema1 }
+    requires first { schema_version_in (state S.Store conn.old).now.schema ≡ Schema1 }
     ensures { Loads (state S.Store conn.old) (state S.Store conn.new) result }
 {
     let ours = check_as(alloc, conn, SchemaVersion::Schema1)?;
@@ -88,7 +86,7 @@ fn load_kept<S: Alter>(alloc: Global, conn: &mut Connection<S>) -> Result<bool, 
     requires { has_room (state S.Store conn.old).now.schema ≡ false }
     ensures { Loads (state S.Store conn.old) (state S.Store conn.new) result }
 {
-    match version_in(conn.schema()) {
+    match schema_version_in(conn.schema()) {
         SchemaVersion::Schema1 => check_and_migrate(alloc, conn),
         SchemaVersion::Schema2 => check_as(alloc, conn, SchemaVersion::Schema2),
     }
@@ -129,7 +127,7 @@ impl<S: Alter> SqlRecords<S> {
             IsRefusal e.0 → LeavesAlone (state S.Store conn) (state S.Store e.1)) }
         ensures busy { IsTrue (state S.Store conn).in_transaction → result ≡ Err (Store, conn) }
         ensures leaves { Survives (state S.Store conn) (state S.Store (held_in S.Store result))
-            (Leaves (state S.Store conn)) }
+            (MayLeaveTables (state S.Store conn)) }
         ensures settled { IfOk result (Settles S.Store) }
         ensures sound { IfOk result (λ k.
             IsTrue k.ours → IsTrue (state S.Store k.conn).is_open → IsSound S.Store k) }

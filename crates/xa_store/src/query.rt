@@ -9,7 +9,7 @@ ghost use Rattle.sqlite.specs.Values.{bound};
 ghost use Rattle.sqlite.specs.declared.error.Error.TheVariants.{SqliteFailure};
 ghost use Rattle.sqlite.specs.declared.error.ErrorCode.TheVariants.{OutOfMemory};
 ghost use Rattle.xa_records.specs.declared.refusal.Failure.TheVariants.{Memory};
-ghost use Rattle.xa_store.specs.Quiet.{Quiet};
+ghost use Rattle.xa_store.specs.Quiet.{OnlyReads};
 ghost use Rattle.xa_store.specs.Sound.{Rests, SameNow};
 ghost use Rattle.xa_store.specs.Tables.{our_schema};
 
@@ -65,9 +65,7 @@ pub(crate) fn shown<S: Alter>(
     given: &[ValueRef<'_>],
 ) -> Result<Vec<Row>, Failure>
     requires { IsPlain (understood our_schema sql.now) }
-    ensures quiet { Quiet (state S.Store conn.old) (state S.Store conn.new) }
-    ensures opens { HasCleanDisk (state S.Store conn.new)
-        → OnOk result (IsTrue (state S.Store conn.new).is_open) }
+    ensures only_reads { OnlyReads (state S.Store conn.old) (state S.Store conn.new) result }
     ensures wants { HasCleanDisk (state S.Store conn.new) → IsErrOf result Memory
         → FailsToQuery sql.now (bound given.now) (state S.Store conn.old) (state S.Store conn.new)
         (SqliteFailure OutOfMemory) }

@@ -6,6 +6,7 @@ ghost use Rattle.xa_store.specs.Check.{refused_as};
 ghost use Rattle.xa_store.specs.Opening.{IsFailure};
 
 use crate::error::OpenError;
+use crate::failure::failure_of;
 use sqlite::{Error, ErrorCode};
 use std::alloc::AllocError;
 use xa_records::Failure;
@@ -31,6 +32,13 @@ pub(crate) fn failed(failure: Failure) -> OpenError
         Failure::Memory => OpenError::Memory,
         Failure::Store => OpenError::Store,
     }
+}
+
+/// A change that failed, by the error of its statement.
+pub(crate) fn failed_by(error: &Error) -> OpenError
+    ensures { IsFailure result }
+{
+    failed(failure_of(error))
 }
 
 /// Tables that were just made are sound, so whatever is said of them tells a failure.

@@ -1,27 +1,27 @@
 //! The upload of a document, its activation and its deletion.
-ghost use Rattle.std.specs.Prelude.{◌≡◌, ℕ, nat_lt, List, [], ◌∷◌, bytes_eq, Some, None, IsTrue, IfOk};
+ghost use Rattle.std.specs.Prelude.{◌≡◌, ℕ, nat_lt, List, [], ◌∷◌, bytes_eq, Some, None, IfOk};
 ghost use Rattle.sqlite.specs.Held.{state};
 ghost use Rattle.sqlite.specs.State.{HasCleanDisk};
 ghost use Rattle.sqlite_keyed.specs.Keyed.{IsKeyedBy};
 ghost use Rattle.xa_records.specs.Changes.{activity_set, deleted, upload_of, uploaded, within};
 ghost use Rattle.xa_records.specs.DomainState.{IsDocumentOf};
-ghost use Rattle.xa_records.specs.Keeper.{IfAnswered};
 ghost use Rattle.xa_records.specs.Kept.{state_of};
 ghost use Rattle.xa_store.specs.declared.step.Step.TheVariants.{SetEpoch};
 ghost use Rattle.xa_store.specs.Lookup.{FindsDocument, IsDomain};
-ghost use Rattle.xa_store.specs.Plan.{IsUploadPlanned, number_key, told_by, upload_by};
-ghost use Rattle.xa_store.specs.Quiet.{Quiet};
+ghost use Rattle.xa_store.specs.Plan.{IsUploadPlanned, number_key, upload_by};
+ghost use Rattle.xa_store.specs.Quiet.{OnlyReadsForChange};
 ghost use Rattle.xa_store.specs.Sound.{AreNumbered, Ours};
 ghost use Rattle.xa_store.specs.Steps.{KeyReads};
-ghost use Rattle.xa_store.specs.Turns.{IsPlanned, Turns};
+ghost use Rattle.xa_store.specs.Turns.{IsPlanned, PlansIn, Turns};
 ghost use Rattle.xa_store.specs.World.{Rows, rows_of, world_of};
 
-use crate::change::number::next_after;
-use crate::change::{Revision, answered, carried_out};
+use crate::change::found::{document_to_change, domain_to_change};
+use crate::change::number::next_revision;
+use crate::change::{Revision, carried_out};
 use crate::query::count::document_count;
 use crate::query::document::document_of;
 use crate::query::document_row::DocumentFound;
-use crate::query::domain::{DomainFound, domain_named};
+use crate::query::domain::DomainFound;
 use crate::step::Step;
 use crate::step::transaction::run;
 use sqlite::{Alter, Connection};
@@ -41,9 +41,7 @@ fn key_reads_back(key: &DocumentKey)
 fn copy_of_text(alloc: Global, text: &[u8]) -> Result<Items<u8>, AllocError>
     ensures { IfOk result (λ copy. copy ≡ text.now) }
 {
-    let mut copy = Vec::with_capacity(alloc, text.len())?;
-    copy.extend_from_slice(text)?;
-    Ok(Items::from_vec(copy))
+    Ok(Items::from_vec(Vec::from_slice(alloc, text)?))
 }
 
 /// Whether the two texts are one.
@@ -75,16 +73,14 @@ fn has_room(count: usize) -> bool
 
 /// The plan for a document that isn't there.
 fn plan_new<S: Alter>(
-    conn: &mut Connection<S>,
     alloc: Global,
+    conn: &mut Connection<S>,
     found: DomainFound,
     key: DocumentKey,
     text: &[u8],
 ) -> Result<Items<Step>, ChangeError>
     requires { IsDocumentOf key text.now }
-    ensures quiet { Quiet (state S.Store conn.old) (state S.Store conn.new) }
-    ensures opens { HasCleanDisk (state S.Store conn.new)
-        → IfAnswered result (IsTrue (state S.Store conn.new).is_open) }
+    ensures only_reads { OnlyReadsForChange (state S.Store conn.old) (state S.Store conn.new) result }
     ensures plans { HasCleanDisk (state S.Store conn.new) → Ours (state S.Store conn.old)
         → (name : List ℕ) → IsDomain name (rows_of (state S.Store conn.old).now.trees) found
         → FindsDocument found.number key (rows_of (state S.Store conn.old).now.trees) None
@@ -95,16 +91,12 @@ fn plan_new<S: Alter>(
     if !has_room(count) {
         return Err(ChangeError::Refused(Refusal::Quota));
     }
-    let epoch = next_after(found.epoch)?;
+    let revision = next_revision(found)?;
     let copy = copy_of_text(alloc, text)?;
     let step = Step::AddDocument {
         number: found.number,
         key,
         text: copy,
-    };
-    let revision = Revision {
-        number: found.number,
-        epoch,
     };
     Ok(raising_steps(alloc, step, revision)?)
 }
@@ -130,47 +122,40 @@ fn plan_again(
 
 /// The plan for a document of a domain that was found.
 fn plan_found<S: Alter>(
-    conn: &mut Connection<S>,
     alloc: Global,
+    conn: &mut Connection<S>,
     found: DomainFound,
     key: DocumentKey,
     text: &[u8],
 ) -> Result<Items<Step>, ChangeError>
     requires { IsDocumentOf key text.now }
-    ensures quiet { Quiet (state S.Store conn.old) (state S.Store conn.new) }
-    ensures opens { HasCleanDisk (state S.Store conn.new)
-        → IfAnswered result (IsTrue (state S.Store conn.new).is_open) }
+    ensures only_reads { OnlyReadsForChange (state S.Store conn.old) (state S.Store conn.new) result }
     ensures plans { HasCleanDisk (state S.Store conn.new) → Ours (state S.Store conn.old)
         → (name : List ℕ) → IsDomain name (rows_of (state S.Store conn.old).now.trees) found
         → IsUploadPlanned key text.now name (rows_of (state S.Store conn.old).now.trees) result }
 {
-    let there = document_of(conn, alloc, found.number, &key)?;
+    let there = document_of(alloc, conn, found.number, &key)?;
     match there {
         Some(there) => plan_again(alloc, found, &there, &key, text),
-        None => plan_new(conn, alloc, found, key, text),
+        None => plan_new(alloc, conn, found, key, text),
     }
 }
 
 /// The plan, or why the document isn't uploaded.
 fn plan_upload<S: Alter>(
-    conn: &mut Connection<S>,
     alloc: Global,
+    conn: &mut Connection<S>,
     name: &Text,
     key: DocumentKey,
     text: &[u8],
 ) -> Result<Items<Step>, ChangeError>
     requires { IsDocumentOf key text.now }
-    ensures quiet { Quiet (state S.Store conn.old) (state S.Store conn.new) }
-    ensures opens { HasCleanDisk (state S.Store conn.new)
-        → IfAnswered result (IsTrue (state S.Store conn.new).is_open) }
+    ensures only_reads { OnlyReadsForChange (state S.Store conn.old) (state S.Store conn.new) result }
     ensures plans { HasCleanDisk (state S.Store conn.new) → Ours (state S.Store conn.old)
         → IsUploadPlanned key text.now name.now (rows_of (state S.Store conn.old).now.trees) result }
 {
-    let found = domain_named(conn, name)?;
-    let Some(found) = found else {
-        return Err(ChangeError::Refused(Refusal::Absent));
-    };
-    plan_found(conn, alloc, found, key, text)
+    let found = domain_to_change(conn, name)?;
+    plan_found(alloc, conn, found, key, text)
 }
 
 /// Whether the steps of an upload put a document in.
@@ -183,20 +168,10 @@ fn upload_by(steps: &[Step]) -> Upload
     }
 }
 
-/// The upload that was made, if it was.
-fn uploaded_as(done: Result<(), ChangeError>, upload: Upload) -> Result<Upload, ChangeError>
-    ensures { result ≡ told_by upload done }
-{
-    match done {
-        Ok(()) => Ok(upload),
-        Err(error) => Err(error),
-    }
-}
-
 /// Uploads a document to the domain of that name. It isn't active at first.
 pub(crate) fn upload_in<S: Alter>(
-    conn: &mut Connection<S>,
     alloc: Global,
+    conn: &mut Connection<S>,
     name: &Text,
     key: DocumentKey,
     text: &[u8],
@@ -207,13 +182,11 @@ pub(crate) fn upload_in<S: Alter>(
     ensures which { HasCleanDisk (state S.Store conn.new) → Ours (state S.Store conn.old) → IfOk result (λ u.
         u ≡ upload_of key (state_of name.now (world_of (state S.Store conn.old).now.trees))) }
 {
-    match plan_upload(conn, alloc, name, key, text) {
-        Ok(steps) => {
-            let upload = upload_by(steps.as_slice());
-            uploaded_as(answered(run(conn, alloc, steps.as_slice())), upload)
-        }
-        Err(error) => Err(error),
-    }
+    let planned = plan_upload(alloc, conn, name, key, text)?;
+    let steps = planned.as_slice();
+    let upload = upload_by(steps);
+    run(conn, alloc, steps)?;
+    Ok(upload)
 }
 
 /// The plan for a document that is there, active or not.
@@ -232,70 +205,55 @@ fn plan_activity(
     if is_same_activity(there.active, active) {
         return Ok(Items::new(alloc));
     }
-    let epoch = next_after(found.epoch)?;
+    let revision = next_revision(found)?;
     let copy = key.clone()?;
     let step = Step::SetActive {
         number: found.number,
         key: copy,
         active,
     };
-    let revision = Revision {
-        number: found.number,
-        epoch,
-    };
     Ok(raising_steps(alloc, step, revision)?)
 }
 
 /// The plan for the activity of a document of a domain that was found.
 fn plan_active_found<S: Alter>(
-    conn: &mut Connection<S>,
     alloc: Global,
+    conn: &mut Connection<S>,
     found: DomainFound,
     key: &DocumentKey,
     active: bool,
 ) -> Result<Items<Step>, ChangeError>
-    ensures quiet { Quiet (state S.Store conn.old) (state S.Store conn.new) }
-    ensures opens { HasCleanDisk (state S.Store conn.new)
-        → IfAnswered result (IsTrue (state S.Store conn.new).is_open) }
+    ensures only_reads { OnlyReadsForChange (state S.Store conn.old) (state S.Store conn.new) result }
     ensures plans { HasCleanDisk (state S.Store conn.new) → Ours (state S.Store conn.old)
         → (name : List ℕ) → IsDomain name (rows_of (state S.Store conn.old).now.trees) found
         → IsPlanned (within (activity_set key.now active)) name
         (rows_of (state S.Store conn.old).now.trees) result }
 {
     key_reads_back(key);
-    let there = document_of(conn, alloc, found.number, key)?;
-    match there {
-        Some(there) => plan_activity(alloc, found, &there, key, active),
-        None => Err(ChangeError::Refused(Refusal::Absent)),
-    }
+    let there = document_to_change(alloc, conn, found.number, key)?;
+    plan_activity(alloc, found, &there, key, active)
 }
 
 /// The plan, or why the activity isn't set.
 fn plan_active<S: Alter>(
-    conn: &mut Connection<S>,
     alloc: Global,
+    conn: &mut Connection<S>,
     name: &Text,
     key: &DocumentKey,
     active: bool,
 ) -> Result<Items<Step>, ChangeError>
-    ensures quiet { Quiet (state S.Store conn.old) (state S.Store conn.new) }
-    ensures opens { HasCleanDisk (state S.Store conn.new)
-        → IfAnswered result (IsTrue (state S.Store conn.new).is_open) }
-    ensures plans { HasCleanDisk (state S.Store conn.new) → Ours (state S.Store conn.old)
-        → IsPlanned (within (activity_set key.now active)) name.now
-        (rows_of (state S.Store conn.old).now.trees) result }
+    ensures only_reads { OnlyReadsForChange (state S.Store conn.old) (state S.Store conn.new) result }
+    ensures plans { PlansIn (within (activity_set key.now active)) name.now
+        (state S.Store conn.old) (state S.Store conn.new) result }
 {
-    let found = domain_named(conn, name)?;
-    let Some(found) = found else {
-        return Err(ChangeError::Refused(Refusal::Absent));
-    };
-    plan_active_found(conn, alloc, found, key, active)
+    let found = domain_to_change(conn, name)?;
+    plan_active_found(alloc, conn, found, key, active)
 }
 
 /// Sets whether references may resolve to the document of that key in the domain of that name.
 pub(crate) fn set_active_in<S: Alter>(
-    conn: &mut Connection<S>,
     alloc: Global,
+    conn: &mut Connection<S>,
     name: &Text,
     key: &DocumentKey,
     active: bool,
@@ -303,8 +261,8 @@ pub(crate) fn set_active_in<S: Alter>(
     ensures turns { Turns (within (activity_set key.now active)) name.now
         (state S.Store conn.old) (state S.Store conn.new) result }
 {
-    let planned = plan_active(conn, alloc, name, key, active);
-    carried_out(conn, alloc, planned)
+    let planned = plan_active(alloc, conn, name, key, active);
+    carried_out(alloc, conn, planned)
 }
 
 /// The plan to take out a document that is there.
@@ -322,71 +280,57 @@ fn plan_gone(
     if there.active {
         return Err(ChangeError::Refused(Refusal::StillActive));
     }
-    let epoch = next_after(found.epoch)?;
+    let revision = next_revision(found)?;
     let copy = key.clone()?;
     let step = Step::DropDocument {
         number: found.number,
         key: copy,
-    };
-    let revision = Revision {
-        number: found.number,
-        epoch,
     };
     Ok(raising_steps(alloc, step, revision)?)
 }
 
 /// The plan to take a document out of a domain that was found.
 fn plan_delete_found<S: Alter>(
-    conn: &mut Connection<S>,
     alloc: Global,
+    conn: &mut Connection<S>,
     found: DomainFound,
     key: &DocumentKey,
 ) -> Result<Items<Step>, ChangeError>
-    ensures quiet { Quiet (state S.Store conn.old) (state S.Store conn.new) }
-    ensures opens { HasCleanDisk (state S.Store conn.new)
-        → IfAnswered result (IsTrue (state S.Store conn.new).is_open) }
+    ensures only_reads { OnlyReadsForChange (state S.Store conn.old) (state S.Store conn.new) result }
     ensures plans { HasCleanDisk (state S.Store conn.new) → Ours (state S.Store conn.old)
         → (name : List ℕ) → IsDomain name (rows_of (state S.Store conn.old).now.trees) found
         → IsPlanned (within (deleted key.now)) name (rows_of (state S.Store conn.old).now.trees) result }
 {
     key_reads_back(key);
-    let there = document_of(conn, alloc, found.number, key)?;
-    match there {
-        Some(there) => plan_gone(alloc, found, &there, key),
-        None => Err(ChangeError::Refused(Refusal::Absent)),
-    }
+    let there = document_to_change(alloc, conn, found.number, key)?;
+    plan_gone(alloc, found, &there, key)
 }
 
 /// The plan, or why the document isn't deleted.
 fn plan_delete<S: Alter>(
-    conn: &mut Connection<S>,
     alloc: Global,
+    conn: &mut Connection<S>,
     name: &Text,
     key: &DocumentKey,
 ) -> Result<Items<Step>, ChangeError>
-    ensures quiet { Quiet (state S.Store conn.old) (state S.Store conn.new) }
-    ensures opens { HasCleanDisk (state S.Store conn.new)
-        → IfAnswered result (IsTrue (state S.Store conn.new).is_open) }
-    ensures plans { HasCleanDisk (state S.Store conn.new) → Ours (state S.Store conn.old)
-        → IsPlanned (within (deleted key.now)) name.now (rows_of (state S.Store conn.old).now.trees) result }
+    ensures only_reads { OnlyReadsForChange (state S.Store conn.old) (state S.Store conn.new) result }
+    ensures plans { PlansIn (within (deleted key.now)) name.now
+        (state S.Store conn.old) (state S.Store conn.new) result }
 {
-    let found = domain_named(conn, name)?;
-    let Some(found) = found else {
-        return Err(ChangeError::Refused(Refusal::Absent));
-    };
-    plan_delete_found(conn, alloc, found, key)
+    let found = domain_to_change(conn, name)?;
+    plan_delete_found(alloc, conn, found, key)
 }
 
 /// Deletes a document of the domain of that name, which must not be active.
 pub(crate) fn delete_in<S: Alter>(
-    conn: &mut Connection<S>,
     alloc: Global,
+    conn: &mut Connection<S>,
     name: &Text,
     key: &DocumentKey,
 ) -> Result<(), ChangeError>
     ensures turns { Turns (within (deleted key.now)) name.now
         (state S.Store conn.old) (state S.Store conn.new) result }
 {
-    let planned = plan_delete(conn, alloc, name, key);
-    carried_out(conn, alloc, planned)
+    let planned = plan_delete(alloc, conn, name, key);
+    carried_out(alloc, conn, planned)
 }

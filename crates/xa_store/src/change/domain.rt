@@ -1,23 +1,21 @@
 //! The creation and the removal of a domain.
-ghost use Rattle.std.specs.Prelude.{◌≡◌, ℕ, List, [], ◌∷◌, filter, IsTrue, IfOk};
+ghost use Rattle.std.specs.Prelude.{◌≡◌, ℕ, List, [], filter, IsTrue, IfOk};
 ghost use Rattle.sqlite.specs.Held.{state};
-ghost use Rattle.sqlite.specs.State.{HasCleanDisk};
 ghost use Rattle.sqlite_keyed.specs.Keyed.{IsKeyedBy};
 ghost use Rattle.sqlite_keyed.specs.Rules.{AreApart};
 ghost use Rattle.xa_records.specs.Changes.{created, removed};
 ghost use Rattle.xa_records.specs.DomainName.{is_domain_name};
-ghost use Rattle.xa_records.specs.Keeper.{IfAnswered};
-ghost use Rattle.xa_store.specs.declared.step.Step.TheVariants.{DropDomain};
 ghost use Rattle.xa_store.specs.Lookup.{IsDomain, IsNext};
 ghost use Rattle.xa_store.specs.Plan.{create_steps, number_key};
-ghost use Rattle.xa_store.specs.Quiet.{Quiet};
-ghost use Rattle.xa_store.specs.Sound.{AreNumbered, Ours, same_name};
+ghost use Rattle.xa_store.specs.Quiet.{OnlyReadsForChange};
+ghost use Rattle.xa_store.specs.Sound.{AreNumbered, same_name};
 ghost use Rattle.xa_store.specs.Steps.{is_named};
-ghost use Rattle.xa_store.specs.Turns.{IsPlanned, Turns};
-ghost use Rattle.xa_store.specs.World.{Rows, rows_of};
+ghost use Rattle.xa_store.specs.Turns.{IsPlanned, PlansIn, Turns};
+ghost use Rattle.xa_store.specs.World.{Rows};
 
-use crate::change::carried_out;
+use crate::change::found::domain_to_change;
 use crate::change::number::next_after;
+use crate::change::{carried_out, one_step};
 use crate::query::domain::{DomainFound, domain_named};
 use crate::query::number::next_number;
 use crate::step::Step;
@@ -55,16 +53,13 @@ fn plan_made(alloc: Global, name: &Text, number: i64) -> Result<Items<Step>, Cha
 
 /// The plan, or why the domain isn't made.
 fn plan_create<S: Alter>(
-    conn: &mut Connection<S>,
     alloc: Global,
+    conn: &mut Connection<S>,
     name: &Text,
 ) -> Result<Items<Step>, ChangeError>
     requires { IsTrue (is_domain_name name.now) }
-    ensures quiet { Quiet (state S.Store conn.old) (state S.Store conn.new) }
-    ensures opens { HasCleanDisk (state S.Store conn.new)
-        → IfAnswered result (IsTrue (state S.Store conn.new).is_open) }
-    ensures plans { HasCleanDisk (state S.Store conn.new) → Ours (state S.Store conn.old)
-        → IsPlanned created name.now (rows_of (state S.Store conn.old).now.trees) result }
+    ensures only_reads { OnlyReadsForChange (state S.Store conn.old) (state S.Store conn.new) result }
+    ensures plans { PlansIn created name.now (state S.Store conn.old) (state S.Store conn.new) result }
 {
     let found = domain_named(conn, name)?;
     if let Some(_) = found {
@@ -76,24 +71,15 @@ fn plan_create<S: Alter>(
 
 /// Makes the domain of that name, in which nothing has been put yet.
 pub(crate) fn create_in<S: Alter>(
-    conn: &mut Connection<S>,
     alloc: Global,
+    conn: &mut Connection<S>,
     name: &Text,
 ) -> Result<(), ChangeError>
     requires { IsTrue (is_domain_name name.now) }
     ensures turns { Turns created name.now (state S.Store conn.old) (state S.Store conn.new) result }
 {
-    let planned = plan_create(conn, alloc, name);
-    carried_out(conn, alloc, planned)
-}
-
-/// The one step that takes a domain out.
-fn remove_steps(alloc: Global, number: i64) -> Result<Items<Step>, AllocError>
-    ensures { IfOk result (λ steps. steps ≡ DropDomain number ∷ []) }
-{
-    let mut steps = Items::new(alloc);
-    steps.push(Step::DropDomain(number))?;
-    Ok(steps)
+    let planned = plan_create(alloc, conn, name);
+    carried_out(alloc, conn, planned)
 }
 
 /// The plan for a domain that was found.
@@ -101,36 +87,30 @@ fn plan_found(alloc: Global, found: DomainFound) -> Result<Items<Step>, ChangeEr
     ensures plans { (name : List ℕ) → (rows : Rows) → AreNumbered rows → IsKeyedBy number_key rows.domains
         → IsDomain name rows found → IsPlanned removed name rows result }
 {
-    Ok(remove_steps(alloc, found.number)?)
+    Ok(one_step(alloc, Step::DropDomain(found.number))?)
 }
 
 /// The plan, or why the domain isn't removed.
 fn plan_remove<S: Alter>(
-    conn: &mut Connection<S>,
     alloc: Global,
+    conn: &mut Connection<S>,
     name: &Text,
 ) -> Result<Items<Step>, ChangeError>
-    ensures quiet { Quiet (state S.Store conn.old) (state S.Store conn.new) }
-    ensures opens { HasCleanDisk (state S.Store conn.new)
-        → IfAnswered result (IsTrue (state S.Store conn.new).is_open) }
-    ensures plans { HasCleanDisk (state S.Store conn.new) → Ours (state S.Store conn.old)
-        → IsPlanned removed name.now (rows_of (state S.Store conn.old).now.trees) result }
+    ensures only_reads { OnlyReadsForChange (state S.Store conn.old) (state S.Store conn.new) result }
+    ensures plans { PlansIn removed name.now (state S.Store conn.old) (state S.Store conn.new) result }
 {
-    let found = domain_named(conn, name)?;
-    let Some(found) = found else {
-        return Err(ChangeError::Refused(Refusal::Absent));
-    };
+    let found = domain_to_change(conn, name)?;
     plan_found(alloc, found)
 }
 
 /// Removes the domain of that name, with all that is in it.
 pub(crate) fn remove_in<S: Alter>(
-    conn: &mut Connection<S>,
     alloc: Global,
+    conn: &mut Connection<S>,
     name: &Text,
 ) -> Result<(), ChangeError>
     ensures turns { Turns removed name.now (state S.Store conn.old) (state S.Store conn.new) result }
 {
-    let planned = plan_remove(conn, alloc, name);
-    carried_out(conn, alloc, planned)
+    let planned = plan_remove(alloc, conn, name);
+    carried_out(alloc, conn, planned)
 }

@@ -1,33 +1,32 @@
 //! The root of a domain is set, or taken away.
 ghost use Rattle.std.specs.Prelude.{◌≡◌, ◌++◌, ℕ, ℤ, true, List, [], ◌∷◌};
-ghost use Rattle.std.specs.Prelude.{IsTrue, IfOk, option_map, option_and_then};
+ghost use Rattle.std.specs.Prelude.{IfOk, option_map, option_and_then};
 ghost use Rattle.sqlite.specs.Held.{state};
-ghost use Rattle.sqlite.specs.State.{HasCleanDisk};
 ghost use Rattle.xa_policy.specs.Pattern.{pattern_text, read_pattern};
 ghost use Rattle.xa_policy.specs.Version.{read_version, version_text};
 ghost use Rattle.xa_records.specs.Changes.{root_set, within};
-ghost use Rattle.xa_records.specs.Keeper.{IfAnswered};
 ghost use Rattle.xa_store.specs.declared.step.Step.TheVariants.{SetEpoch};
 ghost use Rattle.xa_store.specs.Lookup.{IsDomain};
 ghost use Rattle.xa_store.specs.Plan.{HasRootTexts, RootReads, number_key, root_steps};
 ghost use Rattle.xa_store.specs.Opened.{is_pattern, is_version};
-ghost use Rattle.xa_store.specs.Quiet.{Quiet};
+ghost use Rattle.xa_store.specs.Quiet.{OnlyReadsForChange};
 ghost use Rattle.xa_store.specs.Rows.{given, reference_of, root_of};
-ghost use Rattle.xa_store.specs.Sound.{AreNumbered, AreRootTexts, Ours, is_if_any};
-ghost use Rattle.xa_store.specs.Turns.{IsPlanned, Turns};
-ghost use Rattle.xa_store.specs.World.{Rows, root_at, rows_of};
+ghost use Rattle.xa_store.specs.Sound.{AreNumbered, AreRootTexts, is_if_any};
+ghost use Rattle.xa_store.specs.Turns.{IsPlanned, PlansIn, Turns};
+ghost use Rattle.xa_store.specs.World.{Rows, root_at};
 ghost use Rattle.sqlite_keyed.specs.Keyed.{IsKeyedBy};
 
-use crate::change::number::next_after;
+use crate::change::found::domain_to_change;
+use crate::change::number::next_revision;
 use crate::change::text::bytes_are_utf8;
 use crate::change::{Revision, carried_out};
-use crate::query::domain::{DomainFound, domain_named};
+use crate::query::domain::DomainFound;
 use crate::query::root::root_of;
 use crate::step::Step;
 use sqlite::{Alter, Connection};
 use std::alloc::{AllocError, Global};
 use xa_policy::{Pattern, Reference, Version};
-use xa_records::{ChangeError, Refusal, is_same_root};
+use xa_records::{ChangeError, is_same_root};
 use xa_value::{Items, Text};
 
 /// Law: a pattern reads back from its text.
@@ -130,45 +129,36 @@ fn plan_found(
         return Ok(Items::new(alloc));
     }
     root_reads_back(&root);
-    let epoch = next_after(found.epoch)?;
-    let revision = Revision {
-        number: found.number,
-        epoch,
-    };
+    let revision = next_revision(found)?;
     Ok(root_steps(alloc, revision, root)?)
 }
 
 /// The plan, or why the root isn't set.
 fn plan<S: Alter>(
-    conn: &mut Connection<S>,
     alloc: Global,
+    conn: &mut Connection<S>,
     name: &Text,
     root: Option<Reference>,
 ) -> Result<Items<Step>, ChangeError>
-    ensures quiet { Quiet (state S.Store conn.old) (state S.Store conn.new) }
-    ensures opens { HasCleanDisk (state S.Store conn.new)
-        → IfAnswered result (IsTrue (state S.Store conn.new).is_open) }
-    ensures plans { HasCleanDisk (state S.Store conn.new) → Ours (state S.Store conn.old)
-        → IsPlanned (within (root_set root)) name.now (rows_of (state S.Store conn.old).now.trees) result }
+    ensures only_reads { OnlyReadsForChange (state S.Store conn.old) (state S.Store conn.new) result }
+    ensures plans { PlansIn (within (root_set root)) name.now
+        (state S.Store conn.old) (state S.Store conn.new) result }
 {
-    let found = domain_named(conn, name)?;
-    let Some(found) = found else {
-        return Err(ChangeError::Refused(Refusal::Absent));
-    };
-    let there = root_of(conn, alloc, found.number)?;
+    let found = domain_to_change(conn, name)?;
+    let there = root_of(alloc, conn, found.number)?;
     plan_found(alloc, found, &there, root)
 }
 
 /// Sets the root of the domain of that name, or takes it away.
 pub(crate) fn set_root_in<S: Alter>(
-    conn: &mut Connection<S>,
     alloc: Global,
+    conn: &mut Connection<S>,
     name: &Text,
     root: Option<Reference>,
 ) -> Result<(), ChangeError>
     ensures turns { Turns (within (root_set root)) name.now
         (state S.Store conn.old) (state S.Store conn.new) result }
 {
-    let planned = plan(conn, alloc, name, root);
-    carried_out(conn, alloc, planned)
+    let planned = plan(alloc, conn, name, root);
+    carried_out(alloc, conn, planned)
 }

@@ -1,24 +1,23 @@
 //! The source of a domain gets other rows.
-ghost use Rattle.std.specs.Prelude.{◌≡◌, ◌≤◌, ◌++◌, ℕ, true, List, length, IsTrue, IfOk, OnOk};
+ghost use Rattle.std.specs.Prelude.{◌≡◌, ◌≤◌, ◌++◌, ℕ, true, List, length, IfOk, OnOk};
 ghost use Rattle.sqlite.specs.Held.{state};
-ghost use Rattle.sqlite.specs.State.{HasCleanDisk};
 ghost use Rattle.sqlite_keyed.specs.Keyed.{IsKeyedBy};
 ghost use Rattle.xa_records.specs.Changes.{source_set, within};
-ghost use Rattle.xa_records.specs.Keeper.{IfAnswered};
 ghost use Rattle.xa_store.specs.Lookup.{IsDomain};
 ghost use Rattle.xa_store.specs.Plan.{HaveTexts, RowsRead, SetsSource, number_key, row_steps, source_steps};
 ghost use Rattle.xa_store.specs.Opened.{holds_value};
-ghost use Rattle.xa_store.specs.Quiet.{Quiet};
+ghost use Rattle.xa_store.specs.Quiet.{OnlyReadsForChange};
 ghost use Rattle.xa_store.specs.Rows.{type_number, value_text};
-ghost use Rattle.xa_store.specs.Sound.{AreNumbered, AreSourceTexts, Ours};
+ghost use Rattle.xa_store.specs.Sound.{AreNumbered, AreSourceTexts};
 ghost use Rattle.xa_store.specs.Steps.{ReadsBack};
-ghost use Rattle.xa_store.specs.Turns.{IsPlanned, Turns};
-ghost use Rattle.xa_store.specs.World.{Rows, rows_of, state_at};
+ghost use Rattle.xa_store.specs.Turns.{IsPlanned, PlansIn, Turns};
+ghost use Rattle.xa_store.specs.World.{Rows, state_at};
 
-use crate::change::number::next_after;
+use crate::change::found::domain_to_change;
+use crate::change::number::next_revision;
 use crate::change::text::{bytes_are_utf8, bytes_are_utf8_if_any};
 use crate::change::{Revision, carried_out};
-use crate::query::domain::{DomainFound, domain_named};
+use crate::query::domain::DomainFound;
 use crate::query::source::source_of;
 use crate::step::Step;
 use sqlite::{Alter, Connection};
@@ -130,32 +129,23 @@ fn plan_found(
         return Ok(Items::new(alloc));
     }
     check_rows(alloc, rows.as_slice())?;
-    let epoch = next_after(found.epoch)?;
-    let revision = Revision {
-        number: found.number,
-        epoch,
-    };
+    let revision = next_revision(found)?;
     Ok(source_steps(alloc, revision, rows)?)
 }
 
 /// The plan, or why the source isn't set.
 fn plan<S: Alter>(
-    conn: &mut Connection<S>,
     alloc: Global,
+    conn: &mut Connection<S>,
     name: &Text,
     rows: Items<SourceRow>,
 ) -> Result<Items<Step>, ChangeError>
-    ensures quiet { Quiet (state S.Store conn.old) (state S.Store conn.new) }
-    ensures opens { HasCleanDisk (state S.Store conn.new)
-        → IfAnswered result (IsTrue (state S.Store conn.new).is_open) }
-    ensures plans { HasCleanDisk (state S.Store conn.new) → Ours (state S.Store conn.old)
-        → IsPlanned (within (source_set rows)) name.now (rows_of (state S.Store conn.old).now.trees) result }
+    ensures only_reads { OnlyReadsForChange (state S.Store conn.old) (state S.Store conn.new) result }
+    ensures plans { PlansIn (within (source_set rows)) name.now
+        (state S.Store conn.old) (state S.Store conn.new) result }
 {
-    let found = domain_named(conn, name)?;
-    let Some(found) = found else {
-        return Err(ChangeError::Refused(Refusal::Absent));
-    };
-    let there = source_of(conn, alloc, found.number)?;
+    let found = domain_to_change(conn, name)?;
+    let there = source_of(alloc, conn, found.number)?;
     plan_found(alloc, found, &there, rows)
 }
 
@@ -163,14 +153,14 @@ fn plan<S: Alter>(
 /// It fails with `Store`, too, where a value doesn't read back from its printed text, as a URI with white
 /// space around it; no value that was read is such a one.
 pub(crate) fn set_source_in<S: Alter>(
-    conn: &mut Connection<S>,
     alloc: Global,
+    conn: &mut Connection<S>,
     name: &Text,
     rows: Items<SourceRow>,
 ) -> Result<(), ChangeError>
     ensures turns { Turns (within (source_set rows)) name.now
         (state S.Store conn.old) (state S.Store conn.new) result }
 {
-    let planned = plan(conn, alloc, name, rows);
-    carried_out(conn, alloc, planned)
+    let planned = plan(alloc, conn, name, rows);
+    carried_out(alloc, conn, planned)
 }

@@ -1,35 +1,26 @@
 //! A token is put in, gets another role, or is taken out.
-ghost use Rattle.std.specs.Prelude.{◌≡◌, ℕ, nat_lt, true, List, [], ◌∷◌, None, IsTrue, IfOk};
+ghost use Rattle.std.specs.Prelude.{◌≡◌, ℕ, nat_lt, true, List, None};
 ghost use Rattle.sqlite.specs.Held.{state};
 ghost use Rattle.sqlite.specs.State.{HasCleanDisk};
 ghost use Rattle.xa_records.specs.Changes.{token_dropped, token_put, within};
-ghost use Rattle.xa_records.specs.Keeper.{IfAnswered};
 ghost use Rattle.xa_store.specs.Lookup.{FindsRole, IsDomain};
 ghost use Rattle.xa_store.specs.Opened.{is_digest};
-ghost use Rattle.xa_store.specs.Quiet.{Quiet};
+ghost use Rattle.xa_store.specs.Quiet.{OnlyReadsForChange};
 ghost use Rattle.xa_store.specs.Sound.{Ours};
-ghost use Rattle.xa_store.specs.Turns.{IsPlanned, Turns};
+ghost use Rattle.xa_store.specs.Turns.{IsPlanned, PlansIn, Turns};
 ghost use Rattle.xa_store.specs.World.{rows_of};
 
-use crate::change::carried_out;
+use crate::change::found::{domain_to_change, role_to_change};
+use crate::change::{carried_out, one_step};
 use crate::query::count::token_count;
-use crate::query::domain::{DomainFound, domain_named};
+use crate::query::domain::DomainFound;
 use crate::query::token::role_of;
 use crate::step::Step;
 use sqlite::{Alter, Connection};
-use std::alloc::{AllocError, Global};
+use std::alloc::Global;
 use xa_notation::Role;
 use xa_records::{ChangeError, Digest, MAX_TOKENS, Refusal};
 use xa_value::{Items, Text};
-
-/// One step alone.
-fn one_step(alloc: Global, step: Step) -> Result<Items<Step>, AllocError>
-    ensures { IfOk result (λ steps. steps ≡ step ∷ []) }
-{
-    let mut steps = Items::new(alloc);
-    steps.push(step)?;
-    Ok(steps)
-}
 
 /// Whether a domain of so many tokens may have one more.
 fn has_room(count: usize) -> bool
@@ -47,15 +38,13 @@ fn has_all_bytes(digest: &Digest)
 
 /// The plan for a token that isn't there.
 fn plan_new<S: Alter>(
-    conn: &mut Connection<S>,
     alloc: Global,
+    conn: &mut Connection<S>,
     found: DomainFound,
     digest: Digest,
     role: Role,
 ) -> Result<Items<Step>, ChangeError>
-    ensures quiet { Quiet (state S.Store conn.old) (state S.Store conn.new) }
-    ensures opens { HasCleanDisk (state S.Store conn.new)
-        → IfAnswered result (IsTrue (state S.Store conn.new).is_open) }
+    ensures only_reads { OnlyReadsForChange (state S.Store conn.old) (state S.Store conn.new) result }
     ensures plans { HasCleanDisk (state S.Store conn.new) → Ours (state S.Store conn.old)
         → (name : List ℕ) → IsDomain name (rows_of (state S.Store conn.old).now.trees) found
         → FindsRole found.number digest (rows_of (state S.Store conn.old).now.trees) None
@@ -77,21 +66,19 @@ fn plan_new<S: Alter>(
 
 /// The plan for a token of a domain that was found.
 fn plan_found<S: Alter>(
-    conn: &mut Connection<S>,
     alloc: Global,
+    conn: &mut Connection<S>,
     found: DomainFound,
     digest: Digest,
     role: Role,
 ) -> Result<Items<Step>, ChangeError>
-    ensures quiet { Quiet (state S.Store conn.old) (state S.Store conn.new) }
-    ensures opens { HasCleanDisk (state S.Store conn.new)
-        → IfAnswered result (IsTrue (state S.Store conn.new).is_open) }
+    ensures only_reads { OnlyReadsForChange (state S.Store conn.old) (state S.Store conn.new) result }
     ensures plans { HasCleanDisk (state S.Store conn.new) → Ours (state S.Store conn.old)
         → (name : List ℕ) → IsDomain name (rows_of (state S.Store conn.old).now.trees) found
         → IsPlanned (within (token_put digest role)) name
         (rows_of (state S.Store conn.old).now.trees) result }
 {
-    let there = role_of(conn, alloc, found.number, &digest)?;
+    let there = role_of(alloc, conn, found.number, &digest)?;
     match there {
         Some(_) => {
             let step = Step::SetRole {
@@ -101,36 +88,30 @@ fn plan_found<S: Alter>(
             };
             Ok(one_step(alloc, step)?)
         }
-        None => plan_new(conn, alloc, found, digest, role),
+        None => plan_new(alloc, conn, found, digest, role),
     }
 }
 
 /// The plan, or why the token isn't put in.
 fn plan_put<S: Alter>(
-    conn: &mut Connection<S>,
     alloc: Global,
+    conn: &mut Connection<S>,
     name: &Text,
     digest: Digest,
     role: Role,
 ) -> Result<Items<Step>, ChangeError>
-    ensures quiet { Quiet (state S.Store conn.old) (state S.Store conn.new) }
-    ensures opens { HasCleanDisk (state S.Store conn.new)
-        → IfAnswered result (IsTrue (state S.Store conn.new).is_open) }
-    ensures plans { HasCleanDisk (state S.Store conn.new) → Ours (state S.Store conn.old)
-        → IsPlanned (within (token_put digest role)) name.now
-        (rows_of (state S.Store conn.old).now.trees) result }
+    ensures only_reads { OnlyReadsForChange (state S.Store conn.old) (state S.Store conn.new) result }
+    ensures plans { PlansIn (within (token_put digest role)) name.now
+        (state S.Store conn.old) (state S.Store conn.new) result }
 {
-    let found = domain_named(conn, name)?;
-    let Some(found) = found else {
-        return Err(ChangeError::Refused(Refusal::Absent));
-    };
-    plan_found(conn, alloc, found, digest, role)
+    let found = domain_to_change(conn, name)?;
+    plan_found(alloc, conn, found, digest, role)
 }
 
 /// Puts a token into the domain of that name, or replaces the role of one that is there.
 pub(crate) fn put_token_in<S: Alter>(
-    conn: &mut Connection<S>,
     alloc: Global,
+    conn: &mut Connection<S>,
     name: &Text,
     digest: Digest,
     role: Role,
@@ -138,68 +119,55 @@ pub(crate) fn put_token_in<S: Alter>(
     ensures turns { Turns (within (token_put digest role)) name.now
         (state S.Store conn.old) (state S.Store conn.new) result }
 {
-    let planned = plan_put(conn, alloc, name, digest, role);
-    carried_out(conn, alloc, planned)
+    let planned = plan_put(alloc, conn, name, digest, role);
+    carried_out(alloc, conn, planned)
 }
 
 /// The plan to take a token out of a domain that was found.
 fn plan_gone<S: Alter>(
-    conn: &mut Connection<S>,
     alloc: Global,
+    conn: &mut Connection<S>,
     found: DomainFound,
     digest: Digest,
 ) -> Result<Items<Step>, ChangeError>
-    ensures quiet { Quiet (state S.Store conn.old) (state S.Store conn.new) }
-    ensures opens { HasCleanDisk (state S.Store conn.new)
-        → IfAnswered result (IsTrue (state S.Store conn.new).is_open) }
+    ensures only_reads { OnlyReadsForChange (state S.Store conn.old) (state S.Store conn.new) result }
     ensures plans { HasCleanDisk (state S.Store conn.new) → Ours (state S.Store conn.old)
         → (name : List ℕ) → IsDomain name (rows_of (state S.Store conn.old).now.trees) found
         → IsPlanned (within (token_dropped digest)) name (rows_of (state S.Store conn.old).now.trees) result }
 {
-    let there = role_of(conn, alloc, found.number, &digest)?;
-    match there {
-        Some(_) => {
-            let step = Step::DropToken {
-                number: found.number,
-                digest,
-            };
-            Ok(one_step(alloc, step)?)
-        }
-        None => Err(ChangeError::Refused(Refusal::Absent)),
-    }
+    role_to_change(alloc, conn, found.number, &digest)?;
+    let step = Step::DropToken {
+        number: found.number,
+        digest,
+    };
+    Ok(one_step(alloc, step)?)
 }
 
 /// The plan, or why the token isn't taken out.
 fn plan_drop<S: Alter>(
-    conn: &mut Connection<S>,
     alloc: Global,
+    conn: &mut Connection<S>,
     name: &Text,
     digest: Digest,
 ) -> Result<Items<Step>, ChangeError>
-    ensures quiet { Quiet (state S.Store conn.old) (state S.Store conn.new) }
-    ensures opens { HasCleanDisk (state S.Store conn.new)
-        → IfAnswered result (IsTrue (state S.Store conn.new).is_open) }
-    ensures plans { HasCleanDisk (state S.Store conn.new) → Ours (state S.Store conn.old)
-        → IsPlanned (within (token_dropped digest)) name.now
-        (rows_of (state S.Store conn.old).now.trees) result }
+    ensures only_reads { OnlyReadsForChange (state S.Store conn.old) (state S.Store conn.new) result }
+    ensures plans { PlansIn (within (token_dropped digest)) name.now
+        (state S.Store conn.old) (state S.Store conn.new) result }
 {
-    let found = domain_named(conn, name)?;
-    let Some(found) = found else {
-        return Err(ChangeError::Refused(Refusal::Absent));
-    };
-    plan_gone(conn, alloc, found, digest)
+    let found = domain_to_change(conn, name)?;
+    plan_gone(alloc, conn, found, digest)
 }
 
 /// Takes a token out of the domain of that name.
 pub(crate) fn drop_token_in<S: Alter>(
-    conn: &mut Connection<S>,
     alloc: Global,
+    conn: &mut Connection<S>,
     name: &Text,
     digest: Digest,
 ) -> Result<(), ChangeError>
     ensures turns { Turns (within (token_dropped digest)) name.now
         (state S.Store conn.old) (state S.Store conn.new) result }
 {
-    let planned = plan_drop(conn, alloc, name, digest);
-    carried_out(conn, alloc, planned)
+    let planned = plan_drop(alloc, conn, name, digest);
+    carried_out(alloc, conn, planned)
 }

@@ -35,14 +35,10 @@ fn is_bit(number: i64) -> bool
 }
 
 /// Whether the bytes are UTF-8.
-#[tactic(auto, using(crate::proofs::OpenedLemmas::is_text, crate::proofs::OpenedLemmas::is_no_text))]
 pub(crate) fn is_text(bytes: &[u8]) -> bool
     ensures { result ≡ is_utf8 bytes.now }
 {
-    match str::from_utf8(bytes) {
-        Ok(_) => true,
-        Err(_) => false,
-    }
+    str::from_utf8(bytes).is_ok()
 }
 
 /// Whether the text is a pattern of versions.

@@ -97,6 +97,7 @@ pub(crate) fn walk<S: Alter>(
 {
     let mut last = None;
     let mut rows = conn.query(kind.text(), &[])?;
+    // by its label the proof names the loop
     'rows: for _ in 0..u64::MAX {
         match next_number(alloc, kind, known.next, last, &mut rows)? {
             Some(number) => last = Some(number),

@@ -7,8 +7,7 @@ ghost use Rattle.xa_store.specs.Opened.{schema_of};
 
 use crate::check::tables::check;
 use crate::error::OpenError;
-use crate::failure::failure_of;
-use crate::refusal::failed;
+use crate::refusal::failed_by;
 use crate::schema::version::SchemaVersion;
 use crate::sql;
 use sqlite::{Alter, Connection};
@@ -20,7 +19,7 @@ fn begin<S: Alter>(conn: &mut Connection<S>) -> Result<(), OpenError>
 {
     match conn.execute(sql::BEGIN, &[]) {
         Ok(_) => Ok(()),
-        Err(error) => Err(failed(failure_of(&error))),
+        Err(error) => Err(failed_by(&error)),
     }
 }
 
@@ -33,7 +32,7 @@ fn end<S: Alter>(conn: &mut Connection<S>) -> Result<(), OpenError>
     }
     match conn.execute(sql::ROLLBACK, &[]) {
         Ok(_) => Ok(()),
-        Err(error) => Err(failed(failure_of(&error))),
+        Err(error) => Err(failed_by(&error)),
     }
 }
 
@@ -50,8 +49,6 @@ pub(crate) fn check_apart<S: Alter>(
     begin(conn)?;
     let checked = check(alloc, conn, version);
     end(conn)?;
-    match checked {
-        Ok(()) => Ok(false),
-        Err(error) => Err(error),
-    }
+    checked?;
+    Ok(false)
 }

@@ -14,6 +14,7 @@ use crate::check::cell::{
     holds_bit, holds_bytes, holds_count, holds_digest, holds_given, holds_name, holds_number,
     holds_pattern_if_any, holds_text, holds_text_if_any, holds_version_if_any,
 };
+use crate::check::columns::{ROWID, document, domain, meta, root, source, source_place, token};
 use crate::schema::kind::Kind;
 use crate::schema::version::SchemaVersion;
 use sqlite::Row;
@@ -21,32 +22,45 @@ use sqlite::types::ValueRef;
 use std::alloc::{AllocError, Global};
 use std::str;
 use xa_notation::Parsed;
-use xa_value::{DataType, OrMemory, Value};
+use xa_value::{DataType, Value, memory_apart};
+
+/// A domain and a place in its source.
+#[derive(Clone, Copy, Debug)]
+pub(crate) struct Place {
+    /// The number of the domain.
+    pub(crate) domain: i64,
+    /// The place, of which the first is 0.
+    pub(crate) place: i64,
+}
 
 /// Whether the row is one of a table of domains.
 fn is_domain(next: i64, row: &Row) -> bool
     ensures { result ≡ is_sound_row Domains next row.now }
 {
-    holds_given(row, 0, next) && holds_name(row, 1) && holds_count(row, 2)
+    holds_given(row, domain::NUMBER, next)
+        && holds_name(row, domain::NAME)
+        && holds_count(row, domain::EPOCH)
 }
 
 /// Whether the row is one of a table of tokens.
 fn is_token(next: i64, row: &Row) -> bool
     ensures { result ≡ is_sound_row Tokens next row.now }
 {
-    holds_given(row, 1, next) && holds_digest(row, 2) && holds_bit(row, 3)
+    holds_given(row, token::NUMBER, next)
+        && holds_digest(row, token::DIGEST)
+        && holds_bit(row, token::ROLE)
 }
 
 /// Whether the row is one of a table of roots.
 fn is_root(next: i64, row: &Row) -> bool
     ensures { result ≡ is_sound_row Roots next row.now }
 {
-    holds_given(row, 0, next)
-        && holds_bit(row, 1)
-        && holds_text(row, 2)
-        && holds_pattern_if_any(row, 3)
-        && holds_version_if_any(row, 4)
-        && holds_version_if_any(row, 5)
+    holds_given(row, root::NUMBER, next)
+        && holds_bit(row, root::KIND)
+        && holds_text(row, root::ID)
+        && holds_pattern_if_any(row, root::PATTERN)
+        && holds_version_if_any(row, root::EARLIEST)
+        && holds_version_if_any(row, root::LATEST)
 }
 
 /// Whether the columns hold the key of the document.
@@ -57,21 +71,21 @@ fn holds_key_of(alloc: Global, row: &Row, parsed: &Parsed) -> Result<bool, Alloc
     let version = parsed.version().to_text(alloc)?;
     let kind = i64::from(parsed.kind().place());
     Ok(
-        holds_number(row, 2, kind)
-            && holds_bytes(row, 3, parsed.id().as_bytes())
-            && holds_bytes(row, 4, version.as_bytes()),
+        holds_number(row, document::KIND, kind)
+            && holds_bytes(row, document::ID, parsed.id().as_bytes())
+            && holds_bytes(row, document::VERSION, version.as_bytes()),
     )
 }
 
 /// Whether the body is a document of the key that the columns hold.
+#[tactic(auto, using(xa_value::proofs::GivesLemmas::told_apart))]
 fn is_body(alloc: Global, row: &Row, body: &[u8]) -> Result<bool, AllocError>
     ensures { IfOk result (λ b.
         b ≡ holds_key (column row.now 2) (column row.now 3) (column row.now 4) (document_of body.now)) }
 {
-    match Parsed::read(alloc, body) {
+    match memory_apart(Parsed::read(alloc, body))? {
         Ok(parsed) => holds_key_of(alloc, row, &parsed),
-        Err(OrMemory::Error(_)) => Ok(false),
-        Err(OrMemory::Memory) => Err(AllocError),
+        Err(_) => Ok(false),
     }
 }
 
@@ -81,7 +95,7 @@ fn holds_body(alloc: Global, row: &Row) -> Result<bool, AllocError>
         (λ body. holds_key (column row.now 2) (column row.now 3) (column row.now 4) (document_of body))
         (column row.now 5)) }
 {
-    match row.get_ref(5) {
+    match row.get_ref(document::BODY) {
         Ok(ValueRef::Blob(body)) => is_body(alloc, row, body),
         _ => Ok(false),
     }
@@ -91,7 +105,7 @@ fn holds_body(alloc: Global, row: &Row) -> Result<bool, AllocError>
 fn is_document(alloc: Global, next: i64, row: &Row) -> Result<bool, AllocError>
     ensures { IfOk result (λ b. b ≡ is_sound_row Documents next row.now) }
 {
-    if holds_given(row, 1, next) && holds_bit(row, 6) {
+    if holds_given(row, document::NUMBER, next) && holds_bit(row, document::ACTIVE) {
         holds_body(alloc, row)
     } else {
         Ok(false)
@@ -99,7 +113,7 @@ fn is_document(alloc: Global, next: i64, row: &Row) -> Result<bool, AllocError>
 }
 
 /// The type of that number.
-fn type_numbered(number: i64) -> Option<DataType>
+pub(crate) fn type_numbered(number: i64) -> Option<DataType>
     ensures { result ≡ type_numbered number }
 {
     match u8::try_from(number) {
@@ -109,13 +123,13 @@ fn type_numbered(number: i64) -> Option<DataType>
 }
 
 /// Whether the text is that of a value of the type as it is printed.
+#[tactic(auto, using(xa_value::proofs::GivesLemmas::told_apart))]
 fn is_printed(alloc: Global, data_type: DataType, text: &str) -> Result<bool, AllocError>
     ensures { IfOk result (λ b. b ≡ is_printed text.now (read data_type text.now)) }
 {
-    match Value::read(alloc, data_type, text) {
+    match memory_apart(Value::read(alloc, data_type, text))? {
         Ok(value) => Ok(value.to_text(alloc)?.as_str() == text),
-        Err(OrMemory::Error(_)) => Ok(false),
-        Err(OrMemory::Memory) => Err(AllocError),
+        Err(_) => Ok(false),
     }
 }
 
@@ -144,7 +158,7 @@ fn is_value(alloc: Global, number: i64, bytes: &[u8]) -> Result<bool, AllocError
 fn holds_value(alloc: Global, row: &Row, number: i64) -> Result<bool, AllocError>
     ensures { IfOk result (λ b. b ≡ holds_text (holds_value number) (column row.now 7)) }
 {
-    match row.get_ref(7) {
+    match row.get_ref(source::VALUE) {
         Ok(ValueRef::Text(bytes)) => is_value(alloc, number, bytes),
         _ => Ok(false),
     }
@@ -155,7 +169,7 @@ fn holds_typed_value(alloc: Global, row: &Row) -> Result<bool, AllocError>
     ensures { IfOk result (λ b.
         b ≡ holds_int (λ number. holds_text (holds_value number) (column row.now 7)) (column row.now 6)) }
 {
-    match row.get_ref(6) {
+    match row.get_ref(source::VALUE_TYPE) {
         Ok(ValueRef::Int(number)) => holds_value(alloc, row, number),
         _ => Ok(false),
     }
@@ -165,7 +179,11 @@ fn holds_typed_value(alloc: Global, row: &Row) -> Result<bool, AllocError>
 fn is_attribute(alloc: Global, next: i64, row: &Row) -> Result<bool, AllocError>
     ensures { IfOk result (λ b. b ≡ is_sound_row Attributes next row.now) }
 {
-    if holds_given(row, 1, next) && holds_text(row, 3) && holds_text(row, 4) && holds_text(row, 5) {
+    if holds_given(row, source::NUMBER, next)
+        && holds_text(row, source::CATEGORY)
+        && holds_text(row, source::ENTITY)
+        && holds_text(row, source::ATTRIBUTE)
+    {
         holds_typed_value(alloc, row)
     } else {
         Ok(false)
@@ -176,7 +194,7 @@ fn is_attribute(alloc: Global, next: i64, row: &Row) -> Result<bool, AllocError>
 fn is_source(alloc: Global, next: i64, row: &Row) -> Result<bool, AllocError>
     ensures { IfOk result (λ b. b ≡ is_sound_row Sources next row.now) }
 {
-    Ok(is_attribute(alloc, next, row)? && holds_text_if_any(row, 8))
+    Ok(is_attribute(alloc, next, row)? && holds_text_if_any(row, source::ISSUER))
 }
 
 /// Whether the row is one of that table, where `next` is the number of the next domain.
@@ -212,27 +230,27 @@ fn number_at(row: &Row, at: usize) -> Option<i64>
 pub(crate) fn row_number(row: &Row) -> Option<i64>
     ensures { result ≡ int_in (column row.now 0) }
 {
-    number_at(row, 0)
+    number_at(row, ROWID)
 }
 
-/// The number of a domain and a place in its source.
-pub(crate) fn place_of(row: &Row) -> Option<(i64, i64)>
+/// The place that the row shows.
+pub(crate) fn place_of(row: &Row) -> Option<Place>
     ensures { result ≡ place_told row.now }
 {
-    let number = number_at(row, 0)?;
-    let place = number_at(row, 1)?;
-    Some((number, place))
+    let domain = number_at(row, source_place::NUMBER)?;
+    let place = number_at(row, source_place::PLACE)?;
+    Some(Place { domain, place })
 }
 
 /// Whether the place comes after the last: the first of a domain is 0.
-pub(crate) fn follows(last: (i64, i64), place: (i64, i64)) -> bool
+pub(crate) fn follows(last: Place, place: Place) -> bool
     ensures { result ≡ counts_on last place }
 {
-    if place.0 != last.0 {
-        return place.1 == 0;
+    if place.domain != last.domain {
+        return place.place == 0;
     }
-    match last.1.checked_add(1) {
-        Some(wanted) => place.1 == wanted,
+    match last.place.checked_add(1) {
+        Some(wanted) => place.place == wanted,
         None => false,
     }
 }
@@ -251,8 +269,8 @@ pub(crate) fn known_next(version: SchemaVersion, rows: &[Row]) -> Option<i64>
 fn next_of(version: SchemaVersion, row: &Row) -> Option<i64>
     ensures { result ≡ next_of version row.now }
 {
-    if !holds_number(row, 0, 1) || !holds_number(row, 1, version.number()) {
+    if !holds_number(row, meta::ID, 1) || !holds_number(row, meta::SCHEMA, version.number()) {
         return None;
     }
-    number_at(row, 2)
+    number_at(row, meta::NEXT)
 }

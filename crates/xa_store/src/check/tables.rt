@@ -3,20 +3,18 @@ ghost use Rattle.std.specs.Prelude.{◌≡◌, ◌&&◌, map, IsTrue};
 ghost use Rattle.std.specs.List.{list_all};
 ghost use Rattle.sqlite.specs.Effect.{IsDatabase};
 ghost use Rattle.sqlite.specs.Held.{state};
-ghost use Rattle.sqlite.specs.State.{HasCleanDisk};
-ghost use Rattle.xa_store.specs.Check.{AreSources, Asks, Checked, CheckedBy, FindsRest, GivesNext};
+ghost use Rattle.xa_store.specs.Check.{AreSources, Asks, Checked, CheckedBy, FindsIn, FindsRest, GivesNext};
 ghost use Rattle.xa_store.specs.Check.{Orders, TellsSound, counts, has_kind, no_place};
 ghost use Rattle.xa_store.specs.Opened.{are_counted, is_left_empty, is_sound, is_sound_table, kinds_in};
-ghost use Rattle.xa_store.specs.Opened.{known_next, place_in, read_meta, schema_of, sources_in, tree_of};
+ghost use Rattle.xa_store.specs.Opened.{known_next, place_in, read_meta, sources_in, tree_of};
 ghost use Rattle.xa_store.specs.declared.schema.kind.Kind.TheVariants.{Documents, Domains, Roots, Tokens};
 ghost use Rattle.xa_store.specs.declared.schema.version.SchemaVersion.{SchemaVersion as Version};
 ghost use Rattle.xa_store.specs.declared.schema.version.SchemaVersion.TheVariants.{Schema2};
-ghost use Rattle.xa_store.specs.Sound.{RestsIn};
 
 use crate::check::cell::is_count;
 use crate::check::cursor::walk;
 use crate::check::query::rows_of;
-use crate::check::row::{follows, known_next, place_of};
+use crate::check::row::{Place, follows, known_next, place_of};
 use crate::error::OpenError;
 use crate::schema::kind::Kind;
 use crate::schema::version::{Known, SchemaVersion};
@@ -24,20 +22,27 @@ use crate::sql;
 use sqlite::{Alter, Connection, Row};
 use std::alloc::Global;
 
-/// Checks whether the table has its rows in the order of their numbers, of tables of a schema that has it.
-fn check_order<S: Alter>(conn: &mut Connection<S>, kind: Kind) -> Result<(), OpenError>
-    ensures asks { (version : Version) → IsTrue (has_kind kind version)
-        → Asks version (state S.Store conn.old) (state S.Store conn.new) result }
-    ensures finds { HasCleanDisk (state S.Store conn.new) → (version : Version)
-        → IsTrue (has_kind kind version) → RestsIn (schema_of version) (state S.Store conn.old)
-        → Orders kind (state S.Store conn.old).now.trees result }
+/// Nothing, where the tables are sound.
+fn sound_or_damaged(sound: bool) -> Result<(), OpenError>
+    ensures { TellsSound sound result }
 {
-    let rows = rows_of(conn, kind.order_text())?;
-    if rows.is_empty() {
+    if sound {
         Ok(())
     } else {
         Err(OpenError::Damaged)
     }
+}
+
+/// Checks whether the table has its rows in the order of their numbers, of tables of a schema that has it.
+fn check_order<S: Alter>(conn: &mut Connection<S>, kind: Kind) -> Result<(), OpenError>
+    ensures asks { (version : Version) → IsTrue (has_kind kind version)
+        → Asks version (state S.Store conn.old) (state S.Store conn.new) result }
+    ensures finds { (version : Version) → IsTrue (has_kind kind version)
+        → FindsIn version (state S.Store conn.old) (state S.Store conn.new)
+        (Orders kind (state S.Store conn.old).now.trees result) }
+{
+    let rows = rows_of(conn, kind.order_text())?;
+    sound_or_damaged(rows.is_empty())
 }
 
 /// Checks the rows of the table, and their order.
@@ -57,7 +62,7 @@ fn check_table<S: Alter>(
 }
 
 /// Checks two tables, one after the other.
-fn check_two<S: Alter>(
+fn check_both<S: Alter>(
     alloc: Global,
     conn: &mut Connection<S>,
     first: Kind,
@@ -74,8 +79,8 @@ fn check_two<S: Alter>(
     check_table(alloc, conn, second, known)
 }
 
-/// Checks all tables but those of the rows of sources and the first.
-fn check_four<S: Alter>(
+/// Checks the tables that both schemas have, but the first and those of the rows of sources.
+fn check_common<S: Alter>(
     alloc: Global,
     conn: &mut Connection<S>,
     known: Known,
@@ -85,8 +90,8 @@ fn check_four<S: Alter>(
         && (is_sound_table db known.next Documents && is_sound_table db known.next Roots))
         (state S.Store conn.old) (state S.Store conn.new) result }
 {
-    check_two(alloc, conn, Kind::Domains, Kind::Tokens, known)?;
-    check_two(alloc, conn, Kind::Documents, Kind::Roots, known)
+    check_both(alloc, conn, Kind::Domains, Kind::Tokens, known)?;
+    check_both(alloc, conn, Kind::Documents, Kind::Roots, known)
 }
 
 /// Checks all tables that have rows, but the first.
@@ -99,7 +104,7 @@ fn check_tables<S: Alter>(
     ensures { CheckedBy known.version (λ db. list_all (is_sound_table db known.next) (kinds_in known.version))
         (state S.Store conn.old) (state S.Store conn.new) result }
 {
-    check_four(alloc, conn, known)?;
+    check_common(alloc, conn, known)?;
     check_table(alloc, conn, known.version.sources(), known)
 }
 
@@ -107,7 +112,11 @@ fn check_tables<S: Alter>(
 fn are_places(rows: &[Row]) -> bool
     ensures { result ≡ counts no_place rows.now }
 {
-    let mut last = (-1, -1);
+    // before the first of any domain
+    let mut last = Place {
+        domain: -1,
+        place: -1,
+    };
     for row in rows {
         match place_of(row) {
             Some(place) if follows(last, place) => last = place,
@@ -120,19 +129,13 @@ fn are_places(rows: &[Row]) -> bool
 /// Checks the places of the rows of sources.
 fn check_places<S: Alter>(conn: &mut Connection<S>, version: SchemaVersion) -> Result<(), OpenError>
     ensures asks { Asks version (state S.Store conn.old) (state S.Store conn.new) result }
-    ensures finds { HasCleanDisk (state S.Store conn.new)
-        → RestsIn (schema_of version) (state S.Store conn.old)
-        → AreSources version (state S.Store conn.old).now.trees
-        → TellsSound
+    ensures finds { FindsIn version (state S.Store conn.old) (state S.Store conn.new)
+        (AreSources version (state S.Store conn.old).now.trees → TellsSound
         (are_counted (map place_in ((state S.Store conn.old).now.trees (tree_of (sources_in version)))))
-        result }
+        result) }
 {
     let rows = rows_of(conn, version.places_text())?;
-    if are_places(rows.as_slice()) {
-        Ok(())
-    } else {
-        Err(OpenError::Damaged)
-    }
+    sound_or_damaged(are_places(rows.as_slice()))
 }
 
 /// Checks whether the table `attributes` has no row, of tables of schema 2.
@@ -141,11 +144,7 @@ fn check_attributes<S: Alter>(conn: &mut Connection<S>) -> Result<(), OpenError>
         (state S.Store conn.old) (state S.Store conn.new) result }
 {
     let rows = rows_of(conn, SchemaVersion::Schema1.places_text())?;
-    if rows.is_empty() {
-        Ok(())
-    } else {
-        Err(OpenError::Damaged)
-    }
+    sound_or_damaged(rows.is_empty())
 }
 
 /// Checks the places of the rows of sources in schema 2, and whether none of these stands in `attributes`.
@@ -178,9 +177,9 @@ fn check_all<S: Alter>(
     known: Known,
 ) -> Result<(), OpenError>
     ensures asks { Asks known.version (state S.Store conn.old) (state S.Store conn.new) result }
-    ensures finds { HasCleanDisk (state S.Store conn.new)
-        → RestsIn (schema_of known.version) (state S.Store conn.old) → IsDatabase (state S.Store conn.old).now
-        → TellsSound (is_sound known.version (state S.Store conn.old).now.trees known.next) result }
+    ensures finds { FindsIn known.version (state S.Store conn.old) (state S.Store conn.new)
+        (IsDatabase (state S.Store conn.old).now
+        → TellsSound (is_sound known.version (state S.Store conn.old).now.trees known.next) result) }
 {
     if !is_count(known.next) {
         return Err(OpenError::Damaged);
@@ -193,9 +192,8 @@ fn check_all<S: Alter>(
 /// that schema.
 fn look<S: Alter>(conn: &mut Connection<S>, version: SchemaVersion) -> Result<i64, OpenError>
     ensures asks { Asks version (state S.Store conn.old) (state S.Store conn.new) result }
-    ensures finds { HasCleanDisk (state S.Store conn.new)
-        → RestsIn (schema_of version) (state S.Store conn.old)
-        → GivesNext (known_next version (map read_meta ((state S.Store conn.old).now.trees 0))) result }
+    ensures finds { FindsIn version (state S.Store conn.old) (state S.Store conn.new)
+        (GivesNext (known_next version (map read_meta ((state S.Store conn.old).now.trees 0))) result) }
 {
     let rows = rows_of(conn, sql::META_ROWS)?;
     match known_next(version, rows.as_slice()) {

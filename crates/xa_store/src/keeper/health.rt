@@ -11,6 +11,15 @@ use crate::sql;
 use sqlite::{Alter, Connection, Error, ErrorCode, Statement};
 use xa_records::{ChangeError, Failure};
 
+/// What is known of a keeper's store.
+#[derive(Clone, Copy, Debug)]
+pub(crate) struct Health {
+    /// Whether it is open, as far as was seen.
+    pub(crate) is_open: bool,
+    /// How many calls have failed with `Store`.
+    pub(crate) faults: u64,
+}
+
 /// What the answer to a statement that was to be prepared tells: that the store is open, or that it is
 /// shut, or nothing, for want of memory. Each call of a store that is shut is answered by `Closed`,
 /// before anything else is looked at.
@@ -43,15 +52,16 @@ fn count(faults: &mut u64)
 
 /// Counts a failure of the store, and sets whether it is open still. Where there is no memory to look,
 /// that is what is told.
-fn store_failed<S: Alter>(conn: &mut Connection<S>, is_open: &mut bool, faults: &mut u64) -> Failure
-    requires { IsTrue is_open.old }
+fn store_failed<S: Alter>(conn: &mut Connection<S>, health: &mut Health) -> Failure
+    requires { IsTrue health.old.is_open }
     ensures looks { Looks (state S.Store conn.old) (state S.Store conn.new) }
-    ensures tells { TellsFailure (state S.Store conn.new) is_open.new faults.old faults.new result }
+    ensures tells { TellsFailure (state S.Store conn.new) health.new.is_open
+        health.old.faults health.new.faults result }
 {
     match look(conn) {
         Some(still) => {
-            *is_open = still;
-            count(faults);
+            health.is_open = still;
+            count(&mut health.faults);
             Failure::Store
         }
         None => Failure::Memory,
@@ -59,19 +69,15 @@ fn store_failed<S: Alter>(conn: &mut Connection<S>, is_open: &mut bool, faults: 
 }
 
 /// What is told of a failure.
-fn failed<S: Alter>(
-    conn: &mut Connection<S>,
-    is_open: &mut bool,
-    faults: &mut u64,
-    failure: Failure,
-) -> Failure
-    requires { IsTrue is_open.old }
+fn failed<S: Alter>(conn: &mut Connection<S>, health: &mut Health, failure: Failure) -> Failure
+    requires { IsTrue health.old.is_open }
     ensures looks { Looks (state S.Store conn.old) (state S.Store conn.new) }
-    ensures tells { TellsFailure (state S.Store conn.new) is_open.new faults.old faults.new result }
+    ensures tells { TellsFailure (state S.Store conn.new) health.new.is_open
+        health.old.faults health.new.faults result }
 {
     match failure {
         Failure::Memory => Failure::Memory,
-        Failure::Store => store_failed(conn, is_open, faults),
+        Failure::Store => store_failed(conn, health),
     }
 }
 
@@ -79,42 +85,40 @@ fn failed<S: Alter>(
 /// that is asked of a keeper that is shut has failed so.
 pub(crate) fn after_reading<S: Alter, X: Drop>(
     conn: &mut Connection<S>,
-    is_open: &mut bool,
-    faults: &mut u64,
+    health: &mut Health,
     read: Result<X, Failure>,
 ) -> Result<X, Failure>
-    ensures { TellsReading (state S.Store conn.old) (state S.Store conn.new) is_open.old is_open.new
-        faults.old faults.new read result }
+    ensures { TellsReading (state S.Store conn.old) (state S.Store conn.new) health.old.is_open
+        health.new.is_open health.old.faults health.new.faults read result }
 {
-    if !*is_open {
-        count(faults);
+    if !health.is_open {
+        count(&mut health.faults);
         return Err(Failure::Store);
     }
     match read {
         Ok(x) => Ok(x),
-        Err(failure) => Err(failed(conn, is_open, faults, failure)),
+        Err(failure) => Err(failed(conn, health, failure)),
     }
 }
 
 /// What is told of a change, as of a reading.
 pub(crate) fn after_change<S: Alter, X: Drop>(
     conn: &mut Connection<S>,
-    is_open: &mut bool,
-    faults: &mut u64,
+    health: &mut Health,
     done: Result<X, ChangeError>,
 ) -> Result<X, ChangeError>
-    ensures { TellsChange (state S.Store conn.old) (state S.Store conn.new) is_open.old is_open.new
-        faults.old faults.new done result }
+    ensures { TellsChange (state S.Store conn.old) (state S.Store conn.new) health.old.is_open
+        health.new.is_open health.old.faults health.new.faults done result }
 {
-    if !*is_open {
-        count(faults);
+    if !health.is_open {
+        count(&mut health.faults);
         return Err(ChangeError::Failed(Failure::Store));
     }
     match done {
         Ok(x) => Ok(x),
         Err(ChangeError::Refused(refusal)) => Err(ChangeError::Refused(refusal)),
         Err(ChangeError::Failed(failure)) => {
-            Err(ChangeError::Failed(failed(conn, is_open, faults, failure)))
+            Err(ChangeError::Failed(failed(conn, health, failure)))
         }
     }
 }

@@ -31,21 +31,21 @@ impl<S: Alter> Records for SqlRecords<S> {
     fn keeps_documents(&self) {}
 
     fn faults(&self) -> u64 {
-        self.faults
+        self.health.faults
     }
 
     fn is_open(&self) -> bool {
-        self.is_open
+        self.health.is_open
     }
 
     fn gate(&mut self, alloc: Global, name: &Text) -> Result<Option<Gate>, Failure> {
-        let read = gate_in(&mut self.conn, alloc, name);
-        after_reading(&mut self.conn, &mut self.is_open, &mut self.faults, read)
+        let read = gate_in(alloc, &mut self.conn, name);
+        after_reading(&mut self.conn, &mut self.health, read)
     }
 
     fn view(&mut self, alloc: Global, name: &Text) -> Result<Option<KeptView>, Failure> {
-        let read = view_in(&mut self.conn, alloc, name);
-        after_reading(&mut self.conn, &mut self.is_open, &mut self.faults, read)
+        let read = view_in(alloc, &mut self.conn, name);
+        after_reading(&mut self.conn, &mut self.health, read)
     }
 
     fn document(
@@ -54,28 +54,28 @@ impl<S: Alter> Records for SqlRecords<S> {
         name: &Text,
         key: &DocumentKey,
     ) -> Result<Option<Items<u8>>, Failure> {
-        let read = text_in(&mut self.conn, alloc, name, key);
-        after_reading(&mut self.conn, &mut self.is_open, &mut self.faults, read)
+        let read = text_in(alloc, &mut self.conn, name, key);
+        after_reading(&mut self.conn, &mut self.health, read)
     }
 
     fn list(&mut self, alloc: Global, name: &Text) -> Result<Option<Items<Listed>>, Failure> {
-        let read = listing_in(&mut self.conn, alloc, name);
-        after_reading(&mut self.conn, &mut self.is_open, &mut self.faults, read)
+        let read = listing_in(alloc, &mut self.conn, name);
+        after_reading(&mut self.conn, &mut self.health, read)
     }
 
     fn domains(&mut self, alloc: Global) -> Result<Items<Text>, Failure> {
-        let read = names_in(&mut self.conn, alloc);
-        after_reading(&mut self.conn, &mut self.is_open, &mut self.faults, read)
+        let read = names_in(alloc, &mut self.conn);
+        after_reading(&mut self.conn, &mut self.health, read)
     }
 
     fn create(&mut self, alloc: Global, name: &Text) -> Result<(), ChangeError> {
-        let done = create_in(&mut self.conn, alloc, name);
-        after_change(&mut self.conn, &mut self.is_open, &mut self.faults, done)
+        let done = create_in(alloc, &mut self.conn, name);
+        after_change(&mut self.conn, &mut self.health, done)
     }
 
     fn remove(&mut self, alloc: Global, name: &Text) -> Result<(), ChangeError> {
-        let done = remove_in(&mut self.conn, alloc, name);
-        after_change(&mut self.conn, &mut self.is_open, &mut self.faults, done)
+        let done = remove_in(alloc, &mut self.conn, name);
+        after_change(&mut self.conn, &mut self.health, done)
     }
 
     fn put_token(
@@ -85,8 +85,8 @@ impl<S: Alter> Records for SqlRecords<S> {
         digest: Digest,
         role: Role,
     ) -> Result<(), ChangeError> {
-        let done = put_token_in(&mut self.conn, alloc, name, digest, role);
-        after_change(&mut self.conn, &mut self.is_open, &mut self.faults, done)
+        let done = put_token_in(alloc, &mut self.conn, name, digest, role);
+        after_change(&mut self.conn, &mut self.health, done)
     }
 
     fn drop_token(
@@ -95,8 +95,8 @@ impl<S: Alter> Records for SqlRecords<S> {
         name: &Text,
         digest: Digest,
     ) -> Result<(), ChangeError> {
-        let done = drop_token_in(&mut self.conn, alloc, name, digest);
-        after_change(&mut self.conn, &mut self.is_open, &mut self.faults, done)
+        let done = drop_token_in(alloc, &mut self.conn, name, digest);
+        after_change(&mut self.conn, &mut self.health, done)
     }
 
     fn upload(
@@ -106,8 +106,8 @@ impl<S: Alter> Records for SqlRecords<S> {
         key: DocumentKey,
         text: &[u8],
     ) -> Result<Upload, ChangeError> {
-        let done = upload_in(&mut self.conn, alloc, name, key, text);
-        after_change(&mut self.conn, &mut self.is_open, &mut self.faults, done)
+        let done = upload_in(alloc, &mut self.conn, name, key, text);
+        after_change(&mut self.conn, &mut self.health, done)
     }
 
     fn set_active(
@@ -117,13 +117,13 @@ impl<S: Alter> Records for SqlRecords<S> {
         key: &DocumentKey,
         active: bool,
     ) -> Result<(), ChangeError> {
-        let done = set_active_in(&mut self.conn, alloc, name, key, active);
-        after_change(&mut self.conn, &mut self.is_open, &mut self.faults, done)
+        let done = set_active_in(alloc, &mut self.conn, name, key, active);
+        after_change(&mut self.conn, &mut self.health, done)
     }
 
     fn delete(&mut self, alloc: Global, name: &Text, key: &DocumentKey) -> Result<(), ChangeError> {
-        let done = delete_in(&mut self.conn, alloc, name, key);
-        after_change(&mut self.conn, &mut self.is_open, &mut self.faults, done)
+        let done = delete_in(alloc, &mut self.conn, name, key);
+        after_change(&mut self.conn, &mut self.health, done)
     }
 
     fn set_root(
@@ -132,8 +132,8 @@ impl<S: Alter> Records for SqlRecords<S> {
         name: &Text,
         root: Option<Reference>,
     ) -> Result<(), ChangeError> {
-        let done = set_root_in(&mut self.conn, alloc, name, root);
-        after_change(&mut self.conn, &mut self.is_open, &mut self.faults, done)
+        let done = set_root_in(alloc, &mut self.conn, name, root);
+        after_change(&mut self.conn, &mut self.health, done)
     }
 
     fn set_source(
@@ -142,7 +142,7 @@ impl<S: Alter> Records for SqlRecords<S> {
         name: &Text,
         rows: Items<SourceRow>,
     ) -> Result<(), ChangeError> {
-        let done = set_source_in(&mut self.conn, alloc, name, rows);
-        after_change(&mut self.conn, &mut self.is_open, &mut self.faults, done)
+        let done = set_source_in(alloc, &mut self.conn, name, rows);
+        after_change(&mut self.conn, &mut self.health, done)
     }
 }

@@ -18,41 +18,36 @@ use xa_value::{Items, Text};
 pub(crate) fn number_in(row: &Row, at: usize) -> Result<i64, Failure>
     ensures { IfOk result (λ n. column row.now at ≡ Int n) }
 {
-    match row.get::<i64>(at) {
-        Ok(number) => Ok(number),
-        Err(error) => Err(failure_of(&error)),
-    }
+    row.get::<i64>(at).map_err(|error| failure_of(&error))
 }
 
 /// The text in a column.
 pub(crate) fn text_in(row: &Row, at: usize) -> Result<Text, Failure>
     ensures { IfOk result (λ text. text ≡ bytes_of (column row.now at)) }
 {
-    match row.get::<String>(at) {
-        Ok(text) => Ok(Text::from_string(text)),
-        Err(error) => Err(failure_of(&error)),
-    }
+    let text = row.get::<String>(at).map_err(|error| failure_of(&error))?;
+    Ok(Text::from_string(text))
 }
 
 /// The bytes in a column.
 pub(crate) fn bytes_in(row: &Row, at: usize) -> Result<Items<u8>, Failure>
     ensures { IfOk result (λ bytes. bytes ≡ bytes_of (column row.now at)) }
 {
-    match row.get::<Vec<u8>>(at) {
-        Ok(bytes) => Ok(Items::from_vec(bytes)),
-        Err(error) => Err(failure_of(&error)),
-    }
+    let bytes = row.get::<Vec<u8>>(at).map_err(|error| failure_of(&error))?;
+    Ok(Items::from_vec(bytes))
 }
 
 /// The text in a column that may hold none.
 pub(crate) fn text_if_any(row: &Row, at: usize) -> Result<Option<Text>, Failure>
     ensures { IfOk result (λ text. text ≡ unless_null bytes_of (column row.now at)) }
 {
-    match row.get::<Option<String>>(at) {
-        Ok(Some(text)) => Ok(Some(Text::from_string(text))),
-        Ok(None) => Ok(None),
-        Err(error) => Err(failure_of(&error)),
-    }
+    let text = row
+        .get::<Option<String>>(at)
+        .map_err(|error| failure_of(&error))?;
+    let Some(text) = text else {
+        return Ok(None);
+    };
+    Ok(Some(Text::from_string(text)))
 }
 
 /// The flag in a column: 0 or 1.
@@ -92,10 +87,7 @@ pub(crate) fn kind_in(row: &Row, at: usize) -> Result<DocumentKind, Failure>
 pub(crate) fn kind_column(kind: DocumentKind) -> i64
     ensures { result ≡ kind_number kind }
 {
-    match kind {
-        DocumentKind::Policy => 0,
-        DocumentKind::PolicySet => 1,
-    }
+    i64::from(kind.place())
 }
 
 /// The version in a column.
@@ -104,10 +96,7 @@ pub(crate) fn version_in(row: &Row, at: usize) -> Result<Version, Failure>
     ensures { IfOk result (λ version. version ≡ version_in (bytes_of (column row.now at))) }
 {
     let text = text_in(row, at)?;
-    match Version::read(text.as_str()) {
-        Ok(version) => Ok(version),
-        Err(_) => Err(Failure::Store),
-    }
+    Version::read(text.as_str()).map_err(|_| Failure::Store)
 }
 
 /// The version in a column that may hold none.
@@ -118,10 +107,8 @@ pub(crate) fn version_if_any(row: &Row, at: usize) -> Result<Option<Version>, Fa
     let Some(text) = text_if_any(row, at)? else {
         return Ok(None);
     };
-    match Version::read(text.as_str()) {
-        Ok(version) => Ok(Some(version)),
-        Err(_) => Err(Failure::Store),
-    }
+    let version = Version::read(text.as_str()).map_err(|_| Failure::Store)?;
+    Ok(Some(version))
 }
 
 /// The pattern of versions in a column that may hold none.
@@ -132,8 +119,6 @@ pub(crate) fn pattern_if_any(row: &Row, at: usize) -> Result<Option<Pattern>, Fa
     let Some(text) = text_if_any(row, at)? else {
         return Ok(None);
     };
-    match Pattern::read(text.as_str()) {
-        Ok(pattern) => Ok(Some(pattern)),
-        Err(_) => Err(Failure::Store),
-    }
+    let pattern = Pattern::read(text.as_str()).map_err(|_| Failure::Store)?;
+    Ok(Some(pattern))
 }

@@ -1,9 +1,9 @@
 //! How many tokens and documents a domain has.
-ghost use Rattle.std.specs.Prelude.{◌≡◌, IsTrue, IfOk, OnOk};
+ghost use Rattle.std.specs.Prelude.{◌≡◌, IfOk};
 ghost use Rattle.std.specs.FinMap.{len};
 ghost use Rattle.sqlite.specs.Held.{state};
 ghost use Rattle.sqlite.specs.State.{HasCleanDisk};
-ghost use Rattle.xa_store.specs.Quiet.{Quiet};
+ghost use Rattle.xa_store.specs.Quiet.{OnlyReads};
 ghost use Rattle.xa_store.specs.Sound.{Ours};
 ghost use Rattle.xa_store.specs.World.{rows_of, state_at};
 
@@ -16,9 +16,7 @@ use xa_records::Failure;
 /// How many tokens the domain of that number has: 32 at most. In time in proportion to that.
 #[tactic(auto, using(crate::proofs::TokenLemmas::tokens_plain))]
 pub(crate) fn token_count<S: Alter>(conn: &mut Connection<S>, number: i64) -> Result<usize, Failure>
-    ensures quiet { Quiet (state S.Store conn.old) (state S.Store conn.new) }
-    ensures opens { HasCleanDisk (state S.Store conn.new)
-        → OnOk result (IsTrue (state S.Store conn.new).is_open) }
+    ensures only_reads { OnlyReads (state S.Store conn.old) (state S.Store conn.new) result }
     ensures reads { HasCleanDisk (state S.Store conn.new) → Ours (state S.Store conn.old)
         → IfOk result (λ n. n ≡ len (state_at (rows_of (state S.Store conn.old).now.trees) number).tokens) }
 {
@@ -33,9 +31,7 @@ pub(crate) fn document_count<S: Alter>(
     conn: &mut Connection<S>,
     number: i64,
 ) -> Result<usize, Failure>
-    ensures quiet { Quiet (state S.Store conn.old) (state S.Store conn.new) }
-    ensures opens { HasCleanDisk (state S.Store conn.new)
-        → OnOk result (IsTrue (state S.Store conn.new).is_open) }
+    ensures only_reads { OnlyReads (state S.Store conn.old) (state S.Store conn.new) result }
     ensures reads { HasCleanDisk (state S.Store conn.new) → Ours (state S.Store conn.old) → IfOk result (λ n.
         n ≡ len (state_at (rows_of (state S.Store conn.old).now.trees) number).documents) }
 {

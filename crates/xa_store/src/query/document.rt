@@ -1,5 +1,5 @@
 //! The documents of a domain: the one of a key, the list of all, and the texts of the active ones.
-ghost use Rattle.std.specs.Prelude.{◌≡◌, [], ◌∷◌, IsTrue, IfOk, OnOk};
+ghost use Rattle.std.specs.Prelude.{◌≡◌, [], ◌∷◌, IfOk};
 ghost use Rattle.std.specs.List.Sorted.{IsPermutation, IsSorted};
 ghost use Rattle.std.specs.Ordering.{on};
 ghost use Rattle.sqlite.specs.Held.{state};
@@ -10,7 +10,7 @@ ghost use Rattle.xa_policy.specs.DocumentKey.{compare_keys};
 ghost use Rattle.xa_policy.specs.Version.{version_text};
 ghost use Rattle.xa_records.specs.Readings.{active_texts, listing_of_state};
 ghost use Rattle.xa_store.specs.Lookup.{FindsDocument};
-ghost use Rattle.xa_store.specs.Quiet.{Quiet};
+ghost use Rattle.xa_store.specs.Quiet.{OnlyReads};
 ghost use Rattle.xa_store.specs.Rows.{kind_number};
 ghost use Rattle.xa_store.specs.Sound.{Ours};
 ghost use Rattle.xa_store.specs.Texts.{document_shown};
@@ -73,9 +73,7 @@ fn document_rows<'k, S: Alter>(
     version: &'k Text,
 ) -> Result<Vec<Row>, Failure>
     requires version { version.now ≡ version_text key.now.version }
-    ensures quiet { Quiet (state S.Store conn.old) (state S.Store conn.new) }
-    ensures opens { HasCleanDisk (state S.Store conn.new)
-        → OnOk result (IsTrue (state S.Store conn.new).is_open) }
+    ensures only_reads { OnlyReads (state S.Store conn.old) (state S.Store conn.new) result }
     ensures shows { HasCleanDisk (state S.Store conn.new)
         → IfOk result (λ rows. Shown document_shown (Int number ∷ Int (kind_number key.now.kind)
         ∷ SqlText key.now.id ∷ SqlText (version_text key.now.version) ∷ [])
@@ -96,14 +94,12 @@ fn document_rows<'k, S: Alter>(
 /// The document of that key in the domain of that number, if it is there: a point query, and the text
 /// once more.
 pub(crate) fn document_of<S: Alter>(
-    conn: &mut Connection<S>,
     alloc: Global,
+    conn: &mut Connection<S>,
     number: i64,
     key: &DocumentKey,
 ) -> Result<Option<DocumentFound>, Failure>
-    ensures quiet { Quiet (state S.Store conn.old) (state S.Store conn.new) }
-    ensures opens { HasCleanDisk (state S.Store conn.new)
-        → OnOk result (IsTrue (state S.Store conn.new).is_open) }
+    ensures only_reads { OnlyReads (state S.Store conn.old) (state S.Store conn.new) result }
     ensures finds { HasCleanDisk (state S.Store conn.new) → Ours (state S.Store conn.old)
         → IfOk result (FindsDocument number key.now (rows_of (state S.Store conn.old).now.trees)) }
 {
@@ -117,13 +113,11 @@ pub(crate) fn document_of<S: Alter>(
 /// time in proportion to their number, whatever their texts.
 #[tactic(auto, using(crate::proofs::DocumentLemmas::documents_plain))]
 pub(crate) fn documents_of<S: Alter>(
-    conn: &mut Connection<S>,
     alloc: Global,
+    conn: &mut Connection<S>,
     number: i64,
 ) -> Result<Items<Listed>, Failure>
-    ensures quiet { Quiet (state S.Store conn.old) (state S.Store conn.new) }
-    ensures opens { HasCleanDisk (state S.Store conn.new)
-        → OnOk result (IsTrue (state S.Store conn.new).is_open) }
+    ensures only_reads { OnlyReads (state S.Store conn.old) (state S.Store conn.new) result }
     ensures reads { HasCleanDisk (state S.Store conn.new) → Ours (state S.Store conn.old)
         → IfOk result (λ listed.
         listed ≡ listing_of_state (state_at (rows_of (state S.Store conn.old).now.trees) number)) }
@@ -138,13 +132,11 @@ pub(crate) fn documents_of<S: Alter>(
 /// proportion to the texts.
 #[tactic(auto, using(crate::proofs::DocumentLemmas::active_plain))]
 pub(crate) fn active_texts_of<S: Alter>(
-    conn: &mut Connection<S>,
     alloc: Global,
+    conn: &mut Connection<S>,
     number: i64,
 ) -> Result<Items<ActiveText>, Failure>
-    ensures quiet { Quiet (state S.Store conn.old) (state S.Store conn.new) }
-    ensures opens { HasCleanDisk (state S.Store conn.new)
-        → OnOk result (IsTrue (state S.Store conn.new).is_open) }
+    ensures only_reads { OnlyReads (state S.Store conn.old) (state S.Store conn.new) result }
     ensures reads { HasCleanDisk (state S.Store conn.new) → Ours (state S.Store conn.old)
         → IfOk result (λ texts.
         texts ≡ active_texts (state_at (rows_of (state S.Store conn.old).now.trees) number)) }

@@ -19,6 +19,7 @@ fn key_in(row: &Row) -> Result<DocumentKey, Failure>
     Ok(DocumentKey { kind, id, version })
 }
 
+/// Read from the columns of `sql::ACTIVE_DOCUMENTS`: kind, id, version, body.
 impl Told for ActiveText {
     ghost told = { text_told };
 
@@ -29,6 +30,7 @@ impl Told for ActiveText {
     }
 }
 
+/// Read from the columns of `sql::DOCUMENTS`: kind, id, version, active.
 impl Told for Listed {
     ghost told = { listed_told };
 

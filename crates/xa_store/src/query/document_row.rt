@@ -17,6 +17,7 @@ pub(crate) struct DocumentFound {
     pub active: bool,
 }
 
+/// Read from the columns of `sql::DOCUMENT`: body, active.
 impl Told for DocumentFound {
     ghost told = { document_told };
 

@@ -1,9 +1,9 @@
 //! The domain of a name: its number and its epoch.
-ghost use Rattle.std.specs.Prelude.{IsTrue, IfOk, OnOk};
+ghost use Rattle.std.specs.Prelude.{IfOk};
 ghost use Rattle.sqlite.specs.Held.{state};
 ghost use Rattle.sqlite.specs.State.{HasCleanDisk};
 ghost use Rattle.xa_store.specs.Lookup.{FindsDomain, TellDomain};
-ghost use Rattle.xa_store.specs.Quiet.{Quiet};
+ghost use Rattle.xa_store.specs.Quiet.{OnlyReads};
 ghost use Rattle.xa_store.specs.Sound.{Ours};
 ghost use Rattle.xa_store.specs.World.{rows_of};
 
@@ -31,9 +31,7 @@ pub(crate) fn domain_named<S: Alter>(
     conn: &mut Connection<S>,
     name: &Text,
 ) -> Result<Option<DomainFound>, Failure>
-    ensures quiet { Quiet (state S.Store conn.old) (state S.Store conn.new) }
-    ensures opens { HasCleanDisk (state S.Store conn.new)
-        → OnOk result (IsTrue (state S.Store conn.new).is_open) }
+    ensures only_reads { OnlyReads (state S.Store conn.old) (state S.Store conn.new) result }
     ensures finds { HasCleanDisk (state S.Store conn.new) → Ours (state S.Store conn.old)
         → IfOk result (FindsDomain name.now (rows_of (state S.Store conn.old).now.trees)) }
 {
@@ -41,8 +39,8 @@ pub(crate) fn domain_named<S: Alter>(
     domain_told(rows.as_slice())
 }
 
-/// The domain that the rows of the look tell: none, where there is no row, and a failure where there are
-/// several.
+/// The domain that rows of `sql::DOMAIN` tell, whose columns are number, epoch: none, where there is no
+/// row, and a failure where there are several.
 fn domain_told(rows: &[Row]) -> Result<Option<DomainFound>, Failure>
     ensures { IfOk result (TellDomain rows.now) }
 {

@@ -1,9 +1,9 @@
 //! The names of all domains.
-ghost use Rattle.std.specs.Prelude.{◌≡◌, IsTrue, IfOk, OnOk};
+ghost use Rattle.std.specs.Prelude.{◌≡◌, IfOk};
 ghost use Rattle.sqlite.specs.Held.{state};
 ghost use Rattle.sqlite.specs.State.{HasCleanDisk};
 ghost use Rattle.xa_records.specs.Kept.{names_of};
-ghost use Rattle.xa_store.specs.Quiet.{Quiet};
+ghost use Rattle.xa_store.specs.Quiet.{OnlyReads};
 ghost use Rattle.xa_store.specs.Columns.{name_told};
 ghost use Rattle.xa_store.specs.Sound.{Ours};
 ghost use Rattle.xa_store.specs.World.{world_of};
@@ -17,6 +17,7 @@ use std::alloc::Global;
 use xa_records::Failure;
 use xa_value::{Items, Text};
 
+/// Read from the column of `sql::DOMAIN_NAMES`: name.
 impl Told for Text {
     ghost told = { name_told };
 
@@ -28,12 +29,10 @@ impl Told for Text {
 /// The names of all domains, in the order of their bytes. In time in proportion to their number.
 #[tactic(auto, using(crate::proofs::NameLemmas::names_plain))]
 pub(crate) fn names_in<S: Alter>(
-    conn: &mut Connection<S>,
     alloc: Global,
+    conn: &mut Connection<S>,
 ) -> Result<Items<Text>, Failure>
-    ensures quiet { Quiet (state S.Store conn.old) (state S.Store conn.new) }
-    ensures opens { HasCleanDisk (state S.Store conn.new)
-        → OnOk result (IsTrue (state S.Store conn.new).is_open) }
+    ensures only_reads { OnlyReads (state S.Store conn.old) (state S.Store conn.new) result }
     ensures reads { HasCleanDisk (state S.Store conn.new) → Ours (state S.Store conn.old)
         → IfOk result (λ names. names ≡ names_of (world_of (state S.Store conn.old).now.trees)) }
 {

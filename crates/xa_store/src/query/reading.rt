@@ -1,11 +1,11 @@
 //! The readings of a domain by its name: its gate, its view, a document's text, and its list of
 //! documents.
-ghost use Rattle.std.specs.Prelude.{◌≡◌, pos, Some, IsTrue, IfOk, OnOk};
+ghost use Rattle.std.specs.Prelude.{◌≡◌, pos, Some, IfOk};
 ghost use Rattle.sqlite.specs.Held.{state};
 ghost use Rattle.sqlite.specs.State.{HasCleanDisk};
 ghost use Rattle.xa_records.specs.Readings.{gate_of, listing_of, text_in, text_of, view_of, view_of_state};
 ghost use Rattle.xa_store.specs.Lookup.{TellsGate};
-ghost use Rattle.xa_store.specs.Quiet.{Quiet};
+ghost use Rattle.xa_store.specs.Quiet.{OnlyReads};
 ghost use Rattle.xa_store.specs.Sound.{Ours};
 ghost use Rattle.xa_store.specs.World.{rows_of, state_at, world_of};
 
@@ -24,10 +24,7 @@ use xa_value::{Items, Text};
 fn natural(number: i64) -> Result<u64, Failure>
     ensures { IfOk result (λ n. number ≡ pos n) }
 {
-    match u64::try_from(number) {
-        Ok(natural) => Ok(natural),
-        Err(_) => Err(Failure::Store),
-    }
+    u64::try_from(number).map_err(|_| Failure::Store)
 }
 
 /// The gate of the domain that was found, by its tokens.
@@ -45,13 +42,11 @@ fn gate_by(domain: DomainFound, tokens: Items<Token>) -> Result<Option<Gate>, Fa
 
 /// What lets messages into the domain: two queries, and time in proportion to its tokens.
 pub(crate) fn gate_in<S: Alter>(
-    conn: &mut Connection<S>,
     alloc: Global,
+    conn: &mut Connection<S>,
     name: &Text,
 ) -> Result<Option<Gate>, Failure>
-    ensures quiet { Quiet (state S.Store conn.old) (state S.Store conn.new) }
-    ensures opens { HasCleanDisk (state S.Store conn.new)
-        → OnOk result (IsTrue (state S.Store conn.new).is_open) }
+    ensures only_reads { OnlyReads (state S.Store conn.old) (state S.Store conn.new) result }
     ensures reads { HasCleanDisk (state S.Store conn.new) → Ours (state S.Store conn.old)
         → IfOk result (λ gate. gate ≡ gate_of name.now (world_of (state S.Store conn.old).now.trees)) }
 {
@@ -59,20 +54,18 @@ pub(crate) fn gate_in<S: Alter>(
     let Some(domain) = found else {
         return Ok(None);
     };
-    let tokens = tokens_of(conn, alloc, domain.number)?;
+    let tokens = tokens_of(alloc, conn, domain.number)?;
     gate_by(domain, tokens)
 }
 
 /// The text of the document of that key: two point queries, and time in proportion to the text.
 pub(crate) fn text_in<S: Alter>(
-    conn: &mut Connection<S>,
     alloc: Global,
+    conn: &mut Connection<S>,
     name: &Text,
     key: &DocumentKey,
 ) -> Result<Option<Items<u8>>, Failure>
-    ensures quiet { Quiet (state S.Store conn.old) (state S.Store conn.new) }
-    ensures opens { HasCleanDisk (state S.Store conn.new)
-        → OnOk result (IsTrue (state S.Store conn.new).is_open) }
+    ensures only_reads { OnlyReads (state S.Store conn.old) (state S.Store conn.new) result }
     ensures reads { HasCleanDisk (state S.Store conn.new) → Ours (state S.Store conn.old)
         → IfOk result (λ text.
         text ≡ text_of name.now key.now (world_of (state S.Store conn.old).now.trees)) }
@@ -81,24 +74,22 @@ pub(crate) fn text_in<S: Alter>(
     let Some(domain) = found else {
         return Ok(None);
     };
-    text_at(conn, alloc, domain.number, key)
+    text_at(alloc, conn, domain.number, key)
 }
 
 /// The text of the document of that key in the domain of that number.
 fn text_at<S: Alter>(
-    conn: &mut Connection<S>,
     alloc: Global,
+    conn: &mut Connection<S>,
     number: i64,
     key: &DocumentKey,
 ) -> Result<Option<Items<u8>>, Failure>
-    ensures quiet { Quiet (state S.Store conn.old) (state S.Store conn.new) }
-    ensures opens { HasCleanDisk (state S.Store conn.new)
-        → OnOk result (IsTrue (state S.Store conn.new).is_open) }
+    ensures only_reads { OnlyReads (state S.Store conn.old) (state S.Store conn.new) result }
     ensures reads { HasCleanDisk (state S.Store conn.new) → Ours (state S.Store conn.old)
         → IfOk result (λ text.
         text ≡ text_in key.now (state_at (rows_of (state S.Store conn.old).now.trees) number)) }
 {
-    match document_of(conn, alloc, number, key)? {
+    match document_of(alloc, conn, number, key)? {
         Some(document) => Ok(Some(document.text)),
         None => Ok(None),
     }
@@ -106,13 +97,11 @@ fn text_at<S: Alter>(
 
 /// The domain's documents, in the order of their keys: two queries, and time in proportion to their number.
 pub(crate) fn listing_in<S: Alter>(
-    conn: &mut Connection<S>,
     alloc: Global,
+    conn: &mut Connection<S>,
     name: &Text,
 ) -> Result<Option<Items<Listed>>, Failure>
-    ensures quiet { Quiet (state S.Store conn.old) (state S.Store conn.new) }
-    ensures opens { HasCleanDisk (state S.Store conn.new)
-        → OnOk result (IsTrue (state S.Store conn.new).is_open) }
+    ensures only_reads { OnlyReads (state S.Store conn.old) (state S.Store conn.new) result }
     ensures reads { HasCleanDisk (state S.Store conn.new) → Ours (state S.Store conn.old)
         → IfOk result (λ listed. listed ≡ listing_of name.now (world_of (state S.Store conn.old).now.trees)) }
 {
@@ -120,19 +109,17 @@ pub(crate) fn listing_in<S: Alter>(
     let Some(domain) = found else {
         return Ok(None);
     };
-    let listed = documents_of(conn, alloc, domain.number)?;
+    let listed = documents_of(alloc, conn, domain.number)?;
     Ok(Some(listed))
 }
 
 /// What decides in the domain: four queries, and time in proportion to its active texts and its source.
 pub(crate) fn view_in<S: Alter>(
-    conn: &mut Connection<S>,
     alloc: Global,
+    conn: &mut Connection<S>,
     name: &Text,
 ) -> Result<Option<KeptView>, Failure>
-    ensures quiet { Quiet (state S.Store conn.old) (state S.Store conn.new) }
-    ensures opens { HasCleanDisk (state S.Store conn.new)
-        → OnOk result (IsTrue (state S.Store conn.new).is_open) }
+    ensures only_reads { OnlyReads (state S.Store conn.old) (state S.Store conn.new) result }
     ensures reads { HasCleanDisk (state S.Store conn.new) → Ours (state S.Store conn.old)
         → IfOk result (λ view. view ≡ view_of name.now (world_of (state S.Store conn.old).now.trees)) }
 {
@@ -140,26 +127,24 @@ pub(crate) fn view_in<S: Alter>(
     let Some(domain) = found else {
         return Ok(None);
     };
-    let view = view_at(conn, alloc, domain.number)?;
+    let view = view_at(alloc, conn, domain.number)?;
     Ok(Some(view))
 }
 
 /// What decides in the domain of that number.
 fn view_at<S: Alter>(
-    conn: &mut Connection<S>,
     alloc: Global,
+    conn: &mut Connection<S>,
     number: i64,
 ) -> Result<KeptView, Failure>
-    ensures quiet { Quiet (state S.Store conn.old) (state S.Store conn.new) }
-    ensures opens { HasCleanDisk (state S.Store conn.new)
-        → OnOk result (IsTrue (state S.Store conn.new).is_open) }
+    ensures only_reads { OnlyReads (state S.Store conn.old) (state S.Store conn.new) result }
     ensures reads { HasCleanDisk (state S.Store conn.new) → Ours (state S.Store conn.old)
         → IfOk result (λ view.
         view ≡ view_of_state (state_at (rows_of (state S.Store conn.old).now.trees) number)) }
 {
-    let texts = active_texts_of(conn, alloc, number)?;
-    let root = root_of(conn, alloc, number)?;
-    let source = source_of(conn, alloc, number)?;
+    let texts = active_texts_of(alloc, conn, number)?;
+    let root = root_of(alloc, conn, number)?;
+    let source = source_of(alloc, conn, number)?;
     Ok(KeptView {
         texts,
         root,

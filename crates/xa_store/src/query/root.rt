@@ -1,8 +1,8 @@
 //! The root of a domain.
-ghost use Rattle.std.specs.Prelude.{◌≡◌, IsTrue, IfOk, OnOk};
+ghost use Rattle.std.specs.Prelude.{◌≡◌, IfOk};
 ghost use Rattle.sqlite.specs.Held.{state};
 ghost use Rattle.sqlite.specs.State.{HasCleanDisk};
-ghost use Rattle.xa_store.specs.Quiet.{Quiet};
+ghost use Rattle.xa_store.specs.Quiet.{OnlyReads};
 ghost use Rattle.xa_store.specs.Columns.{root_told};
 ghost use Rattle.xa_store.specs.Sound.{Ours};
 ghost use Rattle.xa_store.specs.World.{rows_of, state_at};
@@ -17,6 +17,7 @@ use std::alloc::Global;
 use xa_policy::Reference;
 use xa_records::Failure;
 
+/// Read from the columns of `sql::ROOT`: kind, id, pattern, earliest, latest.
 impl Told for Reference {
     ghost told = { root_told };
 
@@ -39,13 +40,11 @@ impl Told for Reference {
 /// The root of the domain of that number, if one is set: a point query.
 #[tactic(auto, using(crate::proofs::RootLemmas::root_plain))]
 pub(crate) fn root_of<S: Alter>(
-    conn: &mut Connection<S>,
     alloc: Global,
+    conn: &mut Connection<S>,
     number: i64,
 ) -> Result<Option<Reference>, Failure>
-    ensures quiet { Quiet (state S.Store conn.old) (state S.Store conn.new) }
-    ensures opens { HasCleanDisk (state S.Store conn.new)
-        → OnOk result (IsTrue (state S.Store conn.new).is_open) }
+    ensures only_reads { OnlyReads (state S.Store conn.old) (state S.Store conn.new) result }
     ensures reads { HasCleanDisk (state S.Store conn.new) → Ours (state S.Store conn.old)
         → IfOk result (λ root. root ≡ (state_at (rows_of (state S.Store conn.old).now.trees) number).root) }
 {

@@ -1,15 +1,16 @@
 //! The source of attributes of a domain, row by row.
-ghost use Rattle.std.specs.Prelude.{◌≡◌, IsTrue, IfOk, OnOk};
+ghost use Rattle.std.specs.Prelude.{◌≡◌, IfOk};
 ghost use Rattle.sqlite.specs.Held.{state};
 ghost use Rattle.sqlite.specs.Order.{column};
 ghost use Rattle.sqlite.specs.State.{HasCleanDisk};
 ghost use Rattle.sqlite_typed.specs.Columns.{bytes_of, int_of};
-ghost use Rattle.xa_store.specs.Quiet.{Quiet};
+ghost use Rattle.xa_store.specs.Quiet.{OnlyReads};
 ghost use Rattle.xa_store.specs.Rows.{type_in, value_in};
 ghost use Rattle.xa_store.specs.Columns.{source_told};
 ghost use Rattle.xa_store.specs.Sound.{Ours};
 ghost use Rattle.xa_store.specs.World.{rows_of, state_at};
 
+use crate::check::row::type_numbered;
 use crate::query::column::{number_in, text_if_any, text_in};
 use crate::query::row::{Told, all_told};
 use crate::query::shown;
@@ -26,13 +27,7 @@ fn type_in(row: &Row, at: usize) -> Result<DataType, Failure>
     ensures { IfOk result (λ data_type. data_type ≡ type_in (int_of (column row.now at))) }
 {
     let number = number_in(row, at)?;
-    let Ok(place) = u8::try_from(number) else {
-        return Err(Failure::Store);
-    };
-    match DataType::from_number(place) {
-        Some(data_type) => Ok(data_type),
-        None => Err(Failure::Store),
-    }
+    type_numbered(number).ok_or(Failure::Store)
 }
 
 /// The value that two columns hold: its data type, and its text.
@@ -50,6 +45,7 @@ fn value_in(alloc: Global, row: &Row, at: usize, text_at: usize) -> Result<Value
     }
 }
 
+/// Read from the columns of `sql::SOURCE`: category, entity, attribute, value_type, value, issuer.
 impl Told for SourceRow {
     ghost told = { source_told };
 
@@ -73,13 +69,11 @@ impl Told for SourceRow {
 /// proportion to their number; there are 4,096 at most.
 #[tactic(auto, using(crate::proofs::SourceLemmas::source_plain))]
 pub(crate) fn source_of<S: Alter>(
-    conn: &mut Connection<S>,
     alloc: Global,
+    conn: &mut Connection<S>,
     number: i64,
 ) -> Result<Items<SourceRow>, Failure>
-    ensures quiet { Quiet (state S.Store conn.old) (state S.Store conn.new) }
-    ensures opens { HasCleanDisk (state S.Store conn.new)
-        → OnOk result (IsTrue (state S.Store conn.new).is_open) }
+    ensures only_reads { OnlyReads (state S.Store conn.old) (state S.Store conn.new) result }
     ensures reads { HasCleanDisk (state S.Store conn.new) → Ours (state S.Store conn.old)
         → IfOk result (λ source.
         source ≡ (state_at (rows_of (state S.Store conn.old).now.trees) number).source) }

@@ -1,5 +1,5 @@
 //! The tokens of a domain: the role of one, and all of them.
-ghost use Rattle.std.specs.Prelude.{◌≡◌, map, IsTrue, IfOk, OnOk};
+ghost use Rattle.std.specs.Prelude.{◌≡◌, map, IfOk};
 ghost use Rattle.std.specs.FinMap.{entries};
 ghost use Rattle.sqlite.specs.Held.{state};
 ghost use Rattle.sqlite.specs.State.{HasCleanDisk};
@@ -7,7 +7,7 @@ ghost use Rattle.sqlite_typed.specs.Columns.{bytes_of};
 ghost use Rattle.sqlite.specs.Order.{column};
 ghost use Rattle.xa_records.specs.Readings.{token_of};
 ghost use Rattle.xa_store.specs.Lookup.{FindsRole};
-ghost use Rattle.xa_store.specs.Quiet.{Quiet};
+ghost use Rattle.xa_store.specs.Quiet.{OnlyReads};
 ghost use Rattle.xa_store.specs.Columns.{role_told, token_told};
 ghost use Rattle.xa_store.specs.Sound.{Ours};
 ghost use Rattle.xa_store.specs.World.{rows_of, state_at};
@@ -23,6 +23,7 @@ use xa_notation::Role;
 use xa_records::{Digest, Failure, Token};
 use xa_value::Items;
 
+/// Read from the column of `sql::ROLE`: role.
 impl Told for Role {
     ghost told = { role_told };
 
@@ -31,6 +32,7 @@ impl Told for Role {
     }
 }
 
+/// Read from the columns of `sql::TOKENS`: digest, role.
 impl Told for Token {
     ghost told = { token_told };
 
@@ -46,23 +48,19 @@ fn digest_in(row: &Row, at: usize) -> Result<Digest, Failure>
     ensures { IfOk result (λ digest. digest ≡ bytes_of (column row.now at)) }
 {
     let bytes = bytes_in(row, at)?;
-    match <[u8; 32]>::try_from(bytes.as_slice()) {
-        Ok(bytes) => Ok(Digest::from_bytes(bytes)),
-        Err(_) => Err(Failure::Store),
-    }
+    let bytes = <[u8; 32]>::try_from(bytes.as_slice()).map_err(|_| Failure::Store)?;
+    Ok(Digest::from_bytes(bytes))
 }
 
 /// The role of the token in the domain of that number, if it has that token: a point query.
 #[tactic(auto, using(crate::proofs::TokenLemmas::role_plain))]
 pub(crate) fn role_of<S: Alter>(
-    conn: &mut Connection<S>,
     alloc: Global,
+    conn: &mut Connection<S>,
     number: i64,
     digest: &Digest,
 ) -> Result<Option<Role>, Failure>
-    ensures quiet { Quiet (state S.Store conn.old) (state S.Store conn.new) }
-    ensures opens { HasCleanDisk (state S.Store conn.new)
-        → OnOk result (IsTrue (state S.Store conn.new).is_open) }
+    ensures only_reads { OnlyReads (state S.Store conn.old) (state S.Store conn.new) result }
     ensures finds { HasCleanDisk (state S.Store conn.new) → Ours (state S.Store conn.old)
         → IfOk result (FindsRole number digest.now (rows_of (state S.Store conn.old).now.trees)) }
 {
@@ -78,13 +76,11 @@ pub(crate) fn role_of<S: Alter>(
 /// in proportion to their number.
 #[tactic(auto, using(crate::proofs::TokenLemmas::tokens_plain))]
 pub(crate) fn tokens_of<S: Alter>(
-    conn: &mut Connection<S>,
     alloc: Global,
+    conn: &mut Connection<S>,
     number: i64,
 ) -> Result<Items<Token>, Failure>
-    ensures quiet { Quiet (state S.Store conn.old) (state S.Store conn.new) }
-    ensures opens { HasCleanDisk (state S.Store conn.new)
-        → OnOk result (IsTrue (state S.Store conn.new).is_open) }
+    ensures only_reads { OnlyReads (state S.Store conn.old) (state S.Store conn.new) result }
     ensures reads { HasCleanDisk (state S.Store conn.new) → Ours (state S.Store conn.old)
         → IfOk result (λ tokens. tokens
         ≡ map token_of (entries (state_at (rows_of (state S.Store conn.old).now.trees) number).tokens)) }

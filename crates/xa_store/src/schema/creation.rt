@@ -8,8 +8,7 @@ ghost use Rattle.xa_store.specs.Execution.{StaysInside};
 ghost use Rattle.xa_store.specs.declared.schema.creation.Part.TheVariants as parts;
 
 use crate::error::OpenError;
-use crate::failure::failure_of;
-use crate::refusal::failed;
+use crate::refusal::failed_by;
 use crate::sql;
 use crate::step::execution::execute_in;
 use sqlite::{Alter, Connection, Transaction};
@@ -120,6 +119,6 @@ pub(crate) fn make<S: Alter>(conn: &mut Connection<S>) -> Result<(), OpenError>
     take_all(&mut tx)?;
     match tx.commit() {
         Ok(()) => Ok(()),
-        Err(error) => Err(failed(failure_of(&error))),
+        Err(error) => Err(failed_by(&error)),
     }
 }

@@ -9,8 +9,7 @@ ghost use Rattle.xa_store.specs.Execution.{StaysInside};
 ghost use Rattle.xa_store.specs.declared.schema.migration.Stage.TheVariants as stages;
 
 use crate::error::OpenError;
-use crate::failure::failure_of;
-use crate::refusal::failed;
+use crate::refusal::failed_by;
 use crate::schema::creation::Part;
 use crate::sql;
 use crate::step::execution::execute_in;
@@ -83,6 +82,6 @@ pub(crate) fn migrate<S: Alter>(conn: &mut Connection<S>) -> Result<(), OpenErro
     take_all(&mut tx)?;
     match tx.commit() {
         Ok(()) => Ok(()),
-        Err(error) => Err(failed(failure_of(&error))),
+        Err(error) => Err(failed_by(&error)),
     }
 }

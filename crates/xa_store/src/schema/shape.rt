@@ -1,7 +1,7 @@
 //! The tables and indexes that a keeper's store has, with no others beside them.
 ghost use Rattle.std.specs.Prelude.{◌≡◌, ◌↔◌, false, [], ◌∷◌, None, Some, IsTrue, codes};
 ghost use Rattle.xa_store.specs.Opened.{schema_of};
-ghost use Rattle.xa_store.specs.Opening.{has_room, is_free, version_in};
+ghost use Rattle.xa_store.specs.Opening.{has_room, is_free, schema_version_in};
 ghost use Rattle.xa_store.specs.Tables.{attributes, domains, first_indexes, first_schema};
 ghost use Rattle.xa_store.specs.Tables.{index_of, meta, of_domain, our_indexes, our_schema};
 ghost use Rattle.xa_store.specs.Tables.{policies, rising, roots, sources, tokens};
@@ -55,6 +55,7 @@ fn is_of_domain(reference: &Reference, column: usize) -> bool
         && !reference.is_deferred
 }
 
+/// Whether it is one reference, from that column to a domain's number.
 fn refers_by(references: &[Reference], column: usize) -> bool
     ensures { IsTrue result ↔ (references.now ≡ record of_domain { columns = column ∷ [] } ∷ []) }
 {
@@ -162,6 +163,7 @@ fn is_of_domains(table: &Table, places: &[usize]) -> bool
         && refers_by(table.references.as_slice(), 1)
 }
 
+/// Whether it is the table of the schema's number and the next domain's.
 fn is_meta(table: &Table) -> bool
     ensures { IsTrue result ↔ (table.now ≡ meta) }
 {
@@ -172,6 +174,7 @@ fn is_meta(table: &Table) -> bool
         && table.references.is_empty()
 }
 
+/// Whether it is the table of domains.
 fn is_domains(table: &Table) -> bool
     ensures { IsTrue result ↔ (table.now ≡ domains) }
 {
@@ -182,6 +185,7 @@ fn is_domains(table: &Table) -> bool
         && table.references.is_empty()
 }
 
+/// Whether it is the table of the domains' tokens.
 fn is_tokens(table: &Table) -> bool
     ensures { IsTrue result ↔ (table.now ≡ tokens) }
 {
@@ -190,6 +194,7 @@ fn is_tokens(table: &Table) -> bool
         && is_of_domains(table, &[1, 2])
 }
 
+/// Whether it is the table of the domains' documents.
 fn is_policies(table: &Table) -> bool
     ensures { IsTrue result ↔ (table.now ≡ policies) }
 {
@@ -198,6 +203,7 @@ fn is_policies(table: &Table) -> bool
         && is_of_domains(table, &[1, 2, 3, 4])
 }
 
+/// Whether it is the table of the domains' roots.
 fn is_roots(table: &Table) -> bool
     ensures { IsTrue result ↔ (table.now ≡ roots) }
 {
@@ -208,6 +214,7 @@ fn is_roots(table: &Table) -> bool
         && refers_by(table.references.as_slice(), 0)
 }
 
+/// Whether it is the table of the rows of the domains' sources in schema 1.
 fn is_attributes(table: &Table) -> bool
     ensures { IsTrue result ↔ (table.now ≡ attributes) }
 {
@@ -216,6 +223,7 @@ fn is_attributes(table: &Table) -> bool
         && is_of_domains(table, &[1, 2])
 }
 
+/// Whether it is the table of the rows of the domains' sources in schema 2.
 fn is_sources(table: &Table) -> bool
     ensures { IsTrue result ↔ (table.now ≡ sources) }
 {
@@ -225,37 +233,40 @@ fn is_sources(table: &Table) -> bool
 }
 
 /// Whether they are the tables of the first row, of domains and of their tokens.
-fn are_front(first: &Table, second: &Table, third: &Table) -> bool
+fn are_meta_domains_and_tokens(first: &Table, second: &Table, third: &Table) -> bool
     ensures { IsTrue result ↔ ((first.now ≡ meta) × (second.now ≡ domains) × (third.now ≡ tokens)) }
 {
     is_meta(first) && is_domains(second) && is_tokens(third)
 }
 
 /// Whether they are the tables of documents, of roots and of the rows of sources in schema 1.
-fn are_back(first: &Table, second: &Table, third: &Table) -> bool
+fn are_policies_roots_and_attributes(first: &Table, second: &Table, third: &Table) -> bool
     ensures { IsTrue result ↔ ((first.now ≡ policies) × (second.now ≡ roots) × (third.now ≡ attributes)) }
 {
     is_policies(first) && is_roots(second) && is_attributes(third)
 }
 
+/// Whether they are the tables of schema 1, and no others.
 fn are_first_tables(all: &[Table]) -> bool
     ensures { IsTrue result ↔ (all.now ≡ first_schema.tables) }
 {
     match all {
         [meta, domains, tokens, policies, roots, attributes] => {
-            are_front(meta, domains, tokens) && are_back(policies, roots, attributes)
+            are_meta_domains_and_tokens(meta, domains, tokens)
+                && are_policies_roots_and_attributes(policies, roots, attributes)
         }
         _ => false,
     }
 }
 
+/// Whether they are the tables of schema 2, and no others.
 fn are_our_tables(all: &[Table]) -> bool
     ensures { IsTrue result ↔ (all.now ≡ our_schema.tables) }
 {
     match all {
         [meta, domains, tokens, policies, roots, attributes, sources] => {
-            are_front(meta, domains, tokens)
-                && are_back(policies, roots, attributes)
+            are_meta_domains_and_tokens(meta, domains, tokens)
+                && are_policies_roots_and_attributes(policies, roots, attributes)
                 && is_sources(sources)
         }
         _ => false,
@@ -275,7 +286,7 @@ fn is_index(index: &Index, name: &str, tree: u32, table: u32, columns: &[usize])
 }
 
 /// Whether they are the indexes of the domains' names and of the tokens' digests.
-fn are_front_indexes(names: &Index, digests: &Index) -> bool
+fn are_name_and_digest_indexes(names: &Index, digests: &Index) -> bool
     ensures { IsTrue result
         ↔ ((names.now ≡ index_of (codes "sqlite_autoindex_domains_1") 2 1 (2 ∷ []))
         × (digests.now ≡ index_of (codes "sqlite_autoindex_tokens_1") 4 3 (1 ∷ 2 ∷ []))) }
@@ -285,7 +296,7 @@ fn are_front_indexes(names: &Index, digests: &Index) -> bool
 }
 
 /// Whether they are the indexes of the documents' keys and of the places in sources of schema 1.
-fn are_back_indexes(keys: &Index, places: &Index) -> bool
+fn are_key_and_place_indexes(keys: &Index, places: &Index) -> bool
     ensures { IsTrue result
         ↔ ((keys.now ≡ index_of (codes "sqlite_autoindex_policies_1") 6 5 (1 ∷ 2 ∷ 3 ∷ 4 ∷ []))
         × (places.now ≡ index_of (codes "sqlite_autoindex_attributes_1") 9 8 (1 ∷ 2 ∷ []))) }
@@ -294,24 +305,26 @@ fn are_back_indexes(keys: &Index, places: &Index) -> bool
         && is_index(places, "sqlite_autoindex_attributes_1", 9, 8, &[1, 2])
 }
 
+/// Whether they are the indexes of schema 1, and no others.
 fn are_first_indexes(all: &[Index]) -> bool
     ensures { IsTrue result ↔ (all.now ≡ first_indexes) }
 {
     match all {
         [names, digests, keys, places] => {
-            are_front_indexes(names, digests) && are_back_indexes(keys, places)
+            are_name_and_digest_indexes(names, digests) && are_key_and_place_indexes(keys, places)
         }
         _ => false,
     }
 }
 
+/// Whether they are the indexes of schema 2, and no others.
 fn are_our_indexes(all: &[Index]) -> bool
     ensures { IsTrue result ↔ (all.now ≡ our_indexes) }
 {
     match all {
         [names, digests, keys, places, sources] => {
-            are_front_indexes(names, digests)
-                && are_back_indexes(keys, places)
+            are_name_and_digest_indexes(names, digests)
+                && are_key_and_place_indexes(keys, places)
                 && is_index(sources, "sqlite_autoindex_sources_1", 11, 10, &[1, 2])
         }
         _ => false,
@@ -370,8 +383,8 @@ pub(crate) fn has_room(schema: &Schema) -> bool
 }
 
 /// Which schema it is, if it has a keeper's tables.
-pub(crate) fn version_in(schema: &Schema) -> SchemaVersion
-    ensures { result ≡ version_in schema.now }
+pub(crate) fn schema_version_in(schema: &Schema) -> SchemaVersion
+    ensures { result ≡ schema_version_in schema.now }
 {
     if is_free(schema, "sources") {
         SchemaVersion::Schema1

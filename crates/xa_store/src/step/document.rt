@@ -4,7 +4,7 @@ ghost use Rattle.sqlite.specs.Held.{state};
 ghost use Rattle.xa_store.specs.declared.step.Step.TheVariants.{AddDocument, DropDocument, SetActive};
 ghost use Rattle.xa_policy.specs.Version.{version_text};
 ghost use Rattle.xa_store.specs.Rows.{bit};
-ghost use Rattle.xa_store.specs.Execution.{StaysInside, Takes};
+ghost use Rattle.xa_store.specs.Execution.{IsTaken, StaysInside, Takes};
 
 use crate::query::column::kind_column;
 use crate::sql;
@@ -32,8 +32,7 @@ pub(crate) fn add_document<S: Alter>(
     text: &[u8],
 ) -> Result<(), Failure>
     ensures same_reference { tx.new.conn.ghost_name ≡ tx.old.conn.ghost_name }
-    ensures stays { StaysInside (state S.Store tx.old.conn.now) (state S.Store tx.new.conn.now) result }
-    ensures takes { Takes (AddDocument number key.now text.now)
+    ensures taken { IsTaken (AddDocument number key.now text.now)
         (state S.Store tx.old.conn.now) (state S.Store tx.new.conn.now) result }
 {
     let version = key.version.to_text(alloc)?;
@@ -50,7 +49,7 @@ pub(crate) fn add_document<S: Alter>(
     )
 }
 
-/// So it does, by the text of the key's version.
+/// Sets whether references may resolve to the document, whose version's text stands beside its key.
 fn set_active_at<'a, S: Alter>(
     tx: &mut Transaction<'_, S>,
     number: i64,
@@ -86,8 +85,7 @@ pub(crate) fn set_active<S: Alter>(
     active: bool,
 ) -> Result<(), Failure>
     ensures same_reference { tx.new.conn.ghost_name ≡ tx.old.conn.ghost_name }
-    ensures stays { StaysInside (state S.Store tx.old.conn.now) (state S.Store tx.new.conn.now) result }
-    ensures takes { Takes (SetActive number key.now active)
+    ensures taken { IsTaken (SetActive number key.now active)
         (state S.Store tx.old.conn.now) (state S.Store tx.new.conn.now) result }
 {
     let version = key.version.to_text(alloc)?;
@@ -102,8 +100,7 @@ pub(crate) fn drop_document<S: Alter>(
     key: &DocumentKey,
 ) -> Result<(), Failure>
     ensures same_reference { tx.new.conn.ghost_name ≡ tx.old.conn.ghost_name }
-    ensures stays { StaysInside (state S.Store tx.old.conn.now) (state S.Store tx.new.conn.now) result }
-    ensures takes { Takes (DropDocument number key.now)
+    ensures taken { IsTaken (DropDocument number key.now)
         (state S.Store tx.old.conn.now) (state S.Store tx.new.conn.now) result }
 {
     let version = key.version.to_text(alloc)?;

@@ -2,7 +2,7 @@
 ghost use Rattle.std.specs.Prelude.{◌≡◌};
 ghost use Rattle.sqlite.specs.Held.{state};
 ghost use Rattle.xa_store.specs.declared.step.Step.TheVariants.{AddDomain, DropDomain, SetEpoch, SetNext};
-ghost use Rattle.xa_store.specs.Execution.{StaysInside, Takes};
+ghost use Rattle.xa_store.specs.Execution.{IsTaken};
 
 use crate::sql;
 use crate::step::execution::execute_in;
@@ -18,8 +18,7 @@ pub(crate) fn add_domain<S: Alter>(
     name: &Text,
 ) -> Result<(), Failure>
     ensures same_reference { tx.new.conn.ghost_name ≡ tx.old.conn.ghost_name }
-    ensures stays { StaysInside (state S.Store tx.old.conn.now) (state S.Store tx.new.conn.now) result }
-    ensures takes { Takes (AddDomain number name.now)
+    ensures taken { IsTaken (AddDomain number name.now)
         (state S.Store tx.old.conn.now) (state S.Store tx.new.conn.now) result }
 {
     execute_in(
@@ -32,8 +31,7 @@ pub(crate) fn add_domain<S: Alter>(
 /// Sets the number of the next domain.
 pub(crate) fn set_next<S: Alter>(tx: &mut Transaction<'_, S>, next: i64) -> Result<(), Failure>
     ensures same_reference { tx.new.conn.ghost_name ≡ tx.old.conn.ghost_name }
-    ensures stays { StaysInside (state S.Store tx.old.conn.now) (state S.Store tx.new.conn.now) result }
-    ensures takes { Takes (SetNext next)
+    ensures taken { IsTaken (SetNext next)
         (state S.Store tx.old.conn.now) (state S.Store tx.new.conn.now) result }
 {
     execute_in(tx, sql::SET_NEXT, &[ValueRef::Int(next)])
@@ -46,8 +44,7 @@ pub(crate) fn set_epoch<S: Alter>(
     epoch: i64,
 ) -> Result<(), Failure>
     ensures same_reference { tx.new.conn.ghost_name ≡ tx.old.conn.ghost_name }
-    ensures stays { StaysInside (state S.Store tx.old.conn.now) (state S.Store tx.new.conn.now) result }
-    ensures takes { Takes (SetEpoch number epoch)
+    ensures taken { IsTaken (SetEpoch number epoch)
         (state S.Store tx.old.conn.now) (state S.Store tx.new.conn.now) result }
 {
     execute_in(
@@ -60,8 +57,7 @@ pub(crate) fn set_epoch<S: Alter>(
 /// Takes a domain out, with all that is in it.
 pub(crate) fn drop_domain<S: Alter>(tx: &mut Transaction<'_, S>, number: i64) -> Result<(), Failure>
     ensures same_reference { tx.new.conn.ghost_name ≡ tx.old.conn.ghost_name }
-    ensures stays { StaysInside (state S.Store tx.old.conn.now) (state S.Store tx.new.conn.now) result }
-    ensures takes { Takes (DropDomain number)
+    ensures taken { IsTaken (DropDomain number)
         (state S.Store tx.old.conn.now) (state S.Store tx.new.conn.now) result }
 {
     execute_in(tx, sql::DROP_DOMAIN, &[ValueRef::Int(number)])

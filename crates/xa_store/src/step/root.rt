@@ -7,7 +7,7 @@ ghost use Rattle.sqlite.specs.Values.{bound_value};
 ghost use Rattle.sqlite_value.specs.Value.{owned};
 ghost use Rattle.xa_policy.specs.Pattern.{pattern_text};
 ghost use Rattle.xa_policy.specs.Version.{version_text};
-ghost use Rattle.xa_store.specs.Execution.{StaysInside, Takes, text_column};
+ghost use Rattle.xa_store.specs.Execution.{IsTaken, text_column};
 
 use crate::query::column::kind_column;
 use crate::sql;
@@ -57,8 +57,7 @@ pub(crate) fn add_root<S: Alter>(
     root: &Reference,
 ) -> Result<(), Failure>
     ensures same_reference { tx.new.conn.ghost_name ≡ tx.old.conn.ghost_name }
-    ensures stays { StaysInside (state S.Store tx.old.conn.now) (state S.Store tx.new.conn.now) result }
-    ensures takes { Takes (AddRoot number root.now)
+    ensures taken { IsTaken (AddRoot number root.now)
         (state S.Store tx.old.conn.now) (state S.Store tx.new.conn.now) result }
 {
     let pattern = text_of_pattern(alloc, &root.version)?;
@@ -81,8 +80,7 @@ pub(crate) fn add_root<S: Alter>(
 /// Takes the root out.
 pub(crate) fn drop_root<S: Alter>(tx: &mut Transaction<'_, S>, number: i64) -> Result<(), Failure>
     ensures same_reference { tx.new.conn.ghost_name ≡ tx.old.conn.ghost_name }
-    ensures stays { StaysInside (state S.Store tx.old.conn.now) (state S.Store tx.new.conn.now) result }
-    ensures takes { Takes (DropRoot number)
+    ensures taken { IsTaken (DropRoot number)
         (state S.Store tx.old.conn.now) (state S.Store tx.new.conn.now) result }
 {
     execute_in(tx, sql::DROP_ROOT, &[ValueRef::Int(number)])

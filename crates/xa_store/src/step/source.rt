@@ -3,7 +3,7 @@ ghost use Rattle.std.specs.Prelude.{◌≡◌};
 ghost use Rattle.sqlite.specs.Held.{state};
 ghost use Rattle.xa_store.specs.declared.step.Step.TheVariants.{AddAttribute, DropSource};
 ghost use Rattle.xa_store.specs.Rows.{type_number};
-ghost use Rattle.xa_store.specs.Execution.{StaysInside, Takes};
+ghost use Rattle.xa_store.specs.Execution.{IsTaken};
 
 use crate::sql;
 use crate::step::execution::execute_in;
@@ -31,8 +31,7 @@ pub(crate) fn add_attribute<S: Alter>(
     row: &SourceRow,
 ) -> Result<(), Failure>
     ensures same_reference { tx.new.conn.ghost_name ≡ tx.old.conn.ghost_name }
-    ensures stays { StaysInside (state S.Store tx.old.conn.now) (state S.Store tx.new.conn.now) result }
-    ensures takes { Takes (AddAttribute number place row.now)
+    ensures taken { IsTaken (AddAttribute number place row.now)
         (state S.Store tx.old.conn.now) (state S.Store tx.new.conn.now) result }
 {
     let value = row.value.to_text(alloc)?;
@@ -55,8 +54,7 @@ pub(crate) fn add_attribute<S: Alter>(
 /// Takes all rows of the source out.
 pub(crate) fn drop_source<S: Alter>(tx: &mut Transaction<'_, S>, number: i64) -> Result<(), Failure>
     ensures same_reference { tx.new.conn.ghost_name ≡ tx.old.conn.ghost_name }
-    ensures stays { StaysInside (state S.Store tx.old.conn.now) (state S.Store tx.new.conn.now) result }
-    ensures takes { Takes (DropSource number)
+    ensures taken { IsTaken (DropSource number)
         (state S.Store tx.old.conn.now) (state S.Store tx.new.conn.now) result }
 {
     execute_in(tx, sql::DROP_SOURCE, &[ValueRef::Int(number)])

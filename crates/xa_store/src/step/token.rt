@@ -3,7 +3,7 @@ ghost use Rattle.std.specs.Prelude.{◌≡◌};
 ghost use Rattle.sqlite.specs.Held.{state};
 ghost use Rattle.xa_store.specs.declared.step.Step.TheVariants.{AddToken, DropToken, SetRole};
 ghost use Rattle.xa_store.specs.Rows.{role_number};
-ghost use Rattle.xa_store.specs.Execution.{StaysInside, Takes};
+ghost use Rattle.xa_store.specs.Execution.{IsTaken};
 
 use crate::sql;
 use crate::step::execution::execute_in;
@@ -30,8 +30,7 @@ pub(crate) fn add_token<S: Alter>(
     role: Role,
 ) -> Result<(), Failure>
     ensures same_reference { tx.new.conn.ghost_name ≡ tx.old.conn.ghost_name }
-    ensures stays { StaysInside (state S.Store tx.old.conn.now) (state S.Store tx.new.conn.now) result }
-    ensures takes { Takes (AddToken number digest.now role)
+    ensures taken { IsTaken (AddToken number digest.now role)
         (state S.Store tx.old.conn.now) (state S.Store tx.new.conn.now) result }
 {
     execute_in(
@@ -53,8 +52,7 @@ pub(crate) fn set_role<S: Alter>(
     role: Role,
 ) -> Result<(), Failure>
     ensures same_reference { tx.new.conn.ghost_name ≡ tx.old.conn.ghost_name }
-    ensures stays { StaysInside (state S.Store tx.old.conn.now) (state S.Store tx.new.conn.now) result }
-    ensures takes { Takes (SetRole number digest.now role)
+    ensures taken { IsTaken (SetRole number digest.now role)
         (state S.Store tx.old.conn.now) (state S.Store tx.new.conn.now) result }
 {
     execute_in(
@@ -75,8 +73,7 @@ pub(crate) fn drop_token<S: Alter>(
     digest: &Digest,
 ) -> Result<(), Failure>
     ensures same_reference { tx.new.conn.ghost_name ≡ tx.old.conn.ghost_name }
-    ensures stays { StaysInside (state S.Store tx.old.conn.now) (state S.Store tx.new.conn.now) result }
-    ensures takes { Takes (DropToken number digest.now)
+    ensures taken { IsTaken (DropToken number digest.now)
         (state S.Store tx.old.conn.now) (state S.Store tx.new.conn.now) result }
 {
     execute_in(

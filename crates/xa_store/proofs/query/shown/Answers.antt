@@ -3,6 +3,9 @@ use Rattle.sqlite.specs.Values.{bound}
 use Rattle.xa_store.proofs.AskLemmas.{shown_open}
 use Rattle.xa_store.proofs.query.shown.Goals as goal
 
-pub returns-in-Ok-clause-opens : goal.returns-in-Ok-clause-opens
-returns-in-Ok-clause-opens g c clean =
-    (shown_open c.args.sql.now (bound c.args.given.now) (state g.S.Store c.args.conn.now) (state g.S.Store c.ask.new.conn) c.in-Ok.rows.items (c.in-Ok.ensures.shows clean)).1
+pub returns-in-Ok-clause-only_reads : goal.returns-in-Ok-clause-only_reads
+returns-in-Ok-clause-only_reads g c = record {
+  quiet = record { was_open = c.ask.ensures.was_open; clean = c.ask.ensures.clean; same = c.ask.ensures.same; crash = c.ask.ensures.crash };
+  opens = λ clean.
+      (shown_open c.args.sql.now (bound c.args.given.now) (state g.S.Store c.args.conn.now) (state g.S.Store c.ask.new.conn) c.in-Ok.rows.items (c.in-Ok.ensures.shows clean)).1;
+}

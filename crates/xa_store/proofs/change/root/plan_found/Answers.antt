@@ -1,5 +1,5 @@
-use Rattle.std.proofs.Common.{sym, subst, rules, SFits, w64}
-use Rattle.xa_store.proofs.Common.{to_z-of_z, both_ways, root_set, within}
+use Rattle.std.proofs.Common.{sym, subst}
+use Rattle.xa_store.proofs.Common.{both_ways, root_set, within}
 use Rattle.xa_store.specs.Turns.{Plans}
 use Rattle.xa_store.proofs.RootPlans.{plan_new, plan_same}
 use Rattle.xa_store.proofs.change.root.plan_found.Goals as goal
@@ -13,12 +13,9 @@ returns-then-is_same_root c = record {
 
 pub returns : goal.returns
 returns c =
-    let fits : SFits w64 c.args.found.epoch = search rules in
-    let low : SFits w64 c.args.found.number = search rules in
-    let high : SFits w64 c.in_ok-epoch.epoch = search rules in
-    let steps = rw (to_z-of_z w64 c.args.found.number low, to_z-of_z w64 c.in_ok-epoch.epoch high) at c.in_ok-root_steps.ensures in
+    let steps = rw c.in_ok-revision.ensures.number at c.in_ok-root_steps.ensures in
     record {
       plans = λ name rows are up found at.
           subst (λ steps. Plans steps (within (root_set c.args.root)) name rows) (sym steps)
-          (plan_new rows name c.args.found c.args.there.now c.args.root are up found at (λ same. both_ways _ c.if-is_same_root.false (c.is_same_root.ensures.1 same)) c.root_reads_back.ensures.reads c.root_reads_back.ensures.texts c.in_ok-epoch.epoch (rw (to_z-of_z w64 c.args.found.epoch fits) at c.in_ok-epoch.ensures));
+          (plan_new rows name c.args.found c.args.there.now c.args.root are up found at (λ same. both_ways _ c.if-is_same_root.false (c.is_same_root.ensures.1 same)) c.root_reads_back.ensures.reads c.root_reads_back.ensures.texts c.in_ok-revision.revision.epoch c.in_ok-revision.ensures.epoch);
     }

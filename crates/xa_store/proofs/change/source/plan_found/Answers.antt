@@ -1,5 +1,5 @@
-use Rattle.std.proofs.Common.{inl, inr, sym, subst, rules, SFits, w64, ◌∙◌}
-use Rattle.xa_store.proofs.Common.{to_z-of_z, both_ways, source_set, within}
+use Rattle.std.proofs.Common.{inl, inr, sym, subst, ◌∙◌}
+use Rattle.xa_store.proofs.Common.{both_ways, source_set, within}
 use Rattle.xa_store.specs.Turns.{Plans}
 use Rattle.xa_store.proofs.SourcePlans.{at_most, plan_new, plan_same, too_many}
 use Rattle.xa_store.proofs.change.source.plan_found.Goals as goal
@@ -20,15 +20,12 @@ returns-then-is_same_source c = record {
 
 pub returns : goal.returns
 returns c =
-    let fits : SFits w64 c.args.found.epoch = search rules in
-    let low : SFits w64 c.args.found.number = search rules in
-    let high : SFits w64 c.in_ok-epoch.epoch = search rules in
-    let steps = rw (to_z-of_z w64 c.args.found.number low, to_z-of_z w64 c.in_ok-epoch.epoch high) at c.in_ok-source_steps.ensures in
+    let steps = rw c.in_ok-revision.ensures.number at c.in_ok-source_steps.ensures in
     record {
       plans = λ name rows are up found at.
           subst (λ steps. Plans steps (within (source_set c.args.rows)) name rows) (sym steps)
           (plan_new rows name c.args.found c.args.there.now c.args.rows are up found at (sym c.may_be_kept.ensures ∙ c.if-not-may_be_kept.false)
-          (λ same. both_ways _ c.if-is_same_source.false (c.is_same_source.ensures.1 same)) (rw c.as_slice.ensures at c.in_ok-check_rows.ensures.reads) (rw c.as_slice.ensures at c.in_ok-check_rows.ensures.texts) c.in_ok-epoch.epoch
-          (rw (to_z-of_z w64 c.args.found.epoch fits) at c.in_ok-epoch.ensures));
-      steps = inr (c.in_ok-epoch.epoch, steps);
+          (λ same. both_ways _ c.if-is_same_source.false (c.is_same_source.ensures.1 same)) (rw c.as_slice.ensures at c.in_ok-check_rows.ensures.reads) (rw c.as_slice.ensures at c.in_ok-check_rows.ensures.texts) c.in_ok-revision.revision.epoch
+          c.in_ok-revision.ensures.epoch);
+      steps = inr (c.in_ok-revision.revision.epoch, steps);
     }

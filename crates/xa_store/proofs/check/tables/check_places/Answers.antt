@@ -1,6 +1,6 @@
-use Rattle.std.proofs.Common.{◌≡◌, ◌∙◌, true, false, Ok, Err, rules, sym, subst}
-use Rattle.xa_store.proofs.Common.{IsPlain, state, understood, Damaged, schema_of}
-use Rattle.xa_store.specs.Check.{counts, no_place}
+use Rattle.std.proofs.Common.{◌≡◌, ◌∙◌, Err, rules, sym, subst}
+use Rattle.xa_store.proofs.Common.{IsPlain, state, understood, schema_of}
+use Rattle.xa_store.specs.Check.{counts, no_place, TellsSound}
 use Rattle.xa_store.proofs.AskedLemmas.{as_failed, as_told}
 use Rattle.xa_store.proofs.LoadLemmas.{failure_checked}
 use Rattle.xa_store.proofs.PlaceLemmas.{places_count, places_plain}
@@ -18,22 +18,14 @@ returns-in_err-rows-clause-finds g c clean rests are =
     let is : c.from_residual.result ≡ Err c.in_err-rows.field-0.0 = search rules in
     rw is (failure_checked _ c.in_err-rows.field-0.0 (c.in_err-rows.ensures.fails clean c.args.version plain rests))
 
-pub returns-then-are_places-clause-asks : goal.returns-then-are_places-clause-asks
-returns-then-are_places-clause-asks g c =
-    let plain = subst (λ sql. IsPlain (understood (schema_of c.args.version) sql)) (sym c.places_text.ensures) (places_plain c.args.version) in
-    as_told (state g.S.Store c.args.conn.now) (state g.S.Store c.rows_of.new.conn) c.in_ok-rows.rows (Ok tt) (c.in_ok-rows.ensures.asks c.args.version plain)
-
-pub returns-then-are_places-clause-finds : goal.returns-then-are_places-clause-finds
-returns-then-are_places-clause-finds g c clean rests are =
-    let told : counts no_place c.in_ok-rows.rows.items ≡ true = search rules in
-    sym (places_count c.args.version (state g.S.Store c.args.conn.now) (state g.S.Store c.rows_of.new.conn) rests are c.in_ok-rows.rows.items (rw c.places_text.ensures at (c.in_ok-rows.ensures.shows clean))) ∙ told
-
 pub returns-clause-asks : goal.returns-clause-asks
 returns-clause-asks g c =
     let plain = subst (λ sql. IsPlain (understood (schema_of c.args.version) sql)) (sym c.places_text.ensures) (places_plain c.args.version) in
-    as_told (state g.S.Store c.args.conn.now) (state g.S.Store c.rows_of.new.conn) c.in_ok-rows.rows (Err Damaged) (c.in_ok-rows.ensures.asks c.args.version plain)
+    as_told (state g.S.Store c.args.conn.now) (state g.S.Store c.rows_of.new.conn) c.in_ok-rows.rows c.sound_or_damaged.result (c.in_ok-rows.ensures.asks c.args.version plain)
 
 pub returns-clause-finds : goal.returns-clause-finds
 returns-clause-finds g c clean rests are =
-    let told : counts no_place c.in_ok-rows.rows.items ≡ false = search rules in
-    sym (places_count c.args.version (state g.S.Store c.args.conn.now) (state g.S.Store c.rows_of.new.conn) rests are c.in_ok-rows.rows.items (rw c.places_text.ensures at (c.in_ok-rows.ensures.shows clean))) ∙ told
+    let told : c.are_places.result ≡ counts no_place c.in_ok-rows.rows.items = search rules in
+    subst (λ b. TellsSound b c.sound_or_damaged.result)
+    (told ∙ places_count c.args.version (state g.S.Store c.args.conn.now) (state g.S.Store c.rows_of.new.conn) rests are c.in_ok-rows.rows.items (rw c.places_text.ensures at (c.in_ok-rows.ensures.shows clean)))
+    c.sound_or_damaged.ensures

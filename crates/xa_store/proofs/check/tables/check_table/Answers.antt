@@ -6,7 +6,7 @@ use Rattle.xa_store.proofs.check.tables.check_table.Goals as goal
 pub returns : goal.returns
 returns g c =
     table_checked c.args.kind c.args.known.next (state g.S.Store c.args.conn.now) (state g.S.Store c.walk.new.conn) (state g.S.Store c.check_order.new.conn) c.in_ok-walk.field-0 c.check_order.result
-    c.in_ok-walk.ensures (c.check_order.ensures.asks c.args.known.version c.requires) (λ clean rests. c.check_order.ensures.finds clean c.args.known.version c.requires rests)
+    c.in_ok-walk.ensures (c.check_order.ensures.asks c.args.known.version c.requires) (λ clean rests. c.check_order.ensures.finds c.args.known.version c.requires clean rests)
 
 pub returns-in_err-walk : goal.returns-in_err-walk
 returns-in_err-walk g c =

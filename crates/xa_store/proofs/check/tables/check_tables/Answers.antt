@@ -12,5 +12,5 @@ returns g c =
     let next = c.args.known.next in
     all_tables next (state g.S.Store c.args.conn.now) (state g.S.Store c.check_table.new.conn) c.check_table.result
     (checked_then (λ db. (is_sound_table db next Domains && is_sound_table db next Tokens) && (is_sound_table db next Documents && is_sound_table db next Roots)) (λ db. is_sound_table db next (sources_in c.args.known.version))
-    (state g.S.Store c.args.conn.now) (state g.S.Store c.check_four.new.conn) (state g.S.Store c.check_table.new.conn) c.in_ok-check_four.field-0 c.check_table.result c.in_ok-check_four.ensures
-    (subst (λ kind. CheckedBy c.args.known.version (λ db. is_sound_table db next kind) (state g.S.Store c.check_four.new.conn) (state g.S.Store c.check_table.new.conn) c.check_table.result) c.sources.ensures c.check_table.ensures))
+    (state g.S.Store c.args.conn.now) (state g.S.Store c.check_common.new.conn) (state g.S.Store c.check_table.new.conn) c.in_ok-check_common.field-0 c.check_table.result c.in_ok-check_common.ensures
+    (subst (λ kind. CheckedBy c.args.known.version (λ db. is_sound_table db next kind) (state g.S.Store c.check_common.new.conn) (state g.S.Store c.check_table.new.conn) c.check_table.result) c.sources.ensures c.check_table.ensures))

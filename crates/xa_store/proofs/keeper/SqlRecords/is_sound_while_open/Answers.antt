@@ -7,4 +7,4 @@ use Rattle.xa_store.proofs.keeper.SqlRecords.is_sound_while_open.Goals as goal
 pub returns : goal.returns
 returns g c =
     subst (λ k. IsTrue k.ours → IsTrue (state g.S.Store k.conn).is_open → IsSound g.S.Store k) c.self.view_is
-    (sound_while_open g.S.Store g.met.S.Store.settled (record { conn = c.self.inside.conn; ours = c.self.inside.ours; is_open = c.self.inside.is_open; faults = c.self.inside.faults }) c.self.invariant)
+    (sound_while_open g.S.Store g.met.S.Store.settled (record { conn = c.self.inside.conn; ours = c.self.inside.ours; is_open = c.self.inside.health.is_open; faults = c.self.inside.health.faults }) c.self.invariant)

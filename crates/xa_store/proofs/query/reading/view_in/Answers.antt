@@ -19,9 +19,9 @@ returns-clause-reads g c clean ours =
     let name = c.args.name.now in
     let domain = c.in-Some.domain in
     let n = (let same_n : to_z w64 (of_z w64 domain.number) ≡ domain.number = search rules in same_n) in
-    let first = c.in_ok-found.ensures.quiet in
-    let opens = c.in_ok-found.ensures.opens in
-    let second = c.view_at.ensures.quiet in
+    let first = c.in_ok-found.ensures.only_reads.quiet in
+    let opens = c.in_ok-found.ensures.only_reads.opens in
+    let second = c.in_ok-view.ensures.only_reads.quiet in
     let there : c.in_ok-found.found ≡ Some domain = search rules in
     let is = subst (FindsDomain name (rows_of old.now.trees)) there (c.in_ok-found.ensures.finds (second.clean clean) ours) in
     let between = ours_between old middle new first opens second clean ours in

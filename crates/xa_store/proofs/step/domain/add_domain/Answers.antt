@@ -5,10 +5,14 @@ use Rattle.xa_store.proofs.DomainSteps.{domain_added_stepped}
 use Rattle.xa_store.proofs.TakeLemmas.{took_ok}
 use Rattle.xa_store.proofs.step.domain.add_domain.Goals as goal
 
-pub returns-clause-takes : goal.returns-clause-takes
-returns-clause-takes g c clean inside none =
+pub returns-clause-taken : goal.returns-clause-taken
+returns-clause-taken g c =
     let old = state g.S.Store c.args.tx.now.conn.now in
     let new = state g.S.Store c.execute_in.new.tx.conn.now in
     let n = to_z-of_z w64 c.args.number c.ranges.number in
-    took_ok old new (AddDomain c.args.number c.args.name.now) c.execute_in.result (c.execute_in.ensures.stays.inside clean inside.inside) (c.execute_in.ensures.runs clean inside.inside)
-    (λ ran. domain_added_stepped old new inside.schema ran.0 inside.tables c.args.number c.args.name.now none (rw (n, c.as_bytes.ensures) at ran.1))
+    record {
+      stays = c.execute_in.ensures.stays;
+      takes = λ clean inside none.
+          took_ok old new (AddDomain c.args.number c.args.name.now) c.execute_in.result (c.execute_in.ensures.stays.inside clean inside.inside) (c.execute_in.ensures.runs clean inside.inside)
+          (λ ran. domain_added_stepped old new inside.schema ran.0 inside.tables c.args.number c.args.name.now none (rw (n, c.as_bytes.ensures) at ran.1));
+    }

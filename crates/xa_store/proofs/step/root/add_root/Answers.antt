@@ -7,9 +7,9 @@ use Rattle.xa_store.proofs.ColumnNumbers.{of_kind}
 use Rattle.xa_store.proofs.TakeLemmas.{took_ok}
 use Rattle.xa_store.proofs.step.root.add_root.Goals as goal
 
-pub returns-clause-takes : goal.returns-clause-takes
+pub returns-clause-taken : goal.returns-clause-taken
 unfolding root_of
-returns-clause-takes g c clean inside allows =
+returns-clause-taken g c =
     let old = state g.S.Store c.args.tx.now.conn.now in
     let new = state g.S.Store c.execute_in.new.tx.conn.now in
     let n = to_z-of_z w64 c.args.number c.ranges.number in
@@ -18,5 +18,9 @@ returns-clause-takes g c clean inside allows =
     let earliest = option_map version_text root.earliest in
     let latest = option_map version_text root.latest in
     let row : RootRow = record { number = c.args.number; kind = root.kind; id = root.id; texts = pattern ∷ earliest ∷ latest ∷ [] } in
-    took_ok old new (AddRoot c.args.number root) c.execute_in.result (c.execute_in.ensures.stays.inside clean inside.inside) (c.execute_in.ensures.runs clean inside.inside)
-    (λ ran. root_added_stepped old new inside.schema ran.0 inside.tables c.args.number root row pattern earliest latest refl refl (rw (n, (of_kind root.kind).held) at (rw (c.text_or_null.ensures, c.text_or_null-2.ensures, c.text_or_null-3.ensures, c.kind_column.ensures, c.as_bytes.ensures, c.in_ok-pattern.ensures, c.in_ok-earliest.ensures, c.in_ok-latest.ensures) at ran.1)) refl)
+    record {
+      stays = c.execute_in.ensures.stays;
+      takes = λ clean inside allows.
+          took_ok old new (AddRoot c.args.number root) c.execute_in.result (c.execute_in.ensures.stays.inside clean inside.inside) (c.execute_in.ensures.runs clean inside.inside)
+          (λ ran. root_added_stepped old new inside.schema ran.0 inside.tables c.args.number root row pattern earliest latest refl refl (rw (n, (of_kind root.kind).held) at (rw (c.text_or_null.ensures, c.text_or_null-2.ensures, c.text_or_null-3.ensures, c.kind_column.ensures, c.as_bytes.ensures, c.in_ok-pattern.ensures, c.in_ok-earliest.ensures, c.in_ok-latest.ensures) at ran.1)) refl);
+    }

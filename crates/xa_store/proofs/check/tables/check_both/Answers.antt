@@ -1,6 +1,6 @@
 use Rattle.xa_store.proofs.Common.{state, is_sound_table}
 use Rattle.xa_store.proofs.LoadLemmas.{checked_then}
-use Rattle.xa_store.proofs.check.tables.check_two.Goals as goal
+use Rattle.xa_store.proofs.check.tables.check_both.Goals as goal
 
 pub returns : goal.returns
 returns g c =
