@@ -1,7 +1,7 @@
 -- A decision that is held, and one that is worked out, as the machine tells it.
 use Rattle.std.proofs.Common.{◌≡◌, ℕ, ℤ, List, refl, sym, ap, ◌∙◌, subst, cond, true, false}
 use Rattle.std.specs.Option.{ok_or}
-use Rattle.std.specs.Prelude.{Bool, ◌&&◌, nat_le, length, Option, Some, None, option_map, Result, Ok, Err, IfSome}
+use Rattle.std.specs.Prelude.{Bool, ◌&&◌, nat_le, length, Option, Some, None, option_map, Result, Ok, Err, IfSome, OnErr}
 use Rattle.std.specs.FinMap.{get}
 use Rattle.xa_value.specs.Gives.{◌>>=◌}
 use Rattle.xa_cache.specs.Bodies.{found}
@@ -13,8 +13,10 @@ use Rattle.xa_decide.specs.Decision as decision
 use Rattle.xa_decide.specs.Decision.{Viewed}
 use Rattle.xa_decide.specs.Timeless.{is_timeless_answer}
 use Rattle.xa_notation.specs.declared.notation_error.NotationError.TheVariants.{NotJson}
+use Rattle.xa_records.specs.declared.refusal.Failure.TheVariants.{Memory, Store}
 use Rattle.xa_records.specs.declared.refusal.Refusal.TheVariants.{Absent}
 use Rattle.xa_records.specs.DomainState.{DomainState}
+use Rattle.xa_records.specs.Keeper.{Custody}
 use Rattle.xa_records.specs.Kept.{Domain, Kept, state_of}
 use Rattle.xa_records.specs.Readings.{gate_of_domain}
 use Rattle.xa_server.specs.declared.error_code.ErrorCode.{ErrorCode}
@@ -23,7 +25,8 @@ use Rattle.xa_server.specs.declared.revision.Revision.{Revision}
 use Rattle.xa_server.specs.declared.stop.Stop.{Stop}
 use Rattle.xa_server.specs.declared.stop.Stop.TheVariants.{Code, Failed}
 use Rattle.xa_server.specs.Gates.{revision_by, revision_of}
-use Rattle.xa_server.specs.Handling.{Answers, IsFresh, IsNoted, IsResponseReply, Shows, key_of_revision, key_within, reply_told, response_told, view_told, worked_in}
+use Rattle.xa_server.specs.Asking.{IsFresh, IsNoted, IsResponse, IsResponseReply, key_of_revision, key_within, reply_told, response_told, view_told, worked_in}
+use Rattle.xa_server.specs.Handling.{Answers, OnlyReads, Shows}
 use Rattle.xa_server.specs.Machine.{response_to, told}
 use Rattle.xa_server.specs.Replies.{decision_reply}
 use Rattle.xa_server.specs.Tally.{Tally}
@@ -37,7 +40,7 @@ use Rattle.xa_server.proofs.WorkLemmas.{domain_of_revision}
 -- ---- what was responded
 
 -- a response with its mark is what is worked out
-pub response_is : (view : Viewed) (body : List ℕ) (moment : ℤ) (sent : Option Responded) → option_map (λ r. r.body) sent ≡ option_map decision.body_of (decision.answer view body moment)
+response_is : (view : Viewed) (body : List ℕ) (moment : ℤ) (sent : Option Responded) → option_map (λ r. r.body) sent ≡ option_map decision.body_of (decision.answer view body moment)
     → IfSome sent (λ r. r.timeless ≡ is_timeless_answer view body) → response_of view body moment ≡ option_map (λ r. (r.body, r.timeless)) sent
 unfolding response_of
 response_is view body moment sent is timeless = by_answer (decision.answer view body moment) refl sent is timeless where
@@ -51,6 +54,23 @@ response_is view body moment sent is timeless = by_answer (decision.answer view 
       let some : Some r.body ≡ Some (decision.body_of answered) = is ∙ ap (option_map decision.body_of) e in
       let body_is : r.body ≡ decision.body_of answered = cc in
       rw e (ap (λ b. Some (b, is_timeless_answer view body)) (sym body_is) ∙ ap (λ t. Some (r.body, t)) (sym timeless))
+
+-- where it is told, or why there is none
+pub response_so : (view : Viewed) (body : List ℕ) (moment : ℤ) (sent : Option Responded) (responded : Responded) → ok_or sent (error.Body NotJson) ≡ Ok responded
+    → option_map (λ r. r.body) sent ≡ option_map decision.body_of (decision.answer view body moment) → IfSome sent (λ r. r.timeless ≡ is_timeless_answer view body)
+    → IsResponse (response_of view body moment) (Ok responded)
+response_so view body moment None responded told is timeless = absurd cc
+response_so view body moment (Some r) responded told is timeless =
+    let same : r ≡ responded = (let it : Ok r ≡ Ok responded = told in cc) in
+    response_is view body moment (Some r) is timeless ∙ ap (λ (x : Responded). Some (x.body, x.timeless)) same
+
+pub no_response : (view : Viewed) (body : List ℕ) (moment : ℤ) (sent : Option Responded) (code : ErrorCode) → ok_or sent (error.Body NotJson) ≡ Err code
+    → option_map (λ r. r.body) sent ≡ option_map decision.body_of (decision.answer view body moment) → IfSome sent (λ r. r.timeless ≡ is_timeless_answer view body)
+    → IsResponse (response_of view body moment) (Err (Code code))
+no_response view body moment (Some r) code told is timeless = absurd cc
+no_response view body moment None code told is timeless =
+    let same : code ≡ error.Body NotJson = (let it : error.Body NotJson ≡ code = (let e : Err (error.Body NotJson) ≡ Err code = told in cc) in sym it) in
+    (response_is view body moment None is timeless, same)
 
 -- ---- what the response comes to
 
@@ -116,6 +136,17 @@ pub told_same : (old new : Kept) (result : Result (List ℕ) Stop) (meant : Resu
 told_same old new (Ok bytes) meant told = told.1
 told_same old new (Err (Code code)) meant told = told.1
 told_same old new (Err (Failed failure)) meant same = same
+
+-- the keeper isn't asked, and the views are as they were
+pub keeper_left : (custody : Custody) (view : Viewed) (body : List ℕ) (moment : ℤ) (result : Result (List ℕ) Stop) → IsResponseReply (response_of view body moment) result → OnlyReads custody custody result
+keeper_left custody view body moment (Ok bytes) meant = record { sound = λ sound. sound; clean = λ clean. clean; stays = λ clean sound. sound; leaves = λ clean sound left is. is; counts = refl }
+keeper_left custody view body moment (Err (Code code)) meant = record { sound = λ sound. sound; clean = λ clean. clean; stays = λ clean sound. sound; leaves = λ clean sound left is. is; counts = refl }
+keeper_left custody view body moment (Err (Failed Memory)) meant = record { sound = λ sound. sound; clean = λ clean. clean; stays = λ clean sound. tt; leaves = λ clean sound left is. is; counts = refl }
+keeper_left custody view body moment (Err (Failed Store)) meant = let none : Store ≡ Memory = meant in absurd cc
+
+pub room_left : (result : Result (List ℕ) Stop) (claim : Type 0) → claim → OnErr result claim
+room_left (Ok bytes) claim holds = tt
+room_left (Err stop) claim holds = holds
 
 -- ---- the key of a body
 

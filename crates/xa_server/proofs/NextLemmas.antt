@@ -1,5 +1,5 @@
 -- The next answer of one connection.
-use Rattle.std.proofs.Common.{◌≡◌, ℤ, false, Option, Some, None, Result, Ok, Err, refl, sym, ap, ◌∙◌}
+use Rattle.std.proofs.Common.{◌≡◌, ℕ, ℤ, false, Option, Some, None, Result, Ok, Err, inl, refl, sym, ap, subst, ◌∙◌}
 use Rattle.std.proofs.lemmas.List.{set-get_or}
 use Rattle.xa_http.specs.declared.fault.SessionFault.{SessionFault}
 use Rattle.xa_http.specs.declared.message.Message.{Message}
@@ -9,13 +9,18 @@ use Rattle.xa_http.specs.declared.session.Next.TheVariants as next
 use Rattle.xa_http.specs.Messages.{IsLook, IsNext}
 use Rattle.xa_http.specs.Stream.{Stream}
 use Rattle.xa_http.proofs.LawLemmas.{answers_messages}
+use Rattle.xa_records.specs.Keeper.{Custody}
+use Rattle.xa_server.specs.Crash.{IfSent}
 use Rattle.xa_server.specs.declared.event.Answer.{Answer}
 use Rattle.xa_server.specs.declared.front_error.FrontError.{FrontError}
 use Rattle.xa_server.specs.declared.front_error.FrontError.TheVariants.{Memory, NoSuchConnection, TooManyConnections, Full}
 use Rattle.xa_server.specs.declared.lines.Conn.{Conn}
+use Rattle.xa_server.specs.declared.replies.Reply.{Reply}
 use Rattle.xa_server.specs.Front.{FrontState, ServerState}
-use Rattle.xa_server.specs.Fronting.{Answers, AnswersIn, AnswersNext, IsFaultGiven, TakesNext}
+use Rattle.xa_server.specs.Fronting.{Answers, AnswersIn, AnswersNext, CountsAnswer, IfAnswerSent, IsFaultGiven, IsHandedOn, TakesNext}
 use Rattle.xa_server.specs.Lines.{Lines, line_at, with_line}
+use Rattle.xa_server.specs.Served.{CountsReply}
+use Rattle.xa_server.specs.World.{World}
 
 -- where a message stands at the front, it is what a session gives
 pub only_message : (old new : Stream) (given : Next) → IsLook old look.Message → IsNext old given new
@@ -36,6 +41,29 @@ pub fault_taken : (fault : SessionFault) (stream after : Stream) (result : Resul
 fault_taken fault stream after (Ok (Some answer)) on (is, reply, last) = (next.Fault fault, is, (reply, last))
 fault_taken fault stream after (Ok None) on none = absurd none
 fault_taken fault stream after (Err error) on (memory, same) = (memory, on, same)
+
+-- and of the keeper, which isn't asked
+fault_stays : (fault : SessionFault) (claim : Type 0) (stream after : Stream) (result : Result (Option Answer) FrontError)
+    → IsFaultGiven fault stream after result → claim → IfAnswerSent result claim
+fault_stays fault claim stream after (Ok (Some answer)) (is, reply, last) holds = subst (λ (r : Reply). IfSent r claim) (sym reply) holds
+fault_stays fault claim stream after (Ok None) none holds = absurd none
+fault_stays fault claim stream after (Err error) given holds = holds
+
+fault_counts : (fault : SessionFault) (faults : ℕ) (stream after : Stream) (result : Result (Option Answer) FrontError)
+    → IsFaultGiven fault stream after result → CountsAnswer faults faults result
+fault_counts fault faults stream after (Ok (Some answer)) (is, reply, last) = subst (λ (r : Reply). CountsReply faults faults r) (sym reply) refl
+fault_counts fault faults stream after (Ok None) none = absurd none
+fault_counts fault faults stream after (Err error) given = refl
+
+pub fault_handed : (fault : SessionFault) (custody : Custody) (before : World) (moment : ℤ) (line : Option Stream) (stream after : Stream)
+    (result : Result (Option Answer) FrontError) → IsFaultGiven fault stream after result → IsHandedOn custody custody before moment line result
+fault_handed fault custody before moment line stream after result given = record {
+  sound = λ sound. sound;
+  clean = λ clean. clean;
+  stays = λ clean sound. fault_stays fault custody.sound stream after result given sound;
+  crash = λ clean sound left may. inl may;
+  counts = fault_counts fault custody.faults stream after result given;
+}
 
 -- a line that was left as it was leaves all
 put_same : (conn : Conn) (old new : Lines) (line after : Option Stream) → line ≡ line_at conn old → new ≡ with_line conn after old → after ≡ line → new ≡ old

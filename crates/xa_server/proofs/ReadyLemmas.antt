@@ -14,7 +14,7 @@ use Rattle.xa_server.specs.declared.revision.Revision.{Revision}
 use Rattle.xa_server.specs.declared.ready.Ready.{Ready}
 use Rattle.xa_server.specs.Gates.{revision_by, revision_of}
 use Rattle.xa_server.specs.Growth.{Grows}
-use Rattle.xa_server.specs.Handling.{view_told}
+use Rattle.xa_server.specs.Asking.{view_told}
 use Rattle.xa_server.specs.Standing.{Stands}
 use Rattle.xa_server.specs.Stock.{AreReady, IsReady}
 use Rattle.xa_server.specs.View.{view_of}

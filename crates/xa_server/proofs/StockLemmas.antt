@@ -7,7 +7,7 @@ use Rattle.xa_server.specs.declared.revision.Revision.{Revision}
 use Rattle.xa_server.specs.declared.ready.Ready.{Ready}
 use Rattle.xa_server.specs.declared.stop.Stop.{Stop}
 use Rattle.xa_server.specs.Gates.{revision_of}
-use Rattle.xa_server.specs.Handling.{IsFresh, IsLookedUp, key_of_revision, view_told, worked_in}
+use Rattle.xa_server.specs.Asking.{IsFresh, IsLookedUp, key_of_revision, view_told, worked_in}
 use Rattle.xa_server.specs.Stock.{AllStand, AreGates, AreReady, Stock}
 use Rattle.xa_server.specs.Views.{touched, with_view, without}
 use Rattle.xa_server.proofs.ReadyLemmas.{made_ready, ready_touched, ready_with, ready_without}

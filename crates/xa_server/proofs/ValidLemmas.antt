@@ -16,7 +16,7 @@ use Rattle.xa_server.specs.declared.stop.Stop.{Stop}
 use Rattle.xa_server.specs.declared.stop.Stop.TheVariants.{Code, Failed}
 use Rattle.xa_server.specs.Gates.{revision_by, revision_of}
 use Rattle.xa_server.specs.Growth.{Grows}
-use Rattle.xa_server.specs.Handling.{IsFresh, IsLookedUp, key_of_revision, worked_in}
+use Rattle.xa_server.specs.Asking.{IsFresh, IsLookedUp, key_of_revision, worked_in}
 use Rattle.xa_server.specs.Tally.{Tally}
 use Rattle.xa_server.specs.ValidCache.{AreValid, GivesBody, IsValid, response_body_at}
 use Rattle.xa_server.specs.View.{view_of}

@@ -21,7 +21,8 @@ use Rattle.xa_server.specs.declared.received.Received.{Received}
 use Rattle.xa_server.specs.declared.stop.Stop.{Stop}
 use Rattle.xa_server.specs.declared.stop.Stop.TheVariants.{Code, Failed}
 use Rattle.xa_server.specs.Gates.{revision_by, revision_of}
-use Rattle.xa_server.specs.Handling.{IsAsked, IsFresh, IsReplyOf, WorksMessage, WorksOf, WorksRoute}
+use Rattle.xa_server.specs.Asking.{IsAsked, IsFresh, WorksMessage, WorksOf, WorksRoute}
+use Rattle.xa_server.specs.Handling.{IsReplyOf}
 use Rattle.xa_server.specs.Stop.{stop_of_route}
 use Rattle.xa_server.specs.Served.{IsServed}
 use Rattle.xa_server.specs.Tally.{Tally}

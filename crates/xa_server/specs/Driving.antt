@@ -96,27 +96,25 @@ IsSentAs turn (Some answer) before now written writing said saying =
 IsSentAs turn None before now written writing said saying =
     (turn ≡ Waits) × (now ≡ before) × (writing ≡ written) × (saying ≡ said)
 
--- the next of a connection was answered at that moment, and the reply was written; or there was no memory
-abbrev pub IsAnsweredAt : Turn → Conn → ℤ → FrontState → FrontState → Option (List Bool) → Option (List Bool)
-    → Option (List ℕ) → Option (List ℕ) → Option (List WriteEnd) → Option (List WriteEnd) → Option (List Bool)
-    → Option (List Bool) → Type 0
-IsAnsweredAt turn conn moment old new found finding before now written writing said saying =
+-- the next of a connection was answered at that moment, and the reply was written; or there was no memory. Of the reads
+-- and the clock it says nothing
+abbrev pub IsAnsweredAt : Turn → Conn → ℤ → FrontState → FrontState → Known → Known → Type 0
+IsAnsweredAt turn conn moment old new before now =
     ((answer : Option Answer) × (given : Next) × IsAnswered conn moment old (Some given) (Ok answer) new
-    × Grows found finding (true ∷ [])
-    × IsSentAs turn answer before now written writing said saying)
-    ⊎ (((turn ≡ Ends driven.Memory) × (new ≡ old) × Grows found finding (false ∷ []) × (now ≡ before)
-    × (writing ≡ written) × (saying ≡ said))
+    × Grows before.memory now.memory (true ∷ [])
+    × IsSentAs turn answer before.contents now.contents before.writes now.writes before.said now.said)
+    ⊎ (((turn ≡ Ends driven.Memory) × (new ≡ old) × Grows before.memory now.memory (false ∷ [])
+    × (now.contents ≡ before.contents) × (now.writes ≡ before.writes) × (now.said ≡ before.said))
     ⊎ (line_at conn old.lines ≡ None))
 
 -- so it was at the clock's moment, where there was one
-abbrev pub IsAnsweredNow : Turn → Conn → FrontState → FrontState → Option (List Bool) → Option (List Bool)
-    → Option (List ℕ) → Option (List ℕ) → Option (List WriteEnd) → Option (List WriteEnd) → Option (List (Option ℤ))
-    → Option (List (Option ℤ)) → Option (List Bool) → Option (List Bool) → Type 0
-IsAnsweredNow turn conn old new found finding before now written writing told telling said saying =
-    ((moment : ℤ) × Grows told telling (Some moment ∷ [])
-    × IsAnsweredAt turn conn moment old new found finding before now written writing said saying)
-    ⊎ ((turn ≡ Ends driven.NoClock) × Grows told telling (None ∷ []) × (new ≡ old) × (finding ≡ found) × (now ≡ before)
-    × (writing ≡ written) × (saying ≡ said))
+abbrev pub IsAnsweredNow : Turn → Conn → FrontState → FrontState → Known → Known → Type 0
+IsAnsweredNow turn conn old new before now =
+    ((moment : ℤ) × Grows before.told now.told (Some moment ∷ [])
+    × IsAnsweredAt turn conn moment old new before now)
+    ⊎ ((turn ≡ Ends driven.NoClock) × Grows before.told now.told (None ∷ []) × (new ≡ old)
+    × (now.memory ≡ before.memory) × (now.contents ≡ before.contents) × (now.writes ≡ before.writes)
+    × (now.said ≡ before.said))
 
 -- ---- messages
 

@@ -6,6 +6,7 @@ use Rattle.xa_http.specs.declared.session.Next.{Next}
 use Rattle.xa_http.specs.declared.session.Next.TheVariants as next
 use Rattle.xa_http.specs.Messages.{IsFirst, IsNext}
 use Rattle.xa_http.specs.Stream.{Stream}
+use Rattle.xa_records.specs.Keeper.{Custody}
 use Rattle.xa_records.specs.Kept.{Kept}
 use Rattle.xa_server.specs.Crash.{IfSent, IsStepMade}
 use Rattle.xa_server.specs.declared.event.Answer.{Answer}
@@ -125,6 +126,18 @@ abbrev pub LeavesAnswer : (Kept → Type 0) → (Kept → Type 0) → World → 
 LeavesAnswer before after old moment line =
     (left : Kept) → after left
     → before left ⊎ ((message : Message) × IsFirstOf line message × IsStepMade old left moment message (owner message))
+
+-- what is told of the keeper after the next of a stream that may not be there was answered: word of private functions
+pub record IsHandedOn (old new : Custody) (before : World) (moment : ℤ) (line : Option Stream)
+    (result : Result (Option Answer) FrontError) : Type 0 where
+  -- where it is sound it was, and where the disk has given back what was written it had before
+  pub sound : new.sound → old.sound
+  pub clean : new.clean → old.clean
+  -- and there it stays sound, unless a message was refused, and this a crash may leave
+  pub stays : new.clean → old.sound → IfAnswerSent result new.sound
+  pub crash : new.clean → old.sound → LeavesAnswer old.may_leave new.may_leave before moment line
+  -- its calls that failed for want of storage are counted
+  pub counts : CountsAnswer old.faults new.faults result
 
 -- unless an event cut off a message that was refused
 abbrev pub IfOutcomeSent : Outcome → Type 0 → Type 0

@@ -1,39 +1,25 @@
 -- How the code answers a message: words that only contracts of private functions cite.
 use Rattle.std.specs.Option.{ok_or}
 use Rattle.std.specs.FinMap.{get}
-use Rattle.std.specs.Prelude.{◌≡◌, ◌⊎◌, ℕ, ℤ, Bool, List, length, nat_le, OnErr, Option, Some, None, option_and_then}
-use Rattle.std.specs.Prelude.{option_map, Result, Ok, Err, if◌then◌else◌}
+use Rattle.std.specs.Prelude.{◌≡◌, ◌⊎◌, ℕ, Bool, List, OnErr, Option, Some, None, option_and_then, Result, Ok, Err}
 use Rattle.xa_value.specs.Gives.{◌>>=◌}
 use Rattle.xa_notation.specs.declared.notation_error.NotationError.{NotationError}
-use Rattle.xa_notation.specs.declared.notation_error.NotationError.TheVariants.{NotJson}
-use Rattle.xa_records.specs.declared.refusal.Refusal.TheVariants.{Absent}
-use Rattle.xa_decide.specs.declared.decision.Responded.{Responded}
 use Rattle.xa_http.specs.declared.route.Route.{Route}
-use Rattle.xa_http.specs.Routes.{route_of}
+use Rattle.xa_http.specs.Routes.{named_by}
 use Rattle.xa_records.specs.declared.refusal.Failure.TheVariants.{Memory, Store}
 use Rattle.xa_records.specs.DomainState.{DomainState}
 use Rattle.xa_records.specs.Keeper.{Custody, IsOneMore}
-use Rattle.xa_records.specs.Kept.{Domain, IsChanged, Kept, names_of, state_of}
-use Rattle.xa_server.specs.declared.asks.Ask.{Ask}
+use Rattle.xa_records.specs.Kept.{IsChanged, Kept, names_of, state_of}
 use Rattle.xa_server.specs.declared.error_code.ErrorCode.{ErrorCode}
 use Rattle.xa_server.specs.declared.error_code.ErrorCode.TheVariants as error
-use Rattle.xa_server.specs.declared.revision.Revision.{Revision}
 use Rattle.xa_server.specs.declared.received.Received.{Received}
-use Rattle.xa_server.specs.declared.ready.Ready.{Ready}
 use Rattle.xa_server.specs.declared.stop.Stop.{Stop}
 use Rattle.xa_server.specs.declared.stop.Stop.TheVariants.{Code, Failed}
 use Rattle.xa_server.specs.declared.replies.Reply.{Reply}
 use Rattle.xa_server.specs.declared.replies.Reply.TheVariants.{Sent, Refused}
 use Rattle.xa_server.specs.ErrorCode.{error_reply}
-use Rattle.xa_server.specs.Gates.{revision_of}
-use Rattle.xa_server.specs.Replies.{decision_reply}
-use Rattle.xa_cache.specs.declared.key.Key.{Key}
-use Rattle.xa_decide.specs.Decision.{Viewed}
+use Rattle.xa_server.specs.Owner.{name_if}
 use Rattle.xa_server.specs.Stock.{AllStand, Stock}
-use Rattle.xa_server.specs.Tally.{Tally}
-use Rattle.xa_server.specs.View.{view_of}
-use Rattle.xa_server.specs.Work.{IsWorkedOut, body_held, domain_of_message, domain_of_route, key_in, looked_up}
-use Rattle.xa_server.specs.Work.{response_of, worked_out}
 use Rattle.xa_server.specs.Machine.{Answer, answer, by_route, general_answer, general_by_route, or_body_fault}
 use Rattle.xa_server.specs.Machine.{permitted}
 
@@ -69,6 +55,10 @@ admitted_by for_decisions state shown = do
   role ← ok_or (option_and_then (get domain.tokens) shown) error.Unauthorized
   permitted role for_decisions
 
+-- the domain that a route's path names, if it names one
+abbrev pub domain_named : Route → Option (List ℕ)
+domain_named route = option_and_then name_if (named_by route)
+
 -- a message that asks for this was answered, by the domain that its path names, if it names one
 abbrev pub AnswersRoute : Received → Kept → Kept → Option (List ℕ) → Route → Result (List ℕ) Stop → Type 0
 AnswersRoute received old new None route result =
@@ -96,119 +86,6 @@ abbrev pub IsReplyOf : Result (List ℕ) Stop → Reply → Type 0
 IsReplyOf (Ok bytes) reply = reply ≡ Sent bytes
 IsReplyOf (Err (Failed failure)) reply = reply ≡ Refused failure
 IsReplyOf (Err (Code code)) reply = (reply ≡ Sent (error_reply code)) ⊎ (reply ≡ Refused Memory)
-
--- ---- asking for a decision
-
--- the body of the response, and whether it is the same at every moment; nothing of an absent domain, and where the
--- body is no JSON
-abbrev pub worked_in : Option DomainState → List ℕ → ℤ → Option (List ℕ × Bool)
-worked_in state body moment = option_and_then (λ s. worked_out s body moment) state
-
--- the same, or why there is none
-abbrev pub response_told : List ℕ → ℤ → Option DomainState → Result (List ℕ × Bool) ErrorCode
-response_told body moment state =
-    ok_or state (error.Refused Absent) >>= (λ s. ok_or (worked_out s body moment) (error.Body NotJson))
-
--- what decides in a domain; nothing in an absent one
-abbrev pub view_told : Option DomainState → Result Viewed ErrorCode
-view_told state = ok_or (option_map view_of state) (error.Refused Absent)
-
--- it was worked out by what decides; or the body is no JSON; or there was no memory
-abbrev pub IsResponse : Option (List ℕ × Bool) → Result Responded Stop → Type 0
-IsResponse meant (Ok responded) = meant ≡ Some (responded.body, responded.timeless)
-IsResponse meant (Err (Code code)) = (meant ≡ None) × (code ≡ error.Body NotJson)
-IsResponse meant (Err (Failed failure)) = failure ≡ Memory
-
--- the reply to what was worked out, or the body is no JSON, or there was no memory
-abbrev pub IsResponseReply : Option (List ℕ × Bool) → Result (List ℕ) Stop → Type 0
-IsResponseReply meant (Ok bytes) = option_map (λ response. decision_reply response.0) meant ≡ Some bytes
-IsResponseReply meant (Err (Code code)) = (meant ≡ None) × (code ≡ error.Body NotJson)
-IsResponseReply meant (Err (Failed failure)) = failure ≡ Memory
-
--- what decides was made ready, at that revision; or an error answer says why not, or that failed; and nothing has
--- changed
-abbrev pub MakesReady : Kept → Kept → Revision → Result Ready Stop → Result Viewed ErrorCode → Type 0
-MakesReady old new revision (Ok ready) meant = (meant ≡ Ok ready.view) × (ready.revision ≡ revision) × (new ≡ old)
-MakesReady old new revision (Err (Code code)) meant = (meant ≡ Err code) × (new ≡ old)
-MakesReady old new revision (Err (Failed failure)) meant = new ≡ old
-
--- the reply
-abbrev pub reply_told : List ℕ → ℤ → Option DomainState → Result (List ℕ) ErrorCode
-reply_told body moment state = response_told body moment state >>= (λ response. Ok (decision_reply response.0))
-
--- under which key a decision is held, by the revision of the domain that lets the message in
-abbrev pub key_of_revision : Revision → List ℕ → Key
-key_of_revision revision body = record { number = revision.number; epoch = revision.epoch; body = body }
-
--- the same, where the body isn't too large: it has at most 16,384 bytes
-abbrev pub key_within : Key → Option Key
-key_within key = if nat_le (length key.body) 16_384 then Some key else None
-
--- a decision was worked out, and counted; without a key it isn't held
-abbrev pub IsNoted : Option Key → List ℕ → Bool → Tally → Tally → Type 0
-IsNoted (Some key) body timeless old new = IsWorkedOut key (Some (body, timeless)) old new
-IsNoted None body timeless old new =
-    IsOneMore old.evaluations new.evaluations × (new.held ≡ old.held) × (new.unkept ≡ old.unkept)
-
--- the domain that has let it in is there, at that revision
-abbrev pub IsLetIn : Kept → Ask → Type 0
-IsLetIn kept ask = revision_of ask.name.now kept ≡ Some ask.revision
-
--- this holds where a domain has let it in, and where all that the server shares stood before and the keeper is sound
--- after
-abbrev pub IfLetIn : Custody → Custody → Ask → Stock → Type 0 → Type 0
-IfLetIn old new ask before claim = IsLetIn old.kept ask → AllStand old.kept before → new.sound → claim
-
--- under which key the decision on the body is held
-abbrev pub key_asked : Ask → List ℕ → Key
-key_asked ask body = key_of_revision ask.revision body
-
--- what its response comes to, by what decides; by what decides in its domain; and the reply
-abbrev pub response_asked : Viewed → Ask → List ℕ → Option (List ℕ × Bool)
-response_asked view ask body = response_of view body ask.moment
-
-abbrev pub worked_asked : Kept → Ask → List ℕ → Option (List ℕ × Bool)
-worked_asked kept ask body = worked_in (state_of ask.name.now kept) body ask.moment
-
-abbrev pub reply_asked : Kept → Ask → List ℕ → Result (List ℕ) ErrorCode
-reply_asked kept ask body = reply_told body ask.moment (state_of ask.name.now kept)
-
--- the decision was worked out, with success; by an error answer nothing was there to be worked out, and a failure has
--- left all
-abbrev pub IsFresh : Key → Option (List ℕ × Bool) → Result (List ℕ) Stop → Tally → Tally → Type 0
-IsFresh key worked (Ok bytes) old new = IsWorkedOut key worked old new
-IsFresh key worked (Err (Code code)) old new = (worked ≡ None) × (new ≡ old)
-IsFresh key worked (Err (Failed failure)) old new = new ≡ old
-
--- a look-up where a decision is held, or isn't
-abbrev pub IsLookedUp : Option (List ℕ) → Key → Tally → Tally → Type 0
-IsLookedUp None key old new = new ≡ old
-IsLookedUp (Some body) key old new = new ≡ looked_up key old
-
--- an ask that was let in, where a decision is held, or isn't
-abbrev pub IsAsked : Key → Option (List ℕ) → Option (List ℕ × Bool) → Result (List ℕ) Stop → Tally → Tally → Type 0
-IsAsked key (Some body) worked (Ok bytes) old new = new ≡ looked_up key old
-IsAsked key (Some body) worked (Err (Code code)) old new = ⊥
-IsAsked key (Some body) worked (Err (Failed failure)) old new = (new ≡ old) ⊎ (new ≡ looked_up key old)
-IsAsked key None worked result old new = IsFresh key worked result old new
-
--- ---- what was done to what is held of decisions
-
--- by a message, by the domain that it asks
-abbrev pub WorksOf : Option Domain → List ℕ → ℤ → Result (List ℕ) Stop → Tally → Tally → Type 0
-WorksOf None body moment result old new = new ≡ old
-WorksOf (Some domain) body moment result old new =
-    IsAsked (key_in domain body) (body_held (key_in domain body) body old)
-    (worked_out domain.state body moment) result old new
-
-abbrev pub WorksRoute : Received → Kept → Route → Result (List ℕ) Stop → Tally → Tally → Type 0
-WorksRoute received kept route result old new =
-    WorksOf (domain_of_route kept received.message.now route) received.message.now.body received.moment result old new
-
-abbrev pub WorksMessage : Received → Kept → Result (List ℕ) Stop → Tally → Tally → Type 0
-WorksMessage received kept result old new =
-    WorksOf (domain_of_message kept received.message.now (route_of received.message.now)) received.message.now.body
-    received.moment result old new
 
 -- ---- what a crash may leave
 
@@ -286,6 +163,13 @@ pub record Handles {X : Type 0} (old new : Custody) (result : Result X Stop) (is
   pub stays : new.clean → old.sound → IfTold result new.sound
   pub leaves : new.clean → old.sound → leaves_so
   pub counts : Counts old.faults new.faults result
+
+-- a message that asks for this was handled, which may change the domain that its path names
+pub record ChangesRoute (old new : Custody) (received : Received) (route : Route) (result : Result (List ℕ) Stop)
+    : Type 0 where
+  pub answers : new.sound → AnswersRoute received old.kept new.kept (domain_named route) route result
+  pub keeper : Keeping old new result
+      (LeavesRoute old.may_leave new.may_leave received old.kept (domain_named route) route)
 
 -- as that machine of the domain of that name answers
 abbrev pub HandlesChange : Custody → Custody → List ℕ → Result (List ℕ) Stop → (Option DomainState → Answer) → Type 0

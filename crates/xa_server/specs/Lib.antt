@@ -22,6 +22,7 @@ pub mod Stock
 pub mod Growth
 pub mod Stop
 pub mod Handling
+pub mod Asking
 pub mod Connection
 pub mod Lines
 pub mod Front

@@ -23,10 +23,7 @@ use xa_value::Text;
 fn digest_shown(message: &Message) -> Option<Digest>
     ensures { result ≡ digest_shown message.now }
 {
-    match token_in(message.fields.as_slice()) {
-        Some(token) => Some(Digest::of(token)),
-        None => None,
-    }
+    token_in(message.fields.as_slice()).map(|token| Digest::of(token))
 }
 
 /// Nothing more where the message shows the operator's token.
@@ -65,8 +62,7 @@ fn gate_opened<R: Records>(
         (admitted_by for_decisions (state_of name.now (R.custody records.old).kept) (Some digest.now)) }
     ensures keeper { OnlyReads (R.custody records.old) (R.custody records.new) result }
 {
-    let gate = records.gate(alloc, name)?;
-    let gate = gate.ok_or(ErrorCode::Unauthorized)?;
+    let gate = records.gate(alloc, name)?.ok_or(ErrorCode::Unauthorized)?;
     let role = role_in(gate.tokens.as_slice(), digest).ok_or(ErrorCode::Unauthorized)?;
     permission(role, for_decisions)?;
     Ok(gate)

@@ -9,9 +9,10 @@ ghost use Rattle.xa_records.specs.declared.refusal.Refusal.TheVariants.{Absent};
 ghost use Rattle.xa_records.specs.Kept.{state_of};
 ghost use Rattle.xa_server.specs.declared.error_code.ErrorCode.TheVariants.{Refused};
 ghost use Rattle.xa_records.specs.Readings.{view_of};
-ghost use Rattle.xa_server.specs.Handling.{Answers, IfLetIn, IsAsked, IsFresh, IsResponse, IsResponseReply};
-ghost use Rattle.xa_server.specs.Handling.{MakesReady, OnlyReads, Shows, key_asked, key_within};
-ghost use Rattle.xa_server.specs.Handling.{reply_asked, response_asked, view_told, worked_asked};
+ghost use Rattle.xa_server.specs.Asking.{FreshReply, IfLetIn, IsAsked, IsFresh, IsResponse};
+ghost use Rattle.xa_server.specs.Asking.{IsResponseReply, MakesReady, key_asked, key_within};
+ghost use Rattle.xa_server.specs.Asking.{reply_asked, response_asked, view_told, worked_asked};
+ghost use Rattle.xa_server.specs.Handling.{Answers, OnlyReads, Shows};
 ghost use Rattle.xa_server.specs.Machine.{response_to, told};
 ghost use Rattle.xa_server.specs.Stock.{AllStand};
 ghost use Rattle.xa_server.specs.View.{AreKeyed, nothing_viewed};
@@ -19,7 +20,7 @@ ghost use Rattle.xa_server.specs.Views.{added, bytes_of_tree, bytes_of_view};
 ghost use Rattle.xa_server.specs.Work.{body_held, response_of};
 
 use crate::decisions::{Decisions, key_within};
-use crate::error_code::ErrorCode;
+use crate::error_code::{ABSENT, ErrorCode};
 use crate::limits::Limits;
 use crate::ready::{Ready, bytes_of_tree, bytes_of_view};
 use crate::replies::decision_reply;
@@ -31,9 +32,12 @@ use std::alloc::Global;
 use xa_cache::Key;
 use xa_decide::{RequestBody, Responded, View, asks_policies, respond};
 use xa_notation::NotationError;
-use xa_records::{Failure, KeptView, Records, Refusal};
+use xa_records::{Failure, KeptView, Records};
 use xa_shelf::TextReader;
 use xa_value::{Items, Moment, Text};
+
+/// Why a body that is no JSON has no response.
+const NOT_JSON: ErrorCode = ErrorCode::Body(NotationError::NotJson);
 
 /// A request for a decision, but for its body: the domain that has let it in, and when it was asked.
 #[derive(Drop)]
@@ -54,9 +58,7 @@ fn kept_view<R: Records>(alloc: Global, records: &mut R, name: &Text) -> Result<
     ensures keyed { (R.custody records.new).sound → IfOk result (λ kept. AreKeyed kept.texts) }
     ensures keeper { OnlyReads (R.custody records.old) (R.custody records.new) result }
 {
-    let kept = records
-        .view(alloc, name)?
-        .ok_or(ErrorCode::Refused(Refusal::Absent))?;
+    let kept = records.view(alloc, name)?.ok_or(ABSENT)?;
     records.keeps_documents();
     Ok(kept)
 }
@@ -95,8 +97,8 @@ fn ready_view<R: Records>(
     })
 }
 
-/// The same, of no more text than may be read for a message. Where that is too little, it is remembered
-/// of the domain.
+/// What decides in the domain, made of no more text than may be read for a message. Where that is too
+/// little, it is remembered of the domain.
 fn ready_within<R: Records>(
     alloc: Global,
     texts: &mut Texts,
@@ -125,10 +127,8 @@ fn response_by(
 ) -> Result<Responded, Stop>
     ensures { IsResponse (response_of view.now body.now moment) result }
 {
-    match respond(alloc, view, body, moment)? {
-        Some(responded) => Ok(responded),
-        None => Err(Stop::Code(ErrorCode::Body(NotationError::NotJson))),
-    }
+    let responded = respond(alloc, view, body, moment)?.ok_or(NOT_JSON)?;
+    Ok(responded)
 }
 
 /// The reply by what decides: it is worked out, counted, and held where it stays the same.
@@ -215,16 +215,8 @@ fn reply_without_view<R: Records>(
     body: &RequestBody<'_>,
 ) -> Result<Items<u8>, Stop>
     requires { key ≡ key_within (key_asked ask.now body.now) }
-    ensures tells { IfLetIn (R.custody records.old) (R.custody records.new) ask.now resources.old
-        (Shows (R.custody records.old).kept (R.custody records.new).kept result
-        (reply_asked (R.custody records.old).kept ask.now body.now)) }
-    ensures works { IfLetIn (R.custody records.old) (R.custody records.new) ask.now resources.old
-        (IsFresh (key_asked ask.now body.now) (worked_asked (R.custody records.old).kept ask.now body.now)
-        result resources.old.tally resources.new.tally) }
-    ensures stands { IfLetIn (R.custody records.old) (R.custody records.new) ask.now resources.old
-        (AllStand (R.custody records.old).kept resources.new) }
-    ensures room { OnErr result (resources.new.room ≡ resources.old.room) }
-    ensures keeper { OnlyReads (R.custody records.old) (R.custody records.new) result }
+    ensures { FreshReply (R.custody records.old) (R.custody records.new) ask.now body.now
+        resources.old resources.new result }
 {
     if asks_policies(alloc, body)? {
         return reply_by_kept(alloc, resources, records, ask, key, body);
@@ -244,16 +236,8 @@ fn fresh_reply<R: Records>(
     body: &RequestBody<'_>,
 ) -> Result<Items<u8>, Stop>
     requires { key ≡ key_within (key_asked ask.now body.now) }
-    ensures tells { IfLetIn (R.custody records.old) (R.custody records.new) ask.now resources.old
-        (Shows (R.custody records.old).kept (R.custody records.new).kept result
-        (reply_asked (R.custody records.old).kept ask.now body.now)) }
-    ensures works { IfLetIn (R.custody records.old) (R.custody records.new) ask.now resources.old
-        (IsFresh (key_asked ask.now body.now) (worked_asked (R.custody records.old).kept ask.now body.now)
-        result resources.old.tally resources.new.tally) }
-    ensures stands { IfLetIn (R.custody records.old) (R.custody records.new) ask.now resources.old
-        (AllStand (R.custody records.old).kept resources.new) }
-    ensures room { OnErr result (resources.new.room ≡ resources.old.room) }
-    ensures keeper { OnlyReads (R.custody records.old) (R.custody records.new) result }
+    ensures { FreshReply (R.custody records.old) (R.custody records.new) ask.now body.now
+        resources.old resources.new result }
 {
     if let Some(view) = resources.views.find(ask.revision) {
         let reply = reply_by(alloc, &mut resources.decisions, ask, key, view, body)?;
@@ -263,7 +247,8 @@ fn fresh_reply<R: Records>(
     reply_without_view(alloc, resources, records, ask, key, body)
 }
 
-/// The same for a body that isn't read yet: it is read once, whatever is asked of it.
+/// The reply by a decision that is worked out, for a body that isn't read yet: it is read once, whatever
+/// is asked of it.
 fn read_reply<R: Records>(
     alloc: Global,
     resources: &mut Resources,
@@ -273,16 +258,8 @@ fn read_reply<R: Records>(
     body: &[u8],
 ) -> Result<Items<u8>, Stop>
     requires { key ≡ key_within (key_asked ask.now body.now) }
-    ensures tells { IfLetIn (R.custody records.old) (R.custody records.new) ask.now resources.old
-        (Shows (R.custody records.old).kept (R.custody records.new).kept result
-        (reply_asked (R.custody records.old).kept ask.now body.now)) }
-    ensures works { IfLetIn (R.custody records.old) (R.custody records.new) ask.now resources.old
-        (IsFresh (key_asked ask.now body.now) (worked_asked (R.custody records.old).kept ask.now body.now)
-        result resources.old.tally resources.new.tally) }
-    ensures stands { IfLetIn (R.custody records.old) (R.custody records.new) ask.now resources.old
-        (AllStand (R.custody records.old).kept resources.new) }
-    ensures room { OnErr result (resources.new.room ≡ resources.old.room) }
-    ensures keeper { OnlyReads (R.custody records.old) (R.custody records.new) result }
+    ensures { FreshReply (R.custody records.old) (R.custody records.new) ask.now body.now
+        resources.old resources.new result }
 {
     let read = RequestBody::read(alloc, body)?;
     fresh_reply(alloc, resources, records, ask, key, &read)

@@ -1,7 +1,7 @@
 //! The decisions that are held, with their counts.
 ghost use Rattle.std.specs.Prelude.{◌≡◌, true, option_map, IfOk};
 ghost use Rattle.xa_cache.specs.Bodies.{found};
-ghost use Rattle.xa_server.specs.Handling.{IsLookedUp, IsNoted, key_of_revision, key_within};
+ghost use Rattle.xa_server.specs.Asking.{IsLookedUp, IsNoted, key_of_revision, key_within};
 ghost use Rattle.xa_server.specs.Tally.{nothing_held};
 ghost use Rattle.xa_server.specs.Work.{IsHeld};
 ghost use Rattle.xa_server.specs.Replies.{decision_reply};

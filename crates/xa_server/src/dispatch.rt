@@ -1,16 +1,15 @@
 //! The reply to one message: the questions in their order, and then what is done on the route that it
 //! takes. Changes, readings and asks are in files of their own.
 ghost use Rattle.std.specs.Prelude.{IsTrue};
-ghost use Rattle.xa_http.specs.Routes.{named_by};
 ghost use Rattle.xa_http.specs.declared.route.Route.TheVariants as to;
 ghost use Rattle.xa_records.specs.DomainName.{is_domain_name};
-ghost use Rattle.xa_server.specs.Handling.{AnswersMessage, AnswersRoute, HandlesChange};
-ghost use Rattle.xa_server.specs.Handling.{Keeping, LeavesMessage, LeavesRoute, OnlyForgets};
-ghost use Rattle.xa_server.specs.Handling.{OnlyReads, Sharing, WorksMessage, WorksRoute};
+ghost use Rattle.xa_server.specs.Asking.{WorksMessage, WorksRoute};
+ghost use Rattle.xa_server.specs.Handling.{AnswersMessage, AnswersRoute, ChangesRoute, HandlesChange};
+ghost use Rattle.xa_server.specs.Handling.{Keeping, LeavesMessage, LeavesRoute, OnlyForgets, OnlyReads};
+ghost use Rattle.xa_server.specs.Handling.{Sharing, domain_named};
 ghost use Rattle.xa_server.specs.Machine.{by_document_command, by_domain_command, by_operator_command};
 ghost use Rattle.xa_server.specs.Owner.{name_if, owner};
 ghost use Rattle.xa_server.specs.Stock.{AllStand};
-ghost use Rattle.std.specs.Option.{option_and_then};
 
 use crate::admission::{admission, admitting_domain, by_operator};
 use crate::asks::{Ask, reply_to_ask};
@@ -18,7 +17,7 @@ use crate::changes::{
     create, delete, drop_token, put_token, remove, set_active, set_root, set_source, upload,
 };
 use crate::document_key::key_of_parts;
-use crate::error_code::ErrorCode;
+use crate::error_code::{ABSENT, ErrorCode};
 use crate::name::name_if;
 use crate::readings::{domains, list, show, source};
 use crate::received::Received;
@@ -27,7 +26,7 @@ use crate::stop::Stop;
 use std::alloc::Global;
 use xa_http::{DocumentCommand, DocumentParts, DomainCommand, OperatorCommand, Route, Routes};
 use xa_policy::DocumentKey;
-use xa_records::{Records, Refusal};
+use xa_records::Records;
 use xa_value::{Items, Text};
 
 /// Does what the operator asks for of a domain.
@@ -100,24 +99,14 @@ fn operator_route<R: Records>(
     domain: Items<u8>,
     command: OperatorCommand,
 ) -> Result<Items<u8>, Stop>
-    ensures answers { (R.custody records.new).sound
-        → AnswersRoute received.now (R.custody records.old).kept (R.custody records.new).kept (name_if domain)
+    ensures handled { ChangesRoute (R.custody records.old) (R.custody records.new) received.now
         (to.Operator domain command) result }
     ensures shared { OnlyForgets (R.custody records.old) (R.custody records.new) resources.old resources.new }
-    ensures keeper { Keeping (R.custody records.old) (R.custody records.new) result
-        (LeavesRoute (R.custody records.old).may_leave (R.custody records.new).may_leave received.now
-        (R.custody records.old).kept (name_if domain) (to.Operator domain command)) }
 {
     by_operator(received.operator, received.message)?;
     let name = name_if(domain).ok_or(ErrorCode::BadDomain)?;
     resources.forget(&name);
-    by_operator_command(
-        alloc,
-        records,
-        &name,
-        command,
-        received.message.body.as_slice(),
-    )
+    by_operator_command(alloc, records, &name, command, received.body())
 }
 
 /// Answers a message that asks for a decision in a domain.
@@ -145,13 +134,7 @@ fn decision_route<R: Records>(
         revision,
         moment: received.moment,
     };
-    reply_to_ask(
-        alloc,
-        resources,
-        records,
-        &ask,
-        received.message.body.as_slice(),
-    )
+    reply_to_ask(alloc, resources, records, &ask, received.body())
 }
 
 /// Answers a message that asks for something else in a domain. Once it is let in the domain's gate is
@@ -165,24 +148,14 @@ fn domain_route<R: Records>(
     domain: Items<u8>,
     command: DomainCommand,
 ) -> Result<Items<u8>, Stop>
-    ensures answers { (R.custody records.new).sound
-        → AnswersRoute received.now (R.custody records.old).kept (R.custody records.new).kept (name_if domain)
+    ensures handled { ChangesRoute (R.custody records.old) (R.custody records.new) received.now
         (to.Domain domain command) result }
     ensures shared { OnlyForgets (R.custody records.old) (R.custody records.new) resources.old resources.new }
-    ensures keeper { Keeping (R.custody records.old) (R.custody records.new) result
-        (LeavesRoute (R.custody records.old).may_leave (R.custody records.new).may_leave received.now
-        (R.custody records.old).kept (name_if domain) (to.Domain domain command)) }
 {
     let name = name_if(domain).ok_or(ErrorCode::Unauthorized)?;
     admission(alloc, records, &name, received.message)?;
     resources.forget(&name);
-    by_domain_command(
-        alloc,
-        records,
-        &name,
-        command,
-        received.message.body.as_slice(),
-    )
+    by_domain_command(alloc, records, &name, command, received.body())
 }
 
 /// Answers a message to the path of a document. Once it is let in the domain's gate is forgotten, since
@@ -197,17 +170,13 @@ fn document_route<R: Records>(
     parts: DocumentParts,
     command: DocumentCommand,
 ) -> Result<Items<u8>, Stop>
-    ensures answers { (R.custody records.new).sound
-        → AnswersRoute received.now (R.custody records.old).kept (R.custody records.new).kept (name_if domain)
+    ensures handled { ChangesRoute (R.custody records.old) (R.custody records.new) received.now
         (to.Document domain parts command) result }
     ensures shared { OnlyForgets (R.custody records.old) (R.custody records.new) resources.old resources.new }
-    ensures keeper { Keeping (R.custody records.old) (R.custody records.new) result
-        (LeavesRoute (R.custody records.old).may_leave (R.custody records.new).may_leave received.now
-        (R.custody records.old).kept (name_if domain) (to.Document domain parts command)) }
 {
     let name = name_if(domain).ok_or(ErrorCode::Unauthorized)?;
     admission(alloc, records, &name, received.message)?;
-    let key = key_of_parts(parts).ok_or(ErrorCode::Refused(Refusal::Absent))?;
+    let key = key_of_parts(parts).ok_or(ABSENT)?;
     resources.forget(&name);
     by_document_command(alloc, records, &name, command, &key)
 }
@@ -222,14 +191,14 @@ fn reply_to_route<R: Records>(
 ) -> Result<Items<u8>, Stop>
     ensures answers { AllStand (R.custody records.old).kept resources.old → (R.custody records.new).sound
         → AnswersRoute received.now (R.custody records.old).kept (R.custody records.new).kept
-        (option_and_then name_if (named_by route)) route result }
+        (domain_named route) route result }
     ensures shared { Sharing (R.custody records.old) (R.custody records.new)
         resources.old resources.new result
         (WorksRoute received.now
         (R.custody records.old).kept route result resources.old.tally resources.new.tally) }
     ensures keeper { Keeping (R.custody records.old) (R.custody records.new) result
         (LeavesRoute (R.custody records.old).may_leave (R.custody records.new).may_leave received.now
-        (R.custody records.old).kept (option_and_then name_if (named_by route)) route) }
+        (R.custody records.old).kept (domain_named route) route) }
 {
     match route {
         Route::Domains => {

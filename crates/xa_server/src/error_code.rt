@@ -4,10 +4,11 @@ ghost use Rattle.xa_server.specs.ErrorCode.{code_of_route_fault, code_of_session
 ghost use Rattle.xa_server.specs.ErrorCode.{error_body, error_reply, extra_of, row_of};
 ghost use Rattle.xa_server.specs.declared.error_code.ErrorCode.TheVariants as code;
 
+use crate::replies::items_of_reply;
 use http::StatusCode;
 use std::alloc::{AllocError, Global};
 use thiserror::Error;
-use xa_http::{Extra, Media, Place, RouteFault, SessionFault, reply};
+use xa_http::{Extra, Media, Place, RouteFault, SessionFault};
 use xa_notation::NotationError;
 use xa_records::Refusal;
 use xa_value::Items;
@@ -44,6 +45,9 @@ pub enum ErrorCode {
     #[error("the stream doesn't go on with a message that is taken")]
     Session(SessionFault),
 }
+
+/// 404: what is asked for isn't there.
+pub(crate) const ABSENT: ErrorCode = ErrorCode::Refused(Refusal::Absent);
 
 /// The body of the reply to a fault of a body.
 #[tactic(auto, unfolding(crate::specs::ErrorCode::error_body))]
@@ -89,6 +93,7 @@ fn body_of_session(fault: SessionFault) -> &'static [u8]
 }
 
 impl ErrorCode {
+    /// The status of the error answer.
     fn status(self) -> StatusCode
         ensures { result ≡ (row_of self).status }
     {
@@ -106,6 +111,7 @@ impl ErrorCode {
         }
     }
 
+    /// The field that the error answer has beside Content-Type and Content-Length.
     fn extra(self) -> Extra
         ensures { result ≡ extra_of self }
     {
@@ -116,6 +122,7 @@ impl ErrorCode {
         }
     }
 
+    /// The body of the error answer.
     #[tactic(auto, unfolding(crate::specs::ErrorCode::error_body))]
     fn body(self) -> &'static [u8]
         ensures { result.now ≡ error_body self }
@@ -138,8 +145,7 @@ impl ErrorCode {
     pub fn reply(self, alloc: Global) -> Result<Items<u8>, AllocError>
         ensures { IfOk result (λ bytes. bytes ≡ error_reply self) }
     {
-        let bytes = reply(alloc, self.status(), Media::Json, self.extra(), self.body())?;
-        Ok(Items::from_vec(bytes))
+        items_of_reply(alloc, self.status(), Media::Json, self.extra(), self.body())
     }
 }
 

@@ -7,7 +7,8 @@ ghost use Rattle.xa_server.specs.FrontLaws.{LinesAreStreams};
 ghost use Rattle.xa_server.specs.Fronting.{Answers, AnswersIn, AnswersNext, CountsAnswer};
 ghost use Rattle.xa_server.specs.Fronting.{CountsOutcome, CountsOutcomes, DoesEvent, DoesLines};
 ghost use Rattle.xa_server.specs.Fronting.{IfAllSent, IfAnswerSent, IfOutcomeSent, IsFaultGiven};
-ghost use Rattle.xa_server.specs.Fronting.{LeavesAnswer, PlaysLines, TakesIn, TakesLine, TakesNext};
+ghost use Rattle.xa_server.specs.Fronting.{IsHandedOn, LeavesAnswer, PlaysLines};
+ghost use Rattle.xa_server.specs.Fronting.{TakesIn, TakesLine, TakesNext};
 ghost use Rattle.xa_server.specs.Lines.{IsClosed, IsHeld, IsLooked, IsOpened, held_at, line_at, none_open};
 ghost use Rattle.xa_server.specs.World.{world};
 
@@ -114,7 +115,7 @@ impl<R: Records> Front<R> {
         ensures counts { CountsAnswer
             (R.custody self.old.server.records).faults (R.custody self.new.server.records).faults result }
     {
-        match self.lines.lines.get_mut(conn.number) {
+        match self.lines.sessions.get_mut(conn.number) {
             Some(line) => answer_line(self.alloc, &mut self.server, line, moment),
             None => Err(FrontError::NoSuchConnection),
         }
@@ -207,15 +208,8 @@ fn answer_line<R: Records>(
         (server_state R.custody server.old) (server_state R.custody server.new) line.old line.new result }
     ensures line { TakesIn line.old line.new result }
     ensures err { OnErr result ((server.new ≡ server.old) × (line.new ≡ line.old)) }
-    ensures sound { (R.custody server.new.records).sound → (R.custody server.old.records).sound }
-    ensures clean { (R.custody server.new.records).clean → (R.custody server.old.records).clean }
-    ensures stays { (R.custody server.new.records).clean → (R.custody server.old.records).sound
-        → IfAnswerSent result (R.custody server.new.records).sound }
-    ensures crash { (R.custody server.new.records).clean → (R.custody server.old.records).sound
-        → LeavesAnswer (R.custody server.old.records).may_leave (R.custody server.new.records).may_leave
-        (world R.custody server.old) moment line.old }
-    ensures counts { CountsAnswer
-        (R.custody server.old.records).faults (R.custody server.new.records).faults result }
+    ensures handed { IsHandedOn (R.custody server.old.records) (R.custody server.new.records)
+        (world R.custody server.old) moment line.old result }
 {
     match line {
         Some(session) => answer_next(alloc, server, session, moment),
@@ -224,7 +218,7 @@ fn answer_line<R: Records>(
 }
 
 /// Answers the next of a stream: its first message, or the fault by which it ends.
-#[tactic(auto, using(crate::proofs::NextLemmas::fault_answered, crate::proofs::NextLemmas::fault_taken))]
+#[tactic(auto, using(crate::proofs::NextLemmas::fault_answered, crate::proofs::NextLemmas::fault_taken, crate::proofs::NextLemmas::fault_handed))]
 fn answer_next<R: Records>(
     alloc: Global,
     server: &mut Server<R>,
@@ -236,15 +230,8 @@ fn answer_next<R: Records>(
         session.old session.new result }
     ensures stream { TakesNext session.old session.new result }
     ensures err { OnErr result ((server.new ≡ server.old) × (session.new ≡ session.old)) }
-    ensures sound { (R.custody server.new.records).sound → (R.custody server.old.records).sound }
-    ensures clean { (R.custody server.new.records).clean → (R.custody server.old.records).clean }
-    ensures stays { (R.custody server.new.records).clean → (R.custody server.old.records).sound
-        → IfAnswerSent result (R.custody server.new.records).sound }
-    ensures crash { (R.custody server.new.records).clean → (R.custody server.old.records).sound
-        → LeavesAnswer (R.custody server.old.records).may_leave (R.custody server.new.records).may_leave
-        (world R.custody server.old) moment (Some session.old) }
-    ensures counts { CountsAnswer
-        (R.custody server.old.records).faults (R.custody server.new.records).faults result }
+    ensures handed { IsHandedOn (R.custody server.old.records) (R.custody server.new.records)
+        (world R.custody server.old) moment (Some session.old) result }
 {
     match session.look()? {
         Look::Message => answer_message(server, session, moment),
@@ -266,15 +253,8 @@ fn answer_message<R: Records>(
         session.old session.new result }
     ensures stream { TakesNext session.old session.new result }
     ensures err { OnErr result ((server.new ≡ server.old) × (session.new ≡ session.old)) }
-    ensures sound { (R.custody server.new.records).sound → (R.custody server.old.records).sound }
-    ensures clean { (R.custody server.new.records).clean → (R.custody server.old.records).clean }
-    ensures stays { (R.custody server.new.records).clean → (R.custody server.old.records).sound
-        → IfAnswerSent result (R.custody server.new.records).sound }
-    ensures crash { (R.custody server.new.records).clean → (R.custody server.old.records).sound
-        → LeavesAnswer (R.custody server.old.records).may_leave (R.custody server.new.records).may_leave
-        (world R.custody server.old) moment (Some session.old) }
-    ensures counts { CountsAnswer
-        (R.custody server.old.records).faults (R.custody server.new.records).faults result }
+    ensures handed { IsHandedOn (R.custody server.old.records) (R.custody server.new.records)
+        (world R.custody server.old) moment (Some session.old) result }
 {
     let Next::Message(message) = session.next()? else {
         unreachable!()

@@ -66,10 +66,8 @@ impl Gates {
         ensures { result ≡ revision_in name.now digest.now self.now }
     {
         let gate = self.gates.peek(name)?;
-        match role_in(gate.tokens.as_slice(), digest) {
-            Some(_) => Some(Revision::of(gate)),
-            None => None,
-        }
+        role_in(gate.tokens.as_slice(), digest)?;
+        Some(Revision::of(gate))
     }
 
     /// Makes the gate under that name the one that was used last: one look-up.

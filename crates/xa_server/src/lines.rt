@@ -25,7 +25,7 @@ pub struct Conn {
 /// The connections, by their numbers: the session of each that is open. One that isn't has no buffer.
 #[derive(Drop)]
 pub(crate) struct Lines {
-    pub(crate) lines: Vec<Option<Session>>,
+    pub(crate) sessions: Vec<Option<Session>>,
 }
 
 impl Model for Lines {
@@ -34,9 +34,9 @@ impl Model for Lines {
 
     ghost Value = { List (Option Stream) };
 
-    ghost view = { λ l. l.lines.items };
+    ghost view = { λ l. l.sessions.items };
 
-    ghost invariant = { λ l. length l.lines.items ≡ 64 };
+    ghost invariant = { λ l. length l.sessions.items ≡ 64 };
 }
 
 impl Lines {
@@ -44,11 +44,11 @@ impl Lines {
     pub(crate) fn new(alloc: Global) -> Result<Lines, AllocError>
         ensures { IfOk result (λ lines. lines ≡ none_open) }
     {
-        let mut lines = Vec::with_capacity(alloc, CONNECTIONS)?;
+        let mut sessions = Vec::with_capacity(alloc, CONNECTIONS)?;
         for _ in 0..CONNECTIONS {
-            lines.push(None)?;
+            sessions.push(None)?;
         }
-        Ok(Lines { lines })
+        Ok(Lines { sessions })
     }
 
     /// Opens the connection of the least number that is free. It holds nothing, and no memory is taken
@@ -56,9 +56,7 @@ impl Lines {
     pub(crate) fn open(&mut self, alloc: Global) -> Result<Conn, FrontError>
         ensures { IsOpened self.old result self.new }
     {
-        let Some(number) = first_free(&self.lines) else {
-            return Err(FrontError::TooManyConnections);
-        };
+        let number = first_free(&self.sessions).ok_or(FrontError::TooManyConnections)?;
         let conn = Conn { number };
         self.put(conn, Some(Session::new(alloc)));
         Ok(conn)
@@ -68,7 +66,7 @@ impl Lines {
     pub(crate) fn piece(&mut self, conn: Conn, piece: &[u8]) -> Result<(), FrontError>
         ensures { IsHeld conn piece.now self.old result self.new }
     {
-        match self.lines.get_mut(conn.number) {
+        match self.sessions.get_mut(conn.number) {
             Some(line) => feed(line, piece),
             None => Err(FrontError::NoSuchConnection),
         }
@@ -79,7 +77,7 @@ impl Lines {
         ensures look { IsLooked conn self.old result }
         ensures same { self.new ≡ self.old }
     {
-        match self.lines.get_mut(conn.number) {
+        match self.sessions.get_mut(conn.number) {
             Some(line) => look(line),
             None => Err(FrontError::NoSuchConnection),
         }
@@ -99,7 +97,7 @@ impl Lines {
     pub(crate) fn held_len(&self, conn: Conn) -> Option<usize>
         ensures { result ≡ held_at conn self.now }
     {
-        let session = self.lines.get(conn.number)?.as_ref()?;
+        let session = self.sessions.get(conn.number)?.as_ref()?;
         Some(session.held_len())
     }
 
@@ -108,7 +106,7 @@ impl Lines {
         ensures before { result ≡ line_at conn self.old }
         ensures after { self.new ≡ with_line conn session self.old }
     {
-        match self.lines.get_mut(conn.number) {
+        match self.sessions.get_mut(conn.number) {
             Some(line) => mem::replace(line, session),
             None => None,
         }

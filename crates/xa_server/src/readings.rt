@@ -9,17 +9,14 @@ ghost use Rattle.xa_server.specs.Handling.{HandlesReading, OnlyReads, Shows};
 ghost use Rattle.xa_server.specs.Machine.{by_document_command, told};
 ghost use Rattle.xa_server.specs.Replies.{json_reply};
 
-use crate::error_code::ErrorCode;
+use crate::error_code::ABSENT;
 use crate::replies::json_reply;
 use crate::stop::Stop;
 use std::alloc::Global;
 use xa_decide::write_rows;
 use xa_policy::DocumentKey;
-use xa_records::{Records, Refusal, write_listing, write_names};
+use xa_records::{Records, write_listing, write_names};
 use xa_value::{Items, Text};
-
-/// Why what is read isn't there.
-const ABSENT: ErrorCode = ErrorCode::Refused(Refusal::Absent);
 
 /// The domain's documents.
 #[tactic(auto, using(crate::proofs::GrowthLemmas::reads))]

@@ -1,4 +1,6 @@
 //! A message as the server has received it.
+ghost use Rattle.std.specs.Prelude.{◌≡◌};
+
 use xa_http::Message;
 use xa_records::Digest;
 use xa_value::Moment;
@@ -12,4 +14,13 @@ pub(crate) struct Received<'a> {
     pub(crate) message: &'a Message,
     /// The moment at which it is answered.
     pub(crate) moment: Moment,
+}
+
+impl<'a> Received<'a> {
+    /// The message's body.
+    pub(crate) fn body(&self) -> &[u8]
+        ensures { result.now ≡ self.now.message.now.body }
+    {
+        self.message.body.as_slice()
+    }
 }

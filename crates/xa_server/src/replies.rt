@@ -1,5 +1,6 @@
 //! The replies of a server: bytes that it sent, or a refusal and its fixed 503.
 ghost use Rattle.std.specs.Prelude.{◌≡◌, IfOk};
+ghost use Rattle.xa_http.specs.Reply.{http_bytes};
 ghost use Rattle.xa_server.specs.Replies.{bytes_of, created_reply, decision_reply};
 ghost use Rattle.xa_server.specs.Replies.{done_reply, json_reply, unavailable_reply};
 
@@ -42,13 +43,25 @@ fn unavailable_reply() -> &'static [u8]
     UNAVAILABLE
 }
 
+/// The bytes of a reply of that status, with that media type, extra field and body.
+pub(crate) fn items_of_reply(
+    alloc: Global,
+    status: StatusCode,
+    media: Media,
+    extra: Extra,
+    body: &[u8],
+) -> Result<Items<u8>, AllocError>
+    ensures { IfOk result (λ bytes. bytes ≡ http_bytes status media extra body.now) }
+{
+    Ok(Items::from_vec(reply(alloc, status, media, extra, body)?))
+}
+
 /// The reply with what was read.
 #[tactic(auto, unfolding(crate::specs::Replies::json_reply))]
 pub(crate) fn json_reply(alloc: Global, body: &[u8]) -> Result<Items<u8>, AllocError>
     ensures { IfOk result (λ bytes. bytes ≡ json_reply body.now) }
 {
-    let bytes = reply(alloc, StatusCode::OK, Media::Json, Extra::Nothing, body)?;
-    Ok(Items::from_vec(bytes))
+    items_of_reply(alloc, StatusCode::OK, Media::Json, Extra::Nothing, body)
 }
 
 /// The reply with a response.
@@ -56,14 +69,13 @@ pub(crate) fn json_reply(alloc: Global, body: &[u8]) -> Result<Items<u8>, AllocE
 pub(crate) fn decision_reply(alloc: Global, body: &[u8]) -> Result<Items<u8>, AllocError>
     ensures { IfOk result (λ bytes. bytes ≡ decision_reply body.now) }
 {
-    let bytes = reply(
+    items_of_reply(
         alloc,
         StatusCode::OK,
         Media::XacmlJson,
         Extra::Nothing,
         body,
-    )?;
-    Ok(Items::from_vec(bytes))
+    )
 }
 
 /// The reply to a change that was made.
@@ -71,8 +83,7 @@ pub(crate) fn decision_reply(alloc: Global, body: &[u8]) -> Result<Items<u8>, Al
 pub(crate) fn done_reply(alloc: Global) -> Result<Items<u8>, AllocError>
     ensures { IfOk result (λ bytes. bytes ≡ done_reply) }
 {
-    let bytes = reply(alloc, StatusCode::OK, Media::Json, Extra::Nothing, b"{}")?;
-    Ok(Items::from_vec(bytes))
+    items_of_reply(alloc, StatusCode::OK, Media::Json, Extra::Nothing, b"{}")
 }
 
 /// The reply to a change that has put something where nothing was.
@@ -80,12 +91,11 @@ pub(crate) fn done_reply(alloc: Global) -> Result<Items<u8>, AllocError>
 pub(crate) fn created_reply(alloc: Global) -> Result<Items<u8>, AllocError>
     ensures { IfOk result (λ bytes. bytes ≡ created_reply) }
 {
-    let bytes = reply(
+    items_of_reply(
         alloc,
         StatusCode::CREATED,
         Media::Json,
         Extra::Nothing,
         b"{}",
-    )?;
-    Ok(Items::from_vec(bytes))
+    )
 }

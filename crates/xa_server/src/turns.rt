@@ -1,5 +1,5 @@
 //! The turns of a connection: in each the next message that it holds is answered, and the reply is sent.
-ghost use Rattle.std.specs.Prelude.{◌≡◌, ℕ, false, true, IsTrue, List, MatchResult, Option, Some, pos};
+ghost use Rattle.std.specs.Prelude.{◌≡◌, ℕ, false, true, IsTrue, List, MatchResult, None, Option, Some, pos};
 ghost use Rattle.xa_http.specs.Stream.{Stream};
 ghost use Rattle.xa_server.specs.Driven.{KeepsOpen, known};
 ghost use Rattle.xa_server.specs.declared.turns.Turn.TheVariants as turn;
@@ -134,8 +134,10 @@ fn turn_at<F: Multiplexer, W: Writer>(
 ) -> Turn
     ensures answered { F.is_sound front.new
         → IsAnsweredAt result conn moment (F.state front.old) (F.state front.new)
-        (F.had_memory front.old) (F.had_memory front.new) (W.contents writer.old) (W.contents writer.new)
-        (W.writes writer.old) (W.writes writer.new) (F.said front.old) (F.said front.new) }
+        (known (F.had_memory front.old) None None (W.contents writer.old) (W.writes writer.old)
+        None (F.said front.old))
+        (known (F.had_memory front.new) None None (W.contents writer.new) (W.writes writer.new)
+        None (F.said front.new)) }
     ensures stays_open { KeepsOpen conn (F.state front.old).lines (F.state front.new).lines }
     ensures shut { result ≡ turn.Ends driven.Shut → F.goes_on front.new ≡ false }
     ensures sound { F.is_sound front.new → F.is_sound front.old }
@@ -157,9 +159,10 @@ fn message_turn<F: Multiplexer, W: Writer, C: Clock>(
 ) -> Turn
     ensures answered { F.is_sound front.new
         → IsAnsweredNow result conn (F.state front.old) (F.state front.new)
-        (F.had_memory front.old) (F.had_memory front.new) (W.contents writer.old) (W.contents writer.new)
-        (W.writes writer.old) (W.writes writer.new) (C.told clock.old) (C.told clock.new)
-        (F.said front.old) (F.said front.new) }
+        (known (F.had_memory front.old) None None (W.contents writer.old) (W.writes writer.old)
+        (C.told clock.old) (F.said front.old))
+        (known (F.had_memory front.new) None None (W.contents writer.new) (W.writes writer.new)
+        (C.told clock.new) (F.said front.new)) }
     ensures stays_open { KeepsOpen conn (F.state front.old).lines (F.state front.new).lines }
     ensures shut { result ≡ turn.Ends driven.Shut → F.goes_on front.new ≡ false }
     ensures sound { F.is_sound front.new → F.is_sound front.old }
@@ -174,8 +177,10 @@ fn message_turn<F: Multiplexer, W: Writer, C: Clock>(
 fn fault_turn<F: Multiplexer, W: Writer>(front: &mut F, conn: Conn, writer: &mut W) -> Turn
     ensures answered { F.is_sound front.new
         → IsAnsweredAt result conn (pos 0) (F.state front.old) (F.state front.new)
-        (F.had_memory front.old) (F.had_memory front.new) (W.contents writer.old) (W.contents writer.new)
-        (W.writes writer.old) (W.writes writer.new) (F.said front.old) (F.said front.new) }
+        (known (F.had_memory front.old) None None (W.contents writer.old) (W.writes writer.old)
+        None (F.said front.old))
+        (known (F.had_memory front.new) None None (W.contents writer.new) (W.writes writer.new)
+        None (F.said front.new)) }
     ensures stays_open { KeepsOpen conn (F.state front.old).lines (F.state front.new).lines }
     ensures shut { result ≡ turn.Ends driven.Shut → F.goes_on front.new ≡ false }
     ensures sound { F.is_sound front.new → F.is_sound front.old }

@@ -32,10 +32,7 @@ impl Unread {
 
     /// Whether the domain of that revision is one of them, at its epoch: one look-up.
     pub(crate) fn has(&self, revision: Revision) -> bool {
-        match self.epochs.peek(&revision.number) {
-            Some(epoch) => *epoch == revision.epoch,
-            None => false,
-        }
+        matches!(self.epochs.peek(&revision.number), Some(epoch) if *epoch == revision.epoch)
     }
 
     /// Remembers the domain of that revision, at its epoch, where that was found and there is memory.
