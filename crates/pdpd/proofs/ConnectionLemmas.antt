@@ -69,15 +69,14 @@ begins (outcome.Held result) old new free none = absurd none
 begins (outcome.Answered result) old new free none = absurd none
 begins (outcome.Finished result) old new free none = absurd none
 
-begun_so : (o : Outcome) (conn : Conn) (refused : FrontError) → o ≡ outcome.Begun (Ok conn) → o ≡ outcome.Begun (Err refused) → ⊥
-begun_so o conn refused is other = cc
+begun_as : (o : Outcome) (conn : Conn) (result : Result Conn FrontError) → o ≡ outcome.Begun (Ok conn) → o ≡ outcome.Begun result → result ≡ Ok conn
+begun_as o conn result is other = cc
 
 -- so that isn't refused
-pub begins_unrefused : (o : Outcome) (result : Result Conn FrontError) (refused : FrontError) (old new : Lines) → HasFree old → DoesLines event.Begin old o new
-    → o ≡ outcome.Begun result → result ≡ Err refused → ⊥
-begins_unrefused o result refused old new free does is error =
-    let found = begins o old new free does in
-    begun_so o found.0 refused found.1 (is ∙ ap outcome.Begun error)
+pub begins_unrefused : (o : Outcome) (result : Result Conn FrontError) (old new : Lines) → HasFree old → DoesLines event.Begin old o new → o ≡ outcome.Begun result
+    → (conn : Conn) × (result ≡ Ok conn)
+begins_unrefused o result old new free does is =
+    let found = begins o old new free does in (found.0, begun_as o found.0 result found.1 is)
 
 pub begun : (connection : TranscriptConnection) (conn : Conn) (old new : Lines) → DoesLines event.Begin old (outcome.Begun (Ok conn)) new
     → connection ≡ record { conn = conn; has_ended = false } → IsBegun connection old new
@@ -101,14 +100,13 @@ finishes conn (outcome.Begun result) old new open_before none = absurd none
 finishes conn (outcome.Held result) old new open_before none = absurd none
 finishes conn (outcome.Answered result) old new open_before none = absurd none
 
-finished_so : (o : Outcome) (done : Unit {0}) (refused : FrontError) → o ≡ outcome.Finished (Ok done) → o ≡ outcome.Finished (Err refused) → ⊥
-finished_so o done refused is other = cc
+finished_as : (o : Outcome) (done : Unit {0}) (result : Result (Unit {0}) FrontError) → o ≡ outcome.Finished (Ok done) → o ≡ outcome.Finished result → result ≡ Ok done
+finished_as o done result is other = cc
 
-pub finishes_unrefused : (conn : Conn) (o : Outcome) (result : Result (Unit {0}) FrontError) (refused : FrontError) (old new : Lines) → IsOneOpen conn old
-    → DoesLines (event.Finish conn) old o new → o ≡ outcome.Finished result → result ≡ Err refused → ⊥
-finishes_unrefused conn o result refused old new open_before does is error =
-    let found = finishes conn o old new open_before does in
-    finished_so o found.0 refused found.1 (is ∙ ap outcome.Finished error)
+pub finishes_unrefused : (conn : Conn) (o : Outcome) (result : Result (Unit {0}) FrontError) (old new : Lines) → IsOneOpen conn old → DoesLines (event.Finish conn) old o new
+    → o ≡ outcome.Finished result → (done : Unit {0}) × (result ≡ Ok done)
+finishes_unrefused conn o result old new open_before does is =
+    let found = finishes conn o old new open_before does in (found.0, finished_as o found.0 result found.1 is)
 
 pub finished : (conn : Conn) (done : Unit {0}) (old new : Lines) → DoesLines (event.Finish conn) old (outcome.Finished (Ok done)) new → new ≡ with_line conn None old
 finished conn done old new does = does.2

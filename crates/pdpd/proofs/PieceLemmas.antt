@@ -24,8 +24,7 @@ use Rattle.pdpd.specs.declared.exit.Exit.{Exit}
 use Rattle.pdpd.specs.declared.heading.Heading.{Heading}
 use Rattle.pdpd.specs.declared.telling.Progress.{Progress}
 use Rattle.pdpd.specs.declared.telling.Progress.TheVariants as progress
-use Rattle.pdpd.specs.Entry as entry
-use Rattle.pdpd.specs.Entry.{events_at, reply_entries}
+use Rattle.pdpd.specs.Entry.{IsStreamAnswered, events_at, reply_entries}
 use Rattle.pdpd.specs.Replay.{IsKept, StreamTakes}
 use Rattle.pdpd.specs.Replaying.{HasStreamTaken, TakesOpen, Writes}
 use Rattle.pdpd.specs.Telling.{AreTold, HasTold, IsTold, LeavesOff, answers_behind, progress_at, progress_of, replies_told}
@@ -251,7 +250,7 @@ stops_ended (Some fault) last after more ends over =
     (ends.0, keeps_faults last.held more fault ends.1, ap (λ (s : Stream). fed s more) ends.2)
 
 answered_ended : (moment : ℤ) (a b : World) (s t : Stream) (more : List ℕ) (told : List (List ℕ)) → AreTold moment a b s t told → t.ended ≡ true
-    → entry.IsAnswered moment a b (fed s more) (fed t more) told
+    → IsStreamAnswered moment a b (fed s more) (fed t more) told
 answered_ended moment a b s t more told is over = record {
   messages = is.messages;
   fault = is.fault;
@@ -267,7 +266,7 @@ stops_waiting None last after ends waits = inl (subst (λ (s : Stream). IsNext s
 stops_waiting (Some fault) last after ends waits = absurd (false≢true (sym waits.0 ∙ ap (λ (s : Stream). s.ended) ends.2))
 
 answered_waiting : (moment : ℤ) (a b : World) (s t : Stream) (told : List (List ℕ)) → AreTold moment a b s t told → IsNext t next.More t
-    → entry.IsAnswered moment a b s t told
+    → IsStreamAnswered moment a b s t told
 answered_waiting moment a b s t told is waits = record {
   messages = is.messages;
   fault = is.fault;
@@ -278,7 +277,7 @@ answered_waiting moment a b s t told is waits = record {
 }
 
 stream_taken : (heading : Heading) (bytes : List ℕ) (was after is : Stream) (old new : World) (before now : Option (List ℕ)) (replies : List (List ℕ))
-    → entry.IsAnswered heading.moment old new (fed was bytes) after replies → IsKept after is → Appends before now (reply_entries heading.connection replies)
+    → IsStreamAnswered heading.moment old new (fed was bytes) after replies → IsKept after is → Appends before now (reply_entries heading.connection replies)
     → Writes before now (StreamTakes heading bytes was is old new)
 stream_taken heading bytes was after is old new before now replies answered kept wrote = (
   record { events = events_at heading.moment answered.messages; replies = answered.run; written = reply_entries heading.connection replies },
@@ -296,8 +295,8 @@ taken_ended conn heading bytes rest piece after first mid new x y z before split
     let t = is.1 in
     let whole : fed (fed stream front) after ≡ fed stream bytes
     = fed_twice stream front after ∙ ap (λ (bs : List ℕ). fed stream bs) (sym (joined bytes before.0 rest piece after before.1 split)) in
-    let answered : entry.IsAnswered heading.moment first.server.world new.server.world (fed stream bytes) (fed t.after after) is.0
-    = subst (λ (s : Stream). entry.IsAnswered heading.moment first.server.world new.server.world s (fed t.after after) is.0) whole
+    let answered : IsStreamAnswered heading.moment first.server.world new.server.world (fed stream bytes) (fed t.after after) is.0
+    = subst (λ (s : Stream). IsStreamAnswered heading.moment first.server.world new.server.world s (fed t.after after) is.0) whole
     (answered_ended heading.moment first.server.world new.server.world (fed stream front) t.after after is.0 t.told t.stands) in
     record {
       after = t.after;
@@ -314,8 +313,8 @@ unfolding TakenTo HasTold TakesOpen
 taken_waiting conn heading bytes rest first mid new x y z before here = λ stream line goes_on.
     let is = piece_on conn heading before.0 rest first mid new progress.Waits x y z before.2 here stream line goes_on in
     let t = is.1 in
-    let answered : entry.IsAnswered heading.moment first.server.world new.server.world (fed stream bytes) t.after is.0
-    = subst (λ (bs : List ℕ). entry.IsAnswered heading.moment first.server.world new.server.world (fed stream bs) t.after is.0) (sym before.1)
+    let answered : IsStreamAnswered heading.moment first.server.world new.server.world (fed stream bytes) t.after is.0
+    = subst (λ (bs : List ℕ). IsStreamAnswered heading.moment first.server.world new.server.world (fed stream bs) t.after is.0) (sym before.1)
     (answered_waiting heading.moment first.server.world new.server.world (fed stream (before.0 ++ rest)) t.after is.0 t.told t.stands) in
     record {
       after = t.after;

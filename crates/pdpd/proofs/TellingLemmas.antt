@@ -33,7 +33,6 @@ use Rattle.xa_server.proofs.ConnectionLemmas.{appends_none, appends_trans, cuts_
 use Rattle.pdpd.specs.declared.heading.Heading.{Heading}
 use Rattle.pdpd.specs.declared.telling.Progress.{Progress}
 use Rattle.pdpd.specs.declared.telling.Progress.TheVariants as progress
-use Rattle.pdpd.specs.Entry as entry
 use Rattle.pdpd.specs.Entry.{events_at, reply_entries, reply_entry}
 use Rattle.pdpd.specs.Replay.{IsKept, StreamTakes}
 use Rattle.pdpd.specs.Replaying.{HasStreamTaken, TakesOpen, Writes}

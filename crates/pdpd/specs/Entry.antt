@@ -25,7 +25,8 @@ reply_entries connection replies = flat_map (reply_entry connection) replies
 
 -- the replies to what a stream holds: those of a run of the server on the whole messages, each at that moment, and
 -- after them the reply to the fault by which it ends, if it does
-pub record IsAnswered (moment : ℤ) (old new : World) (stream after : Stream) (replies : List (List ℕ)) : Type 0 where
+pub record IsStreamAnswered (moment : ℤ) (old new : World) (stream after : Stream)
+    (replies : List (List ℕ)) : Type 0 where
   pub messages : List Message
   pub fault : Option SessionFault
   pub run : List Reply

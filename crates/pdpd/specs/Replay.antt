@@ -15,7 +15,7 @@ use Rattle.xa_server.specs.World.{World}
 use Rattle.pdpd.specs.declared.exit.Exit.{Exit}
 use Rattle.pdpd.specs.declared.exit.Exit.TheVariants.{Done, Malformed}
 use Rattle.pdpd.specs.declared.heading.Heading.{Heading}
-use Rattle.pdpd.specs.Entry.{IsAnswered, events_at, reply_entries}
+use Rattle.pdpd.specs.Entry.{IsStreamAnswered, events_at, reply_entries}
 use Rattle.pdpd.specs.Transcript.{IsEntry, IsNoEntry}
 
 -- an entry of a transcript
@@ -52,7 +52,7 @@ IsKept after is = (is ≡ after) ⊎ ((after.ended ≡ true) × (is.ended ≡ tr
 abbrev pub StreamTakes : Heading → List ℕ → Stream → Stream → World → World → Exchange → Type 0
 StreamTakes heading bytes was is old new exchange =
     (after : Stream) × (replies : List (List ℕ))
-    × (answered : IsAnswered heading.moment old new (fed was bytes) after replies) × IsKept after is
+    × (answered : IsStreamAnswered heading.moment old new (fed was bytes) after replies) × IsKept after is
     × (exchange ≡ record {
       events = events_at heading.moment answered.messages;
       replies = answered.run;

@@ -120,7 +120,7 @@ impl Fault {
             Fault::Socket =>
                 "no connections can be taken there; another program may have the port, or this machine another address",
             Fault::Connection => "taking a connection failed; start the program again",
-            Fault::Clock => "the clock can't be read, or is not in the years 0001 to 9999; set it",
+            Fault::Clock => "the clock can't be read, or is before 1970 or after 9999; set it",
             Fault::Output => "standard output failed",
             Fault::Memory => "out of memory",
         }

@@ -6,10 +6,10 @@ ghost use Rattle.pdpd.specs.Heading.{heading_of, heading_of_three, moment_of, pa
 use thiserror::Error;
 use xa_value::{Moment, number_up_to};
 
-/// How many connections a transcript may hold at once.
+/// How many connections a transcript may hold at once: as many as a front.
 pub const CONNECTIONS: usize = 64;
 
-/// The most bytes of an entry.
+/// The most bytes of an entry: a front holds no more of a connection.
 pub const MAX_ENTRY_BYTES: usize = 1_048_576;
 
 /// What stands in the line before an entry.

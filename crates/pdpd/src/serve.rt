@@ -304,6 +304,7 @@ pub fn serve(rt: &HostRuntime, serving: &Serving<'_>) -> Result<Front<FileRecord
     let address = address_of(serving.address.as_str())?;
     let settings = Settings::read(rt)?;
     let mut front = front_of_files(rt, serving, settings)?;
+    // No `?`: its exit drops the front, and the search for the clause of that exit doesn't end.
     match serve_at(rt, &mut front, address, serving, settings.idle) {
         Ok(()) => Ok(front),
         Err(fault) => Err(fault),

@@ -1,6 +1,6 @@
 //! Room on the stack.
 
-/// How many pages of the stack are touched: 512 KiB.
+/// How many pages of the stack are touched: 512 KiB, which is as far down as messages need it.
 const PAGES: u32 = 128;
 
 /// The bytes of a page.

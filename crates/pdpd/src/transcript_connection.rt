@@ -53,13 +53,11 @@ pub fn begin<R: Records>(front: &mut Front<R>) -> Result<TranscriptConnection, E
     let Outcome::Begun(begun) = outcome_of(front, &Event::Begin)? else {
         unreachable!()
     };
-    match begun {
-        Ok(conn) => Ok(TranscriptConnection {
-            conn,
-            has_ended: false,
-        }),
-        Err(_) => unreachable!(),
-    }
+    let Ok(conn) = begun else { unreachable!() };
+    Ok(TranscriptConnection {
+        conn,
+        has_ended: false,
+    })
 }
 
 /// Closes an open connection.
@@ -75,10 +73,8 @@ pub fn finish<R: Records>(front: &mut Front<R>, conn: Conn) -> Result<(), Exit>
     let Outcome::Finished(finished) = outcome_of(front, &Event::Finish(conn))? else {
         unreachable!()
     };
-    match finished {
-        Ok(()) => Ok(()),
-        Err(_) => unreachable!(),
-    }
+    let Ok(()) = finished else { unreachable!() };
+    Ok(())
 }
 
 /// Opens all connections, in the order of their numbers, where none is open.
