@@ -7,6 +7,7 @@ What is expected is worked out here, from the page of the program (docs/guide/RU
 that is mounted for the purpose, which takes the rights of root; without them that part is left out, and a line says so.
 """
 import datetime
+import errno
 import json
 import os
 import pathlib
@@ -500,6 +501,7 @@ IDLE_BAD = b"pdpd serve: PDPD_IDLE is to be a number of seconds, or 0 for no lim
 SHARED = "others than its owner can read the operator's token; chmod 600"
 ADDRESS_BAD = "not an IP address, `:` and a port, such as 127.0.0.1:8080"
 TAKEN = "no connections can be taken there; another program may have the port, or this machine another address"
+NOT_TAKEN = "taking a connection failed; start the program again"
 NO_DATABASE, SCHEMA = "not a database of SQLite that can be read; name another file", "not a store of this program (schema)"
 ROW = "a row of the store is damaged; put back a backup"
 NO_FOLDER = "can't be opened; its folder isn't there, make that first"
@@ -687,6 +689,52 @@ def sockets():
     expect("standard output that is full", (ran.returncode, ran.stderr), (1, b"pdpd serve: standard output failed\n"))
     with serving("sockets.db") as served:
         expect("after these the store opens", served.once(LIST), [listing([])])
+
+
+# Put before the C library: accept4 fails by the numbers that the environment lists, one after another, and then no more.
+FAILING_ACCEPT = r"""
+#define _GNU_SOURCE
+#include <dlfcn.h>
+#include <errno.h>
+#include <stdlib.h>
+#include <sys/socket.h>
+
+int accept4(int file, struct sockaddr *address, socklen_t *length, int flags) {
+    static int (*next)(int, struct sockaddr *, socklen_t *, int);
+    static char *numbers;
+    if (!next) {
+        next = dlsym(RTLD_NEXT, "accept4");
+        numbers = getenv("FAILING_ACCEPT");
+    }
+    long number = numbers ? strtol(numbers, &numbers, 10) : 0;
+    if (number == 0) return next(file, address, length, flags);
+    errno = (int)number;
+    return -1;
+}
+"""
+# What a peer or the network has done, or want of room, by which the next connection is taken (accept(2)); and what is the listener's.
+PASSING = [errno.ECONNABORTED, errno.ECONNRESET, errno.EHOSTUNREACH, errno.ENETUNREACH, errno.ENETDOWN, errno.ETIMEDOUT, errno.EINTR,
+           errno.EPROTO, errno.ENOPROTOOPT, errno.EHOSTDOWN, errno.ENONET, errno.EOPNOTSUPP, errno.EMFILE, errno.ENFILE, errno.ENOMEM, errno.ENOBUFS]
+OF_THE_LISTENER = [errno.EBADF, errno.EINVAL, errno.EPERM]
+
+
+def taking():
+    """Connections that can't be taken: by the peer, the network or want of room the next is taken, up to 999 in a row; else the program ends with status 5."""
+    if shutil.which("cc") is None:
+        print("tests/serve.py: taking a connection can't be made to fail here (that takes cc): left out")
+        return
+    library = compiled(FAILING_ACCEPT, str(folder / "failing-accept.so"))
+    failing = lambda numbers: {"env": {**os.environ, "LD_PRELOAD": library, "FAILING_ACCEPT": " ".join(map(str, numbers))}}
+    with serving("taking.db", 2, **failing(PASSING)) as served:
+        made(served)
+        expect("an ask behind connections that couldn't be taken", served.once(ASK), [PERMIT])
+        ends_well("after these", served)
+    with serving("taking.db", 1, **failing([errno.ECONNABORTED] * 999)) as served:
+        expect("an ask behind 999 of them", served.once(ASK), [PERMIT])
+        ends_well("after 999", served)
+    for what, numbers in [("1,000 in a row", [errno.ECONNABORTED] * 1_000), *((errno.errorcode[number], [number]) for number in OF_THE_LISTENER)]:
+        with serving("taking.db", 1, **failing(numbers)) as served:
+            expect(f"no connection can be taken, {what}", served.ended(), (b"", line(f"127.0.0.1:{served.port}", NOT_TAKEN), 5))
 
 
 def memory():
@@ -951,7 +999,7 @@ def last():
         ends_well("the last", served)
 
 
-PARTS = (walk, single_bytes, cuts, garbage, silent, mixed, pipelined, many_at_once, large, closing, kills, full_disk, shut, command_lines, shared_token, stores, half_stores, modes, sockets, memory, stack, file_size, idle, long_replies, limits, work_unless_set, reading_and_views, last)
+PARTS = (walk, single_bytes, cuts, garbage, silent, mixed, pipelined, many_at_once, large, closing, kills, full_disk, shut, command_lines, shared_token, stores, half_stores, modes, sockets, taking, memory, stack, file_size, idle, long_replies, limits, work_unless_set, reading_and_views, last)
 
 
 def main():
