@@ -175,7 +175,7 @@ fn whether_equal<F>(
 
 /// What the higher-order function gives for the inner function and the arguments after it, of each
 /// of whose values the inner function takes one. Arguments other than two bags are NotOne for
-/// all-of-any and all-of-all. Clause `law`: where one argument is a bag, the inner function is
+/// all-of-any and all-of-all. Clause `law`: if one argument is a bag, the inner function is
 /// given each of its values in the bag's place (XACML 3.0, core, appendix A.3.12).
 #[tactic(auto, using(crate::proofs::JoiningLemmas::each_in_its_place))]
 pub fn apply_higher_order<F: Inner>(

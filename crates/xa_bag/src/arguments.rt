@@ -30,6 +30,7 @@ fn bag_of(data_type: DataType, argument: &ValueOrBag) -> &Bag
     }
 }
 
+/// The only argument, a bag of the type.
 pub(crate) fn one_bag(data_type: DataType, arguments: &[ValueOrBag]) -> &Bag
     requires { map kind_of_argument arguments.now ≡ kind.Bag data_type ∷ [] }
     ensures { arguments.now ≡ given.Bag result.now ∷ [] }
@@ -40,6 +41,7 @@ pub(crate) fn one_bag(data_type: DataType, arguments: &[ValueOrBag]) -> &Bag
     bag_of(data_type, bag)
 }
 
+/// The two arguments, a value and a bag of the type.
 pub(crate) fn value_and_bag(data_type: DataType, arguments: &[ValueOrBag]) -> (&Value, &Bag)
     requires { map kind_of_argument arguments.now ≡ kind.Value data_type ∷ kind.Bag data_type ∷ [] }
     ensures { arguments.now ≡ given.Value result.0.now ∷ given.Bag result.1.now ∷ [] }
@@ -50,6 +52,7 @@ pub(crate) fn value_and_bag(data_type: DataType, arguments: &[ValueOrBag]) -> (&
     (value_of(data_type, value), bag_of(data_type, bag))
 }
 
+/// The two arguments, both bags of the type.
 pub(crate) fn two_bags(data_type: DataType, arguments: &[ValueOrBag]) -> (&Bag, &Bag)
     requires { map kind_of_argument arguments.now ≡ kind.Bag data_type ∷ kind.Bag data_type ∷ [] }
     ensures { arguments.now ≡ given.Bag result.0.now ∷ given.Bag result.1.now ∷ [] }
@@ -60,7 +63,7 @@ pub(crate) fn two_bags(data_type: DataType, arguments: &[ValueOrBag]) -> (&Bag, 
     (bag_of(data_type, first), bag_of(data_type, second))
 }
 
-/// The two arguments, where both are bags and there are no others.
+/// The two arguments, if both are bags and there are no others.
 pub(crate) fn both_bags(arguments: &[ValueOrBag]) -> Option<(&Bag, &Bag)>
     ensures { IfSome result (λ bags. arguments.now ≡ given.Bag bags.0.now ∷ given.Bag bags.1.now ∷ []) }
 {

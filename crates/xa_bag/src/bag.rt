@@ -15,7 +15,7 @@ const MANY: usize = 8;
 #[derive(Debug, Drop)]
 pub struct Bag {
     data_type: DataType,
-    /// Its own values, of which there are none where others are lent to it.
+    /// Its own values, of which there are none if others are lent to it.
     own: Vec<Value>,
     lent: Option<Shared<Vec<Value>>>,
 }

@@ -11,7 +11,7 @@ use std::collections::BTreeSet;
 use std::marker::Model;
 use xa_value::{DataType, SortKey, Value};
 
-/// A bag without doubles in the making, beside the keys of its values where there may be many.
+/// A bag without doubles in the making, beside the keys of its values if there may be many.
 #[derive(Drop)]
 pub(crate) struct Distinct<'a> {
     bag: Bag,
@@ -103,6 +103,7 @@ impl<'a> Distinct<'a> {
         Ok(all)
     }
 
+    /// The bag of the values.
     pub(crate) fn into_bag(self) -> Bag
         ensures { result ≡ self.entry }
     {

@@ -57,7 +57,7 @@ impl Inner for FuncId {
     }
 }
 
-/// What the higher-order function gives of the function that compares so, where that is found at once.
+/// What the higher-order function gives of the function that compares so, if that is found at once.
 fn compared_at_once(
     relation: Relation,
     higher_order: HigherOrder,
@@ -72,7 +72,7 @@ fn compared_at_once(
     Some(Ok(answer))
 }
 
-/// What the higher-order function gives of the function of booleans, where that is found at once.
+/// What the higher-order function gives of the function of booleans, if that is found at once.
 fn decided_at_once(
     function: Logic,
     higher_order: HigherOrder,
@@ -90,7 +90,7 @@ fn decided_at_once(
     }
 }
 
-/// What any-of gives of the function of booleans, where that is found at once.
+/// What any-of gives of the function of booleans, if that is found at once.
 fn any_of_logic(
     function: Logic,
     arguments: &[ValueOrBag],

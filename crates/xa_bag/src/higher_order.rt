@@ -106,7 +106,7 @@ fn results_of_choices<F: Inner>(
     function: &F,
     chosen: &mut Vec<Value>,
     arguments: &[ValueOrBag],
-    results: Bag,
+    mut results: Bag,
 ) -> Result<Bag, OrMemory<BagFault<F::Fault>>>
     requires can { F.can function.now (map kind_of chosen.old.items ++ map kind_of_each arguments.now) }
     requires of_type { results.data_type ≡ F.result_type function.now }
@@ -120,7 +120,6 @@ fn results_of_choices<F: Inner>(
     let [argument, further @ ..] = arguments else {
         return push_result(alloc, function, chosen.as_slice(), results);
     };
-    let mut results = results;
     for value in argument.values() {
         push_copy(chosen, value)?;
         results = results_of_choices(alloc, function, chosen, further, results)?;
@@ -134,7 +133,7 @@ fn push_result<F: Inner>(
     alloc: Global,
     function: &F,
     arguments: &[Value],
-    results: Bag,
+    mut results: Bag,
 ) -> Result<Bag, OrMemory<BagFault<F::Fault>>>
     requires can { F.can function.now (map kind_of arguments.now) }
     requires of_type { results.data_type ≡ F.result_type function.now }
@@ -143,7 +142,6 @@ fn push_result<F: Inner>(
         (collected (map Ok results.values ++ outcome (F.gives function.now arguments.now) ∷ []))) }
     ensures typed { IfOk result (λ bag. bag.data_type ≡ results.data_type) }
 {
-    let mut results = results;
     let given = outcome(alloc, function, arguments)?;
     results.put(given)?;
     Ok(results)
@@ -190,7 +188,7 @@ fn one_with<F: Inner>(
             return Ok(sought);
         }
     }
-    Ok(!quantifier.settling())
+    Ok(!sought)
 }
 
 /// Whether the function gives True for the two arguments.
@@ -209,7 +207,7 @@ fn holds_of_both<F: Inner>(
     holds(alloc, function, arguments.as_slice())
 }
 
-/// Any-of: whether the function gives True with some value of the bag in the bag's place, where one
+/// Any-of: whether the function gives True with some value of the bag in the bag's place, if one
 /// argument is a bag.
 pub(crate) fn any_of<F: Inner>(
     alloc: Global,
@@ -223,7 +221,7 @@ pub(crate) fn any_of<F: Inner>(
     holds_of_choices(alloc, function, Quantifier::Any, &mut chosen, arguments)
 }
 
-/// All-of: whether the function gives True with each value of the bag in the bag's place, where one
+/// All-of: whether the function gives True with each value of the bag in the bag's place, if one
 /// argument is a bag.
 pub(crate) fn all_of<F: Inner>(
     alloc: Global,
@@ -250,7 +248,7 @@ pub(crate) fn any_of_any<F: Inner>(
     any_of(alloc, function, arguments)
 }
 
-/// Map: the bag of what the function gives with each value of the bag in the bag's place, where one
+/// Map: the bag of what the function gives with each value of the bag in the bag's place, if one
 /// argument is a bag.
 pub(crate) fn map<F: Inner>(
     alloc: Global,

@@ -38,7 +38,7 @@ pub trait Inner {
     fn result_type(&self) -> DataType
         ensures { result ≡ result_type self.now };
 
-    /// What the higher-order function gives of this one, where that is found without a call for
+    /// What the higher-order function gives of this one, if that is found without a call for
     /// each choice of arguments.
     fn at_once(
         &self,

@@ -28,7 +28,7 @@ fn has_true(values: &[Value]) -> bool
     values.iter().any(|value| is_true(value))
 }
 
-/// How many arguments are True in one choice at the most: those that have a True. None, where there
+/// How many arguments are True in one choice at the most: those that have a True. None, if there
 /// is no choice, an argument being an empty bag. Clause `of_type`: what was looked at is of the
 /// arguments' types.
 fn most_true(arguments: &[ValueOrBag]) -> Option<usize>
@@ -79,7 +79,7 @@ fn are_this_many(wanted: usize, trues: usize, booleans: usize) -> Result<bool, F
     Ok(wanted <= trues)
 }
 
-/// N-of by its number, where so many of so many booleans are True.
+/// N-of by its number, if so many of so many booleans are True.
 fn n_of_counted(trues: usize, booleans: usize, wanted: i64) -> Result<bool, FuncFault>
     ensures { result ≡ n_of_counted trues booleans wanted }
 {
@@ -89,7 +89,7 @@ fn n_of_counted(trues: usize, booleans: usize, wanted: i64) -> Result<bool, Func
     are_this_many(wanted.unsigned_abs() as usize, trues, booleans)
 }
 
-/// N-of by its number as a value, where so many of so many booleans are True.
+/// N-of by its number as a value, if so many of so many booleans are True.
 fn n_of_value(trues: usize, booleans: usize, value: &Value) -> Result<bool, FuncFault>
     ensures { result ≡ n_of_value trues booleans value.now }
 {

@@ -26,7 +26,7 @@ pub(crate) enum Relation {
 }
 
 impl Relation {
-    /// What the higher-order function gives for two bags, of the function that compares so, where
+    /// What the higher-order function gives for two bags, of the function that compares so, if
     /// it takes two bags. The work grows by the sum of the bags' sizes, of equality by that and its
     /// logarithm.
     pub(crate) fn of_bags(
@@ -174,7 +174,7 @@ fn each_to_hardest(comparison: Comparison, first: &Bag, second: &Bag) -> bool
     all_as_asked(comparison, first.values(), hardest)
 }
 
-/// Whether each value of the first bag is equal to each value of the second: where there are any,
+/// Whether each value of the first bag is equal to each value of the second: if there are any,
 /// all are equal to one of them.
 fn all_equal(first: &Bag, second: &Bag) -> bool
     ensures { result ≡ each_to_each same first.now.values second.now.values }

@@ -106,6 +106,7 @@ pub(crate) fn text_of(value: &Value) -> &str
     }
 }
 
+/// The only argument.
 pub(crate) fn one(arguments: &[Value]) -> &Value
     requires { length arguments.now ≡ 1 }
     ensures { arguments.now ≡ result.now ∷ [] }
@@ -113,6 +114,7 @@ pub(crate) fn one(arguments: &[Value]) -> &Value
     &arguments[0]
 }
 
+/// The two arguments.
 pub(crate) fn two(arguments: &[Value]) -> (&Value, &Value)
     requires { length arguments.now ≡ 2 }
     ensures { arguments.now ≡ result.0.now ∷ result.1.now ∷ [] }
@@ -120,6 +122,7 @@ pub(crate) fn two(arguments: &[Value]) -> (&Value, &Value)
     (&arguments[0], &arguments[1])
 }
 
+/// The three arguments.
 pub(crate) fn three(arguments: &[Value]) -> (&Value, &Value, &Value)
     requires { length arguments.now ≡ 3 }
     ensures { arguments.now ≡ result.0.now ∷ result.1.now ∷ result.2.now ∷ [] }

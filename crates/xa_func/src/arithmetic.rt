@@ -12,7 +12,7 @@ use crate::fault::FuncFault;
 use crate::func_id::Arithmetic;
 use xa_value::Value;
 
-/// The number, where it fits 64 bits.
+/// The number, if it fits 64 bits.
 #[tactic(auto, unfolding(crate::specs::Arithmetic::within))]
 fn within(number: i128) -> Result<i64, FuncFault>
     ensures { result ≡ within number }

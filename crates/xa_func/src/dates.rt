@@ -48,7 +48,7 @@ fn month_number(day: civil::Date) -> u32
     u32::from(day.year.unsigned_abs()) * 12 + u32::from(day.month - 1)
 }
 
-/// The same day of the month with that number, or its last day where it is shorter.
+/// The same day of the month with that number, or its last day if it is shorter.
 #[tactic(auto, unfolding(crate::specs::Dates::day_in_month))]
 fn day_in_month(day: u8, months: u32) -> Result<civil::Date, FuncFault>
     requires { 1 ≤ day }
@@ -77,7 +77,7 @@ fn months_later(day: civil::Date, months: i32) -> Result<civil::Date, FuncFault>
     day_in_month(day.day, number as u32)
 }
 
-/// The day, where its year is 1 or later.
+/// The day, if its year is 1 or later.
 #[tactic(auto, using(crate::proofs::DateLemmas::day_at_civil, crate::proofs::DateLemmas::day_at_early))]
 fn from_year_one(day: civil::Date) -> Result<civil::Date, FuncFault>
     ensures value { day_result result ≡ day_at (epoch_day day) }

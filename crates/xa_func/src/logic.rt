@@ -52,7 +52,7 @@ fn true_count(arguments: &[Value]) -> usize
     count
 }
 
-/// Whether this many of the booleans are true, where there are this many.
+/// Whether this many of the booleans are true, if there are this many.
 #[tactic(auto, using(crate::proofs::LogicLemmas::n_among_given, crate::proofs::LogicLemmas::n_among_short, crate::proofs::LogicLemmas::length_given))]
 fn n_among(wanted: usize, arguments: &[Value]) -> Result<bool, FuncFault>
     requires { Every (kind.Value data_type.Boolean) (map kind_of arguments.now) }

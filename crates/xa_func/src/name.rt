@@ -11,12 +11,14 @@ use crate::func_id::{
 };
 use xa_value::DataType;
 
-/// What each version of the standard puts before the names of its functions.
-const FIRST: &str = "urn:oasis:names:tc:xacml:1.0:function:";
+/// What version 1.0 of the standard puts before the names of its functions.
+const VERSION_1: &str = "urn:oasis:names:tc:xacml:1.0:function:";
 
-const SECOND: &str = "urn:oasis:names:tc:xacml:2.0:function:";
+/// The same of version 2.0.
+const VERSION_2: &str = "urn:oasis:names:tc:xacml:2.0:function:";
 
-const THIRD: &str = "urn:oasis:names:tc:xacml:3.0:function:";
+/// The same of version 3.0.
+const VERSION_3: &str = "urn:oasis:names:tc:xacml:3.0:function:";
 
 /// A name: the version of the standard, what the function is of, and what it does.
 #[derive(Clone, Copy)]
@@ -172,7 +174,11 @@ fn equality_name(data_type: DataType) -> Name
     ensures subject { result.subject.now ≡ (row_of (function_id.Equal data_type)).subject }
     ensures verb { result.verb.now ≡ (row_of (function_id.Equal data_type)).verb }
 {
-    let version = if is_duration(data_type) { THIRD } else { FIRST };
+    let version = if is_duration(data_type) {
+        VERSION_3
+    } else {
+        VERSION_1
+    };
     Name::new(version, data_type.name(), "-equal")
 }
 
@@ -183,9 +189,9 @@ fn text_name(function: TextFunction) -> Name
     ensures verb { result.verb.now ≡ (text_row function).verb }
 {
     match function {
-        TextFunction::NormalizeSpace => Name::new(FIRST, "string", "-normalize-space"),
-        TextFunction::Concatenate => Name::new(SECOND, "string", "-concatenate"),
-        TextFunction::Substring => Name::new(THIRD, "string", "-substring"),
+        TextFunction::NormalizeSpace => Name::new(VERSION_1, "string", "-normalize-space"),
+        TextFunction::Concatenate => Name::new(VERSION_2, "string", "-concatenate"),
+        TextFunction::Substring => Name::new(VERSION_3, "string", "-substring"),
     }
 }
 
@@ -197,32 +203,32 @@ fn move_name(moved: Moved, direction: Direction) -> Name
 {
     match (moved, direction) {
         (Moved::DateTimeByDayTime, Direction::Add) => Name::new(
-            THIRD,
+            VERSION_3,
             "dateTime",
             "-add-dayTimeDuration",
         ),
         (Moved::DateTimeByDayTime, Direction::Subtract) => Name::new(
-            THIRD,
+            VERSION_3,
             "dateTime",
             "-subtract-dayTimeDuration",
         ),
         (Moved::DateTimeByYearMonth, Direction::Add) => Name::new(
-            THIRD,
+            VERSION_3,
             "dateTime",
             "-add-yearMonthDuration",
         ),
         (Moved::DateTimeByYearMonth, Direction::Subtract) => Name::new(
-            THIRD,
+            VERSION_3,
             "dateTime",
             "-subtract-yearMonthDuration",
         ),
         (Moved::DateByYearMonth, Direction::Add) => Name::new(
-            THIRD,
+            VERSION_3,
             "date",
             "-add-yearMonthDuration",
         ),
         (Moved::DateByYearMonth, Direction::Subtract) => Name::new(
-            THIRD,
+            VERSION_3,
             "date",
             "-subtract-yearMonthDuration",
         ),
@@ -236,12 +242,12 @@ fn higher_name(function: HigherOrder) -> Name
     ensures verb { result.verb.now ≡ (higher_row function).verb }
 {
     match function {
-        HigherOrder::AnyOf => Name::new(THIRD, "", "any-of"),
-        HigherOrder::AllOf => Name::new(THIRD, "", "all-of"),
-        HigherOrder::AnyOfAny => Name::new(THIRD, "", "any-of-any"),
-        HigherOrder::Map => Name::new(THIRD, "", "map"),
-        HigherOrder::AllOfAny => Name::new(FIRST, "", "all-of-any"),
-        HigherOrder::AllOfAll => Name::new(FIRST, "", "all-of-all"),
+        HigherOrder::AnyOf => Name::new(VERSION_3, "", "any-of"),
+        HigherOrder::AllOf => Name::new(VERSION_3, "", "all-of"),
+        HigherOrder::AnyOfAny => Name::new(VERSION_3, "", "any-of-any"),
+        HigherOrder::Map => Name::new(VERSION_3, "", "map"),
+        HigherOrder::AllOfAny => Name::new(VERSION_1, "", "all-of-any"),
+        HigherOrder::AllOfAll => Name::new(VERSION_1, "", "all-of-all"),
     }
 }
 
@@ -255,28 +261,32 @@ impl FuncId {
         match self {
             FuncId::Equal(data_type) => equality_name(data_type),
             FuncId::Compare(comparison, ordered) => Name::new(
-                FIRST,
+                VERSION_1,
                 ordered.data_type().name(),
                 comparison.verb(),
             ),
-            FuncId::Arithmetic(function) => Name::new(FIRST, "integer", function.verb()),
-            FuncId::IntegerAbs => Name::new(FIRST, "integer", "-abs"),
-            FuncId::Logic(function) => Name::new(FIRST, "", function.verb()),
+            FuncId::Arithmetic(function) => Name::new(VERSION_1, "integer", function.verb()),
+            FuncId::IntegerAbs => Name::new(VERSION_1, "integer", "-abs"),
+            FuncId::Logic(function) => Name::new(VERSION_1, "", function.verb()),
             FuncId::Text(function) => text_name(function),
             FuncId::Part(part, text_type) => Name::new(
-                THIRD,
+                VERSION_3,
                 text_type.data_type().name(),
                 part.verb(),
             ),
-            FuncId::StringFrom(printed) => Name::new(THIRD, "string", printed.verb()),
+            FuncId::StringFrom(printed) => Name::new(VERSION_3, "string", printed.verb()),
             FuncId::FromString(printed) => Name::new(
-                THIRD,
+                VERSION_3,
                 printed.data_type().name(),
                 "-from-string",
             ),
             FuncId::Move(moved, direction) => move_name(moved, direction),
-            FuncId::TimeInRange => Name::new(SECOND, "", "time-in-range"),
-            FuncId::Bag(function, data_type) => Name::new(FIRST, data_type.name(), function.verb()),
+            FuncId::TimeInRange => Name::new(VERSION_2, "", "time-in-range"),
+            FuncId::Bag(function, data_type) => Name::new(
+                VERSION_1,
+                data_type.name(),
+                function.verb(),
+            ),
             FuncId::HigherOrder(function) => higher_name(function),
         }
     }
@@ -297,6 +307,7 @@ impl FuncId {
         ensures { result ≡ names uri.now self }
     {
         let name = self.name();
-        name.is_written(name.version, uri) || (self.has_later_name() && name.is_written(THIRD, uri))
+        name.is_written(name.version, uri)
+            || (self.has_later_name() && name.is_written(VERSION_3, uri))
     }
 }

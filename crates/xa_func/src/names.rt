@@ -155,9 +155,8 @@ fn compare_named(comparisons: &[Comparison], uri: &str) -> Option<FuncId>
         ≡ find (names uri.now) (flat_map (λ c. map (function_id.Compare c) OrderedType.ALL) comparisons.now) }
 {
     for comparison in comparisons {
-        match comparison_named(*comparison, uri) {
-            Some(function) => return Some(function),
-            None => {}
+        if let Some(function) = comparison_named(*comparison, uri) {
+            return Some(function);
         }
     }
     None
@@ -179,16 +178,15 @@ fn bag_named(functions: &[BagFunction], uri: &str) -> Option<FuncId>
         ≡ find (names uri.now) (flat_map (λ f. map (function_id.Bag f) DataType.ALL) functions.now) }
 {
     for function in functions {
-        match bag_function_named(*function, uri) {
-            Some(found) => return Some(found),
-            None => {}
+        if let Some(found) = bag_function_named(*function, uri) {
+            return Some(found);
         }
     }
     None
 }
 
 impl FuncId {
-    /// The function that the URI names (XACML 3.0, core, appendix A.3); none, where it names no
+    /// The function that the URI names (XACML 3.0, core, appendix A.3); none, if it names no
     /// function that is known here.
     pub fn from_uri(uri: &str) -> Option<FuncId>
         ensures each { (f : FuncId) → (result ≡ Some f) ↔ IsTrue (names uri.now f) }

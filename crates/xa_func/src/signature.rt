@@ -225,7 +225,7 @@ impl Parameters {
         }
     }
 
-    /// The kind of the argument at the place, where an argument may stand there.
+    /// The kind of the argument at the place, if an argument may stand there.
     pub fn kind_at(self, place: usize) -> Option<Kind>
         ensures { result ≡ kind_at self place }
     {

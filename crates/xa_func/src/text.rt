@@ -45,6 +45,7 @@ pub(crate) fn concatenation(alloc: Global, arguments: &[Value]) -> Result<Text, 
     Ok(Text::from_string(text))
 }
 
+/// The characters of the text.
 #[tactic(auto, using(std::proofs::lemmas::Str::chars_from_encodes))]
 fn characters(alloc: Global, text: &str) -> Result<Vec<char>, AllocError>
     ensures { IfOk result (λ v. v.items ≡ chars text.now) }
@@ -52,6 +53,7 @@ fn characters(alloc: Global, text: &str) -> Result<Vec<char>, AllocError>
     text.chars().collect(alloc)
 }
 
+/// The text of the characters.
 fn text_of_characters(alloc: Global, characters: &[char]) -> Result<Text, AllocError>
     ensures { IfOk result (λ t. t ≡ encode_utf8_all characters.now) }
 {

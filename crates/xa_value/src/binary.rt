@@ -34,6 +34,7 @@ pub(crate) fn hex_text(alloc: Global, bytes: &[u8]) -> Result<Text, AllocError>
     Ok(Text::from_string(hex::encode_upper(alloc, bytes)?))
 }
 
+/// The text without its white space.
 fn without_blanks(alloc: Global, text: &[u8]) -> Result<Vec<u8>, AllocError>
     ensures { IfOk result (λ v. v.items ≡ without_blanks text.now) }
 {
@@ -56,6 +57,7 @@ pub(crate) fn read_base64(alloc: Global, text: &[u8]) -> Result<Bytes, OrMemory<
     }
 }
 
+/// The bytes in base64, with padding.
 #[tactic(auto, unfolding(crate::specs::Binary::base64_text))]
 pub(crate) fn base64_text(alloc: Global, bytes: &[u8]) -> Result<Text, AllocError>
     ensures { IfOk result (λ t. t ≡ base64_text bytes.now) }

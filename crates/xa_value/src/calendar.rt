@@ -38,7 +38,7 @@ impl Model for Date {
 }
 
 impl Date {
-    /// The day in its zone, where its year is 1 or later.
+    /// The day in its zone, if its year is 1 or later.
     #[tactic(auto, using(crate::proofs::CalendarLemmas::civil_is_day))]
     pub fn new(day: civil::Date, zone: Option<Offset>) -> Option<Date>
         ensures { SomeIff result (pos 1 ≤ℤ day.year)
@@ -104,7 +104,7 @@ impl Model for DateTime {
 }
 
 impl DateTime {
-    /// The day and the nanoseconds since its midnight, where its year is 1 or later and they are
+    /// The day and the nanoseconds since its midnight, if its year is 1 or later and they are
     /// less than a day.
     #[tactic(auto, using(crate::proofs::CalendarLemmas::civil_is_day))]
     pub fn new(day: civil::Date, nanos: u64, zone: Option<Offset>) -> Option<DateTime>
@@ -166,7 +166,7 @@ fn is_day(year: u32, month: u32, day: u32) -> bool
         && day <= u32::from(civil::days_in_month(year as i16, month as u8))
 }
 
-/// The date, where the calendar has it.
+/// The date, if the calendar has it.
 #[tactic(auto, using(crate::proofs::CalendarLemmas::day_bounds), unfolding(crate::specs::parsing::Calendar::date_of))]
 fn date_of(year: u32, month: u32, day: u32, zone: Option<Offset>) -> Result<Date, ReadError>
     ensures { result ≡ date_of year month day zone }
@@ -219,6 +219,7 @@ fn push_day(text: &mut String, year: u16, month: u8, day: u8) -> Result<(), Allo
     push_padded(text, 2, u32::from(day))
 }
 
+/// Writes the day and its zone.
 pub(crate) fn push_date(text: &mut String, date: Date) -> Result<(), AllocError>
     ensures { OnOk result (string_bytes text.new ≡ string_bytes text.old ++ date_text date) }
 {
@@ -226,7 +227,7 @@ pub(crate) fn push_date(text: &mut String, date: Date) -> Result<(), AllocError>
     push_zone(text, date.zone)
 }
 
-/// The date with a time, where the calendar has it.
+/// The date with a time, if the calendar has it.
 #[tactic(auto, using(crate::proofs::CalendarLemmas::day_bounds), unfolding(crate::specs::parsing::Calendar::date_time_of))]
 fn date_time_of(year: u32, month: u32, day: u32, clock: Time) -> Result<DateTime, ReadError>
     ensures { result ≡ date_time_of year month day clock }
@@ -243,6 +244,7 @@ fn date_time_of(year: u32, month: u32, day: u32, clock: Time) -> Result<DateTime
     })
 }
 
+/// The time, with its zone, behind the day and `T`.
 fn clock_after_day(text: &[u8]) -> Result<Time, ReadError>
     requires { 11 ≤ length text.now }
     ensures { result ≡ read_clock (drop 11 text.now) }
@@ -269,6 +271,7 @@ pub(crate) fn read_date_time(text: &[u8]) -> Result<DateTime, ReadError>
     }
 }
 
+/// Writes the day, `T`, the time of day and the zone.
 pub(crate) fn push_date_time(text: &mut String, date_time: DateTime) -> Result<(), AllocError>
     ensures { OnOk result (string_bytes text.new ≡ string_bytes text.old ++ date_time_text date_time) }
 {

@@ -1,5 +1,6 @@
 //! The attribute categories that have a shorthand.
 ghost use Rattle.std.specs.Prelude.{◌≡◌, find, bytes_eq};
+ghost use Rattle.std.specs.Option.{option_copied};
 ghost use Rattle.xa_value.specs.Category.{shorthand_of, uri_of, is_subject, of_shorthand, category_uri};
 
 /// An attribute category that has a shorthand (XACML 3.0, core, appendix B.2, and its JSON profile).
@@ -41,7 +42,7 @@ impl Category {
     pub fn from_shorthand(text: &str) -> Option<Category>
         ensures { result ≡ of_shorthand text.now }
     {
-        first_with_shorthand(&Category::ALL, text)
+        first_with_shorthand(&Category::ALL, text).copied()
     }
 
     /// The category's shorthand.
@@ -58,6 +59,13 @@ impl Category {
             Category::Action => "Action",
             Category::Environment => "Environment",
         }
+    }
+
+    /// Whether the text is the category's shorthand.
+    fn has_shorthand(&self, text: &str) -> bool
+        ensures { result ≡ bytes_eq text.now (shorthand_of self.now) }
+    {
+        text == self.shorthand()
     }
 
     /// The category's URI.
@@ -100,15 +108,13 @@ impl Category {
 }
 
 /// The first of the categories whose shorthand the text is.
-fn first_with_shorthand(categories: &[Category], text: &str) -> Option<Category>
-    ensures { result ≡ find (λ category. bytes_eq text.now (shorthand_of category)) categories.now }
+fn first_with_shorthand<'a>(categories: &'a [Category], text: &str) -> Option<&'a Category>
+    ensures { option_copied result
+        ≡ find (λ category. bytes_eq text.now (shorthand_of category)) categories.now }
 {
-    for category in categories {
-        if text == category.shorthand() {
-            return Some(*category);
-        }
-    }
-    None
+    categories
+        .iter()
+        .find(|category| category.has_shorthand(text))
 }
 
 /// The URI that a category's name stands for: a shorthand for its URI, any other text for itself.

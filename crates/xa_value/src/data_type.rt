@@ -1,5 +1,6 @@
 //! The data types, with their names and numbers.
 ghost use Rattle.std.specs.Prelude.{◌≡◌, true, find};
+ghost use Rattle.std.specs.Option.{option_copied};
 ghost use Rattle.xa_value.specs.Types.{name_of, uri_of, place_of, type_at, same_type, names, type_named};
 
 /// A data type (XACML 3.0, appendix A.2).
@@ -50,7 +51,7 @@ impl DataType {
     pub fn from_uri(text: &str) -> Option<DataType>
         ensures { result ≡ type_named text.now }
     {
-        first_named(&DataType::ALL, text)
+        first_named(&DataType::ALL, text).copied()
     }
 
     /// The type of that number, its place among all types.
@@ -79,8 +80,8 @@ impl DataType {
 
     /// Whether the text is the type's URI or its name alone.
     #[tactic(auto, unfolding(crate::specs::Types::names))]
-    fn is_named(self, text: &str) -> bool
-        ensures { result ≡ names text.now self }
+    fn is_named(&self, text: &str) -> bool
+        ensures { result ≡ names text.now self.now }
     {
         text == self.uri() || text == self.name()
     }
@@ -125,13 +126,8 @@ impl DataType {
 }
 
 /// The first of the types that the text names.
-fn first_named(types: &[DataType], text: &str) -> Option<DataType>
-    ensures { result ≡ find (names text.now) types.now }
+fn first_named<'a>(types: &'a [DataType], text: &str) -> Option<&'a DataType>
+    ensures { option_copied result ≡ find (names text.now) types.now }
 {
-    for data_type in types {
-        if data_type.is_named(text) {
-            return Some(*data_type);
-        }
-    }
-    None
+    types.iter().find(|data_type| data_type.is_named(text))
 }

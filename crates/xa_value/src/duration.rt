@@ -49,7 +49,7 @@ impl Model for YearMonthDuration {
 }
 
 impl YearMonthDuration {
-    /// The duration of this many months, where they are at most 120,000 to either side.
+    /// The duration of this many months, if they are at most 120,000 to either side.
     pub fn new(months: i32) -> Option<YearMonthDuration>
         ensures { SomeIff result (IsMonths months) months }
     {
@@ -90,7 +90,7 @@ impl Model for DayTimeDuration {
 }
 
 impl DayTimeDuration {
-    /// The duration of this many nanoseconds, where they are at most 315,576,000,000 seconds to either side.
+    /// The duration of this many nanoseconds, if they are at most 315,576,000,000 seconds to either side.
     pub fn new(nanos: i128) -> Option<DayTimeDuration>
         ensures { SomeIff result (IsNanos nanos) nanos }
     {
@@ -110,7 +110,7 @@ impl DayTimeDuration {
     }
 }
 
-/// How many digits stand before the unit, where the text begins with a part of that unit.
+/// How many digits stand before the unit, if the text begins with a part of that unit.
 #[tactic(auto, unfolding(crate::specs::parsing::Duration::part_length))]
 fn part_length(unit: u8, text: &[u8]) -> usize
     ensures value { result ≡ part_length unit text.now }
@@ -124,14 +124,14 @@ fn part_length(unit: u8, text: &[u8]) -> usize
     }
 }
 
-/// The number of that part, or `u64::MAX` where it is larger, and 0 where it is absent.
+/// The number of that part, or `u64::MAX` if it is larger, and 0 if it is absent.
 fn part(unit: u8, text: &[u8]) -> u64
     ensures { result ≡ min (part unit text.now) (2 ^ 64 - 1) }
 {
     number(&text[..part_length(unit, text)])
 }
 
-/// What follows a part of this many characters and its unit, where it is there.
+/// What follows a part of this many characters and its unit, if it is there.
 fn after(count: usize, text: &[u8]) -> &[u8]
     requires { count ≤ length text.now }
     ensures { result.now ≡ after count text.now }
@@ -146,13 +146,14 @@ fn after(count: usize, text: &[u8]) -> &[u8]
     }
 }
 
+/// What follows a part of that unit, if the text begins with one; the text if not.
 fn after_part(unit: u8, text: &[u8]) -> &[u8]
     ensures { result.now ≡ after_part unit text.now }
 {
     after(part_length(unit, text), text)
 }
 
-/// The length of seconds with a fraction, where the text begins with them.
+/// The length of seconds with a fraction, if the text begins with them.
 #[tactic(auto, unfolding(crate::specs::parsing::Duration::seconds_length))]
 fn seconds_length(text: &[u8]) -> usize
     ensures value { result ≡ seconds_length text.now }
@@ -167,6 +168,7 @@ fn seconds_length(text: &[u8]) -> usize
     }
 }
 
+/// The text without the minus sign that it may begin with.
 #[tactic(auto, unfolding(crate::specs::parsing::Duration::without_minus))]
 fn without_minus(text: &[u8]) -> &[u8]
     ensures { result.now ≡ without_minus text.now }
@@ -177,6 +179,7 @@ fn without_minus(text: &[u8]) -> &[u8]
     }
 }
 
+/// The text without its first character.
 fn rest_of(text: &[u8]) -> &[u8]
     ensures { result.now ≡ drop 1 text.now }
 {
@@ -197,7 +200,7 @@ fn is_years_and_months(text: &[u8]) -> bool
     !body.is_empty() && after_part(b'M', after_part(b'Y', body)).is_empty()
 }
 
-/// The duration of this many years and months, where it is in range.
+/// The duration of this many years and months, if it is in range.
 #[tactic(auto, unfolding(crate::specs::parsing::Duration::within))]
 fn months_within(negative: bool, years: u64, months: u64) -> Result<YearMonthDuration, ReadError>
     ensures { result ≡ within most_months negative (years * 12 + months) }
@@ -276,7 +279,7 @@ fn has_short_fraction(clock: &[u8]) -> bool
     fraction_length(seconds_fraction(seconds_of(clock))) <= LONGEST_FRACTION
 }
 
-/// The duration of this many days, hours, minutes, seconds and nanoseconds, where it is in range.
+/// The duration of this many days, hours, minutes, seconds and nanoseconds, if it is in range.
 #[tactic(auto, unfolding(crate::specs::parsing::Duration::within))]
 fn total_within(
     negative: bool,
@@ -300,7 +303,7 @@ fn total_within(
     })
 }
 
-/// The duration of this many days and the hours, minutes and seconds of a clock part, where it is in range.
+/// The duration of this many days and the hours, minutes and seconds of a clock part, if it is in range.
 #[tactic(auto, using(crate::proofs::DurationLemmas::clock_capped), unfolding(crate::specs::parsing::Duration::nanos_of, crate::specs::parsing::Duration::has_short_fraction))]
 fn nanos_within(negative: bool, days: u64, clock: &[u8]) -> Result<DayTimeDuration, ReadError>
     requires { has_short_fraction clock.now ≡ true }

@@ -15,7 +15,7 @@ fn push_sign(text: &mut String, negative: bool) -> Result<(), AllocError>
     if negative { text.push('-') } else { Ok(()) }
 }
 
-/// Writes a part with its unit, and nothing where it is zero.
+/// Writes a part with its unit, and nothing if it is zero.
 #[tactic(auto, unfolding(crate::specs::Duration::part_text))]
 fn push_part(text: &mut String, number: u64, unit: char) -> Result<(), AllocError>
     requires { unit < 128 }
@@ -28,6 +28,7 @@ fn push_part(text: &mut String, number: u64, unit: char) -> Result<(), AllocErro
     text.push(unit)
 }
 
+/// Writes the duration as years and months.
 #[tactic(auto, unfolding(crate::specs::Duration::year_month_text))]
 pub(crate) fn push_year_month(
     text: &mut String,
@@ -45,7 +46,7 @@ pub(crate) fn push_year_month(
     push_part(text, u64::from(months % 12), 'M')
 }
 
-/// Writes seconds with a fraction, and nothing where they are zero.
+/// Writes seconds with a fraction, and nothing if they are zero.
 #[tactic(auto, unfolding(crate::specs::Duration::seconds_text))]
 fn push_seconds(text: &mut String, nanos: u64) -> Result<(), AllocError>
     ensures { OnOk result (string_bytes text.new ≡ string_bytes text.old ++ seconds_text nanos) }
@@ -59,7 +60,7 @@ fn push_seconds(text: &mut String, nanos: u64) -> Result<(), AllocError>
     text.push('S')
 }
 
-/// Writes hours, minutes and seconds after `T`, and nothing where they are zero.
+/// Writes hours, minutes and seconds after `T`, and nothing if they are zero.
 #[tactic(auto, unfolding(crate::specs::Duration::clock_part_text))]
 fn push_clock_part(text: &mut String, nanos: u64) -> Result<(), AllocError>
     ensures { OnOk result (string_bytes text.new ≡ string_bytes text.old ++ clock_part_text nanos) }
@@ -73,6 +74,7 @@ fn push_clock_part(text: &mut String, nanos: u64) -> Result<(), AllocError>
     push_seconds(text, nanos % MINUTE)
 }
 
+/// Writes the duration as days, hours, minutes and seconds.
 #[tactic(auto, unfolding(crate::specs::Duration::day_time_text))]
 pub(crate) fn push_day_time(text: &mut String, duration: DayTimeDuration) -> Result<(), AllocError>
     ensures { OnOk result (string_bytes text.new ≡ string_bytes text.old ++ day_time_text duration) }

@@ -44,6 +44,7 @@ fn trimmed_end(text: &[u8]) -> &[u8]
     rest
 }
 
+/// The text without white space at its ends.
 pub(crate) fn trimmed_bytes(text: &[u8]) -> &[u8]
     ensures { result.now ≡ trimmed text.now }
 {
@@ -55,9 +56,9 @@ fn blank_count(text: &[u8]) -> usize
     ensures value { result ≡ prefix_len is_blank text.now }
     ensures within { result ≤ length text.now }
 {
-    for (i, byte) in text.iter().enumerate() {
+    for (place, byte) in text.iter().enumerate() {
         if !is_blank(*byte) {
-            return i;
+            return place;
         }
     }
     text.len()
@@ -72,6 +73,7 @@ pub(crate) fn trimmed_text(text: &str) -> &str
     &rest[..trimmed_end(rest.as_bytes()).len()]
 }
 
+/// Whether the text begins with the character.
 pub(crate) fn begins_with(byte: u8, text: &[u8]) -> bool
     ensures { result ≡ begins_with byte text.now }
 {
@@ -121,15 +123,15 @@ pub(crate) fn digit_count(text: &[u8]) -> usize
     ensures value { result ≡ digit_count text.now }
     ensures within { result ≤ length text.now }
 {
-    for (i, byte) in text.iter().enumerate() {
+    for (place, byte) in text.iter().enumerate() {
         if !byte.is_ascii_digit() {
-            return i;
+            return place;
         }
     }
     text.len()
 }
 
-/// The number that the digits write, or `u64::MAX` where it is larger.
+/// The number that the digits write, or `u64::MAX` if it is larger.
 #[tactic(auto, using(crate::proofs::LexicalLemmas::number_more), unfolding(crate::specs::Lexical::number_after))]
 pub(crate) fn number(digits: &[u8]) -> u64
     ensures { result ≡ min (number digits.now) (2 ^ 64 - 1) }
@@ -143,6 +145,7 @@ pub(crate) fn number(digits: &[u8]) -> u64
     value
 }
 
+/// Writes a digit.
 fn push_digit(text: &mut String, digit: u8) -> Result<(), AllocError>
     requires { digit < 10 }
     ensures { OnOk result (string_bytes text.new ≡ string_bytes text.old ++ (48 + digit) ∷ []) }

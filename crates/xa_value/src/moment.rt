@@ -41,7 +41,7 @@ impl Moment {
     /// The last moment, 9999-12-31T23:59:59Z.
     const LAST: i64 = 253_402_300_799;
 
-    /// The moment this many seconds after 1970-01-01T00:00:00Z, where it lies in the years 0001 to 9999.
+    /// The moment this many seconds after 1970-01-01T00:00:00Z, if it lies in the years 0001 to 9999.
     pub fn new(seconds: i64) -> Option<Moment>
         ensures { SomeIff result (IsMoment seconds) seconds }
     {

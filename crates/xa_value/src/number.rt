@@ -9,6 +9,7 @@ use crate::lexical::{begins_with, number};
 use crate::read_error::ReadError;
 use std::alloc::AllocError;
 
+/// The boolean of the text: `true` or `1`, `false` or `0`.
 #[tactic(auto, unfolding(crate::specs::parsing::Number::read_boolean))]
 pub(crate) fn read_boolean(text: &[u8]) -> Result<bool, ReadError>
     ensures { result ≡ read_boolean text.now }
@@ -22,6 +23,7 @@ pub(crate) fn read_boolean(text: &[u8]) -> Result<bool, ReadError>
     Err(ReadError::NotThisType)
 }
 
+/// Writes `true` or `false`.
 #[tactic(auto, unfolding(crate::specs::Number::boolean_text))]
 pub(crate) fn push_boolean(text: &mut String, value: bool) -> Result<(), AllocError>
     ensures { OnOk result (string_bytes text.new ≡ string_bytes text.old ++ boolean_text value) }
@@ -33,6 +35,7 @@ pub(crate) fn push_boolean(text: &mut String, value: bool) -> Result<(), AllocEr
     }
 }
 
+/// The text without the sign that it may begin with.
 #[tactic(auto, unfolding(crate::specs::parsing::Number::without_sign))]
 fn without_sign(text: &[u8]) -> &[u8]
     ensures { result.now ≡ without_sign text.now }
@@ -43,7 +46,7 @@ fn without_sign(text: &[u8]) -> &[u8]
     }
 }
 
-/// The number with its sign, where it fits 64 bits.
+/// The number with its sign, if it fits 64 bits.
 #[tactic(auto, unfolding(crate::specs::parsing::Number::integer_of))]
 fn integer_of(negative: bool, magnitude: u64) -> Result<i64, ReadError>
     ensures { result ≡ integer_of negative magnitude }

@@ -9,7 +9,7 @@ use std::fmt::Display;
 use thiserror::Error;
 
 /// Why a call that may grow something gave nothing: the error `E` that its definition gives, or
-/// there was no memory. A call whose work is counted says the same where what it may ask for is
+/// there was no memory. A call whose work is counted says the same if what it may ask for is
 /// spent. Definitions speak of `E` alone.
 #[derive(Debug, Drop, PartialEq, Eq, Error)]
 #[error_bound(E: Display)]
@@ -52,7 +52,7 @@ pub fn memory_apart<T, E>(given: Result<T, OrMemory<E>>) -> Result<Result<T, E>,
     }
 }
 
-/// The same answer, whose error, where it is one, is made into another. Want of memory stays.
+/// The same answer, whose error, if it is one, is made into another. Want of memory stays.
 pub fn map_error<T, E, D, F: FnOnce(E) -> D>(
     given: Result<T, OrMemory<E>>,
     change: F,

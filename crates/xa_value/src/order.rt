@@ -86,7 +86,7 @@ impl Value {
             && self.bytes() == other.bytes()
     }
 
-    /// The order of two values of one type, where it is integer, string, time, date or dateTime
+    /// The order of two values of one type, if it is integer, string, time, date or dateTime
     /// (XACML 3.0, core, appendix A.3.6 and A.3.8; XML Schema, part 2, section 3.2.7.4); none of
     /// any others.
     #[tactic(auto, unfolding(crate::specs::Order::order))]

@@ -24,7 +24,7 @@ pub enum Plain<T> {
 }
 
 impl<T> Plain<T> {
-    /// The type of the member where none is named.
+    /// The type of the member if none is named.
     pub fn data_type(&self) -> DataType
         ensures { result ≡ type_of_plain self.now }
     {
@@ -98,7 +98,7 @@ fn from_integer(data_type: DataType, value: i128) -> Result<Value, ReadError>
     }
 }
 
-/// The whole number as a value, where it fits 64 bits.
+/// The whole number as a value, if it fits 64 bits.
 fn integer(value: i128) -> Result<Value, ReadError>
     ensures { result ≡ from_integer DataType.Integer value }
 {

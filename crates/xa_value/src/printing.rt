@@ -38,6 +38,7 @@ impl Value {
     }
 }
 
+/// The text of a boolean.
 fn boolean_text(alloc: Global, value: bool) -> Result<Text, AllocError>
     ensures { IfOk result (λ t. t ≡ boolean_text value) }
 {
@@ -46,6 +47,7 @@ fn boolean_text(alloc: Global, value: bool) -> Result<Text, AllocError>
     Ok(Text::from_string(text))
 }
 
+/// The text of an integer.
 fn integer_text(alloc: Global, value: i64) -> Result<Text, AllocError>
     ensures { IfOk result (λ t. t ≡ signed_decimal value) }
 {
@@ -54,6 +56,7 @@ fn integer_text(alloc: Global, value: i64) -> Result<Text, AllocError>
     Ok(Text::from_string(text))
 }
 
+/// The text of a date.
 fn date_text(alloc: Global, date: Date) -> Result<Text, AllocError>
     ensures { IfOk result (λ t. t ≡ date_text date) }
 {
@@ -62,6 +65,7 @@ fn date_text(alloc: Global, date: Date) -> Result<Text, AllocError>
     Ok(Text::from_string(text))
 }
 
+/// The text of a time.
 fn time_text(alloc: Global, time: Time) -> Result<Text, AllocError>
     ensures { IfOk result (λ t. t ≡ time_text time) }
 {
@@ -70,6 +74,7 @@ fn time_text(alloc: Global, time: Time) -> Result<Text, AllocError>
     Ok(Text::from_string(text))
 }
 
+/// The text of a date with a time.
 fn date_time_text(alloc: Global, date_time: DateTime) -> Result<Text, AllocError>
     ensures { IfOk result (λ t. t ≡ date_time_text date_time) }
 {
@@ -78,6 +83,7 @@ fn date_time_text(alloc: Global, date_time: DateTime) -> Result<Text, AllocError
     Ok(Text::from_string(text))
 }
 
+/// The text of a duration in days, hours, minutes and seconds.
 fn day_time_text(alloc: Global, duration: DayTimeDuration) -> Result<Text, AllocError>
     ensures { IfOk result (λ t. t ≡ day_time_text duration) }
 {
@@ -86,6 +92,7 @@ fn day_time_text(alloc: Global, duration: DayTimeDuration) -> Result<Text, Alloc
     Ok(Text::from_string(text))
 }
 
+/// The text of a duration in years and months.
 fn year_month_text(alloc: Global, duration: YearMonthDuration) -> Result<Text, AllocError>
     ensures { IfOk result (λ t. t ≡ year_month_text duration) }
 {

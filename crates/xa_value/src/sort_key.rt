@@ -27,6 +27,7 @@ impl<'a> Model for SortKey<'a> {
 impl<'a> SortKey<'a> {
     ghost use Rattle.xa_value.specs.Order.{number_and_bytes};
 
+    /// The key of the number and the bytes.
     pub(crate) fn new(number: i128, bytes: &'a [u8]) -> SortKey<'a>
         ensures { result ≡ number_and_bytes number bytes.now }
     {

@@ -49,7 +49,7 @@ impl Text {
         Text { string }
     }
 
-    /// The text that the bytes are, with no copy; nothing where they aren't UTF-8 (RFC 3629).
+    /// The text that the bytes are, with no copy; nothing if they aren't UTF-8 (RFC 3629).
     #[tactic(auto, using(crate::proofs::TextLemmas::is_no_text))]
     pub fn from_utf8(bytes: Items<u8>) -> Option<Text>
         ensures { result ≡ text_if bytes }

@@ -49,7 +49,7 @@ impl Model for Time {
 }
 
 impl Time {
-    /// The time of this many nanoseconds since midnight, where they are less than a day.
+    /// The time of this many nanoseconds since midnight, if they are less than a day.
     pub fn new(nanos: u64, zone: Option<Offset>) -> Option<Time>
         ensures { SomeIff result (nanos < day_nanos) record { nanos = nanos; zone = zone } }
     {
@@ -111,7 +111,7 @@ fn is_clock(text: &[u8]) -> bool
         && fraction_length(&text[8..]) <= LONGEST_FRACTION
 }
 
-/// The time in its zone, where a clock shows it.
+/// The time in its zone, if a clock shows it.
 #[tactic(auto, unfolding(crate::specs::parsing::Time::time_of))]
 fn time_of(text: &[u8], zone: Option<Offset>) -> Result<Time, ReadError>
     requires { 8 ≤ length text.now }
@@ -124,7 +124,7 @@ fn time_of(text: &[u8], zone: Option<Offset>) -> Result<Time, ReadError>
     Ok(Time { nanos, zone })
 }
 
-/// The nanoseconds of the fraction that the text begins with, where it has one.
+/// The nanoseconds of the fraction that the text begins with, if it has one.
 #[tactic(auto, using(crate::proofs::TimeLemmas::fraction_digits_count, crate::proofs::TimeLemmas::no_fraction))]
 pub(crate) fn fraction_nanos(text: &[u8]) -> u64
     requires { fraction_length text.now ≤ 10 }
@@ -183,7 +183,7 @@ fn push_significant(text: &mut String, count: u8, nanos: u32) -> Result<(), Allo
     push_padded(text, count, nanos)
 }
 
-/// Writes a point and the fraction, and nothing where it is zero.
+/// Writes a point and the fraction, and nothing if it is zero.
 #[tactic(auto, unfolding(crate::specs::Time::fraction_text))]
 pub(crate) fn push_fraction(text: &mut String, nanos: u32) -> Result<(), AllocError>
     ensures { OnOk result (string_bytes text.new ≡ string_bytes text.old ++ fraction_text nanos) }
@@ -209,6 +209,7 @@ pub(crate) fn push_clock(text: &mut String, nanos: u64) -> Result<(), AllocError
     push_fraction(text, (nanos % SECOND) as u32)
 }
 
+/// Writes the time of day and its zone.
 pub(crate) fn push_time(text: &mut String, time: Time) -> Result<(), AllocError>
     ensures { OnOk result (string_bytes text.new ≡ string_bytes text.old ++ time_text time) }
 {

@@ -35,7 +35,7 @@ impl Offset {
     /// The greatest distance from UTC, in minutes: 14 hours (XML Schema, part 2, section 3.2.7.3).
     const MOST: i16 = 840;
 
-    /// The offset of this many minutes, where it is at most 14 hours.
+    /// The offset of this many minutes, if it is at most 14 hours.
     pub fn new(minutes: i16) -> Option<Offset>
         ensures { SomeIff result (IsOffset minutes) minutes }
     {
@@ -105,6 +105,7 @@ pub(crate) fn read_zone(text: &[u8]) -> Result<Option<Offset>, ReadError>
     Err(ReadError::NotThisType)
 }
 
+/// Writes the hours and the minutes of an offset.
 fn push_offset(text: &mut String, minutes: u16) -> Result<(), AllocError>
     ensures { OnOk result (string_bytes text.new ≡ string_bytes text.old ++ offset_text minutes) }
 {
@@ -113,7 +114,7 @@ fn push_offset(text: &mut String, minutes: u16) -> Result<(), AllocError>
     push_padded(text, 2, u32::from(minutes % 60))
 }
 
-/// Writes the zone: nothing where it is absent, `Z` for an offset of 0.
+/// Writes the zone: nothing if it is absent, `Z` for an offset of 0.
 pub(crate) fn push_zone(text: &mut String, zone: Option<Offset>) -> Result<(), AllocError>
     ensures { OnOk result (string_bytes text.new ≡ string_bytes text.old ++ zone_text zone) }
 {

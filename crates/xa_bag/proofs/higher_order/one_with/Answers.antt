@@ -33,5 +33,5 @@ loop-other-preserved g c =
 
 pub returns : goal.returns
 returns g c =
-    none_left_of_one (settling c.args.quantifier) c.settling.result (λ w. holds (g.F.Inner.gives c.args.function.now) (c.args.value.now ∷ w ∷ [])) _ _
-    c.settling.ensures (drop_all _ _ c.loop-other-test.false) c.loop-other.invariant
+    none_left_of_one (settling c.args.quantifier) c.settling-sought.result (λ w. holds (g.F.Inner.gives c.args.function.now) (c.args.value.now ∷ w ∷ [])) _ _
+    c.settling-sought.ensures (drop_all _ _ c.loop-other-test.false) c.loop-other.invariant
