@@ -64,7 +64,7 @@ fn check_at(
         Expr::Apply(name, arguments) => {
             check_apply(alloc, name, arguments.as_slice(), variables, depth + 1)
         }
-        Expr::Function(_) => Err(OrMemory::Error(CheckError::WrongType)),
+        Expr::Function(_) => Err(CheckError::WrongType.into()),
         Expr::Variable(name) => Ok(variables.reference(name)?),
     }
 }
@@ -84,7 +84,7 @@ fn check_apply(
     ensures unknown { function_named name.now ≡ None → result ≡ Err (Error UnknownFunction) }
 {
     match FuncId::from_uri(name.as_str()) {
-        None => Err(OrMemory::Error(CheckError::UnknownFunction)),
+        None => Err(CheckError::UnknownFunction.into()),
         Some(FuncId::HigherOrder(function)) => {
             check_higher_order(alloc, function, arguments, variables, depth)
         }

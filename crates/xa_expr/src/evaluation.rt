@@ -176,7 +176,7 @@ fn decide<'a, C: Context>(
             return Ok(sought);
         }
     }
-    Ok(!quantifier.settling())
+    Ok(!sought)
 }
 
 /// N-of: the number first, and then the booleans, as far as they are needed.

@@ -1,14 +1,16 @@
 //! Functions of arguments that were worked out. Each takes from the work that the message may ask for
 //! before it is called, by the sizes of its arguments: what functions give is no larger than these
 //! together.
-ghost use Rattle.std.specs.Prelude.{◌≡◌, map, IfOk};
-ghost use Rattle.xa_value.specs.Gives.{Gives};
+ghost use Rattle.std.specs.Prelude.{◌≡◌, map, Ok, Err, IfOk};
+ghost use Rattle.xa_value.specs.Gives.{Gives, MatchGiven};
+ghost use Rattle.xa_value.specs.declared.or_memory.OrMemory.TheVariants.{Memory, Error};
 ghost use Rattle.xa_func.specs.Application as func;
 ghost use Rattle.xa_func.specs.Signature.{AcceptsKinds, TakesKinds, kind_of};
 ghost use Rattle.xa_func.specs.Signature.{signature_of, bag_signature, result_type_of};
+ghost use Rattle.xa_bag.specs.Fault.{status_of};
 ghost use Rattle.xa_bag.specs.Applying.{as_argument, bag_applied, higher_order_applied, kind_given};
 ghost use Rattle.xa_bag.specs.ValueOrBag.{kind_of_argument, kind_of_each};
-ghost use Rattle.xa_expr.specs.Fault.{of_function, of_bag_function};
+ghost use Rattle.xa_expr.specs.Fault.{fault_with, of_function, of_bag_function};
 ghost use Rattle.xa_expr.specs.Typed.{result_kind};
 
 use crate::charged::Charged;
@@ -17,8 +19,8 @@ use crate::fault::Fault;
 use crate::rates::units_of_calls;
 use crate::work::{units_of_bag_function, units_of_higher_order, units_of_values};
 use std::alloc::Global;
-use xa_bag::{ValueOrBag, apply_bag_function, apply_higher_order};
-use xa_func::{BagFunction, FuncId, HigherOrder};
+use xa_bag::{BagFault, ValueOrBag, apply_bag_function, apply_higher_order};
+use xa_func::{BagFunction, FuncFault, FuncId, HigherOrder};
 use xa_value::{DataType, OrMemory, Value};
 
 /// What a function of values gives.
@@ -41,6 +43,20 @@ pub(crate) fn of_values<C: Context>(
     }
 }
 
+/// What was given, its fault told by the status code alone.
+fn by_status(
+    given: Result<ValueOrBag, OrMemory<BagFault<FuncFault>>>,
+) -> Result<ValueOrBag, OrMemory<Fault>>
+    ensures { MatchGiven given (λ value. result ≡ Ok value) (result ≡ Err Memory)
+        (λ fault. result ≡ Err (Error (fault_with (status_of fault)))) }
+{
+    match given {
+        Ok(value) => Ok(value),
+        Err(OrMemory::Memory) => Err(OrMemory::Memory),
+        Err(OrMemory::Error(fault)) => Err(OrMemory::Error(Fault::with(fault.status()))),
+    }
+}
+
 /// What a bag function of the type gives.
 #[tactic(auto, using(crate::proofs::FunctionLemmas::bag_result_typed))]
 pub(crate) fn of_bags<C: Context>(
@@ -56,11 +72,7 @@ pub(crate) fn of_bags<C: Context>(
         kind_of_argument given ≡ result_kind (bag_signature function data_type)) }
 {
     context.spend(units_of_bag_function(function, arguments))?;
-    match apply_bag_function(alloc, function, data_type, arguments) {
-        Ok(given) => Ok(given),
-        Err(OrMemory::Memory) => Err(OrMemory::Memory),
-        Err(OrMemory::Error(fault)) => Err(OrMemory::Error(Fault::with(fault.status()))),
-    }
+    by_status(apply_bag_function(alloc, function, data_type, arguments))
 }
 
 /// What a higher-order function gives, with its inner function and the arguments after that.
@@ -83,9 +95,5 @@ pub(crate) fn of_function<C: Context>(
         function: inner,
         context,
     };
-    match apply_higher_order(alloc, function, &charged, arguments) {
-        Ok(given) => Ok(given),
-        Err(OrMemory::Memory) => Err(OrMemory::Memory),
-        Err(OrMemory::Error(fault)) => Err(OrMemory::Error(Fault::with(fault.status()))),
-    }
+    by_status(apply_higher_order(alloc, function, &charged, arguments))
 }

@@ -47,12 +47,8 @@ impl Budget {
         }
     }
 
-    /// Takes the units from what is left. Where they are more than that, nothing is left afterwards, so
-    /// that no smaller work is done after one that was refused.
-    ///
-    /// # Errors
-    ///
-    /// `AllocError` where the units are more than what is left.
+    /// Takes the units from what is left. Where they are more than that, the error is `AllocError`, and
+    /// nothing is left afterwards, so that no smaller work is done after one that was refused.
     pub fn spend(&self, units: u64) -> Result<(), AllocError> {
         match self.left.get().checked_sub(units) {
             Some(left) => {
@@ -85,11 +81,9 @@ pub fn units_of(value: &Value) -> u64 {
 
 /// The units of the values, one after another.
 pub fn units_of_values(values: &[Value]) -> u64 {
-    let mut units = 0u64;
-    for value in values {
-        units = units.saturating_add(units_of(value));
-    }
-    units
+    values
+        .iter()
+        .fold(0u64, |units, value| units.saturating_add(units_of(value)))
 }
 
 /// Whether every value of the type is of one size.
@@ -123,11 +117,10 @@ pub fn units_of_given(given: &ValueOrBag) -> u64 {
 
 /// The units of the arguments together.
 pub(crate) fn units_of_arguments(arguments: &[ValueOrBag]) -> u64 {
-    let mut units = 0u64;
-    for argument in arguments {
-        units = units.saturating_add(units_of_given(argument));
-    }
-    units
+    arguments.iter().fold(
+        0u64,
+        |units, argument| units.saturating_add(units_of_given(argument)),
+    )
 }
 
 /// The units of what a bag function does with its arguments. The set functions search for the values of
@@ -164,10 +157,10 @@ fn comparisons_of_both(arguments: &[ValueOrBag]) -> u64 {
 
 /// With how many others each value is compared at most where each is searched for among all.
 fn comparisons_of_all(arguments: &[ValueOrBag]) -> u64 {
-    let mut count = 0usize;
-    for argument in arguments {
-        count = count.saturating_add(argument.values().len());
-    }
+    let count = arguments.iter().fold(
+        0usize,
+        |count, argument| count.saturating_add(argument.values().len()),
+    );
     comparisons_among(count)
 }
 

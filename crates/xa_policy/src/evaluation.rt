@@ -1,4 +1,6 @@
-//! What a tree of policies and policy sets decides.
+//! What a tree of policies and policy sets decides. The functions of children are those of rules once more:
+//! one that is generic in what it evaluates would get a function of the cycle of calls through its bound,
+//! and the toolchain makes no proof of a cycle that leads through a bound.
 ghost use Rattle.std.specs.Prelude.{◌≡◌, [], ◌∷◌, map, IfOk, OnOk};
 ghost use Rattle.xa_expr.specs.declared.matching.Matching.TheVariants as matching;
 ghost use Rattle.xa_expr.specs.Evaluation.{value_of};
@@ -24,22 +26,23 @@ use std::alloc::{AllocError, Global};
 use xa_expr::{Context, Evaluator, Fault, Matching, STEP, Typed, Variables};
 
 /// What the tree decides (XACML 3.0, core, sections 7.9 to 7.15 and 7.18), why where that is
-/// Indeterminate, its obligations and advice, and where `asked` says so the policies and policy sets
-/// that are named with it (5.49). No child is evaluated after the one that settles its parent, and none
-/// where its parent's target is No match. Want of memory is the only error; it is also what comes where
-/// the context refuses more work. Each policy, set and rule that is looked at is counted, beside what
-/// expressions count: tenants nest and repeat them as they like.
+/// Indeterminate, its obligations and advice, and where `names_policies` says so the policies and policy
+/// sets that are named with it (5.49). No child is evaluated after the one that settles its parent, and
+/// none where its parent's target is No match. Want of memory is the only error; it is also what comes
+/// where the context refuses more work. Each policy, set and rule that is looked at is counted, beside
+/// what expressions count: tenants nest and repeat them as they like.
 #[tactic(auto, using(crate::proofs::IdLemmas::asked_from_none))]
 pub fn evaluate<C: Context>(
     alloc: Global,
     linked: &Linked,
     context: &C,
-    asked: bool,
+    names_policies: bool,
 ) -> Result<Evaluated, AllocError>
-    ensures { IfOk result (λ e. e ≡ as_asked asked (evaluation (C.values_of context.now) linked.now)) }
+    ensures { IfOk result (λ e.
+        e ≡ as_asked names_policies (evaluation (C.values_of context.now) linked.now)) }
 {
     let target = target_of(alloc, linked, context)?;
-    let mut ids = Identifiers::new(alloc, asked);
+    let mut ids = Identifiers::new(alloc, names_policies);
     let verdict = evaluate_linked(alloc, linked, target, context, &mut ids)?;
     Ok(Evaluated::new(verdict, ids.into_items()))
 }
@@ -235,10 +238,6 @@ fn rule_unless_another<'a, C: Context>(
     }
     evaluate_rule(alloc, evaluator, rule, Matching::Match)
 }
-
-// The loops over children are those over rules once more. One that is generic in what it evaluates
-// would get a function of this cycle of calls through its bound, and the toolchain makes no proof of a
-// cycle that leads through a bound.
 
 /// What the policy set decides of its children, where its target comes to this.
 #[cycle(evaluation)]

@@ -15,7 +15,7 @@ use xa_value::{Items, Shared};
 /// put there once, and taken away once at most.
 #[derive(Debug, Drop)]
 pub(crate) struct Identifiers {
-    asked: bool,
+    names_policies: bool,
     found: Vec<Shared<DocumentKey>>,
 }
 
@@ -25,16 +25,16 @@ impl Model for Identifiers {
 
     ghost Value = { Named };
 
-    ghost view = { λ i. record { asked = i.asked; ids = i.found.items } };
+    ghost view = { λ i. record { asked = i.names_policies; ids = i.found.items } };
 }
 
 impl Identifiers {
     /// None yet. Nothing is allocated.
-    pub(crate) fn new(alloc: Global, asked: bool) -> Identifiers
-        ensures { result ≡ record { asked = asked; ids = [] } }
+    pub(crate) fn new(alloc: Global, names_policies: bool) -> Identifiers
+        ensures { result ≡ record { asked = names_policies; ids = [] } }
     {
         Identifiers {
-            asked,
+            names_policies,
             found: Vec::new(alloc),
         }
     }
@@ -50,7 +50,7 @@ impl Identifiers {
     pub(crate) fn add(&mut self, key: &Shared<DocumentKey>) -> Result<(), AllocError>
         ensures { OnOk result (self.new ≡ with_named self.old (key.now ∷ [])) }
     {
-        if self.asked {
+        if self.names_policies {
             self.found.push(key.clone()?)?;
         }
         Ok(())

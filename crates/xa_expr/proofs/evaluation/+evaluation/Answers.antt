@@ -73,8 +73,8 @@ decide-loop-argument-preserved g t c =
 
 pub decide-returns : goal.decide-returns
 decide-returns g t c =
-    no_place_left (settling c.args.quantifier) c.settling.result (outcome (g.C.Context.values_of c.args.scope.now.context.now) c.args.scope.now.results.now) _ _
-    c.settling.ensures (drop_all _ _ c.loop-argument-test.false) c.loop-argument.invariant
+    no_place_left (settling c.args.quantifier) c.settling-sought.result (outcome (g.C.Context.values_of c.args.scope.now.context.now) c.args.scope.now.results.now) _ _
+    c.settling-sought.ensures (drop_all _ _ c.loop-argument-test.false) c.loop-argument.invariant
 
 pub all_values-evaluate-requires : goal.all_values-evaluate-requires
 all_values-evaluate-requires g t c κs within =

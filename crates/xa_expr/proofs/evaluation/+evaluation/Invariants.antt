@@ -51,7 +51,7 @@ decreases-apply g l = 8 * most the_size l.arguments.now + 4
 abbrev pub invariant-decide-loop-argument : goal.invariant-decide-loop-argument
 invariant-decide-loop-argument g l =
     let v = outcome (g.C.Context.values_of l.scope.context.now) l.scope.results.now in
-    verdict (settling l.quantifier) (map place (map v (drop l.argument-index l.arguments))) ≡ verdict (settling l.quantifier) (map place (map v l.arguments))
+    verdict (settling l.fn.quantifier) (map place (map v (drop l.argument-index l.arguments))) ≡ verdict (settling l.fn.quantifier) (map place (map v l.arguments))
 
 -- those that are missing, of the rest, are those that are wanted, of all
 abbrev pub invariant-n_among-loop-boolean : goal.invariant-n_among-loop-boolean
