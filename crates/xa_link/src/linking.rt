@@ -250,7 +250,7 @@ fn linked_children(
     reader: &mut TextReader<'_>,
     path: &Path<'_>,
     children: &[Placed],
-    room: usize,
+    mut room: usize,
 ) -> Result<Fitted<Items<Linked>>, OrMemory<LinkError>>
     ensures value { Gives result (all_fitted room
         (map (linked (led_within path.now.more resolved.old.active path.now.places.now)) children.now)) }
@@ -260,7 +260,6 @@ fn linked_children(
         resolved.old resolved.new reader.old reader.new }
 {
     let mut parts = Items::from_vec(Vec::with_capacity(resolved.alloc(), children.len())?);
-    let mut room = room;
     for child in children {
         if leads_nowhere(path, child) {
             parts.push(Linked::Unresolved)?;

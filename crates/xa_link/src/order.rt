@@ -95,6 +95,7 @@ fn by_pattern(parts: &[PatternPart], numbers: &[u32]) -> Ordering
     }
 }
 
+/// Whether the version is later than all that match the pattern, if there is one.
 fn is_after_pattern(pattern: &Option<Pattern>, version: &Version) -> bool
     ensures { result ≡ is_after_pattern pattern.now version.now }
 {
@@ -104,6 +105,7 @@ fn is_after_pattern(pattern: &Option<Pattern>, version: &Version) -> bool
     }
 }
 
+/// Whether the version is earlier than all that match the pattern, if there is one.
 fn is_before_pattern(pattern: &Option<Pattern>, version: &Version) -> bool
     ensures { result ≡ is_before_pattern pattern.now version.now }
 {
@@ -141,6 +143,7 @@ fn by_version(reference: &Reference, version: &Version) -> Ordering
     }
 }
 
+/// Whether the document stands before those that may fit the reference, among them or behind them.
 fn standing_of(reference: &Reference, document: &Active) -> Ordering
     ensures { result ≡ standing_of reference.now document.now }
 {

@@ -14,6 +14,7 @@ pub fn matches(pattern: &Pattern, version: &Version) -> bool
     parts_match(pattern.parts(), version.numbers())
 }
 
+/// Whether the numbers of a version match the parts of a pattern.
 fn parts_match(parts: &[PatternPart], numbers: &[u32]) -> bool
     ensures { result ≡ matches parts.now numbers.now }
 {
@@ -30,6 +31,7 @@ fn parts_match(parts: &[PatternPart], numbers: &[u32]) -> bool
     }
 }
 
+/// Whether the version matches the pattern, if there is one.
 fn fits_pattern(pattern: &Option<Pattern>, version: &Version) -> bool
     ensures { result ≡ fits_pattern pattern.now version.now }
 {
@@ -39,6 +41,7 @@ fn fits_pattern(pattern: &Option<Pattern>, version: &Version) -> bool
     }
 }
 
+/// Whether the version is no earlier than the earliest that will do, if there is one.
 pub(crate) fn not_before(earliest: &Option<Version>, version: &Version) -> bool
     ensures { result ≡ not_before earliest.now version.now }
 {
@@ -48,6 +51,7 @@ pub(crate) fn not_before(earliest: &Option<Version>, version: &Version) -> bool
     }
 }
 
+/// Whether the version is no later than the latest that will do, if there is one.
 pub(crate) fn not_after(latest: &Option<Version>, version: &Version) -> bool
     ensures { result ≡ not_after latest.now version.now }
 {

@@ -72,7 +72,8 @@ fn keep(
     Ok(())
 }
 
-/// A share of the document, if there is one.
+/// A share of the document, if there is one. What a clone of the option gives is stated here once, for
+/// both who take one.
 fn share_of(found: &Option<Shared<Placed>>) -> Result<Option<Shared<Placed>>, AllocError>
     ensures { IfOk result (λ share. share ≡ found.now) }
 {

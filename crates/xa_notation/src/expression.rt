@@ -89,7 +89,7 @@ fn expression_named(
         Member::Apply => apply(alloc, value, depth),
         Member::Function => function(alloc, value),
         Member::VariableReference => variable_reference(alloc, value),
-        _ => Err(OrMemory::Error(NotationError::UnknownMember)),
+        _ => Err(NotationError::UnknownMember.into()),
     }
 }
 
@@ -114,7 +114,7 @@ fn expression_within(
     ensures { Gives result (expression_within depth (view value.now)) }
 {
     if depth == 0 {
-        return Err(OrMemory::Error(NotationError::NotJson));
+        return Err(NotationError::NotJson.into());
     }
     expression_of(alloc, value, depth - 1)
 }

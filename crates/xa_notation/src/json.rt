@@ -59,12 +59,7 @@ fn members(value: &Json) -> Result<&Map<String, Json>, NotationError>
 fn is_named(entries: &[Entry], name: &str) -> bool
     ensures { result ≡ is_named entries.now name.now }
 {
-    for entry in entries {
-        if name == entry.member().name() {
-            return true;
-        }
-    }
-    false
+    entries.iter().any(|entry| entry.is_of(name))
 }
 
 /// Whether the table has all these members.
@@ -167,6 +162,7 @@ pub(crate) fn chosen_member(value: &Json, choice: Choice) -> Result<Member, Nota
     )
 }
 
+/// A text; the fault is BadValue.
 pub(crate) fn text(value: &Json) -> Result<&str, NotationError>
     ensures { result_map_both (λ t. t.now) (λ e. e) result ≡ text (view value.now) }
 {

@@ -29,6 +29,7 @@ pub(crate) fn id(alloc: Global, value: &Json) -> Result<Text, OrMemory<NotationE
     Ok(Text::new(alloc, id)?)
 }
 
+/// A version; the fault is BadValue.
 pub(crate) fn version(value: &Json) -> Result<Version, NotationError>
     ensures { result ≡ version (view value.now) }
 {
@@ -67,15 +68,14 @@ pub(crate) fn optional_pattern(value: Option<&Json>) -> Result<Option<Pattern>, 
 fn effect_named(text: &str) -> Result<Effect, NotationError>
     ensures { result ≡ effect_named text.now }
 {
-    if text == "Permit" {
-        return Ok(Effect::Permit);
+    match text {
+        "Permit" => Ok(Effect::Permit),
+        "Deny" => Ok(Effect::Deny),
+        _ => Err(NotationError::BadValue),
     }
-    if text == "Deny" {
-        return Ok(Effect::Deny);
-    }
-    Err(NotationError::BadValue)
 }
 
+/// An effect, by its name; the fault is BadValue.
 pub(crate) fn effect(value: &Json) -> Result<Effect, NotationError>
     ensures { result ≡ effect (view value.now) }
 {

@@ -87,7 +87,7 @@ fn child_named(
             let reference = reference(alloc, DocumentKind::PolicySet, value)?;
             Ok(WrittenTree::Reference(reference))
         }
-        _ => Err(OrMemory::Error(NotationError::UnknownMember)),
+        _ => Err(NotationError::UnknownMember.into()),
     }
 }
 
@@ -177,7 +177,7 @@ fn document_named(
     match name {
         Member::Policy => Ok(written_policy(alloc, value)?.into_document()?),
         Member::PolicySet => Ok(written_set_within(alloc, value, MAX_SETS)?.into_document()?),
-        _ => Err(OrMemory::Error(NotationError::UnknownMember)),
+        _ => Err(NotationError::UnknownMember.into()),
     }
 }
 

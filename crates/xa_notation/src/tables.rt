@@ -1,6 +1,6 @@
 //! The tables of members: which members each object has.
-ghost use Rattle.std.specs.Prelude.{◌≡◌};
-ghost use Rattle.xa_notation.specs.Tables.{alternatives_of, first_of, member_of, members_of};
+ghost use Rattle.std.specs.Prelude.{◌≡◌, bytes_eq};
+ghost use Rattle.xa_notation.specs.Tables.{alternatives_of, first_of, member_of, members_of, name_of};
 
 use crate::member::Member;
 
@@ -21,6 +21,13 @@ impl Entry {
         match self {
             Entry::Required(member) | Entry::Optional(member) => member,
         }
+    }
+
+    /// Whether it is the entry of the member of this name.
+    pub(crate) fn is_of(self, name: &str) -> bool
+        ensures { result ≡ bytes_eq name.now (name_of (member_of self)) }
+    {
+        name == self.member().name()
     }
 }
 

@@ -28,15 +28,14 @@ pub struct NewToken {
 fn role_named(text: &str) -> Result<Role, NotationError>
     ensures { result ≡ role_named text.now }
 {
-    if text == "ask" {
-        return Ok(Role::Ask);
+    match text {
+        "ask" => Ok(Role::Ask),
+        "admin" => Ok(Role::Admin),
+        _ => Err(NotationError::BadValue),
     }
-    if text == "admin" {
-        return Ok(Role::Admin);
-    }
-    Err(NotationError::BadValue)
 }
 
+/// A role, by its name; the fault is BadValue.
 fn role(value: &Json) -> Result<Role, NotationError>
     ensures { result ≡ role (view value.now) }
 {

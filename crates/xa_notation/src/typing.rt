@@ -17,6 +17,7 @@ use xa_expr::{AllOf, AnyOf, CheckError, Match, Target, Variables};
 use xa_policy::{Policy, PolicySet, Rule};
 use xa_value::{Items, OrMemory, Shared};
 
+/// The typed match.
 fn typed_match(written: WrittenMatch) -> Result<Match, CheckError>
     ensures { result ≡ typed_match written }
 {
@@ -28,6 +29,7 @@ fn typed_match(written: WrittenMatch) -> Result<Match, CheckError>
     Match::new(function.as_str(), literal, designator)
 }
 
+/// The typed matches of a conjunction.
 #[tactic(auto, using(crate::proofs::TypingLemmas::behind_next, crate::proofs::JsonLemmas::behind_none))]
 fn typed_matches(
     alloc: Global,
@@ -74,6 +76,7 @@ fn typed_any_of(
     Ok(typed)
 }
 
+/// The typed target.
 fn typed_target(alloc: Global, written: WrittenTarget) -> Result<Target, OrMemory<CheckError>>
     ensures { Gives result (typed_target written) }
 {
@@ -138,6 +141,8 @@ fn with_rules(
     Ok(policy)
 }
 
+/// The typed policy. Its faults are those of its target, its variables, its rules and its duties, in this
+/// order.
 #[tactic(auto, using(crate::proofs::AddingLemmas::policy_built))]
 fn typed_policy(alloc: Global, written: WrittenPolicy) -> Result<Policy, OrMemory<CheckError>>
     ensures { Gives result (typed_policy written) }
@@ -159,6 +164,7 @@ fn typed_policy(alloc: Global, written: WrittenPolicy) -> Result<Policy, OrMemor
     Ok(policy)
 }
 
+/// The typed children of a policy set.
 #[cycle(typing)]
 #[tactic(auto, using(crate::proofs::TypingLemmas::behind_next, crate::proofs::JsonLemmas::behind_none))]
 fn typed_children(
@@ -174,6 +180,7 @@ fn typed_children(
     Ok(typed)
 }
 
+/// The typed policy set. Its faults are those of its target, its children and its duties, in this order.
 #[cycle(typing)]
 #[tactic(auto, using(crate::proofs::AddingLemmas::set_built))]
 fn typed_set(

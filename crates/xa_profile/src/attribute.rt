@@ -67,12 +67,7 @@ impl Reader for KindReader {
 fn are_all(data_type: DataType, others: &[DataType]) -> bool
     ensures { result ≡ list_all (λ other. same_type other data_type) others.now }
 {
-    for other in others {
-        if !other.is_same(data_type) {
-            return false;
-        }
-    }
-    true
+    others.iter().all(|other| other.is_same(data_type))
 }
 
 /// Whether the kinds are all the same.

@@ -17,12 +17,11 @@ use std::alloc::{AllocError, Global};
 fn has_included(object: &CategoryObject) -> bool
     ensures { result ≡ has_included object.now }
 {
-    for attribute in object.attributes.as_slice() {
-        if attribute.include_in_result {
-            return true;
-        }
-    }
-    false
+    object
+        .attributes
+        .as_slice()
+        .iter()
+        .any(|attribute| attribute.include_in_result)
 }
 
 /// The object at the place, if one of its attributes is to stand in the result.
