@@ -1,4 +1,6 @@
-//! The decision on a request.
+//! The decision on a request. `respond` is for a server, which keeps a body that is the same at every
+//! moment; `answer` for a program that needs the body alone, and `decide` for one that has its request as a
+//! value and takes the response as one.
 ghost use Rattle.std.specs.Prelude.{◌≡◌, true, [], ◌∷◌, map, option_map, IfOk, IfSome};
 ghost use Rattle.xa_expr.specs.declared.fault.Fault.TheVariants.{SyntaxError};
 ghost use Rattle.xa_policy.specs.Evaluation.{as_asked};

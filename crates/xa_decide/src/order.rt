@@ -33,7 +33,7 @@ const HALVING: u64 = STEP + STEP / 2;
 /// The units of a search among so many items in order: the same each time that they are halved. A look at
 /// a few is a part of the look-up.
 pub(crate) fn units_of_search(count: usize) -> u64 {
-    if count <= FEW {
+    if are_few(count) {
         return 0;
     }
     HALVING.saturating_mul(halvings(count))

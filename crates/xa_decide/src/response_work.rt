@@ -43,8 +43,11 @@ const NUMBER: Writing = Writing {
     bytes: 1,
 };
 
-/// An attribute of the request.
+/// An attribute of the request; nothing, where it isn't to stand in a result.
 fn writing_of_attribute(attribute: &Attribute) -> Writing {
+    if !attribute.include_in_result {
+        return Writing::NOTHING;
+    }
     ATTRIBUTE
         .and(Writing::of_text(&attribute.id))
         .and(Writing::of_text_if_any(&attribute.issuer))
@@ -53,13 +56,10 @@ fn writing_of_attribute(attribute: &Attribute) -> Writing {
 
 /// The object's attributes that are to stand in a result; nothing, where there are none.
 fn writing_of_attributes(object: &CategoryObject) -> Writing {
-    let mut all = Writing::NOTHING;
-    for attribute in object.attributes.as_slice() {
-        if attribute.include_in_result {
-            all = all.and(writing_of_attribute(attribute));
-        }
-    }
-    all
+    object.attributes.as_slice().iter().fold(
+        Writing::NOTHING,
+        |all, attribute| all.and(writing_of_attribute(attribute)),
+    )
 }
 
 /// What stands of the object in each result that has it; nothing, where none of its attributes is to
@@ -96,20 +96,15 @@ fn writing_of_assignment(assignment: &AttributeAssignment) -> Writing {
 
 /// An obligation or a piece of advice.
 fn writing_of_duty(duty: &Duty) -> Writing {
-    let mut all = DUTY.and(Writing::of_text(&duty.id));
-    for assignment in duty.assignments.as_slice() {
-        all = all.and(writing_of_assignment(assignment));
-    }
-    all
+    duty.assignments.as_slice().iter().fold(
+        DUTY.and(Writing::of_text(&duty.id)),
+        |all, assignment| all.and(writing_of_assignment(assignment)),
+    )
 }
 
 /// Obligations, or advice.
 fn writing_of_each(duties: &[Duty]) -> Writing {
-    let mut all = Writing::NOTHING;
-    for duty in duties {
-        all = all.and(writing_of_duty(duty));
-    }
-    all
+    duties.iter().fold(Writing::NOTHING, |all, duty| all.and(writing_of_duty(duty)))
 }
 
 /// Obligations and advice.
@@ -125,11 +120,10 @@ fn writing_of_key(key: &DocumentKey) -> Writing {
 
 /// The policies and policy sets that are named.
 fn writing_of_keys(keys: &[Shared<DocumentKey>]) -> Writing {
-    let mut all = Writing::NOTHING;
-    for key in keys {
-        all = all.and(writing_of_key(key.get()));
-    }
-    all
+    keys.iter().fold(
+        Writing::NOTHING,
+        |all, key| all.and(writing_of_key(key.get())),
+    )
 }
 
 /// The result of the individual request that has the objects at these places.

@@ -83,11 +83,10 @@ impl Work {
     }
 
     /// What is left of it, with the values of large bags in order. The response is begun anew.
-    pub(crate) fn ordered(self) -> Work {
-        let mut work = self;
-        work.reply = Budget::new(work.reply_limit);
-        work.search = Search::Ordered;
-        work
+    pub(crate) fn ordered(mut self) -> Work {
+        self.reply = Budget::new(self.reply_limit);
+        self.search = Search::Ordered;
+        self
     }
 
     /// Whether it was left because large bags were searched too often.

@@ -78,11 +78,10 @@ impl Writing {
 
     /// The values, one after another.
     fn of_values(values: &[Value]) -> Writing {
-        let mut all = Writing::NOTHING;
-        for value in values {
-            all = all.and(Writing::of_value(value));
-        }
-        all
+        values.iter().fold(
+            Writing::NOTHING,
+            |all, value| all.and(Writing::of_value(value)),
+        )
     }
 }
 

@@ -1,11 +1,19 @@
 -- What a call of a keeper did.
 use Rattle.std.specs.Prelude.{◌≡◌, ◌+◌, ◌^◌, ◌⊎◌, ℕ, Bool, true, List, Result, Ok, Err, IsErrOf, IsTrue, OnOk}
+use Rattle.xa_value.specs.declared.or_memory.OrMemory.{OrMemory}
+use Rattle.xa_value.specs.declared.or_memory.OrMemory.TheVariants as or_memory
+use Rattle.xa_value.specs.declared.read_error.ReadError.{ReadError}
 use Rattle.xa_records.specs.declared.refusal.ChangeError.{ChangeError}
 use Rattle.xa_records.specs.declared.refusal.ChangeError.TheVariants.{Failed, Refused}
 use Rattle.xa_records.specs.declared.refusal.Failure.{Failure}
 use Rattle.xa_records.specs.declared.refusal.Failure.TheVariants.{Memory, Store}
 use Rattle.xa_records.specs.Changes.{Change}
 use Rattle.xa_records.specs.Kept.{Kept, IsMade, state_of}
+
+-- of a value that isn't read
+abbrev pub failure_of_value : OrMemory ReadError → Failure
+failure_of_value or_memory.Memory = Memory
+failure_of_value (or_memory.Error fault) = Store
 
 -- it has read what is there, or failed; and nothing has changed
 abbrev pub Reads : {X : Type 0} → Kept → Kept → Result X Failure → X → Type 0

@@ -1,11 +1,12 @@
 //! Why a keeper doesn't do what it is asked for.
 ghost use Rattle.std.specs.Prelude.{◌≡◌};
-ghost use Rattle.xa_records.specs.Keeper.{CountsChange};
+ghost use Rattle.xa_records.specs.Keeper.{CountsChange, failure_of_value};
 ghost use Rattle.xa_records.specs.declared.refusal.ChangeError.TheVariants.{Failed, Refused};
 ghost use Rattle.xa_records.specs.declared.refusal.Failure.TheVariants.{Memory};
 
 use std::alloc::{AllocError, AllocFailed};
 use thiserror::Error;
+use xa_value::{OrMemory, ReadError};
 
 /// Why a change is refused. Nothing has changed.
 #[derive(Clone, Copy, Debug, PartialEq, Eq, Error)]
@@ -64,6 +65,17 @@ impl<T: Drop> From<AllocFailed<T>> for Failure {
 
     fn from(_error: AllocFailed<T>) -> Failure {
         Failure::Memory
+    }
+}
+
+impl From<OrMemory<ReadError>> for Failure {
+    ghost from_gives = { λ error e. e ≡ failure_of_value error };
+
+    fn from(error: OrMemory<ReadError>) -> Failure {
+        match error {
+            OrMemory::Memory => Failure::Memory,
+            OrMemory::Error(_) => Failure::Store,
+        }
     }
 }
 

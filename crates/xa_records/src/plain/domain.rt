@@ -92,7 +92,7 @@ impl PlainDomain {
         ensures store { ¬ IsErrOf result (Failed Store) }
     {
         if !self.tokens.has_room_for(&digest) {
-            return Err(Refusal::Quota.into());
+            return Err(ChangeError::Refused(Refusal::Quota));
         }
         self.tokens.put(digest, role)?;
         Ok(())
@@ -104,7 +104,7 @@ impl PlainDomain {
         ensures store { ¬ IsErrOf result (Failed Store) }
     {
         if !self.tokens.contains(&digest) {
-            return Err(Refusal::Absent.into());
+            return Err(ChangeError::Refused(Refusal::Absent));
         }
         self.tokens.remove(&digest);
         Ok(())
@@ -161,7 +161,7 @@ impl PlainDomain {
         ensures store { IsErrOf result (Failed Store) → CantRaiseEpoch (source_set rows) self.old }
     {
         if !may_be_kept(&rows) {
-            return Err(Refusal::Quota.into());
+            return Err(ChangeError::Refused(Refusal::Quota));
         }
         if is_same_source(&self.source, &rows) {
             return Ok(());
@@ -186,7 +186,7 @@ impl PlainDomain {
             return again(document, text);
         }
         if !self.documents.has_room() {
-            return Err(Refusal::Quota.into());
+            return Err(ChangeError::Refused(Refusal::Quota));
         }
         let epoch = next_after(self.epoch)?;
         let document = Document::new(alloc, text)?;
@@ -216,7 +216,7 @@ impl PlainDomain {
         ensures store { IsErrOf result (Failed Store) → CantRaiseEpoch (deleted key.now) self.old }
     {
         if self.activity_of(key)? {
-            return Err(Refusal::StillActive.into());
+            return Err(ChangeError::Refused(Refusal::StillActive));
         }
         self.epoch = next_after(self.epoch)?;
         self.documents.remove(key);
@@ -239,7 +239,7 @@ fn again(document: &Document, text: &[u8]) -> Result<Upload, ChangeError>
     ensures { result ≡ upload_again document.now text.now }
 {
     if document.text() != text {
-        return Err(Refusal::SameVersionOtherText.into());
+        return Err(ChangeError::Refused(Refusal::SameVersionOtherText));
     }
     Ok(Upload::Same)
 }
