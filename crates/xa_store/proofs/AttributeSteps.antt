@@ -1,7 +1,7 @@
 -- What the statements on the rows of sources make of the rows.
 use Rattle.std.proofs.Common.{◌≡◌, ℕ, ℤ, List, [], ◌∷◌, ◌++◌, map, filter, Bool, true, false, refl, sym, ap, ◌∙◌, int_eq, Ok}
 use Rattle.xa_store.proofs.Common.{Chosen, State, Executes, col, Trees, Null, Int, Text, Eq, cast_row, with_rowid, next_rowid, next_key, delete_where, all_of, or_null, at_ints, last_term, SourceRow, AttributeRow, attribute_row, attribute_in, type_number, value_text, AreTables, our_schema, sources}
-use Rattle.xa_store.specs.declared.step.Step.TheVariants.{AddAttribute, DropSource}
+use Rattle.xa_store.specs.declared.step.Step.TheVariants.{AddSourceRow, DropSource}
 use Rattle.xa_store.specs.Steps.{ReadsBack, is_place}
 use Rattle.xa_store.specs.Texts as text
 use Rattle.xa_store.proofs.ChangeLemmas.{none_pass}
@@ -41,7 +41,7 @@ module _ (old new : State) (has : old.now.schema ≡ our_schema) (count : ℕ) (
   -- a row comes
   pub attribute_added_stepped : (place : ℤ) (source : SourceRow) → filter (is_place n place) xs ≡ [] → ReadsBack source.value
       → Executes text.attribute_added (Int n ∷ Int place ∷ Text source.category ∷ Text source.entity ∷ Text source.attribute_id ∷ Int (type_number source.value) ∷ Text (value_text source.value) ∷ or_null Text source.issuer ∷ []) old new (Ok count)
-      → Stepped old new (AddAttribute n place source)
+      → Stepped old new (AddSourceRow n place source)
   attribute_added_stepped place source none reads h =
       let given = Int n ∷ Int place ∷ Text source.category ∷ Text source.entity ∷ Text source.attribute_id ∷ Int (type_number source.value) ∷ Text (value_text source.value) ∷ or_null Text source.issuer ∷ [] in
       let added : AttributeRow = record { rowid = next_key rowid_of xs; number = n; place = place; row = source; is_full = true } in

@@ -1,16 +1,18 @@
--- One more row among those that show the places of the rows of sources.
+-- One more row in a loop over rows, and among those that show the places of the rows of sources.
 use Rattle.std.proofs.Common.{◌≡◌, ℕ, suc, ◌+◌, ◌<◌, Bool, true, false, ◌&&◌, List, ◌∷◌, length, get_or, drop, unwrap_or, Option, Some, sym, ap, ◌∙◌, add-one, drop-cons}
 use Rattle.xa_store.proofs.Common.{Row, Place}
 use Rattle.xa_store.specs.Check.{counts, counts_on, is_next, place_told}
+
+-- the rest of a list, from one that it has
+pub rest_from : {X : Type 0} (xs : List X) (i : ℕ) (x : X) → x ≡ get_or xs i x → i < length xs → drop i xs ≡ x ∷ drop (i + 1) xs
+rest_from xs i x is lt = rw add-one (drop-cons xs i x lt ∙ ap (λ y. y ∷ drop (suc i) xs) (sym is))
 
 module _ (last : Place) (rows : List Row) (i : ℕ) (row : Row) (lt : i < length rows) (is : row ≡ get_or rows i row) where
   abbrev as_told : Option Place → Bool
   as_told told = is_next last told && counts (unwrap_or told last) (drop (i + 1) rows)
 
   counts_from : counts last (drop i rows) ≡ as_told (place_told row)
-  counts_from =
-      let first : drop i rows ≡ row ∷ drop (i + 1) rows = rw (add-one, drop-cons rows i row lt) (ap (λ r. r ∷ drop (suc i) rows) (sym is)) in
-      ap (counts last) first
+  counts_from = ap (counts last) (rest_from rows i row is lt)
 
   some_told : (place : Place) → place_told row ≡ Some place → counts last (drop i rows) ≡ (counts_on last place && counts place (drop (i + 1) rows))
   some_told place told = counts_from ∙ ap as_told told

@@ -1,6 +1,6 @@
 -- Sound rows of the table of documents are rows that the keeper writes.
 use Rattle.std.proofs.Common.{◌≡◌, ◌≤◌, ℕ, ℤ, true, false, List, [], ◌∷◌, length, drop, unwrap_or, int_eq, bytes_eq, None, Result, Ok, Err, refl, sym, ap, subst, ◌∙◌, true≢false, arith}
-use Rattle.xa_store.proofs.Common.{Row, column, Trees, Value, Int, Text, IsSound, same_int, first_of_both, second_of_both, agree, are_typed, Eq, int_of, bytes_of, at_ints, at_texts, then_term, last_term, bytes_eq_refl, DocumentKey, DocumentKind, read_version, version_text, Parsed, document_of, IsDocumentOf, Documents, as_read, holds_key, is_bit, is_given, is_sound_table, is_whole_row, DocumentRow, bit, is_set, document_in, document_row, given, kind_in, kind_number, AreRows, same_document, our_schema, policies, rising}
+use Rattle.xa_store.proofs.Common.{Row, column, Trees, Value, Int, Text, IsSound, same_int, first_of_both, second_of_both, agree, are_typed, Eq, int_of, bytes_of, at_ints, at_texts, then_term, last_term, bytes_eq_refl, DocumentKey, DocumentKind, read_version, version_text, Parsed, document_of, IsDocumentOf, Documents, as_read, holds_key, is_assigned, is_bit, is_sound_table, is_whole_row, DocumentRow, bit, is_set, document_in, document_row, given, kind_in, kind_number, AreRows, same_document, our_schema, policies, rising}
 use Rattle.sqlite_value.specs.Keys.{first_key}
 use Rattle.xa_notation.specs.declared.notation_error.NotationError.{NotationError}
 use Rattle.xa_store.specs.Rows.{version_in}
@@ -62,7 +62,7 @@ document_held next row whole =
 document_back : (next : ℤ) (row : Row) → are_typed None 0 policies.columns (drop 1 row) ≡ true → is_whole_row Documents next (as_read Documents row) ≡ true → row ≡ document_row (document_in row)
 document_back next row typed whole =
     let rest = second_of_both _ _ whole in
-    let number = int_held (is_given next) (column row 1) (first_of_both _ _ (first_of_both _ _ rest)) in
+    let number = int_held (is_assigned next) (column row 1) (first_of_both _ _ (first_of_both _ _ rest)) in
     let active = int_held is_bit (column row 6) (second_of_both _ _ (first_of_both _ _ rest)) in
     let text = blob_held (λ body. holds_key (column row 2) (column row 3) (column row 4) (document_of body)) (column row 5) (second_of_both _ _ rest) in
     let key = key_held (column row 2) (column row 3) (column row 4) (bytes_of (column row 5)) (document_of (bytes_of (column row 5))) refl text.1 in

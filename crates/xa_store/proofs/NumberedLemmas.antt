@@ -1,6 +1,6 @@
 -- Rows whose numbers were given are those of domains that are apart, and none stands for a number that wasn't.
 use Rattle.std.proofs.Common.{◌≡◌, ◌<◌, ◌≤◌, ◌^◌, ℕ, ℤ, ◌<ℤ◌, pos, negsuc, true, false, cond, List, [], ◌∷◌, filter, find, int_eq, int_lt, Option, Some, None, option_map, refl, sym, ap, ap₂, subst, ◌∙◌, arith}
-use Rattle.xa_store.proofs.Common.{AllByRecursion, get, ints, IsKeyedBy, get_by, int_eq_apart, all_both, all_weaker, filter_none, first_of_both, second_of_both, same_bytes, new_domain, Domain, IsNumbered, is_count, is_given, AttributeRow, DocumentRow, DomainRow, RootRow, TokenRow, nat_of, reference_of, AreNumbered, AreWhole, Rows, domain_of, kept_of, library_of, roles_of, source_of, state_at}
+use Rattle.xa_store.proofs.Common.{AllByRecursion, get, ints, IsKeyedBy, get_by, int_eq_apart, all_both, all_weaker, filter_none, first_of_both, second_of_both, same_bytes, new_domain, Domain, IsNumbered, is_assigned, is_count, AttributeRow, DocumentRow, DomainRow, RootRow, TokenRow, nat_of, reference_of, AreNumbered, AreWhole, Rows, domain_of, kept_of, library_of, roles_of, source_of, state_at}
 use Rattle.sqlite.specs.Ops.{fits_i64}
 use Rattle.xa_store.specs.Steps.{is_named}
 use Rattle.xa_store.proofs.ChangeLemmas.{found_all, kept_at, number_of}
@@ -25,14 +25,14 @@ same_count m n p q same = sym (count_back m p) ∙ ap pos same ∙ count_back n 
 pos_below : (m n : ℕ) → int_lt (pos m) (pos n) ≡ true → m < n
 pos_below m n h = grind (arith, ints)
 
-given_below : (next n : ℤ) → is_count next ≡ true → is_given next n ≡ true → nat_of n < nat_of next
-given_below next n counts h =
+assigned_below : (next n : ℤ) → is_count next ≡ true → is_assigned next n ≡ true → nat_of n < nat_of next
+assigned_below next n counts h =
     let count = first_of_both (is_count n) (int_lt n next) h in
     pos_below (nat_of n) (nat_of next) (ap₂ int_lt (count_back n count) (count_back next counts) ∙ second_of_both (is_count n) (int_lt n next) h)
 
-not_given : (next n : ℤ) (k : ℕ) → is_count next ≡ true → is_given next n ≡ true → nat_of next ≤ k → int_eq n (pos k) ≡ false
-not_given next n k counts h past =
-    let less = given_below next n counts h in
+not_assigned : (next n : ℤ) (k : ℕ) → is_count next ≡ true → is_assigned next n ≡ true → nat_of next ≤ k → int_eq n (pos k) ≡ false
+not_assigned next n k counts h past =
+    let less = assigned_below next n counts h in
     int_eq_apart n (pos k) (λ same. let it : nat_of n ≡ k = ap nat_of same in absurd (omega (arith, less, past, it)))
 
 -- ---- one row for each number
@@ -85,7 +85,7 @@ module _ (rows : Rows) (whole : AreWhole rows) (up : IsKeyedBy number_of rows.do
       its_name one x at_x ∙ ap (λ (d : DomainRow). d.name) row ∙ sym (its_name other y at_y)
 
   below : (name : List ℕ) (domain : Domain) → IsAt name domain → domain.number < nat_of rows.next
-  below name domain (d, at_d, is_d) = subst (λ (x : Domain). x.number < nat_of rows.next) is_d (given_below rows.next d.number whole.next (its name d at_d).0)
+  below name domain (d, at_d, is_d) = subst (λ (x : Domain). x.number < nat_of rows.next) is_d (assigned_below rows.next d.number whole.next (its name d at_d).0)
 
   low_epoch : (name : List ℕ) (domain : Domain) → IsAt name domain → domain.epoch < 2 ^ 63
   low_epoch name domain (d, at_d, is_d) = subst (λ (x : Domain). x.epoch < 2 ^ 63) is_d (count_fits d.epoch (its name d at_d).2)
@@ -101,9 +101,9 @@ module _ (rows : Rows) (whole : AreWhole rows) (up : IsKeyedBy number_of rows.do
   -- ---- no row stands for a number that wasn't given
 
   module _ (n : ℕ) (past : nat_of rows.next ≤ n) where
-    none_left : {X : Type 0} (key : X → ℤ) (P : X → Type 0) → ((x : X) → P x → is_given rows.next (key x) ≡ true) → (xs : List X) → AllByRecursion P xs → filter (λ x. int_eq (key x) (pos n)) xs ≡ []
+    none_left : {X : Type 0} (key : X → ℤ) (P : X → Type 0) → ((x : X) → P x → is_assigned rows.next (key x) ≡ true) → (xs : List X) → AllByRecursion P xs → filter (λ x. int_eq (key x) (pos n)) xs ≡ []
     none_left key P given xs all =
-        filter_none (λ x. int_eq (key x) (pos n)) xs (all_weaker P (λ x. int_eq (key x) (pos n) ≡ false) (λ x h. not_given rows.next (key x) n whole.next (given x h) past) xs all)
+        filter_none (λ x. int_eq (key x) (pos n)) xs (all_weaker P (λ x. int_eq (key x) (pos n) ≡ false) (λ x h. not_assigned rows.next (key x) n whole.next (given x h) past) xs all)
 
     nothing : state_at rows (pos n) ≡ new_domain
     nothing = λ i. record {

@@ -1,6 +1,6 @@
 -- Tables that opening finds sound are those of a keeper, and tables as they are made are sound.
 use Rattle.std.proofs.Common.{◌≡◌, ℕ, ℤ, pos, Bool, true, false, ◌&&◌, cond, List, [], ◌∷◌, map, Option, Some, None, Result, Ok, Err, refl, sym, ap, subst, ◌∙◌, true≢false}
-use Rattle.xa_store.proofs.Common.{from_entries, AllByRecursion, list_all, IsDatabase, Row, column, State, Trees, IsSound, all_from_test, all_map, all_weaker, map-map, first_of_both, second_of_both, Datatype, int_of, is_domain_name, IsDocumentOf, nothing_kept, OpenError, Damaged, Kind, Domains, Tokens, Documents, Roots, Sources, SchemaVersion, Schema2, are_counted, as_read, count_from, holds_int, is_count, is_digest, is_empty, is_given, is_left_empty, is_sound, is_sound_table, is_whole_row, checked, kinds_in, known_next, opened, place_in, places_of, read_meta, sources_in, tree_of, attribute_in, document_in, domain_in, meta_row, nat_of, next_in, root_in, token_in, AreDocuments, AreNumbered, AreTables, AreWhole, Ours, Rests, place_of, our_schema, domain_entry, rows_of, world_of}
+use Rattle.xa_store.proofs.Common.{from_entries, AllByRecursion, list_all, IsDatabase, Row, column, State, Trees, IsSound, all_from_test, all_map, all_weaker, map-map, first_of_both, second_of_both, Datatype, int_of, is_domain_name, IsDocumentOf, nothing_kept, OpenError, Damaged, Kind, Domains, Tokens, Documents, Roots, Sources, SchemaVersion, Schema2, are_counted, as_read, count_from, holds_int, is_assigned, is_count, is_digest, is_empty, is_left_empty, is_sound, is_sound_table, is_whole_row, checked, kinds_in, known_next, opened, place_in, places_of, read_meta, sources_in, tree_of, attribute_in, document_in, domain_in, meta_row, nat_of, next_in, root_in, token_in, AreDocuments, AreNumbered, AreTables, AreWhole, Ours, Rests, place_of, our_schema, domain_entry, rows_of, world_of}
 use Rattle.xa_store.specs.Opening.{AreNewTables}
 use Rattle.xa_store.proofs.AreRowsLemmas.{domains_are, sources_are, tokens_are, whole}
 use Rattle.xa_store.proofs.ColumnLemmas.{root_texts, source_texts}
@@ -82,14 +82,14 @@ module _ (db : Trees) (next : ℤ) (live : IsSound our_schema db) (known : known
   -- ---- columns
 
   -- the number in a column was given
-  number_given : (row : Row) (at : ℕ) → holds_int (is_given next) (column row at) ≡ true → is_given next (int_of (column row at)) ≡ true
-  number_given row at h = (int_held (is_given next) (column row at) h).1
+  number_assigned : (row : Row) (at : ℕ) → holds_int (is_assigned next) (column row at) ≡ true → is_assigned next (int_of (column row at)) ≡ true
+  number_assigned row at h = (int_held (is_assigned next) (column row at) h).1
 
   abbrev IsWhole : Kind → Row → Type 0
   IsWhole kind row = is_whole_row kind next (as_read kind row) ≡ true
 
-  document_given : (row : Row) → IsWhole Documents row → is_given next (document_in row).number ≡ true
-  document_given row h = number_given row 1 (first_of_both _ _ (first_of_both _ _ (second_of_both _ _ h)))
+  document_assigned : (row : Row) → IsWhole Documents row → is_assigned next (document_in row).number ≡ true
+  document_assigned row h = number_assigned row 1 (first_of_both _ _ (first_of_both _ _ (second_of_both _ _ h)))
 
   module _ {X : Type 0} (kind : Kind) (here : test kind ≡ true) (reads : Row → X) (Is : X → Type 0) (of : (row : Row) → IsWhole kind row → Is (reads row)) where
     each : AllByRecursion Is (map reads (db (tree_of kind)))
@@ -99,18 +99,18 @@ module _ (db : Trees) (next : ℤ) (live : IsSound our_schema db) (known : known
   domain_whole row h =
       let rest = second_of_both _ _ h in
       let first = first_of_both _ _ rest in
-      (number_given row 0 (first_of_both _ _ first), (text_held is_domain_name (column row 2) (second_of_both _ _ first)).1, (int_held is_count (column row 3) (second_of_both _ _ rest)).1)
+      (number_assigned row 0 (first_of_both _ _ first), (text_held is_domain_name (column row 2) (second_of_both _ _ first)).1, (int_held is_count (column row 3) (second_of_both _ _ rest)).1)
 
   token_whole : (row : Row) → IsWhole Tokens row → IsWholeToken next (token_in row)
   token_whole row h =
       let first = first_of_both _ _ (second_of_both _ _ h) in
-      (number_given row 1 (first_of_both _ _ first), (blob_held is_digest (column row 2) (second_of_both _ _ first)).1)
+      (number_assigned row 1 (first_of_both _ _ first), (blob_held is_digest (column row 2) (second_of_both _ _ first)).1)
 
   root_whole : (row : Row) → IsWhole Roots row → IsWholeRoot next (root_in row)
-  root_whole row h = (number_given row 0 (first_of_both _ _ (first_of_both _ _ (first_of_both _ _ (first_of_both _ _ (first_of_both _ _ (second_of_both _ _ h)))))), root_texts next row h)
+  root_whole row h = (number_assigned row 0 (first_of_both _ _ (first_of_both _ _ (first_of_both _ _ (first_of_both _ _ (first_of_both _ _ (second_of_both _ _ h)))))), root_texts next row h)
 
   attribute_whole : (row : Row) → IsWhole Sources row → IsWholeAttribute next (attribute_in row)
-  attribute_whole row h = (number_given row 1 (first_of_both _ _ (first_of_both _ _ (first_of_both _ _ (first_of_both _ _ (second_of_both _ _ (whole_source next row h).0))))), source_texts next row h)
+  attribute_whole row h = (number_assigned row 1 (first_of_both _ _ (first_of_both _ _ (first_of_both _ _ (first_of_both _ _ (second_of_both _ _ (whole_source next row h).0))))), source_texts next row h)
 
   places : (n : ℤ) → count_from (pos 0) (places_of (map place_of (map attribute_in (db 10))) n) ≡ true
   places n = ap (λ l. count_from (pos 0) (places_of l n)) (map-map place_of attribute_in (db 10)) ∙ counted_each (map place_in (db 10)) (places_counted Schema2 db next sound) n
@@ -120,7 +120,7 @@ module _ (db : Trees) (next : ℤ) (live : IsSound our_schema db) (known : known
     next = next_counts Schema2 db next sound;
     domains = each Domains all.0 domain_in (IsWholeDomain next) domain_whole;
     tokens = each Tokens all.1.0 token_in (IsWholeToken next) token_whole;
-    documents = each Documents all.1.1.0 document_in (IsWholeDocument next) document_given;
+    documents = each Documents all.1.1.0 document_in (IsWholeDocument next) document_assigned;
     roots = each Roots all.1.1.1.0 root_in (IsWholeRoot next) root_whole;
     attributes = each Sources all.1.1.1.1.0 attribute_in (IsWholeAttribute next) attribute_whole;
     places = places;

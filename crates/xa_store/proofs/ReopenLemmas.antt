@@ -1,6 +1,6 @@
 -- A keeper's own tables are such as opening finds sound.
 use Rattle.std.proofs.Common.{◌≡◌, ℕ, ℤ, ◌<ℤ◌, Bool, true, false, ◌&&◌, cond, bytes_eq, List, [], ◌∷◌, map, int_eq, int_lt, Option, Ok, Err, refl, sym, ap, subst, ◌∙◌, arith}
-use Rattle.xa_store.proofs.Common.{AllByRecursion, list_all, ints, is_eq-slice_cmp, Row, column, State, Trees, Int, Text, all_both, all_map, all_weaker, ascending-map, map-map, map_same, test_from_all, IsAscending, bytes_eq_refl, DocumentKey, version_text, Parsed, document_of, is_domain_name, IsDocumentOf, Damaged, Kind, Domains, Tokens, Documents, Roots, Sources, Schema2, are_counted, are_rising, as_read, holds_key, holds_text_if_any, holds_value, is_bit, is_count, is_digest, is_empty, is_given, is_left_empty, is_pattern, is_sound, is_sound_table, is_version, is_whole_row, checked, kinds_in, known_next, opened, place_in, read_meta, row_number, tree_of, is_utf8, AttributeRow, DocumentRow, DomainRow, RootRow, TokenRow, attribute_in, attribute_row, bit, document_in, document_row, domain_in, domain_row, issuer_columns, kind_number, next_in, role_number, root_in, root_row, token_in, token_row, type_number, value_text, AreDocuments, AreOurs, AreRows, AreTables, AreWhole, Ours, is_if_any, place_of, rows_of}
+use Rattle.xa_store.proofs.Common.{AllByRecursion, list_all, ints, is_eq-slice_cmp, Row, column, State, Trees, Int, Text, all_both, all_map, all_weaker, ascending-map, map-map, map_same, test_from_all, IsAscending, bytes_eq_refl, DocumentKey, version_text, Parsed, document_of, is_domain_name, IsDocumentOf, Damaged, Kind, Domains, Tokens, Documents, Roots, Sources, Schema2, are_counted, are_rising, as_read, holds_key, holds_text_if_any, holds_value, is_assigned, is_bit, is_count, is_digest, is_empty, is_left_empty, is_pattern, is_sound, is_sound_table, is_version, is_whole_row, checked, kinds_in, known_next, opened, place_in, read_meta, row_number, tree_of, is_utf8, AttributeRow, DocumentRow, DomainRow, RootRow, TokenRow, attribute_in, attribute_row, bit, document_in, document_row, domain_in, domain_row, issuer_columns, kind_number, next_in, role_number, root_in, root_row, token_in, token_row, type_number, value_text, AreDocuments, AreOurs, AreRows, AreTables, AreWhole, Ours, is_if_any, place_of, rows_of}
 use Rattle.xa_store.proofs.ColumnLemmas.{held_if_any, text_written}
 use Rattle.xa_store.proofs.ColumnNumbers.{of_activity, of_kind, of_role}
 use Rattle.xa_store.proofs.CountedLemmas.{each_counted}
@@ -15,10 +15,10 @@ abbrev Whole : {X : Type 0} → Kind → ℤ → (X → Row) → X → Type 0
 Whole kind next write x = is_whole_row kind next (as_read kind (write x)) ≡ true
 
 domain_opens : (next : ℤ) (d : DomainRow) → IsWholeDomain next d → Whole Domains next domain_row d
-domain_opens next d h = both_true _ (is_count d.epoch) (both_true (is_given next d.number) (is_domain_name d.name) h.0 h.1) h.2
+domain_opens next d h = both_true _ (is_count d.epoch) (both_true (is_assigned next d.number) (is_domain_name d.name) h.0 h.1) h.2
 
 token_opens : (next : ℤ) (t : TokenRow) → IsWholeToken next t → Whole Tokens next token_row t
-token_opens next t h = both_true _ (is_bit (role_number t.role)) (both_true (is_given next t.number) (is_digest t.digest) h.0 h.1) (of_role t.role).low
+token_opens next t h = both_true _ (is_bit (role_number t.role)) (both_true (is_assigned next t.number) (is_digest t.digest) h.0 h.1) (of_role t.role).low
 
 same_bytes : (a : List ℕ) → bytes_eq a a ≡ true
 same_bytes a = sym (is_eq-slice_cmp a a) ∙ bytes_eq_refl a
@@ -34,12 +34,12 @@ key_opens key text (parsed, reads, is) =
     ∙ subst (λ (k : DocumentKey). holds_key (Int (kind_number k.kind)) (Text k.id) (Text (version_text k.version)) (Ok parsed) ≡ true) is (own_key parsed)
 
 document_opens : (next : ℤ) (d : DocumentRow) → IsWholeDocument next d → IsDocumentOf d.key d.text → Whole Documents next document_row d
-document_opens next d h is = both_true _ _ (both_true (is_given next d.number) (is_bit (bit d.active)) h (of_activity d.active).low) (key_opens d.key d.text is)
+document_opens next d h is = both_true _ _ (both_true (is_assigned next d.number) (is_bit (bit d.active)) h (of_activity d.active).low) (key_opens d.key d.text is)
 
 root_opens : (next : ℤ) (r : RootRow) → IsWholeRoot next r → Whole Roots next root_row r
 root_opens next r h =
     both_true _ _
-    (both_true _ _ (both_true _ _ (both_true _ (is_utf8 r.id) (both_true (is_given next r.number) (is_bit (kind_number r.kind)) h.0 (of_kind r.kind).low) h.1.0) (text_written is_pattern r.texts 0 h.1.1))
+    (both_true _ _ (both_true _ _ (both_true _ (is_utf8 r.id) (both_true (is_assigned next r.number) (is_bit (kind_number r.kind)) h.0 (of_kind r.kind).low) h.1.0) (text_written is_pattern r.texts 0 h.1.1))
     (text_written is_version r.texts 1 h.1.2)) (text_written is_version r.texts 2 h.1.3)
 
 issuer_opens : (full : Bool) (issuer : Option (List ℕ)) → is_if_any is_utf8 issuer ≡ true → holds_text_if_any is_utf8 (column (issuer_columns full issuer) 0) ≡ true
@@ -50,7 +50,7 @@ attribute_opens : (next : ℤ) (a : AttributeRow) → IsWholeAttribute next a �
 attribute_opens next a h =
     both_true _ (holds_text_if_any is_utf8 (column (issuer_columns a.is_full a.row.issuer) 0))
     (both_true _ (holds_value (type_number a.row.value) (value_text a.row.value))
-    (both_true _ (is_utf8 a.row.attribute_id) (both_true _ (is_utf8 a.row.entity) (both_true (is_given next a.number) (is_utf8 a.row.category) h.0 h.1.0) h.1.1) h.1.2) h.1.3)
+    (both_true _ (is_utf8 a.row.attribute_id) (both_true _ (is_utf8 a.row.entity) (both_true (is_assigned next a.number) (is_utf8 a.row.category) h.0 h.1.0) h.1.1) h.1.2) h.1.3)
     (issuer_opens a.is_full a.row.issuer h.1.4)
 
 -- ---- a table

@@ -1,6 +1,6 @@
 -- The plan of a root that is set.
 use Rattle.std.proofs.Common.{◌≡◌, ◌≢◌, inr, ◌+◌, ◌<◌, ◌^◌, ℕ, ℤ, List, [], Bool, true, false, not, cond, Option, Some, None, option_map, option_and_then, Ok, refl, sym, ap, subst, ◌∙◌, int_eq}
-use Rattle.xa_store.proofs.Common.{is_utf8, IsKeyedBy, get_by, insert_by, without_key, all-insert_by, int_eq_apart, Reference, pattern_text, read_pattern, read_version, version_text, within, root_set, DomainState, is_count, is_given, is_pattern, is_version, DomainRow, RootRow, given, nat_of, AreNumbered, AreRootTexts, AreWhole, is_if_any, Rows, root_at, state_at}
+use Rattle.xa_store.proofs.Common.{is_utf8, IsKeyedBy, get_by, insert_by, without_key, all-insert_by, int_eq_apart, Reference, pattern_text, read_pattern, read_version, version_text, within, root_set, DomainState, is_assigned, is_count, is_pattern, is_version, DomainRow, RootRow, given, nat_of, AreNumbered, AreRootTexts, AreWhole, is_if_any, Rows, root_at, state_at}
 use Rattle.xa_store.specs.declared.query.domain.DomainFound.{DomainFound}
 use Rattle.xa_store.specs.Lookup.{IsDomain}
 use Rattle.xa_store.specs.Plan.{HasRootTexts, RaisesTo, RootReads, root_steps}
@@ -54,12 +54,12 @@ allowed rows n e None = (tt, (tt, tt))
 allowed rows n e (Some root) = (tt, (tt, (tt, tt)))
 
 -- the columns after the steps
-whole_after : (rows : Rows) → AreWhole rows → (n e : ℤ) (root : Option Reference) → is_given rows.next n ≡ true → HasRootTexts n root → is_count e ≡ true → AreWhole (after_all (root_steps n e root) rows)
+whole_after : (rows : Rows) → AreWhole rows → (n e : ℤ) (root : Option Reference) → is_assigned rows.next n ≡ true → HasRootTexts n root → is_count e ≡ true → AreWhole (after_all (root_steps n e root) rows)
 whole_after rows whole n e None given texts counts =
     roots_whole rows whole (without_key root_key rows.roots n) (with_epoch n e rows.domains) (all_filter (IsWholeRoot rows.next) (λ r. not (int_eq r.number n)) rows.roots whole.roots) (epoch_whole rows whole n e counts)
 whole_after rows whole n e (Some root) given texts counts =
     roots_whole rows whole (insert_by root_key (without_key root_key rows.roots n) (root_of n root)) (with_epoch n e rows.domains)
-    (all-insert_by root_key (IsWholeRoot rows.next) (without_key root_key rows.roots n) (root_of n root) (subst (λ m. is_given rows.next m ≡ true) (sym (its_number n root)) given, texts)
+    (all-insert_by root_key (IsWholeRoot rows.next) (without_key root_key rows.roots n) (root_of n root) (subst (λ m. is_assigned rows.next m ≡ true) (sym (its_number n root)) given, texts)
     (all_filter (IsWholeRoot rows.next) (λ r. not (int_eq r.number n)) rows.roots whole.roots)) (epoch_whole rows whole n e counts)
 
 module _ (rows : Rows) (name : List ℕ) (d : DomainRow) (one : IsOnly name d rows) (up : IsKeyedBy number_of rows.domains) (are : AreNumbered rows) (epoch : ℤ) (root : Option Reference) where

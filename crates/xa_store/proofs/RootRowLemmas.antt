@@ -1,6 +1,6 @@
 -- Sound rows of the table of roots, and of the first table, are rows that the keeper writes.
 use Rattle.std.proofs.Common.{◌≡◌, ◌≤◌, ℤ, pos, Bool, true, false, ◌&&◌, cond, codes, List, [], ◌∷◌, map, length, drop, int_eq, Some, None, refl, sym, ap, ◌∙◌, arith}
-use Rattle.xa_store.proofs.Common.{AllByRecursion, is_utf8, Row, column, Schema, Trees, Value, Null, Int, Real, Text, Blob, IsSound, same_int, all_weaker, first_of_both, second_of_both, Datatype, are_typed, passes, int_of, bytes_of, or_null, unless_null, Roots, SchemaVersion, as_read, holds_int, int_in, is_bit, is_given, is_pattern, is_version, is_sound_table, is_whole_row, known_next, next_of, number_of, read_meta, RootRow, kind_in, kind_number, meta_row_of, root_in, root_row, AreRows, meta, needed, our_schema, own_key, roots, text_if_any}
+use Rattle.xa_store.proofs.Common.{AllByRecursion, is_utf8, Row, column, Schema, Trees, Value, Null, Int, Real, Text, Blob, IsSound, same_int, all_weaker, first_of_both, second_of_both, Datatype, are_typed, passes, int_of, bytes_of, or_null, unless_null, Roots, SchemaVersion, as_read, holds_int, int_in, is_assigned, is_bit, is_pattern, is_version, is_sound_table, is_whole_row, known_next, next_of, number_of, read_meta, RootRow, kind_in, kind_number, meta_row_of, root_in, root_row, AreRows, meta, needed, our_schema, own_key, roots, text_if_any}
 use Rattle.sqlite.specs.Kind.TheVariants as kinds
 use Rattle.xa_store.proofs.AreRowsLemmas.{rows_alone}
 use Rattle.xa_store.proofs.ColumnNumbers.{from_bit}
@@ -30,7 +30,7 @@ root_back next row typed whole =
     let first4 = first_of_both _ _ first5 in
     let first3 = first_of_both _ _ first4 in
     let first2 = first_of_both _ _ first3 in
-    let number = int_held (is_given next) (column row 0) (first_of_both _ _ first2) in
+    let number = int_held (is_assigned next) (column row 0) (first_of_both _ _ first2) in
     let kind = int_held is_bit (column row 2) (second_of_both _ _ first2) in
     let id = text_held is_utf8 (column row 3) (second_of_both _ _ first3) in
     let pattern = text_if_any_held is_pattern (column row 4) (second_of_both _ _ first4) in

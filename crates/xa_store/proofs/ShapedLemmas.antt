@@ -1,6 +1,6 @@
 -- Sound rows are rows that the keeper writes.
 use Rattle.std.proofs.Common.{◌≡◌, ◌≤◌, ℕ, ℤ, pos, negsuc, ◌<ℤ◌, Bool, true, false, ◌&&◌, ◌==◌, not, cond, unwrap_or, codes, List, [], ◌∷◌, map, length, drop, slice_get, is_some, int_lt, int_eq, bytes_eq, Option, Some, None, Result, Ok, Err, refl, sym, ap, ap₂, ◌∙◌, true≢false, arith}
-use Rattle.xa_store.proofs.Common.{AllByRecursion, is_utf8, ints, Row, column, Value, Null, Int, Real, Text, Blob, IsKeyedBy, AreApart, all_from_test, all_weaker, all_both, all_unmap, ascending_from_map, none_from_any, any_from_none, first_of_both, second_of_both, are_present, are_typed, agree, clashes, differ, suits, is_null, Eq, Ne, IsAscending, int_of, bytes_of, or_null, unless_null, at_ints, then_term, last_term, same_bytes, is_eq-slice_cmp, type_of, printed, read, read_as, Kind, Domains, Tokens, Attributes, Sources, is_domain_name, are_rising, as_read, holds_text, holds_text_if_any, holds_value, is_bit, is_count, is_digest, is_given, is_number, is_printed, is_value, is_whole_row, row_number, AttributeRow, attribute_in, attribute_row, domain_in, domain_row, given, issuer_columns, nat_of, role_in, role_number, token_in, token_row, type_number, same_place, attributes, domains, needed, own_key, rising, sources, tokens}
+use Rattle.xa_store.proofs.Common.{AllByRecursion, is_utf8, ints, Row, column, Value, Null, Int, Real, Text, Blob, IsKeyedBy, AreApart, all_from_test, all_weaker, all_both, all_unmap, ascending_from_map, none_from_any, any_from_none, first_of_both, second_of_both, are_present, are_typed, agree, clashes, differ, suits, is_null, Eq, Ne, IsAscending, int_of, bytes_of, or_null, unless_null, at_ints, then_term, last_term, same_bytes, is_eq-slice_cmp, type_of, printed, read, read_as, Kind, Domains, Tokens, Attributes, Sources, is_domain_name, are_rising, as_read, holds_text, holds_text_if_any, holds_value, is_assigned, is_bit, is_count, is_digest, is_number, is_printed, is_value, is_whole_row, row_number, AttributeRow, attribute_in, attribute_row, domain_in, domain_row, given, issuer_columns, nat_of, role_in, role_number, token_in, token_row, type_number, same_place, attributes, domains, needed, own_key, rising, sources, tokens}
 use Rattle.sqlite.specs.Kind.TheVariants as kinds
 use Rattle.sqlite_schema.specs.declared.schema.Column.{Column}
 use Rattle.sqlite_value.specs.Keys.{first_key}
@@ -72,7 +72,7 @@ module _ {X : Type 0} (write : X → Row) (rowid_of : X → ℤ) (numbered : (x 
 pub domain_back : (next : ℤ) (row : Row) → are_typed (Some 0) 0 domains.columns (drop 1 row) ≡ true → is_whole_row Domains next (as_read Domains row) ≡ true → row ≡ domain_row (domain_in row)
 domain_back next row typed whole =
     let rest = second_of_both _ _ whole in
-    let number = int_held (is_given next) (column row 0) (first_of_both _ _ (first_of_both _ _ rest)) in
+    let number = int_held (is_assigned next) (column row 0) (first_of_both _ _ (first_of_both _ _ rest)) in
     let name = text_held is_domain_name (column row 2) (second_of_both _ _ (first_of_both _ _ rest)) in
     let epoch = int_held is_count (column row 3) (second_of_both _ _ rest) in
     let less : length row ≤ 4 = row_short (Some 0) domains.columns row typed in
@@ -83,7 +83,7 @@ domain_back next row typed whole =
 pub token_back : (next : ℤ) (row : Row) → are_typed None 0 tokens.columns (drop 1 row) ≡ true → is_whole_row Tokens next (as_read Tokens row) ≡ true → row ≡ token_row (token_in row)
 token_back next row typed whole =
     let rest = second_of_both _ _ whole in
-    let number = int_held (is_given next) (column row 1) (first_of_both _ _ (first_of_both _ _ rest)) in
+    let number = int_held (is_assigned next) (column row 1) (first_of_both _ _ (first_of_both _ _ rest)) in
     let digest = blob_held is_digest (column row 2) (second_of_both _ _ (first_of_both _ _ rest)) in
     let role = int_held is_bit (column row 3) (second_of_both _ _ rest) in
     let rowid = int_back (column row 0) (first_of_both _ _ whole) in
@@ -180,7 +180,7 @@ module _ (next : ℤ) (row : Row) where
       let first4 = first_of_both _ _ rest in
       let first3 = first_of_both _ _ first4 in
       let first2 = first_of_both _ _ first3 in
-      let number = int_held (is_given next) (column row 1) (first_of_both _ _ first2) in
+      let number = int_held (is_assigned next) (column row 1) (first_of_both _ _ first2) in
       let category = text_held is_utf8 (column row 3) (second_of_both _ _ first2) in
       let entity = text_held is_utf8 (column row 4) (second_of_both _ _ first3) in
       let attribute = text_held is_utf8 (column row 5) (second_of_both _ _ first4) in

@@ -1,11 +1,11 @@
 -- The plan of a source that is set.
 use Rattle.std.proofs.Common.{◌≡◌, ◌≢◌, inr, ◌+◌, ◌<◌, ◌≤◌, ◌^◌, ◌<ℤ◌, ℕ, ℤ, pos, ◌+ℤ◌, not, List, [], ◌∷◌, ◌++◌, map, filter, length, Bool, true, false, cond, nat_le, bytes_eq, unwrap_or, Result, Ok, Err, is_gt, refl, sym, ap, subst, ◌∙◌, arith, int_eq, int_cmp, true≢false}
-use Rattle.xa_store.proofs.Common.{AllByRecursion, on, is_utf8, ints, is_eq-slice_cmp, IsKeyedBy, next_key, delete_where, sort_by, insert_sorted, Less-from_lt, int_eq_apart, same_int, all-append, all_weaker, ascending-append, filter_none, first_of_both, second_of_both, sort_by-map, bytes_eq_refl, type_of, printed, read, SourceRow, Quota, source_set, within, DomainState, state_of, count_from, holds_value, is_count, is_given, is_printed, is_value, places_of, type_numbered, AttributeRow, DomainRow, given, nat_of, type_number, AreNumbered, AreWhole, Rows, attributes_at, kept_of, source_of, state_at}
+use Rattle.xa_store.proofs.Common.{AllByRecursion, on, is_utf8, ints, is_eq-slice_cmp, IsKeyedBy, next_key, delete_where, sort_by, insert_sorted, Less-from_lt, int_eq_apart, same_int, all-append, all_weaker, ascending-append, filter_none, first_of_both, second_of_both, sort_by-map, bytes_eq_refl, type_of, printed, read, SourceRow, Quota, source_set, within, DomainState, state_of, count_from, holds_value, is_assigned, is_count, is_printed, is_value, places_of, type_numbered, AttributeRow, DomainRow, given, nat_of, type_number, AreNumbered, AreWhole, Rows, attributes_at, kept_of, source_of, state_at}
 use Rattle.xa_value.specs.declared.read_error.ReadError.{ReadError}
 use Rattle.xa_value.specs.declared.value.Value.{Value}
 use Rattle.xa_value.specs.declared.value.Value.TheVariants as value
 use Rattle.xa_store.specs.declared.query.domain.DomainFound.{DomainFound}
-use Rattle.xa_store.specs.declared.step.Step.TheVariants.{AddAttribute}
+use Rattle.xa_store.specs.declared.step.Step.TheVariants.{AddSourceRow}
 use Rattle.xa_store.specs.Lookup.{IsDomain}
 use Rattle.xa_store.specs.Plan.{HaveTexts, RaisesTo, RowsRead, row_steps, source_steps}
 use Rattle.xa_store.specs.Rows.{value_in, value_text}
@@ -95,7 +95,7 @@ module _ (n : ℤ) where
   added p s rows = record { rowid = next_key (λ a. a.rowid) rows.attributes; number = n; place = pos p; row = s; is_full = true }
 
   abbrev one_more : ℕ → SourceRow → Rows → Rows
-  one_more p s rows = after (AddAttribute n (pos p) s) rows
+  one_more p s rows = after (AddSourceRow n (pos p) s) rows
 
   mine_more : (p : ℕ) (s : SourceRow) (rows : Rows) → mine (one_more p s rows) ≡ mine rows ++ added p s rows ∷ []
   mine_more p s rows = filter_push of_number rows.attributes (added p s rows) own
@@ -142,7 +142,7 @@ module _ (n : ℤ) where
       others_after m apart ss (one_more p s rows) (p + 1) ∙ filter_push_apart (λ a. int_eq a.number m) rows.attributes (added p s rows) (int_eq_apart n m (λ same. apart (sym same)))
 
   -- the columns of the rows that come
-  attributes_whole : (next : ℤ) → is_given next n ≡ true → (ss : List SourceRow) (rows : Rows) (p : ℕ) → HaveTexts ss → AllByRecursion (IsWholeAttribute next) rows.attributes
+  attributes_whole : (next : ℤ) → is_assigned next n ≡ true → (ss : List SourceRow) (rows : Rows) (p : ℕ) → HaveTexts ss → AllByRecursion (IsWholeAttribute next) rows.attributes
       → AllByRecursion (IsWholeAttribute next) (after_all (row_steps n p ss) rows).attributes
   attributes_whole next given [] rows p texts all = all
   attributes_whole next given (s ∷ ss) rows p texts all =

@@ -1,6 +1,6 @@
 -- The columns of all rows hold what they should, also after rows have come, gone and changed.
 use Rattle.std.proofs.Common.{◌≡◌, ℕ, ◌+◌, ◌<◌, ◌^◌, ℤ, pos, negsuc, true, List, map, nat_lt, int_eq, int_le, int_lt, int_cmp, ap, subst, ◌∙◌, arith}
-use Rattle.xa_store.proofs.Common.{AllByRecursion, nat_tests, ints, insert_by, sort_by, all-insert_by, all_weaker, filter-map, map-map, first_of_both, second_of_both, is_domain_name, Place, is_count, is_digest, is_given, places_of, DomainRow, TokenRow, DocumentRow, RootRow, AttributeRow, nat_of, AreRootTexts, AreSourceTexts, AreWhole, place_of, Rows, attributes_at}
+use Rattle.xa_store.proofs.Common.{AllByRecursion, nat_tests, ints, insert_by, sort_by, all-insert_by, all_weaker, filter-map, map-map, first_of_both, second_of_both, is_domain_name, Place, is_assigned, is_count, is_digest, places_of, DomainRow, TokenRow, DocumentRow, RootRow, AttributeRow, nat_of, AreRootTexts, AreSourceTexts, AreWhole, place_of, Rows, attributes_at}
 use Rattle.xa_store.specs.Steps.{is_named, with_epoch}
 use Rattle.xa_store.proofs.ChangeLemmas.{IsOnly}
 use Rattle.xa_store.proofs.RiseLemmas.{both_true, lt_trans}
@@ -9,19 +9,19 @@ use Rattle.xa_store.proofs.TextsKept.{all_filter, all_update}
 -- ---- one row
 
 abbrev pub IsWholeDomain : ℤ → DomainRow → Type 0
-IsWholeDomain next d = (is_given next d.number ≡ true) × (is_domain_name d.name ≡ true) × (is_count d.epoch ≡ true)
+IsWholeDomain next d = (is_assigned next d.number ≡ true) × (is_domain_name d.name ≡ true) × (is_count d.epoch ≡ true)
 
 abbrev pub IsWholeToken : ℤ → TokenRow → Type 0
-IsWholeToken next t = (is_given next t.number ≡ true) × (is_digest t.digest ≡ true)
+IsWholeToken next t = (is_assigned next t.number ≡ true) × (is_digest t.digest ≡ true)
 
 abbrev pub IsWholeDocument : ℤ → DocumentRow → Type 0
-IsWholeDocument next d = is_given next d.number ≡ true
+IsWholeDocument next d = is_assigned next d.number ≡ true
 
 abbrev pub IsWholeRoot : ℤ → RootRow → Type 0
-IsWholeRoot next r = (is_given next r.number ≡ true) × AreRootTexts r
+IsWholeRoot next r = (is_assigned next r.number ≡ true) × AreRootTexts r
 
 abbrev pub IsWholeAttribute : ℤ → AttributeRow → Type 0
-IsWholeAttribute next a = (is_given next a.number ≡ true) × AreSourceTexts a.row
+IsWholeAttribute next a = (is_assigned next a.number ≡ true) × AreSourceTexts a.row
 
 -- ---- numbers
 
@@ -40,8 +40,8 @@ pub one_above : (k : ℕ) → int_lt (pos k) (pos (k + 1)) ≡ true
 one_above k = grind (arith, ints)
 
 -- what was given before a number is given before a greater one
-pub given_later : (next later n : ℤ) → int_lt next later ≡ true → is_given next n ≡ true → is_given later n ≡ true
-given_later next later n up h =
+pub assigned_later : (next later n : ℤ) → int_lt next later ≡ true → is_assigned next n ≡ true → is_assigned later n ≡ true
+assigned_later next later n up h =
     both_true (is_count n) (int_lt n later) (first_of_both (is_count n) (int_lt n next) h) (lt_trans n next later (second_of_both (is_count n) (int_lt n next) h) up)
 
 -- ---- the places of one domain
@@ -81,10 +81,10 @@ module _ (rows : Rows) (whole : AreWhole rows) where
   created_whole later made counts up own = record {
     next = counts;
     domains = all-insert_by (λ (d : DomainRow). d.number) (IsWholeDomain later) rows.domains made own
-        (all_weaker (IsWholeDomain rows.next) (IsWholeDomain later) (λ d h. (given_later rows.next later d.number up h.0, h.1, h.2)) rows.domains whole.domains);
-    tokens = all_weaker (IsWholeToken rows.next) (IsWholeToken later) (λ t h. (given_later rows.next later t.number up h.0, h.1)) rows.tokens whole.tokens;
-    documents = all_weaker (IsWholeDocument rows.next) (IsWholeDocument later) (λ d h. given_later rows.next later d.number up h) rows.documents whole.documents;
-    roots = all_weaker (IsWholeRoot rows.next) (IsWholeRoot later) (λ r h. (given_later rows.next later r.number up h.0, h.1)) rows.roots whole.roots;
-    attributes = all_weaker (IsWholeAttribute rows.next) (IsWholeAttribute later) (λ a h. (given_later rows.next later a.number up h.0, h.1)) rows.attributes whole.attributes;
+        (all_weaker (IsWholeDomain rows.next) (IsWholeDomain later) (λ d h. (assigned_later rows.next later d.number up h.0, h.1, h.2)) rows.domains whole.domains);
+    tokens = all_weaker (IsWholeToken rows.next) (IsWholeToken later) (λ t h. (assigned_later rows.next later t.number up h.0, h.1)) rows.tokens whole.tokens;
+    documents = all_weaker (IsWholeDocument rows.next) (IsWholeDocument later) (λ d h. assigned_later rows.next later d.number up h) rows.documents whole.documents;
+    roots = all_weaker (IsWholeRoot rows.next) (IsWholeRoot later) (λ r h. (assigned_later rows.next later r.number up h.0, h.1)) rows.roots whole.roots;
+    attributes = all_weaker (IsWholeAttribute rows.next) (IsWholeAttribute later) (λ a h. (assigned_later rows.next later a.number up h.0, h.1)) rows.attributes whole.attributes;
     places = whole.places;
   }

@@ -1,6 +1,8 @@
 -- What the steps of a change do in their transaction.
 use Rattle.std.specs.Prelude.{◌≡◌, ◌⊎◌, ℕ, false, List, [], ◌∷◌, Option, Result, IsTrue, OnOk, OnErr}
+use Rattle.sqlite.specs.Held.{Held, state}
 use Rattle.sqlite.specs.State.{State, HasCleanDisk, KeepsCommit, KeepsCounts, Shows, Survives}
+use Rattle.sqlite.specs.Store.{Ghosts}
 use Rattle.sqlite.specs.Tree.{Trees}
 use Rattle.sqlite.specs.declared.types.Value.{Value}
 use Rattle.sqlite.specs.declared.types.Value.TheVariants.{Text}
@@ -44,6 +46,11 @@ Takes step old new result =
 pub record IsTaken {X : Type 0} (step : Step) (old new : State) (result : Result X Failure) : Type 0 where
   pub stays : StaysInside old new result
   pub takes : Takes step old new result
+
+module _ {S : Type 0} (g : Ghosts S) where
+  -- and so of the connection before and after
+  abbrev pub IsTakenBy : {X : Type 0} → Step → Held S → Held S → Result X Failure → Type 0
+  IsTakenBy step old new result = IsTaken step (state g old) (state g new) result
 
 -- the tables are the rows after the steps
 pub record Holds (steps : List Step) (before : Rows) (db : Trees) : Type 0 where

@@ -1,8 +1,8 @@
 -- When the tables of a store are those of a keeper, and what opening it answers, by the schema that the tables
 -- have. A body is a document of the key that its columns hold, versions and values stand in their printed form,
--- and places count from 0 in each domain. Rows of a number that was given and has no domain are sound: the tables'
--- keys rule them out, where who writes a file has them enforced, and nothing is ever read of them, since no number
--- is given twice.
+-- and places count from 0 in each domain. Rows of a number that was assigned and has no domain are sound: the
+-- tables' keys rule them out, where who writes a file has them enforced, and nothing is ever read of them, since no
+-- number is assigned twice.
 use Rattle.std.specs.Prelude.{◌==◌, ℕ, ◌+ℤ◌, ℤ, pos, Bool, true, false, ◌&&◌, if◌then◌else◌, List, [], ◌∷◌, map}
 use Rattle.std.specs.Prelude.{filter, length, bytes_eq, is_ok, int_le, int_lt, Option, Some, None, Result, Ok, Err}
 use Rattle.std.specs.List.{list_all}
@@ -60,9 +60,9 @@ holds_blob test _ = false
 abbrev pub is_count : ℤ → Bool
 is_count n = int_le (pos 0) n && fits_i64 n
 
--- the number of a domain that has been made
-abbrev pub is_given : ℤ → ℤ → Bool
-is_given next n = is_count n && int_lt n next
+-- a number that has been assigned to a domain
+abbrev pub is_assigned : ℤ → ℤ → Bool
+is_assigned next n = is_count n && int_lt n next
 
 -- a role, a kind or whether a document is active
 abbrev pub is_bit : ℤ → Bool
@@ -106,21 +106,22 @@ holds_value number text = is_utf8 text && is_value text (type_numbered number)
 -- a row of a source, whoever says so
 abbrev pub is_row_of_source : ℤ → Row → Bool
 is_row_of_source next row =
-    holds_int (is_given next) (column row 1) && holds_text is_utf8 (column row 3) && holds_text is_utf8 (column row 4)
-    && holds_text is_utf8 (column row 5)
+    holds_int (is_assigned next) (column row 1) && holds_text is_utf8 (column row 3)
+    && holds_text is_utf8 (column row 4) && holds_text is_utf8 (column row 5)
     && holds_int (λ number. holds_text (holds_value number) (column row 7)) (column row 6)
 
 abbrev pub is_sound_row : Kind → ℤ → Row → Bool
 is_sound_row Domains next row =
-    holds_int (is_given next) (column row 0) && holds_text is_domain_name (column row 1)
+    holds_int (is_assigned next) (column row 0) && holds_text is_domain_name (column row 1)
     && holds_int is_count (column row 2)
 is_sound_row Tokens next row =
-    holds_int (is_given next) (column row 1) && holds_blob is_digest (column row 2) && holds_int is_bit (column row 3)
+    holds_int (is_assigned next) (column row 1) && holds_blob is_digest (column row 2)
+    && holds_int is_bit (column row 3)
 is_sound_row Documents next row =
-    holds_int (is_given next) (column row 1) && holds_int is_bit (column row 6)
+    holds_int (is_assigned next) (column row 1) && holds_int is_bit (column row 6)
     && holds_blob (λ body. holds_key (column row 2) (column row 3) (column row 4) (document_of body)) (column row 5)
 is_sound_row Roots next row =
-    holds_int (is_given next) (column row 0) && holds_int is_bit (column row 1) && holds_text is_utf8 (column row 2)
+    holds_int (is_assigned next) (column row 0) && holds_int is_bit (column row 1) && holds_text is_utf8 (column row 2)
     && holds_text_if_any is_pattern (column row 3) && holds_text_if_any is_version (column row 4)
     && holds_text_if_any is_version (column row 5)
 is_sound_row Attributes next row = is_row_of_source next row

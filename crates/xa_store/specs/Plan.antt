@@ -2,23 +2,27 @@
 use Rattle.std.specs.Prelude.{◌≡◌, ◌⊎◌, ◌+◌, ◌<◌, ◌≤◌, ◌^◌, ℕ, ℤ, pos, Result}
 use Rattle.std.specs.Prelude.{Ok, Err, IfOk, List, [], ◌∷◌, Option, Some, None}
 use Rattle.std.specs.List.{AllByRecursion}
+use Rattle.sqlite.specs.State.{State, HasCleanDisk}
+use Rattle.sqlite_keyed.specs.Keyed.{IsKeyedBy}
 use Rattle.xa_policy.specs.declared.reference.Reference.{Reference}
 use Rattle.xa_decide.specs.declared.source_row.SourceRow.{SourceRow}
 use Rattle.xa_policy.specs.declared.document_key.DocumentKey.{DocumentKey}
-use Rattle.xa_records.specs.Changes.{upload_of, uploaded, within}
+use Rattle.xa_records.specs.Changes.{Change, upload_of, uploaded, within}
 use Rattle.xa_records.specs.Kept.{state_of}
 use Rattle.xa_records.specs.declared.refusal.ChangeError.{ChangeError}
 use Rattle.xa_records.specs.declared.refusal.Failure.{Failure}
 use Rattle.xa_records.specs.declared.refusal.Failure.TheVariants.{Memory, Store}
 use Rattle.xa_records.specs.declared.upload.Upload.{Upload}
 use Rattle.xa_records.specs.declared.upload.Upload.TheVariants.{New, Same}
+use Rattle.xa_store.specs.Lookup.{IsDomain}
 use Rattle.xa_store.specs.Rows.{DomainRow, root_of, reference_of}
 use Rattle.xa_store.specs.Turns.{IsPlanned}
-use Rattle.xa_store.specs.World.{Rows, kept_of}
+use Rattle.xa_store.specs.World.{Rows, kept_of, rows_now}
+use Rattle.xa_store.specs.declared.query.domain.DomainFound.{DomainFound}
 use Rattle.xa_store.specs.declared.step.Step.{Step}
 use Rattle.xa_store.specs.declared.step.Step.TheVariants.{AddDomain, SetNext, SetEpoch, AddRoot}
-use Rattle.xa_store.specs.declared.step.Step.TheVariants.{DropRoot, AddAttribute, DropSource}
-use Rattle.xa_store.specs.Sound.{AreRootTexts, AreSourceTexts}
+use Rattle.xa_store.specs.declared.step.Step.TheVariants.{DropRoot, AddSourceRow, DropSource}
+use Rattle.xa_store.specs.Sound.{AreNumbered, AreRootTexts, AreSourceTexts, Ours}
 use Rattle.xa_store.specs.Steps.{ReadsBack}
 
 -- a domain of that name gets the number, and the next domain gets the one after it
@@ -43,7 +47,7 @@ HasRootTexts number (Some root) = AreRootTexts (root_of number root)
 -- the rows come, at places that count on from this
 abbrev pub row_steps : ℤ → ℕ → List SourceRow → List Step
 row_steps number place [] = []
-row_steps number place (row ∷ rows) = AddAttribute number (pos place) row ∷ row_steps number (place + 1) rows
+row_steps number place (row ∷ rows) = AddSourceRow number (pos place) row ∷ row_steps number (place + 1) rows
 
 -- the source of the domain of that number has these rows, and its epoch is this
 abbrev pub source_steps : ℤ → ℤ → List SourceRow → List Step
@@ -70,6 +74,18 @@ RaisesTo number (Err Memory) = ⊥
 
 abbrev pub number_key : DomainRow → ℤ
 number_key d = d.number
+
+-- the change is planned by rows in which the domain was found, and what else was found
+abbrev pub PlansOver : Change → DomainFound → (Rows → Type 0) → Result (List Step) ChangeError → Type 0
+PlansOver change found Finds result =
+    (name : List ℕ) → (rows : Rows) → AreNumbered rows → IsKeyedBy number_key rows.domains
+    → IsDomain name rows found → Finds rows → IsPlanned change name rows result
+
+-- the change is planned by what our tables held, in which the domain was found
+abbrev pub PlansFound : Change → DomainFound → State → State → Result (List Step) ChangeError → Type 0
+PlansFound change found old new result =
+    HasCleanDisk new → Ours old
+    → (name : List ℕ) → IsDomain name (rows_now old) found → IsPlanned change name (rows_now old) result
 
 -- an upload that takes no steps has found its very text in place
 abbrev pub upload_by : List Step → Upload

@@ -1,10 +1,11 @@
--- What a call that only reads leaves of a connection.
-use Rattle.std.specs.Prelude.{Result, IsTrue, OnOk}
+-- What a call that only reads leaves of a connection, and what it tells of the rows.
+use Rattle.std.specs.Prelude.{Result, IfOk, IsTrue, OnOk}
 use Rattle.sqlite.specs.State.{State, HasCleanDisk}
 use Rattle.sqlite.specs.Tree.{Trees}
 use Rattle.xa_records.specs.declared.refusal.ChangeError.{ChangeError}
 use Rattle.xa_records.specs.Keeper.{IfAnswered}
-use Rattle.xa_store.specs.Sound.{Rests, SameNow}
+use Rattle.xa_store.specs.Sound.{Ours, Rests, SameNow}
+use Rattle.xa_store.specs.World.{Rows, rows_now}
 
 -- An open connection was open before, and a clean one clean. Over our tables it holds what it held, and a crash now
 -- leaves what one might have left before.
@@ -23,3 +24,7 @@ pub record OnlyReads {X E : Type 0} (old new : State) (result : Result X E) : Ty
 pub record OnlyReadsForChange {X : Type 0} (old new : State) (result : Result X ChangeError) : Type 0 where
   pub quiet : Quiet old new
   pub opens : HasCleanDisk new → IfAnswered result (IsTrue new.is_open)
+
+-- over our tables: what was read, if it was, stands so to their rows
+abbrev pub ReadsRows : {X E : Type 0} → State → State → Result X E → (Rows → X → Type 0) → Type 0
+ReadsRows old new result reads = HasCleanDisk new → Ours old → IfOk result (reads (rows_now old))

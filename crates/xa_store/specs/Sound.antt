@@ -18,7 +18,7 @@ use Rattle.xa_records.specs.DomainState.{IsDocumentOf, compare_bytes, new_domain
 use Rattle.xa_records.specs.Kept.{IsNumbered, Kept}
 use Rattle.xa_store.specs.declared.check.row.Place.{Place}
 use Rattle.xa_store.specs.Opened.{count_from, holds_value, is_count, is_digest}
-use Rattle.xa_store.specs.Opened.{is_given, is_pattern, is_version, opened, places_of}
+use Rattle.xa_store.specs.Opened.{is_assigned, is_pattern, is_version, opened, places_of}
 use Rattle.xa_store.specs.Rows.{DomainRow, TokenRow, DocumentRow, RootRow, AttributeRow, meta_row, next_in}
 use Rattle.xa_store.specs.Rows.{domain_row, domain_in, token_row, token_in, document_row, document_in, root_row}
 use Rattle.xa_store.specs.Rows.{root_in, attribute_row, attribute_in, text_at, type_number, value_text}
@@ -96,12 +96,12 @@ place_of a = record { domain = a.number; place = a.place }
 pub record AreWhole (rows : Rows) : Type 0 where
   pub next : is_count rows.next ≡ true
   pub domains : AllByRecursion
-      (λ d. (is_given rows.next d.number ≡ true) × (is_domain_name d.name ≡ true) × (is_count d.epoch ≡ true))
+      (λ d. (is_assigned rows.next d.number ≡ true) × (is_domain_name d.name ≡ true) × (is_count d.epoch ≡ true))
       rows.domains
-  pub tokens : AllByRecursion (λ t. (is_given rows.next t.number ≡ true) × (is_digest t.digest ≡ true)) rows.tokens
-  pub documents : AllByRecursion (λ d. is_given rows.next d.number ≡ true) rows.documents
-  pub roots : AllByRecursion (λ r. (is_given rows.next r.number ≡ true) × AreRootTexts r) rows.roots
-  pub attributes : AllByRecursion (λ a. (is_given rows.next a.number ≡ true) × AreSourceTexts a.row) rows.attributes
+  pub tokens : AllByRecursion (λ t. (is_assigned rows.next t.number ≡ true) × (is_digest t.digest ≡ true)) rows.tokens
+  pub documents : AllByRecursion (λ d. is_assigned rows.next d.number ≡ true) rows.documents
+  pub roots : AllByRecursion (λ r. (is_assigned rows.next r.number ≡ true) × AreRootTexts r) rows.roots
+  pub attributes : AllByRecursion (λ a. (is_assigned rows.next a.number ≡ true) × AreSourceTexts a.row) rows.attributes
   pub places : (number : ℤ) → count_from (pos 0) (places_of (map place_of rows.attributes) number) ≡ true
 
 -- ---- all tables of a store

@@ -11,7 +11,7 @@ use Rattle.xa_records.specs.DomainState.{IsDocumentOf, compare_bytes}
 use Rattle.xa_store.specs.declared.step.Step.{Step}
 use Rattle.xa_store.specs.declared.step.Step.TheVariants.{AddDomain, SetNext, SetEpoch, DropDomain, AddToken}
 use Rattle.xa_store.specs.declared.step.Step.TheVariants.{SetRole, DropToken, AddDocument, SetActive, DropDocument}
-use Rattle.xa_store.specs.declared.step.Step.TheVariants.{AddRoot, DropRoot, AddAttribute, DropSource}
+use Rattle.xa_store.specs.declared.step.Step.TheVariants.{AddRoot, DropRoot, AddSourceRow, DropSource}
 use Rattle.xa_store.specs.Rows.{DomainRow, TokenRow, DocumentRow, AttributeRow}
 use Rattle.xa_store.specs.Rows.{root_of, type_number, value_in, value_text, version_in}
 use Rattle.xa_store.specs.World.{Rows}
@@ -79,7 +79,7 @@ after (SetActive number key active) rows =
 after (DropDocument number key) rows = record rows { documents = delete_where (is_document number key) rows.documents }
 after (AddRoot number root) rows = record rows { roots = insert_by (λ r. r.number) rows.roots (root_of number root) }
 after (DropRoot number) rows = record rows { roots = delete_where (λ r. int_eq r.number number) rows.roots }
-after (AddAttribute number place row) rows =
+after (AddSourceRow number place row) rows =
     record rows {
       attributes = rows.attributes ++ record {
         rowid = next_key (λ a. a.rowid) rows.attributes;
@@ -119,7 +119,7 @@ Allows (AddDocument number key text) rows =
     (filter (is_document number key) rows.documents ≡ []) × KeyReads key × IsOfKey key text
 Allows (SetActive number key active) rows = KeyReads key
 Allows (DropDocument number key) rows = KeyReads key
-Allows (AddAttribute number place row) rows =
+Allows (AddSourceRow number place row) rows =
     (filter (is_place number place) rows.attributes ≡ []) × ReadsBack row.value
 Allows (DropDomain number) rows = (d : DomainRow) × (filter (λ x. int_eq x.number number) rows.domains ≡ d ∷ [])
 Allows _ rows = Unit {0}

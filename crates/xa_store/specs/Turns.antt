@@ -11,7 +11,7 @@ use Rattle.xa_records.specs.Kept.{IsMade, state_of}
 use Rattle.xa_store.specs.declared.step.Step.{Step}
 use Rattle.xa_store.specs.Sound.{AreNumbered, AreOurs, AreWhole, Ours}
 use Rattle.xa_store.specs.Steps.{after_all, AllowsAll}
-use Rattle.xa_store.specs.World.{Rows, kept_of, rows_of, world_of}
+use Rattle.xa_store.specs.World.{Rows, kept_of, rows_now, world_of}
 
 -- the steps make the change of the domain of that name, and may be taken
 pub record Plans (steps : List Step) (change : Change) (name : List ℕ) (rows : Rows) : Type 0 where
@@ -28,7 +28,7 @@ IsPlanned change name rows (Err (Failed failure)) = Unit {0}
 
 -- the change is planned by what our tables held
 abbrev pub PlansIn : Change → List ℕ → State → State → Result (List Step) ChangeError → Type 0
-PlansIn change name old new result = HasCleanDisk new → Ours old → IsPlanned change name (rows_of old.now.trees) result
+PlansIn change name old new result = HasCleanDisk new → Ours old → IsPlanned change name (rows_now old) result
 
 abbrev pub answer_of : Result (Unit {0}) Failure → Result (Unit {0}) ChangeError
 answer_of (Ok x) = Ok x

@@ -2,6 +2,7 @@
 use Rattle.std.specs.Prelude.{ℕ, ℤ, List, map, filter, Option, option_map}
 use Rattle.std.specs.FinMap.{FinMap, from_entries}
 use Rattle.std.specs.Ordering.{int_cmp, int_eq, on}
+use Rattle.sqlite.specs.State.{State}
 use Rattle.sqlite.specs.Tree.{Trees}
 use Rattle.sqlite_keyed.specs.Keyed.{get_by}
 use Rattle.sqlite_keyed.specs.Lists.{sort_by}
@@ -34,6 +35,10 @@ rows_of db = record {
   roots = map root_in (db 7);
   attributes = map attribute_in (db 10);
 }
+
+-- of the tables that a connection has now
+abbrev pub rows_now : State → Rows
+rows_now store = rows_of store.now.trees
 
 -- in schema 1
 abbrev pub first_rows_of : Trees → Rows

@@ -1,18 +1,21 @@
 //! Changes of domains. Each is planned by queries, which may refuse it, and then one transaction takes
-//! the steps of the plan.
-ghost use Rattle.std.specs.Prelude.{◌≡◌, [], ◌∷◌, Result, Err, IfErr, IfOk};
+//! the steps of the plan. `plan_X` finds the domain by its name, `plan_X_in` goes on where the domain was
+//! found, and `plan_X_of` where what changes was found in it, too. `plan_X_new` and `plan_X_again` are for
+//! what isn't there and what is there already.
+ghost use Rattle.std.specs.Prelude.{◌≡◌, ◌++◌, [], ◌∷◌, Result, Err, IfErr, IfOk};
 ghost use Rattle.sqlite.specs.Held.{state};
 ghost use Rattle.xa_records.specs.declared.refusal.Failure.{Failure as Failed};
+ghost use Rattle.xa_store.specs.declared.step.Step.TheVariants.{SetEpoch};
 ghost use Rattle.xa_store.specs.Execution.{Runs};
 ghost use Rattle.xa_store.specs.Turns.{answer_of};
 
 pub(crate) mod document;
 pub(crate) mod domain;
 pub(crate) mod found;
+pub(crate) mod laws;
 pub(crate) mod number;
 pub(crate) mod root;
 pub(crate) mod source;
-pub(crate) mod text;
 pub(crate) mod token;
 
 use crate::step::Step;
@@ -40,8 +43,35 @@ pub(crate) fn one_step(alloc: Global, step: Step) -> Result<Items<Step>, AllocEr
     Ok(steps)
 }
 
+/// The steps, and then that of the domain's epoch.
+pub(crate) fn with_epoch(
+    mut steps: Items<Step>,
+    revision: Revision,
+) -> Result<Items<Step>, AllocError>
+    ensures { IfOk result (λ all. all ≡ steps ++ SetEpoch revision.number revision.epoch ∷ []) }
+{
+    steps.push(Step::SetEpoch {
+        number: revision.number,
+        epoch: revision.epoch,
+    })?;
+    Ok(steps)
+}
+
+/// The step, and then that of the domain's epoch.
+pub(crate) fn raising_steps(
+    alloc: Global,
+    step: Step,
+    revision: Revision,
+) -> Result<Items<Step>, AllocError>
+    ensures { IfOk result (λ steps. steps ≡ step ∷ SetEpoch revision.number revision.epoch ∷ []) }
+{
+    let mut steps = Items::new(alloc);
+    steps.push(step)?;
+    with_epoch(steps, revision)
+}
+
 /// Takes the steps of a plan in one transaction, or tells why there is no plan.
-pub(crate) fn carried_out<S: Alter>(
+pub(crate) fn carry_out<S: Alter>(
     alloc: Global,
     conn: &mut Connection<S>,
     planned: Result<Items<Step>, ChangeError>,

@@ -1,19 +1,89 @@
-//! What an error of the database means for a reading or a change: want of memory, or a failure of the
-//! store.
+//! What an error of the database means: for a reading or a change, want of memory or a failure of the
+//! store; for opening, that the tables are of another schema, too.
 ghost use Rattle.std.specs.Prelude.{◌≡◌, ◌↔◌};
 ghost use Rattle.sqlite.specs.declared.error.Error.TheVariants.{SqliteFailure};
 ghost use Rattle.sqlite.specs.declared.error.ErrorCode.TheVariants.{OutOfMemory};
-ghost use Rattle.xa_records.specs.declared.refusal.Failure.TheVariants.{Memory};
+ghost use Rattle.xa_records.specs.declared.refusal.Failure.TheVariants as failures;
+ghost use Rattle.xa_store.specs.declared.error.OpenError.TheVariants.{Memory};
+ghost use Rattle.xa_store.specs.Check.{refused_as};
+ghost use Rattle.xa_store.specs.Opening.{IsFailure};
 
+use crate::error::OpenError;
 use sqlite::{Error, ErrorCode};
+use std::alloc::AllocError;
 use xa_records::Failure;
 
-/// Want of memory is `Memory`, and all else `Store`.
+/// For a reading or a change: want of memory is `Memory`, and all else `Store`.
 pub(crate) fn failure_of(error: &Error) -> Failure
-    ensures { (result ≡ Memory) ↔ (error.now ≡ SqliteFailure OutOfMemory) }
+    ensures { (result ≡ failures.Memory) ↔ (error.now ≡ SqliteFailure OutOfMemory) }
 {
     match error {
         Error::SqliteFailure(ErrorCode::OutOfMemory) => Failure::Memory,
         _ => Failure::Store,
+    }
+}
+
+/// For a query of the check: a statement that isn't understood, and a name that is taken, tell tables of
+/// another schema.
+fn refused(error: Error) -> OpenError
+    ensures { result ≡ refused_as error }
+{
+    match error {
+        Error::SqliteFailure(ErrorCode::OutOfMemory) => OpenError::Memory,
+        Error::SqlInputError(_) | Error::SqliteFailure(ErrorCode::NameTaken) => {
+            OpenError::NotThisSchema
+        }
+        _ => OpenError::Store,
+    }
+}
+
+/// For a change of the tables that failed.
+fn failed(failure: Failure) -> OpenError
+    ensures { IsFailure result }
+{
+    match failure {
+        Failure::Memory => OpenError::Memory,
+        Failure::Store => OpenError::Store,
+    }
+}
+
+/// For a change of the tables that failed, by the error of its statement.
+pub(crate) fn failed_by(error: &Error) -> OpenError
+    ensures { IsFailure result }
+{
+    failed(failure_of(error))
+}
+
+/// Tables that were just made are sound, so whatever is said of them tells a failure.
+pub(crate) fn failed_after(error: OpenError) -> OpenError
+    ensures { IsFailure result }
+{
+    match error {
+        OpenError::Memory => OpenError::Memory,
+        _ => OpenError::Store,
+    }
+}
+
+impl From<AllocError> for OpenError {
+    ghost from_gives = { λ _ e. e ≡ Memory };
+
+    fn from(_error: AllocError) -> OpenError {
+        OpenError::Memory
+    }
+}
+
+impl From<Failure> for OpenError {
+    ghost from_gives = { λ _ e. IsFailure e };
+
+    fn from(failure: Failure) -> OpenError {
+        failed(failure)
+    }
+}
+
+impl From<Error> for OpenError {
+    ghost from_gives = { λ error e. e ≡ refused_as error };
+
+    fn from(error: Error) -> OpenError {
+        refused(error)
     }
 }

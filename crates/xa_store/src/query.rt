@@ -1,6 +1,6 @@
 //! Plain queries of a keeper's tables, which change nothing. Each file asks for one thing, and reads the
 //! rows that are shown.
-ghost use Rattle.std.specs.Prelude.{IsTrue, IfErr, IfOk, IsErrOf, OnOk};
+ghost use Rattle.std.specs.Prelude.{IfErr, IfOk, IsErrOf};
 ghost use Rattle.sqlite.specs.Given.{IsPlain};
 ghost use Rattle.sqlite.specs.Held.{state};
 ghost use Rattle.sqlite.specs.Listing.{understood};
@@ -10,13 +10,12 @@ ghost use Rattle.sqlite.specs.declared.error.Error.TheVariants.{SqliteFailure};
 ghost use Rattle.sqlite.specs.declared.error.ErrorCode.TheVariants.{OutOfMemory};
 ghost use Rattle.xa_records.specs.declared.refusal.Failure.TheVariants.{Memory};
 ghost use Rattle.xa_store.specs.Quiet.{OnlyReads};
-ghost use Rattle.xa_store.specs.Sound.{Rests, SameNow};
 ghost use Rattle.xa_store.specs.Tables.{our_schema};
 
 pub(crate) mod column;
+pub(crate) mod columns;
 pub(crate) mod count;
 pub(crate) mod document;
-pub(crate) mod document_key;
 pub(crate) mod document_row;
 pub(crate) mod domain;
 pub(crate) mod name;
@@ -33,21 +32,13 @@ use sqlite::{Alter, Connection, Error, Row};
 use xa_records::Failure;
 
 /// All rows that a plain query of these tables shows. It changes nothing.
-pub fn ask<S: Alter>(
+fn ask<S: Alter>(
     conn: &mut Connection<S>,
     sql: &str,
     given: &[ValueRef<'_>],
 ) -> Result<Vec<Row>, Error>
     requires { IsPlain (understood our_schema sql.now) }
-    ensures was_open { IsTrue (state S.Store conn.new).is_open → IsTrue (state S.Store conn.old).is_open }
-    ensures clean { HasCleanDisk (state S.Store conn.new) → HasCleanDisk (state S.Store conn.old) }
-    ensures same { HasCleanDisk (state S.Store conn.new) → Rests (state S.Store conn.old)
-        → IsTrue (state S.Store conn.new).is_open
-        → SameNow (state S.Store conn.old) (state S.Store conn.new) }
-    ensures stays { HasCleanDisk (state S.Store conn.new) → Rests (state S.Store conn.old)
-        → OnOk result (IsTrue (state S.Store conn.new).is_open) }
-    ensures crash { HasCleanDisk (state S.Store conn.new) → Rests (state S.Store conn.old)
-        → (db : _) → (state S.Store conn.new).may_leave db → (state S.Store conn.old).may_leave db }
+    ensures only_reads { OnlyReads (state S.Store conn.old) (state S.Store conn.new) result }
     ensures fails { HasCleanDisk (state S.Store conn.new)
         → IfErr result
         (FailsToQuery sql.now (bound given.now) (state S.Store conn.old) (state S.Store conn.new)) }
@@ -59,7 +50,7 @@ pub fn ask<S: Alter>(
 
 /// All rows that a plain query of these tables shows; want of memory is told where the store told it.
 /// The connection keeps the plan of each text, so none is prepared.
-pub(crate) fn shown<S: Alter>(
+pub(crate) fn query_rows<S: Alter>(
     conn: &mut Connection<S>,
     sql: &str,
     given: &[ValueRef<'_>],

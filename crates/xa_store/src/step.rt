@@ -73,7 +73,7 @@ pub(crate) enum Step {
     /// The root goes, if there is one.
     DropRoot(i64),
     /// A row of the source, with its issuer, at a place that has none.
-    AddAttribute {
+    AddSourceRow {
         number: i64,
         place: i64,
         row: SourceRow,

@@ -1,23 +1,22 @@
 //! The upload of a document, its activation and its deletion.
-ghost use Rattle.std.specs.Prelude.{◌≡◌, ℕ, nat_lt, List, [], ◌∷◌, bytes_eq, Some, None, IfOk};
+ghost use Rattle.std.specs.Prelude.{◌≡◌, ℕ, nat_lt, List, bytes_eq, Some, None, IfOk};
 ghost use Rattle.sqlite.specs.Held.{state};
 ghost use Rattle.sqlite.specs.State.{HasCleanDisk};
 ghost use Rattle.sqlite_keyed.specs.Keyed.{IsKeyedBy};
 ghost use Rattle.xa_records.specs.Changes.{activity_set, deleted, upload_of, uploaded, within};
 ghost use Rattle.xa_records.specs.DomainState.{IsDocumentOf};
 ghost use Rattle.xa_records.specs.Kept.{state_of};
-ghost use Rattle.xa_store.specs.declared.step.Step.TheVariants.{SetEpoch};
 ghost use Rattle.xa_store.specs.Lookup.{FindsDocument, IsDomain};
-ghost use Rattle.xa_store.specs.Plan.{IsUploadPlanned, number_key, upload_by};
+ghost use Rattle.xa_store.specs.Plan.{IsUploadPlanned, PlansFound, PlansOver, number_key, upload_by};
 ghost use Rattle.xa_store.specs.Quiet.{OnlyReadsForChange};
 ghost use Rattle.xa_store.specs.Sound.{AreNumbered, Ours};
-ghost use Rattle.xa_store.specs.Steps.{KeyReads};
-ghost use Rattle.xa_store.specs.Turns.{IsPlanned, PlansIn, Turns};
-ghost use Rattle.xa_store.specs.World.{Rows, rows_of, world_of};
+ghost use Rattle.xa_store.specs.Turns.{PlansIn, Turns};
+ghost use Rattle.xa_store.specs.World.{Rows, rows_now, world_of};
 
 use crate::change::found::{document_to_change, domain_to_change};
+use crate::change::laws::key_reads_back;
 use crate::change::number::next_revision;
-use crate::change::{Revision, carried_out};
+use crate::change::{carry_out, raising_steps};
 use crate::query::count::document_count;
 use crate::query::document::document_of;
 use crate::query::document_row::DocumentFound;
@@ -30,13 +29,6 @@ use xa_policy::DocumentKey;
 use xa_records::{ChangeError, MAX_DOCUMENTS, Refusal, Upload, is_same_activity};
 use xa_value::{Items, Text};
 
-/// Law: a key reads back from the texts of its row.
-fn key_reads_back(key: &DocumentKey)
-    ensures { KeyReads key.now }
-{
-    key.version.reads_back();
-}
-
 /// A copy of the text.
 fn copy_of_text(alloc: Global, text: &[u8]) -> Result<Items<u8>, AllocError>
     ensures { IfOk result (λ copy. copy ≡ text.now) }
@@ -44,35 +36,24 @@ fn copy_of_text(alloc: Global, text: &[u8]) -> Result<Items<u8>, AllocError>
     Ok(Items::from_vec(Vec::from_slice(alloc, text)?))
 }
 
-/// Whether the two texts are one.
-fn is_same_body(one: &[u8], other: &[u8]) -> bool
-    ensures { result ≡ bytes_eq one.now other.now }
-{
-    one == other
-}
-
-/// The step, and then the epoch.
-fn raising_steps(alloc: Global, step: Step, revision: Revision) -> Result<Items<Step>, AllocError>
-    ensures { IfOk result (λ steps. steps ≡ step ∷ SetEpoch revision.number revision.epoch ∷ []) }
-{
-    let mut steps = Items::new(alloc);
-    steps.push(step)?;
-    steps.push(Step::SetEpoch {
-        number: revision.number,
-        epoch: revision.epoch,
-    })?;
-    Ok(steps)
-}
-
 /// Whether a domain of so many documents may have one more.
 fn has_room(count: usize) -> bool
     ensures { result ≡ nat_lt count 1_024 }
 {
+    // in a function of its own, the proof has the answer as an equation
     count < MAX_DOCUMENTS
 }
 
+/// Whether the two texts are one.
+fn is_same_body(one: &[u8], other: &[u8]) -> bool
+    ensures { result ≡ bytes_eq one.now other.now }
+{
+    // in a function of its own, as `has_room`, for the proof
+    one == other
+}
+
 /// The plan for a document that isn't there.
-fn plan_new<S: Alter>(
+fn plan_upload_new<S: Alter>(
     alloc: Global,
     conn: &mut Connection<S>,
     found: DomainFound,
@@ -82,9 +63,9 @@ fn plan_new<S: Alter>(
     requires { IsDocumentOf key text.now }
     ensures only_reads { OnlyReadsForChange (state S.Store conn.old) (state S.Store conn.new) result }
     ensures plans { HasCleanDisk (state S.Store conn.new) → Ours (state S.Store conn.old)
-        → (name : List ℕ) → IsDomain name (rows_of (state S.Store conn.old).now.trees) found
-        → FindsDocument found.number key (rows_of (state S.Store conn.old).now.trees) None
-        → IsUploadPlanned key text.now name (rows_of (state S.Store conn.old).now.trees) result }
+        → (name : List ℕ) → IsDomain name (rows_now (state S.Store conn.old)) found
+        → FindsDocument found.number key (rows_now (state S.Store conn.old)) None
+        → IsUploadPlanned key text.now name (rows_now (state S.Store conn.old)) result }
 {
     key_reads_back(&key);
     let count = document_count(conn, found.number)?;
@@ -102,7 +83,7 @@ fn plan_new<S: Alter>(
 }
 
 /// The plan for a document that is there with that text: the very text again changes nothing.
-fn plan_again(
+fn plan_upload_again(
     alloc: Global,
     found: DomainFound,
     there: &DocumentFound,
@@ -121,7 +102,7 @@ fn plan_again(
 }
 
 /// The plan for a document of a domain that was found.
-fn plan_found<S: Alter>(
+fn plan_upload_in<S: Alter>(
     alloc: Global,
     conn: &mut Connection<S>,
     found: DomainFound,
@@ -131,13 +112,13 @@ fn plan_found<S: Alter>(
     requires { IsDocumentOf key text.now }
     ensures only_reads { OnlyReadsForChange (state S.Store conn.old) (state S.Store conn.new) result }
     ensures plans { HasCleanDisk (state S.Store conn.new) → Ours (state S.Store conn.old)
-        → (name : List ℕ) → IsDomain name (rows_of (state S.Store conn.old).now.trees) found
-        → IsUploadPlanned key text.now name (rows_of (state S.Store conn.old).now.trees) result }
+        → (name : List ℕ) → IsDomain name (rows_now (state S.Store conn.old)) found
+        → IsUploadPlanned key text.now name (rows_now (state S.Store conn.old)) result }
 {
     let there = document_of(alloc, conn, found.number, &key)?;
     match there {
-        Some(there) => plan_again(alloc, found, &there, &key, text),
-        None => plan_new(alloc, conn, found, key, text),
+        Some(there) => plan_upload_again(alloc, found, &there, &key, text),
+        None => plan_upload_new(alloc, conn, found, key, text),
     }
 }
 
@@ -152,10 +133,10 @@ fn plan_upload<S: Alter>(
     requires { IsDocumentOf key text.now }
     ensures only_reads { OnlyReadsForChange (state S.Store conn.old) (state S.Store conn.new) result }
     ensures plans { HasCleanDisk (state S.Store conn.new) → Ours (state S.Store conn.old)
-        → IsUploadPlanned key text.now name.now (rows_of (state S.Store conn.old).now.trees) result }
+        → IsUploadPlanned key text.now name.now (rows_now (state S.Store conn.old)) result }
 {
     let found = domain_to_change(conn, name)?;
-    plan_found(alloc, conn, found, key, text)
+    plan_upload_in(alloc, conn, found, key, text)
 }
 
 /// Whether the steps of an upload put a document in.
@@ -182,6 +163,7 @@ pub(crate) fn upload_in<S: Alter>(
     ensures which { HasCleanDisk (state S.Store conn.new) → Ours (state S.Store conn.old) → IfOk result (λ u.
         u ≡ upload_of key (state_of name.now (world_of (state S.Store conn.old).now.trees))) }
 {
+    // not by `carry_out`: whether the document is new is read off the steps
     let planned = plan_upload(alloc, conn, name, key, text)?;
     let steps = planned.as_slice();
     let upload = upload_by(steps);
@@ -190,16 +172,15 @@ pub(crate) fn upload_in<S: Alter>(
 }
 
 /// The plan for a document that is there, active or not.
-fn plan_activity(
+fn plan_active_of(
     alloc: Global,
     found: DomainFound,
     there: &DocumentFound,
     key: &DocumentKey,
     active: bool,
 ) -> Result<Items<Step>, ChangeError>
-    ensures plans { (name : List ℕ) → (rows : Rows) → AreNumbered rows → IsKeyedBy number_key rows.domains
-        → IsDomain name rows found → FindsDocument found.number key.now rows (Some there.now)
-        → IsPlanned (within (activity_set key.now active)) name rows result }
+    ensures plans { PlansOver (within (activity_set key.now active)) found
+        (λ rows. FindsDocument found.number key.now rows (Some there.now)) result }
 {
     key_reads_back(key);
     if is_same_activity(there.active, active) {
@@ -216,7 +197,7 @@ fn plan_activity(
 }
 
 /// The plan for the activity of a document of a domain that was found.
-fn plan_active_found<S: Alter>(
+fn plan_active_in<S: Alter>(
     alloc: Global,
     conn: &mut Connection<S>,
     found: DomainFound,
@@ -224,14 +205,12 @@ fn plan_active_found<S: Alter>(
     active: bool,
 ) -> Result<Items<Step>, ChangeError>
     ensures only_reads { OnlyReadsForChange (state S.Store conn.old) (state S.Store conn.new) result }
-    ensures plans { HasCleanDisk (state S.Store conn.new) → Ours (state S.Store conn.old)
-        → (name : List ℕ) → IsDomain name (rows_of (state S.Store conn.old).now.trees) found
-        → IsPlanned (within (activity_set key.now active)) name
-        (rows_of (state S.Store conn.old).now.trees) result }
+    ensures plans { PlansFound (within (activity_set key.now active)) found
+        (state S.Store conn.old) (state S.Store conn.new) result }
 {
     key_reads_back(key);
     let there = document_to_change(alloc, conn, found.number, key)?;
-    plan_activity(alloc, found, &there, key, active)
+    plan_active_of(alloc, found, &there, key, active)
 }
 
 /// The plan, or why the activity isn't set.
@@ -247,7 +226,7 @@ fn plan_active<S: Alter>(
         (state S.Store conn.old) (state S.Store conn.new) result }
 {
     let found = domain_to_change(conn, name)?;
-    plan_active_found(alloc, conn, found, key, active)
+    plan_active_in(alloc, conn, found, key, active)
 }
 
 /// Sets whether references may resolve to the document of that key in the domain of that name.
@@ -262,19 +241,18 @@ pub(crate) fn set_active_in<S: Alter>(
         (state S.Store conn.old) (state S.Store conn.new) result }
 {
     let planned = plan_active(alloc, conn, name, key, active);
-    carried_out(alloc, conn, planned)
+    carry_out(alloc, conn, planned)
 }
 
 /// The plan to take out a document that is there.
-fn plan_gone(
+fn plan_delete_of(
     alloc: Global,
     found: DomainFound,
     there: &DocumentFound,
     key: &DocumentKey,
 ) -> Result<Items<Step>, ChangeError>
-    ensures plans { (name : List ℕ) → (rows : Rows) → AreNumbered rows → IsKeyedBy number_key rows.domains
-        → IsDomain name rows found → FindsDocument found.number key.now rows (Some there.now)
-        → IsPlanned (within (deleted key.now)) name rows result }
+    ensures plans { PlansOver (within (deleted key.now)) found
+        (λ rows. FindsDocument found.number key.now rows (Some there.now)) result }
 {
     key_reads_back(key);
     if there.active {
@@ -290,20 +268,19 @@ fn plan_gone(
 }
 
 /// The plan to take a document out of a domain that was found.
-fn plan_delete_found<S: Alter>(
+fn plan_delete_in<S: Alter>(
     alloc: Global,
     conn: &mut Connection<S>,
     found: DomainFound,
     key: &DocumentKey,
 ) -> Result<Items<Step>, ChangeError>
     ensures only_reads { OnlyReadsForChange (state S.Store conn.old) (state S.Store conn.new) result }
-    ensures plans { HasCleanDisk (state S.Store conn.new) → Ours (state S.Store conn.old)
-        → (name : List ℕ) → IsDomain name (rows_of (state S.Store conn.old).now.trees) found
-        → IsPlanned (within (deleted key.now)) name (rows_of (state S.Store conn.old).now.trees) result }
+    ensures plans { PlansFound (within (deleted key.now)) found
+        (state S.Store conn.old) (state S.Store conn.new) result }
 {
     key_reads_back(key);
     let there = document_to_change(alloc, conn, found.number, key)?;
-    plan_gone(alloc, found, &there, key)
+    plan_delete_of(alloc, found, &there, key)
 }
 
 /// The plan, or why the document isn't deleted.
@@ -318,7 +295,7 @@ fn plan_delete<S: Alter>(
         (state S.Store conn.old) (state S.Store conn.new) result }
 {
     let found = domain_to_change(conn, name)?;
-    plan_delete_found(alloc, conn, found, key)
+    plan_delete_in(alloc, conn, found, key)
 }
 
 /// Deletes a document of the domain of that name, which must not be active.
@@ -332,5 +309,5 @@ pub(crate) fn delete_in<S: Alter>(
         (state S.Store conn.old) (state S.Store conn.new) result }
 {
     let planned = plan_delete(alloc, conn, name, key);
-    carried_out(alloc, conn, planned)
+    carry_out(alloc, conn, planned)
 }

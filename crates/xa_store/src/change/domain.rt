@@ -15,7 +15,7 @@ ghost use Rattle.xa_store.specs.World.{Rows};
 
 use crate::change::found::domain_to_change;
 use crate::change::number::next_after;
-use crate::change::{carried_out, one_step};
+use crate::change::{carry_out, one_step};
 use crate::query::domain::{DomainFound, domain_named};
 use crate::query::number::next_number;
 use crate::step::Step;
@@ -41,7 +41,7 @@ fn create_steps(
 }
 
 /// The plan for a domain that isn't there, with the next number.
-fn plan_made(alloc: Global, name: &Text, number: i64) -> Result<Items<Step>, ChangeError>
+fn plan_create_new(alloc: Global, name: &Text, number: i64) -> Result<Items<Step>, ChangeError>
     requires { IsTrue (is_domain_name name.now) }
     ensures plans { (rows : Rows) → AreNumbered rows → AreApart same_name rows.domains
         → filter (is_named name.now) rows.domains ≡ [] → IsNext rows number
@@ -66,7 +66,7 @@ fn plan_create<S: Alter>(
         return Err(ChangeError::Refused(Refusal::Exists));
     }
     let number = next_number(conn)?;
-    plan_made(alloc, name, number)
+    plan_create_new(alloc, name, number)
 }
 
 /// Makes the domain of that name, in which nothing has been put yet.
@@ -79,11 +79,11 @@ pub(crate) fn create_in<S: Alter>(
     ensures turns { Turns created name.now (state S.Store conn.old) (state S.Store conn.new) result }
 {
     let planned = plan_create(alloc, conn, name);
-    carried_out(alloc, conn, planned)
+    carry_out(alloc, conn, planned)
 }
 
 /// The plan for a domain that was found.
-fn plan_found(alloc: Global, found: DomainFound) -> Result<Items<Step>, ChangeError>
+fn plan_remove_in(alloc: Global, found: DomainFound) -> Result<Items<Step>, ChangeError>
     ensures plans { (name : List ℕ) → (rows : Rows) → AreNumbered rows → IsKeyedBy number_key rows.domains
         → IsDomain name rows found → IsPlanned removed name rows result }
 {
@@ -100,7 +100,7 @@ fn plan_remove<S: Alter>(
     ensures plans { PlansIn removed name.now (state S.Store conn.old) (state S.Store conn.new) result }
 {
     let found = domain_to_change(conn, name)?;
-    plan_found(alloc, found)
+    plan_remove_in(alloc, found)
 }
 
 /// Removes the domain of that name, with all that is in it.
@@ -112,5 +112,5 @@ pub(crate) fn remove_in<S: Alter>(
     ensures turns { Turns removed name.now (state S.Store conn.old) (state S.Store conn.new) result }
 {
     let planned = plan_remove(alloc, conn, name);
-    carried_out(alloc, conn, planned)
+    carry_out(alloc, conn, planned)
 }

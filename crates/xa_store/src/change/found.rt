@@ -1,11 +1,11 @@
 //! The domain, the document and the token that a change is of. Where they are absent, it is refused.
-ghost use Rattle.std.specs.Prelude.{None, Some, IfErr, IfOk};
+ghost use Rattle.std.specs.Prelude.{None, Some, IfErr};
 ghost use Rattle.sqlite.specs.Held.{state};
 ghost use Rattle.sqlite.specs.State.{HasCleanDisk};
 ghost use Rattle.xa_store.specs.Lookup.{FindsDocument, FindsDomain, FindsRole, IsDomain, TellsAbsent};
-ghost use Rattle.xa_store.specs.Quiet.{OnlyReadsForChange};
+ghost use Rattle.xa_store.specs.Quiet.{OnlyReadsForChange, ReadsRows};
 ghost use Rattle.xa_store.specs.Sound.{Ours};
-ghost use Rattle.xa_store.specs.World.{rows_of};
+ghost use Rattle.xa_store.specs.World.{rows_now};
 
 use crate::query::document::document_of;
 use crate::query::document_row::DocumentFound;
@@ -24,11 +24,9 @@ pub(crate) fn domain_to_change<S: Alter>(
     name: &Text,
 ) -> Result<DomainFound, ChangeError>
     ensures only_reads { OnlyReadsForChange (state S.Store conn.old) (state S.Store conn.new) result }
-    ensures finds { HasCleanDisk (state S.Store conn.new) → Ours (state S.Store conn.old)
-        → IfOk result (IsDomain name.now (rows_of (state S.Store conn.old).now.trees)) }
+    ensures finds { ReadsRows (state S.Store conn.old) (state S.Store conn.new) result (IsDomain name.now) }
     ensures absent { HasCleanDisk (state S.Store conn.new) → Ours (state S.Store conn.old)
-        → IfErr result (TellsAbsent
-        (FindsDomain name.now (rows_of (state S.Store conn.old).now.trees) None)) }
+        → IfErr result (TellsAbsent (FindsDomain name.now (rows_now (state S.Store conn.old)) None)) }
 {
     let found = domain_named(conn, name)?;
     found.ok_or(ChangeError::Refused(Refusal::Absent))
@@ -42,12 +40,11 @@ pub(crate) fn document_to_change<S: Alter>(
     key: &DocumentKey,
 ) -> Result<DocumentFound, ChangeError>
     ensures only_reads { OnlyReadsForChange (state S.Store conn.old) (state S.Store conn.new) result }
-    ensures finds { HasCleanDisk (state S.Store conn.new) → Ours (state S.Store conn.old)
-        → IfOk result (λ there.
-        FindsDocument number key.now (rows_of (state S.Store conn.old).now.trees) (Some there)) }
+    ensures finds { ReadsRows (state S.Store conn.old) (state S.Store conn.new) result
+        (λ rows there. FindsDocument number key.now rows (Some there)) }
     ensures absent { HasCleanDisk (state S.Store conn.new) → Ours (state S.Store conn.old)
         → IfErr result (TellsAbsent
-        (FindsDocument number key.now (rows_of (state S.Store conn.old).now.trees) None)) }
+        (FindsDocument number key.now (rows_now (state S.Store conn.old)) None)) }
 {
     let found = document_of(alloc, conn, number, key)?;
     found.ok_or(ChangeError::Refused(Refusal::Absent))
@@ -61,12 +58,11 @@ pub(crate) fn role_to_change<S: Alter>(
     digest: &Digest,
 ) -> Result<Role, ChangeError>
     ensures only_reads { OnlyReadsForChange (state S.Store conn.old) (state S.Store conn.new) result }
-    ensures finds { HasCleanDisk (state S.Store conn.new) → Ours (state S.Store conn.old)
-        → IfOk result (λ role.
-        FindsRole number digest.now (rows_of (state S.Store conn.old).now.trees) (Some role)) }
+    ensures finds { ReadsRows (state S.Store conn.old) (state S.Store conn.new) result
+        (λ rows role. FindsRole number digest.now rows (Some role)) }
     ensures absent { HasCleanDisk (state S.Store conn.new) → Ours (state S.Store conn.old)
         → IfErr result (TellsAbsent
-        (FindsRole number digest.now (rows_of (state S.Store conn.old).now.trees) None)) }
+        (FindsRole number digest.now (rows_now (state S.Store conn.old)) None)) }
 {
     let found = role_of(alloc, conn, number, digest)?;
     found.ok_or(ChangeError::Refused(Refusal::Absent))

@@ -1,96 +1,24 @@
 //! The root of a domain is set, or taken away.
-ghost use Rattle.std.specs.Prelude.{◌≡◌, ◌++◌, ℕ, ℤ, true, List, [], ◌∷◌};
-ghost use Rattle.std.specs.Prelude.{IfOk, option_map, option_and_then};
+ghost use Rattle.std.specs.Prelude.{◌≡◌, IfOk};
 ghost use Rattle.sqlite.specs.Held.{state};
-ghost use Rattle.xa_policy.specs.Pattern.{pattern_text, read_pattern};
-ghost use Rattle.xa_policy.specs.Version.{read_version, version_text};
 ghost use Rattle.xa_records.specs.Changes.{root_set, within};
-ghost use Rattle.xa_store.specs.declared.step.Step.TheVariants.{SetEpoch};
-ghost use Rattle.xa_store.specs.Lookup.{IsDomain};
-ghost use Rattle.xa_store.specs.Plan.{HasRootTexts, RootReads, number_key, root_steps};
-ghost use Rattle.xa_store.specs.Opened.{is_pattern, is_version};
+ghost use Rattle.xa_store.specs.Plan.{PlansOver, root_steps};
 ghost use Rattle.xa_store.specs.Quiet.{OnlyReadsForChange};
-ghost use Rattle.xa_store.specs.Rows.{given, reference_of, root_of};
-ghost use Rattle.xa_store.specs.Sound.{AreNumbered, AreRootTexts, is_if_any};
-ghost use Rattle.xa_store.specs.Turns.{IsPlanned, PlansIn, Turns};
-ghost use Rattle.xa_store.specs.World.{Rows, root_at};
-ghost use Rattle.sqlite_keyed.specs.Keyed.{IsKeyedBy};
+ghost use Rattle.xa_store.specs.Turns.{PlansIn, Turns};
+ghost use Rattle.xa_store.specs.World.{root_at};
 
 use crate::change::found::domain_to_change;
+use crate::change::laws::root_reads_back;
 use crate::change::number::next_revision;
-use crate::change::text::bytes_are_utf8;
-use crate::change::{Revision, carried_out};
+use crate::change::{Revision, carry_out, with_epoch};
 use crate::query::domain::DomainFound;
 use crate::query::root::root_of;
 use crate::step::Step;
 use sqlite::{Alter, Connection};
 use std::alloc::{AllocError, Global};
-use xa_policy::{Pattern, Reference, Version};
+use xa_policy::Reference;
 use xa_records::{ChangeError, is_same_root};
 use xa_value::{Items, Text};
-
-/// Law: a pattern reads back from its text.
-fn pattern_reads_back(pattern: &Option<Pattern>)
-    ensures back { option_and_then (λ text. given (read_pattern text)) (option_map pattern_text pattern.now)
-        ≡ pattern.now }
-    ensures reads { is_if_any is_pattern (option_map pattern_text pattern.now) ≡ true }
-{
-    match pattern {
-        Some(pattern) => {
-            let _parts = pattern.parts();
-            pattern.reads_back()
-        }
-        None => (),
-    }
-}
-
-/// Law: a version reads back from its text.
-fn version_reads_back(version: &Option<Version>)
-    ensures back { option_and_then (λ text. given (read_version text)) (option_map version_text version.now)
-        ≡ version.now }
-    ensures reads { is_if_any is_version (option_map version_text version.now) ≡ true }
-{
-    match version {
-        Some(version) => {
-            let _numbers = version.numbers();
-            version.reads_back()
-        }
-        None => (),
-    }
-}
-
-/// Law: a reference reads back from the texts of its row.
-fn reference_reads_back(root: &Reference)
-    ensures reads { (number : ℤ) → reference_of (root_of number root.now) ≡ root.now }
-    ensures texts { (number : ℤ) → AreRootTexts (root_of number root.now) }
-{
-    bytes_are_utf8(&root.id);
-    pattern_reads_back(&root.version);
-    version_reads_back(&root.earliest);
-    version_reads_back(&root.latest);
-}
-
-/// Law: so does a root.
-fn root_reads_back(root: &Option<Reference>)
-    ensures reads { (number : ℤ) → RootReads number root.now }
-    ensures texts { (number : ℤ) → HasRootTexts number root.now }
-{
-    match root {
-        Some(root) => reference_reads_back(root),
-        None => (),
-    }
-}
-
-/// The steps, and then the epoch.
-fn with_epoch(mut steps: Items<Step>, revision: Revision) -> Result<Items<Step>, AllocError>
-    ensures { IfOk result (λ all. all ≡ steps ++ SetEpoch revision.number revision.epoch ∷ []) }
-{
-    steps.push(Step::SetEpoch {
-        number: revision.number,
-        epoch: revision.epoch,
-    })?;
-    Ok(steps)
-}
 
 /// The steps that set the root.
 fn root_steps(
@@ -115,15 +43,14 @@ fn root_steps(
 }
 
 /// The plan for a domain that was found with that root.
-fn plan_found(
+fn plan_root_of(
     alloc: Global,
     found: DomainFound,
     there: &Option<Reference>,
     root: Option<Reference>,
 ) -> Result<Items<Step>, ChangeError>
-    ensures plans { (name : List ℕ) → (rows : Rows) → AreNumbered rows → IsKeyedBy number_key rows.domains
-        → IsDomain name rows found → there.now ≡ root_at rows.roots found.number
-        → IsPlanned (within (root_set root)) name rows result }
+    ensures plans { PlansOver (within (root_set root)) found
+        (λ rows. there.now ≡ root_at rows.roots found.number) result }
 {
     if is_same_root(there, &root) {
         return Ok(Items::new(alloc));
@@ -134,7 +61,7 @@ fn plan_found(
 }
 
 /// The plan, or why the root isn't set.
-fn plan<S: Alter>(
+fn plan_root<S: Alter>(
     alloc: Global,
     conn: &mut Connection<S>,
     name: &Text,
@@ -146,7 +73,7 @@ fn plan<S: Alter>(
 {
     let found = domain_to_change(conn, name)?;
     let there = root_of(alloc, conn, found.number)?;
-    plan_found(alloc, found, &there, root)
+    plan_root_of(alloc, found, &there, root)
 }
 
 /// Sets the root of the domain of that name, or takes it away.
@@ -159,6 +86,6 @@ pub(crate) fn set_root_in<S: Alter>(
     ensures turns { Turns (within (root_set root)) name.now
         (state S.Store conn.old) (state S.Store conn.new) result }
 {
-    let planned = plan(alloc, conn, name, root);
-    carried_out(alloc, conn, planned)
+    let planned = plan_root(alloc, conn, name, root);
+    carry_out(alloc, conn, planned)
 }

@@ -1,22 +1,20 @@
 //! The source of a domain gets other rows.
-ghost use Rattle.std.specs.Prelude.{◌≡◌, ◌≤◌, ◌++◌, ℕ, true, List, length, IfOk, OnOk};
+ghost use Rattle.std.specs.Prelude.{◌≡◌, ◌≤◌, ◌++◌, true, length, IfOk, OnOk};
 ghost use Rattle.sqlite.specs.Held.{state};
-ghost use Rattle.sqlite_keyed.specs.Keyed.{IsKeyedBy};
 ghost use Rattle.xa_records.specs.Changes.{source_set, within};
-ghost use Rattle.xa_store.specs.Lookup.{IsDomain};
-ghost use Rattle.xa_store.specs.Plan.{HaveTexts, RowsRead, SetsSource, number_key, row_steps, source_steps};
+ghost use Rattle.xa_store.specs.Plan.{HaveTexts, PlansOver, RowsRead, SetsSource, row_steps, source_steps};
 ghost use Rattle.xa_store.specs.Opened.{holds_value};
 ghost use Rattle.xa_store.specs.Quiet.{OnlyReadsForChange};
 ghost use Rattle.xa_store.specs.Rows.{type_number, value_text};
-ghost use Rattle.xa_store.specs.Sound.{AreNumbered, AreSourceTexts};
+ghost use Rattle.xa_store.specs.Sound.{AreSourceTexts};
 ghost use Rattle.xa_store.specs.Steps.{ReadsBack};
-ghost use Rattle.xa_store.specs.Turns.{IsPlanned, PlansIn, Turns};
-ghost use Rattle.xa_store.specs.World.{Rows, state_at};
+ghost use Rattle.xa_store.specs.Turns.{PlansIn, Turns};
+ghost use Rattle.xa_store.specs.World.{state_at};
 
 use crate::change::found::domain_to_change;
+use crate::change::laws::{bytes_are_utf8, bytes_are_utf8_if_any};
 use crate::change::number::next_revision;
-use crate::change::text::{bytes_are_utf8, bytes_are_utf8_if_any};
-use crate::change::{Revision, carried_out};
+use crate::change::{Revision, carry_out};
 use crate::query::domain::DomainFound;
 use crate::query::source::source_of;
 use crate::step::Step;
@@ -24,7 +22,7 @@ use sqlite::{Alter, Connection};
 use std::alloc::{AllocError, Global};
 use xa_decide::SourceRow;
 use xa_records::{ChangeError, Failure, Refusal, is_same_source, is_same_value, may_be_kept};
-use xa_value::{Items, OrMemory, Text, Value};
+use xa_value::{Items, Text, Value};
 
 /// Answers where the value reads back from its text. One that doesn't, a URI with white space around it
 /// for one, can't be kept.
@@ -33,16 +31,11 @@ fn check_value(alloc: Global, value: &Value) -> Result<(), Failure>
     ensures text { OnOk result (holds_value (type_number value.now) (value_text value.now) ≡ true) }
 {
     let text = value.to_text(alloc)?;
-    match Value::read(alloc, value.data_type(), text.as_str()) {
-        Ok(read) => {
-            if is_same_value(&read, value) {
-                return Ok(());
-            }
-            Err(Failure::Store)
-        }
-        Err(OrMemory::Memory) => Err(Failure::Memory),
-        Err(OrMemory::Error(_)) => Err(Failure::Store),
+    let read = Value::read(alloc, value.data_type(), text.as_str())?;
+    if is_same_value(&read, value) {
+        return Ok(());
     }
+    Err(Failure::Store)
 }
 
 /// Answers where the value of the row reads back.
@@ -62,13 +55,10 @@ fn check_rows(alloc: Global, rows: &[SourceRow]) -> Result<(), Failure>
     ensures reads { OnOk result (RowsRead rows.now) }
     ensures texts { OnOk result (HaveTexts rows.now) }
 {
-    match rows {
-        [] => Ok(()),
-        [row, rest @ ..] => {
-            check_row(alloc, row)?;
-            check_rows(alloc, rest)
-        }
+    for row in rows {
+        check_row(alloc, row)?;
     }
+    Ok(())
 }
 
 /// The steps, and then those that put the rows in.
@@ -82,7 +72,7 @@ fn row_steps(
 {
     let mut place: u32 = 0;
     for row in rows.into_vec() {
-        steps.push(Step::AddAttribute {
+        steps.push(Step::AddSourceRow {
             number,
             place: i64::from(place),
             row,
@@ -111,15 +101,14 @@ fn source_steps(
 }
 
 /// The plan for a domain that was found with that source.
-fn plan_found(
+fn plan_source_of(
     alloc: Global,
     found: DomainFound,
     there: &Items<SourceRow>,
     rows: Items<SourceRow>,
 ) -> Result<Items<Step>, ChangeError>
-    ensures plans { (name : List ℕ) → (kept : Rows) → AreNumbered kept → IsKeyedBy number_key kept.domains
-        → IsDomain name kept found → there.now ≡ (state_at kept found.number).source
-        → IsPlanned (within (source_set rows)) name kept result }
+    ensures plans { PlansOver (within (source_set rows)) found
+        (λ kept. there.now ≡ (state_at kept found.number).source) result }
     ensures steps { IfOk result (SetsSource found.number rows) }
 {
     if !may_be_kept(&rows) {
@@ -134,7 +123,7 @@ fn plan_found(
 }
 
 /// The plan, or why the source isn't set.
-fn plan<S: Alter>(
+fn plan_source<S: Alter>(
     alloc: Global,
     conn: &mut Connection<S>,
     name: &Text,
@@ -146,7 +135,7 @@ fn plan<S: Alter>(
 {
     let found = domain_to_change(conn, name)?;
     let there = source_of(alloc, conn, found.number)?;
-    plan_found(alloc, found, &there, rows)
+    plan_source_of(alloc, found, &there, rows)
 }
 
 /// Puts these rows into the source of the domain of that name, in place of all that were there.
@@ -161,6 +150,6 @@ pub(crate) fn set_source_in<S: Alter>(
     ensures turns { Turns (within (source_set rows)) name.now
         (state S.Store conn.old) (state S.Store conn.new) result }
 {
-    let planned = plan(alloc, conn, name, rows);
-    carried_out(alloc, conn, planned)
+    let planned = plan_source(alloc, conn, name, rows);
+    carry_out(alloc, conn, planned)
 }

@@ -1,17 +1,18 @@
 //! A token is put in, gets another role, or is taken out.
-ghost use Rattle.std.specs.Prelude.{◌≡◌, ℕ, nat_lt, true, List, None};
+ghost use Rattle.std.specs.Prelude.{◌≡◌, ℕ, nat_lt, List, None};
 ghost use Rattle.sqlite.specs.Held.{state};
 ghost use Rattle.sqlite.specs.State.{HasCleanDisk};
 ghost use Rattle.xa_records.specs.Changes.{token_dropped, token_put, within};
 ghost use Rattle.xa_store.specs.Lookup.{FindsRole, IsDomain};
-ghost use Rattle.xa_store.specs.Opened.{is_digest};
+ghost use Rattle.xa_store.specs.Plan.{PlansFound};
 ghost use Rattle.xa_store.specs.Quiet.{OnlyReadsForChange};
 ghost use Rattle.xa_store.specs.Sound.{Ours};
 ghost use Rattle.xa_store.specs.Turns.{IsPlanned, PlansIn, Turns};
-ghost use Rattle.xa_store.specs.World.{rows_of};
+ghost use Rattle.xa_store.specs.World.{rows_now};
 
 use crate::change::found::{domain_to_change, role_to_change};
-use crate::change::{carried_out, one_step};
+use crate::change::laws::has_all_bytes;
+use crate::change::{carry_out, one_step};
 use crate::query::count::token_count;
 use crate::query::domain::DomainFound;
 use crate::query::token::role_of;
@@ -26,18 +27,12 @@ use xa_value::{Items, Text};
 fn has_room(count: usize) -> bool
     ensures { result ≡ nat_lt count 32 }
 {
+    // in a function of its own, the proof has the answer as an equation
     count < MAX_TOKENS
 }
 
-/// Law: a digest has 32 bytes.
-fn has_all_bytes(digest: &Digest)
-    ensures { is_digest digest.now ≡ true }
-{
-    let _bytes = digest.as_bytes();
-}
-
 /// The plan for a token that isn't there.
-fn plan_new<S: Alter>(
+fn plan_put_new<S: Alter>(
     alloc: Global,
     conn: &mut Connection<S>,
     found: DomainFound,
@@ -46,10 +41,9 @@ fn plan_new<S: Alter>(
 ) -> Result<Items<Step>, ChangeError>
     ensures only_reads { OnlyReadsForChange (state S.Store conn.old) (state S.Store conn.new) result }
     ensures plans { HasCleanDisk (state S.Store conn.new) → Ours (state S.Store conn.old)
-        → (name : List ℕ) → IsDomain name (rows_of (state S.Store conn.old).now.trees) found
-        → FindsRole found.number digest (rows_of (state S.Store conn.old).now.trees) None
-        → IsPlanned (within (token_put digest role)) name
-        (rows_of (state S.Store conn.old).now.trees) result }
+        → (name : List ℕ) → IsDomain name (rows_now (state S.Store conn.old)) found
+        → FindsRole found.number digest (rows_now (state S.Store conn.old)) None
+        → IsPlanned (within (token_put digest role)) name (rows_now (state S.Store conn.old)) result }
 {
     has_all_bytes(&digest);
     let count = token_count(conn, found.number)?;
@@ -65,7 +59,7 @@ fn plan_new<S: Alter>(
 }
 
 /// The plan for a token of a domain that was found.
-fn plan_found<S: Alter>(
+fn plan_put_in<S: Alter>(
     alloc: Global,
     conn: &mut Connection<S>,
     found: DomainFound,
@@ -73,10 +67,8 @@ fn plan_found<S: Alter>(
     role: Role,
 ) -> Result<Items<Step>, ChangeError>
     ensures only_reads { OnlyReadsForChange (state S.Store conn.old) (state S.Store conn.new) result }
-    ensures plans { HasCleanDisk (state S.Store conn.new) → Ours (state S.Store conn.old)
-        → (name : List ℕ) → IsDomain name (rows_of (state S.Store conn.old).now.trees) found
-        → IsPlanned (within (token_put digest role)) name
-        (rows_of (state S.Store conn.old).now.trees) result }
+    ensures plans { PlansFound (within (token_put digest role)) found
+        (state S.Store conn.old) (state S.Store conn.new) result }
 {
     let there = role_of(alloc, conn, found.number, &digest)?;
     match there {
@@ -88,7 +80,7 @@ fn plan_found<S: Alter>(
             };
             Ok(one_step(alloc, step)?)
         }
-        None => plan_new(alloc, conn, found, digest, role),
+        None => plan_put_new(alloc, conn, found, digest, role),
     }
 }
 
@@ -105,7 +97,7 @@ fn plan_put<S: Alter>(
         (state S.Store conn.old) (state S.Store conn.new) result }
 {
     let found = domain_to_change(conn, name)?;
-    plan_found(alloc, conn, found, digest, role)
+    plan_put_in(alloc, conn, found, digest, role)
 }
 
 /// Puts a token into the domain of that name, or replaces the role of one that is there.
@@ -120,20 +112,19 @@ pub(crate) fn put_token_in<S: Alter>(
         (state S.Store conn.old) (state S.Store conn.new) result }
 {
     let planned = plan_put(alloc, conn, name, digest, role);
-    carried_out(alloc, conn, planned)
+    carry_out(alloc, conn, planned)
 }
 
 /// The plan to take a token out of a domain that was found.
-fn plan_gone<S: Alter>(
+fn plan_drop_in<S: Alter>(
     alloc: Global,
     conn: &mut Connection<S>,
     found: DomainFound,
     digest: Digest,
 ) -> Result<Items<Step>, ChangeError>
     ensures only_reads { OnlyReadsForChange (state S.Store conn.old) (state S.Store conn.new) result }
-    ensures plans { HasCleanDisk (state S.Store conn.new) → Ours (state S.Store conn.old)
-        → (name : List ℕ) → IsDomain name (rows_of (state S.Store conn.old).now.trees) found
-        → IsPlanned (within (token_dropped digest)) name (rows_of (state S.Store conn.old).now.trees) result }
+    ensures plans { PlansFound (within (token_dropped digest)) found
+        (state S.Store conn.old) (state S.Store conn.new) result }
 {
     role_to_change(alloc, conn, found.number, &digest)?;
     let step = Step::DropToken {
@@ -155,7 +146,7 @@ fn plan_drop<S: Alter>(
         (state S.Store conn.old) (state S.Store conn.new) result }
 {
     let found = domain_to_change(conn, name)?;
-    plan_gone(alloc, conn, found, digest)
+    plan_drop_in(alloc, conn, found, digest)
 }
 
 /// Takes a token out of the domain of that name.
@@ -169,5 +160,5 @@ pub(crate) fn drop_token_in<S: Alter>(
         (state S.Store conn.old) (state S.Store conn.new) result }
 {
     let planned = plan_drop(alloc, conn, name, digest);
-    carried_out(alloc, conn, planned)
+    carry_out(alloc, conn, planned)
 }

@@ -1,11 +1,12 @@
-//! What one column of a row holds.
+//! What one column of a row holds. A column that a row hasn't reads as NULL, as in SQLite and in the
+//! definitions (`column`).
 ghost use Rattle.std.specs.Prelude.{◌≡◌, is_ok, bytes_eq};
 ghost use Rattle.std.specs.Ordering.{int_eq};
 ghost use Rattle.std.specs.Str.{is_utf8};
 ghost use Rattle.sqlite.specs.Order.{column};
 ghost use Rattle.xa_records.specs.DomainName.{is_domain_name};
 ghost use Rattle.xa_store.specs.Opened.{holds_int, holds_text, holds_text_if_any, holds_blob, is_bit};
-ghost use Rattle.xa_store.specs.Opened.{is_count, is_digest, is_given, is_pattern, is_version};
+ghost use Rattle.xa_store.specs.Opened.{is_assigned, is_count, is_digest, is_pattern, is_version};
 
 use sqlite::Row;
 use sqlite::types::ValueRef;
@@ -20,9 +21,9 @@ pub(crate) fn is_count(number: i64) -> bool
     0 <= number
 }
 
-/// Whether it is the number of a domain that has been made, where `next` is that of the next.
-fn is_given(next: i64, number: i64) -> bool
-    ensures { result ≡ is_given next number }
+/// Whether the number has been assigned to a domain, where `next` is that of the next.
+fn is_assigned(next: i64, number: i64) -> bool
+    ensures { result ≡ is_assigned next number }
 {
     is_count(number) && number < next
 }
@@ -63,34 +64,25 @@ fn is_version(bytes: &[u8]) -> bool
     }
 }
 
-/// Whether the column holds the number of a domain that has been made.
-pub(crate) fn holds_given(row: &Row, at: usize, next: i64) -> bool
-    ensures { result ≡ holds_int (is_given next) (column row.now at) }
+/// Whether the column holds a number that has been assigned to a domain.
+pub(crate) fn holds_assigned(row: &Row, at: usize, next: i64) -> bool
+    ensures { result ≡ holds_int (is_assigned next) (column row.now at) }
 {
-    match row.get_ref(at) {
-        Ok(ValueRef::Int(number)) => is_given(next, number),
-        _ => false,
-    }
+    matches!(row.get_ref(at), Ok(ValueRef::Int(number)) if is_assigned(next, number))
 }
 
 /// Whether the column holds a number that isn't negative.
 pub(crate) fn holds_count(row: &Row, at: usize) -> bool
     ensures { result ≡ holds_int is_count (column row.now at) }
 {
-    match row.get_ref(at) {
-        Ok(ValueRef::Int(number)) => is_count(number),
-        _ => false,
-    }
+    matches!(row.get_ref(at), Ok(ValueRef::Int(number)) if is_count(number))
 }
 
 /// Whether the column holds 0 or 1.
 pub(crate) fn holds_bit(row: &Row, at: usize) -> bool
     ensures { result ≡ holds_int is_bit (column row.now at) }
 {
-    match row.get_ref(at) {
-        Ok(ValueRef::Int(number)) => is_bit(number),
-        _ => false,
-    }
+    matches!(row.get_ref(at), Ok(ValueRef::Int(number)) if is_bit(number))
 }
 
 /// Whether the column holds this number.
@@ -107,20 +99,14 @@ pub(crate) fn holds_number(row: &Row, at: usize, wanted: i64) -> bool
 pub(crate) fn holds_name(row: &Row, at: usize) -> bool
     ensures { result ≡ holds_text is_domain_name (column row.now at) }
 {
-    match row.get_ref(at) {
-        Ok(ValueRef::Text(bytes)) => is_domain_name(bytes),
-        _ => false,
-    }
+    matches!(row.get_ref(at), Ok(ValueRef::Text(bytes)) if is_domain_name(bytes))
 }
 
 /// Whether the column holds a text.
 pub(crate) fn holds_text(row: &Row, at: usize) -> bool
     ensures { result ≡ holds_text is_utf8 (column row.now at) }
 {
-    match row.get_ref(at) {
-        Ok(ValueRef::Text(bytes)) => is_text(bytes),
-        _ => false,
-    }
+    matches!(row.get_ref(at), Ok(ValueRef::Text(bytes)) if is_text(bytes))
 }
 
 /// Whether the column holds a text, or nothing.

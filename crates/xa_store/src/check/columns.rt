@@ -79,7 +79,7 @@ pub(crate) mod source {
     pub(crate) const ISSUER: usize = 8;
 }
 
-/// The columns of the place of a row of a source, as `SchemaVersion::places_text` shows them.
+/// The columns of the place of a row of a source, as `SchemaVersion::places_query` shows them.
 pub(crate) mod source_place {
     pub(crate) const NUMBER: usize = 0;
 

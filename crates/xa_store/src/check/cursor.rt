@@ -8,9 +8,8 @@ ghost use Rattle.xa_store.specs.Check.{Moves, TellsNext, TellsNumber, Walked, co
 
 use crate::check::row::{is_sound_row, row_number};
 use crate::error::OpenError;
-use crate::refusal::refused;
 use crate::schema::kind::Kind;
-use crate::schema::version::Known;
+use crate::schema::version::Checking;
 use sqlite::{Alter, Connection, Row, Rows};
 use std::alloc::Global;
 
@@ -79,10 +78,8 @@ fn next_number<S: Alter>(
         → (sql : List ℕ) → (given : List SqlRow) → HasGiven S.Store sql [] rows.old.conn.now given
         → Moves S.Store kind next last rows.old.conn.now rows.new.conn.now sql given result }
 {
-    match rows.advance() {
-        Ok(()) => number_here(alloc, kind, next, last, rows),
-        Err(error) => Err(refused(error)),
-    }
+    rows.advance()?;
+    number_here(alloc, kind, next, last, rows)
 }
 
 /// Checks all rows of the table, in the order of their numbers.
@@ -90,16 +87,17 @@ pub(crate) fn walk<S: Alter>(
     alloc: Global,
     conn: &mut Connection<S>,
     kind: Kind,
-    known: Known,
+    checking: Checking,
 ) -> Result<(), OpenError>
-    requires { IsTrue (has_kind kind known.version) }
-    ensures { Walked known.version kind known.next (state S.Store conn.old) (state S.Store conn.new) result }
+    requires { IsTrue (has_kind kind checking.version) }
+    ensures { Walked checking.version kind checking.next
+        (state S.Store conn.old) (state S.Store conn.new) result }
 {
     let mut last = None;
-    let mut rows = conn.query(kind.text(), &[])?;
-    // by its label the proof names the loop
+    let mut rows = conn.query(kind.rows_query(), &[])?;
+    // bounded, so that it ends whatever the store shows; by its label the proof names the loop
     'rows: for _ in 0..u64::MAX {
-        match next_number(alloc, kind, known.next, last, &mut rows)? {
+        match next_number(alloc, kind, checking.next, last, &mut rows)? {
             Some(number) => last = Some(number),
             None => return Ok(()),
         }

@@ -7,7 +7,7 @@ ghost use Rattle.xa_store.specs.Opened.{schema_of};
 
 use crate::check::tables::check;
 use crate::error::OpenError;
-use crate::refusal::failed_by;
+use crate::failure::failed_by;
 use crate::schema::version::SchemaVersion;
 use crate::sql;
 use sqlite::{Alter, Connection};

@@ -11,10 +11,11 @@ ghost use Rattle.xa_store.specs.declared.schema.kind.Kind.TheVariants.{Attribute
 ghost use Rattle.xa_store.specs.declared.schema.kind.Kind.TheVariants.{Roots, Sources, Tokens};
 
 use crate::check::cell::{
-    holds_bit, holds_bytes, holds_count, holds_digest, holds_given, holds_name, holds_number,
+    holds_assigned, holds_bit, holds_bytes, holds_count, holds_digest, holds_name, holds_number,
     holds_pattern_if_any, holds_text, holds_text_if_any, holds_version_if_any,
 };
 use crate::check::columns::{ROWID, document, domain, meta, root, source, source_place, token};
+use crate::query::column::type_numbered;
 use crate::schema::kind::Kind;
 use crate::schema::version::SchemaVersion;
 use sqlite::Row;
@@ -37,7 +38,7 @@ pub(crate) struct Place {
 fn is_domain(next: i64, row: &Row) -> bool
     ensures { result ≡ is_sound_row Domains next row.now }
 {
-    holds_given(row, domain::NUMBER, next)
+    holds_assigned(row, domain::NUMBER, next)
         && holds_name(row, domain::NAME)
         && holds_count(row, domain::EPOCH)
 }
@@ -46,7 +47,7 @@ fn is_domain(next: i64, row: &Row) -> bool
 fn is_token(next: i64, row: &Row) -> bool
     ensures { result ≡ is_sound_row Tokens next row.now }
 {
-    holds_given(row, token::NUMBER, next)
+    holds_assigned(row, token::NUMBER, next)
         && holds_digest(row, token::DIGEST)
         && holds_bit(row, token::ROLE)
 }
@@ -55,7 +56,7 @@ fn is_token(next: i64, row: &Row) -> bool
 fn is_root(next: i64, row: &Row) -> bool
     ensures { result ≡ is_sound_row Roots next row.now }
 {
-    holds_given(row, root::NUMBER, next)
+    holds_assigned(row, root::NUMBER, next)
         && holds_bit(row, root::KIND)
         && holds_text(row, root::ID)
         && holds_pattern_if_any(row, root::PATTERN)
@@ -105,20 +106,10 @@ fn holds_body(alloc: Global, row: &Row) -> Result<bool, AllocError>
 fn is_document(alloc: Global, next: i64, row: &Row) -> Result<bool, AllocError>
     ensures { IfOk result (λ b. b ≡ is_sound_row Documents next row.now) }
 {
-    if holds_given(row, document::NUMBER, next) && holds_bit(row, document::ACTIVE) {
+    if holds_assigned(row, document::NUMBER, next) && holds_bit(row, document::ACTIVE) {
         holds_body(alloc, row)
     } else {
         Ok(false)
-    }
-}
-
-/// The type of that number.
-pub(crate) fn type_numbered(number: i64) -> Option<DataType>
-    ensures { result ≡ type_numbered number }
-{
-    match u8::try_from(number) {
-        Ok(number) => DataType::from_number(number),
-        Err(_) => None,
     }
 }
 
@@ -179,7 +170,7 @@ fn holds_typed_value(alloc: Global, row: &Row) -> Result<bool, AllocError>
 fn is_attribute(alloc: Global, next: i64, row: &Row) -> Result<bool, AllocError>
     ensures { IfOk result (λ b. b ≡ is_sound_row Attributes next row.now) }
 {
-    if holds_given(row, source::NUMBER, next)
+    if holds_assigned(row, source::NUMBER, next)
         && holds_text(row, source::CATEGORY)
         && holds_text(row, source::ENTITY)
         && holds_text(row, source::ATTRIBUTE)

@@ -17,7 +17,7 @@ use crate::check::query::rows_of;
 use crate::check::row::{Place, follows, known_next, place_of};
 use crate::error::OpenError;
 use crate::schema::kind::Kind;
-use crate::schema::version::{Known, SchemaVersion};
+use crate::schema::version::{Checking, SchemaVersion};
 use crate::sql;
 use sqlite::{Alter, Connection, Row};
 use std::alloc::Global;
@@ -41,7 +41,7 @@ fn check_order<S: Alter>(conn: &mut Connection<S>, kind: Kind) -> Result<(), Ope
         → FindsIn version (state S.Store conn.old) (state S.Store conn.new)
         (Orders kind (state S.Store conn.old).now.trees result) }
 {
-    let rows = rows_of(conn, kind.order_text())?;
+    let rows = rows_of(conn, kind.order_query())?;
     sound_or_damaged(rows.is_empty())
 }
 
@@ -51,47 +51,48 @@ fn check_table<S: Alter>(
     alloc: Global,
     conn: &mut Connection<S>,
     kind: Kind,
-    known: Known,
+    checking: Checking,
 ) -> Result<(), OpenError>
-    requires { IsTrue (has_kind kind known.version) }
-    ensures { CheckedBy known.version (λ db. is_sound_table db known.next kind)
+    requires { IsTrue (has_kind kind checking.version) }
+    ensures { CheckedBy checking.version (λ db. is_sound_table db checking.next kind)
         (state S.Store conn.old) (state S.Store conn.new) result }
 {
-    walk(alloc, conn, kind, known)?;
+    walk(alloc, conn, kind, checking)?;
     check_order(conn, kind)
 }
 
-/// Checks two tables, one after the other.
+/// Checks two tables, one after the other. For the proof, which puts two checks together at a time.
 fn check_both<S: Alter>(
     alloc: Global,
     conn: &mut Connection<S>,
     first: Kind,
     second: Kind,
-    known: Known,
+    checking: Checking,
 ) -> Result<(), OpenError>
-    requires first { IsTrue (has_kind first known.version) }
-    requires second { IsTrue (has_kind second known.version) }
-    ensures { CheckedBy known.version
-        (λ db. is_sound_table db known.next first && is_sound_table db known.next second)
+    requires first { IsTrue (has_kind first checking.version) }
+    requires second { IsTrue (has_kind second checking.version) }
+    ensures { CheckedBy checking.version
+        (λ db. is_sound_table db checking.next first && is_sound_table db checking.next second)
         (state S.Store conn.old) (state S.Store conn.new) result }
 {
-    check_table(alloc, conn, first, known)?;
-    check_table(alloc, conn, second, known)
+    check_table(alloc, conn, first, checking)?;
+    check_table(alloc, conn, second, checking)
 }
 
-/// Checks the tables that both schemas have, but the first and those of the rows of sources.
+/// Checks the tables that both schemas have, but the first and those of the rows of sources. Two pairs,
+/// as the proof puts two checks together at a time.
 fn check_common<S: Alter>(
     alloc: Global,
     conn: &mut Connection<S>,
-    known: Known,
+    checking: Checking,
 ) -> Result<(), OpenError>
-    ensures { CheckedBy known.version
-        (λ db. (is_sound_table db known.next Domains && is_sound_table db known.next Tokens)
-        && (is_sound_table db known.next Documents && is_sound_table db known.next Roots))
+    ensures { CheckedBy checking.version
+        (λ db. (is_sound_table db checking.next Domains && is_sound_table db checking.next Tokens)
+        && (is_sound_table db checking.next Documents && is_sound_table db checking.next Roots))
         (state S.Store conn.old) (state S.Store conn.new) result }
 {
-    check_both(alloc, conn, Kind::Domains, Kind::Tokens, known)?;
-    check_both(alloc, conn, Kind::Documents, Kind::Roots, known)
+    check_both(alloc, conn, Kind::Domains, Kind::Tokens, checking)?;
+    check_both(alloc, conn, Kind::Documents, Kind::Roots, checking)
 }
 
 /// Checks all tables that have rows, but the first.
@@ -99,13 +100,14 @@ fn check_common<S: Alter>(
 fn check_tables<S: Alter>(
     alloc: Global,
     conn: &mut Connection<S>,
-    known: Known,
+    checking: Checking,
 ) -> Result<(), OpenError>
-    ensures { CheckedBy known.version (λ db. list_all (is_sound_table db known.next) (kinds_in known.version))
+    ensures { CheckedBy checking.version
+        (λ db. list_all (is_sound_table db checking.next) (kinds_in checking.version))
         (state S.Store conn.old) (state S.Store conn.new) result }
 {
-    check_common(alloc, conn, known)?;
-    check_table(alloc, conn, known.version.sources(), known)
+    check_common(alloc, conn, checking)?;
+    check_table(alloc, conn, checking.version.sources(), checking)
 }
 
 /// Whether each place comes after the one before.
@@ -134,7 +136,7 @@ fn check_places<S: Alter>(conn: &mut Connection<S>, version: SchemaVersion) -> R
         (are_counted (map place_in ((state S.Store conn.old).now.trees (tree_of (sources_in version)))))
         result) }
 {
-    let rows = rows_of(conn, version.places_text())?;
+    let rows = rows_of(conn, version.places_query())?;
     sound_or_damaged(are_places(rows.as_slice()))
 }
 
@@ -143,7 +145,7 @@ fn check_attributes<S: Alter>(conn: &mut Connection<S>) -> Result<(), OpenError>
     ensures { CheckedBy Schema2 (λ db. is_left_empty Schema2 db)
         (state S.Store conn.old) (state S.Store conn.new) result }
 {
-    let rows = rows_of(conn, SchemaVersion::Schema1.places_text())?;
+    let rows = rows_of(conn, SchemaVersion::Schema1.places_query())?;
     sound_or_damaged(rows.is_empty())
 }
 
@@ -174,23 +176,23 @@ fn check_sources<S: Alter>(
 fn check_all<S: Alter>(
     alloc: Global,
     conn: &mut Connection<S>,
-    known: Known,
+    checking: Checking,
 ) -> Result<(), OpenError>
-    ensures asks { Asks known.version (state S.Store conn.old) (state S.Store conn.new) result }
-    ensures finds { FindsIn known.version (state S.Store conn.old) (state S.Store conn.new)
+    ensures asks { Asks checking.version (state S.Store conn.old) (state S.Store conn.new) result }
+    ensures finds { FindsIn checking.version (state S.Store conn.old) (state S.Store conn.new)
         (IsDatabase (state S.Store conn.old).now
-        → TellsSound (is_sound known.version (state S.Store conn.old).now.trees known.next) result) }
+        → TellsSound (is_sound checking.version (state S.Store conn.old).now.trees checking.next) result) }
 {
-    if !is_count(known.next) {
+    if !is_count(checking.next) {
         return Err(OpenError::Damaged);
     }
-    check_tables(alloc, conn, known)?;
-    check_sources(conn, known.version)
+    check_tables(alloc, conn, checking)?;
+    check_sources(conn, checking.version)
 }
 
 /// The number of the next domain, in the one row of the first table, which has to have the number of
 /// that schema.
-fn look<S: Alter>(conn: &mut Connection<S>, version: SchemaVersion) -> Result<i64, OpenError>
+fn next_domain<S: Alter>(conn: &mut Connection<S>, version: SchemaVersion) -> Result<i64, OpenError>
     ensures asks { Asks version (state S.Store conn.old) (state S.Store conn.new) result }
     ensures finds { FindsIn version (state S.Store conn.old) (state S.Store conn.new)
         (GivesNext (known_next version (map read_meta ((state S.Store conn.old).now.trees 0))) result) }
@@ -210,7 +212,8 @@ pub(crate) fn check<S: Alter>(
 ) -> Result<(), OpenError>
     ensures { Checked version (state S.Store conn.old) (state S.Store conn.new) result }
 {
+    // for the proof: an open store holds a database
     let _schema = conn.schema();
-    let next = look(conn, version)?;
-    check_all(alloc, conn, Known { version, next })
+    let next = next_domain(conn, version)?;
+    check_all(alloc, conn, Checking { version, next })
 }

@@ -44,7 +44,7 @@ fn look<S: Alter>(conn: &mut Connection<S>) -> Option<bool>
 }
 
 /// Counts one more failure.
-fn count(faults: &mut u64)
+fn count_fault(faults: &mut u64)
     ensures { IsOneMore faults.old faults.new }
 {
     *faults = faults.saturating_add(1);
@@ -61,7 +61,7 @@ fn store_failed<S: Alter>(conn: &mut Connection<S>, health: &mut Health) -> Fail
     match look(conn) {
         Some(still) => {
             health.is_open = still;
-            count(&mut health.faults);
+            count_fault(&mut health.faults);
             Failure::Store
         }
         None => Failure::Memory,
@@ -92,7 +92,7 @@ pub(crate) fn after_reading<S: Alter, X: Drop>(
         health.new.is_open health.old.faults health.new.faults read result }
 {
     if !health.is_open {
-        count(&mut health.faults);
+        count_fault(&mut health.faults);
         return Err(Failure::Store);
     }
     match read {
@@ -111,7 +111,7 @@ pub(crate) fn after_change<S: Alter, X: Drop>(
         health.new.is_open health.old.faults health.new.faults done result }
 {
     if !health.is_open {
-        count(&mut health.faults);
+        count_fault(&mut health.faults);
         return Err(ChangeError::Failed(Failure::Store));
     }
     match done {

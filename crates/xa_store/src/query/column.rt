@@ -1,18 +1,19 @@
-//! Columns as values: numbers, texts, flags, roles, kinds, versions and patterns.
+//! Columns as values: numbers, texts, flags, roles, kinds, data types, versions and patterns.
 ghost use Rattle.std.specs.Prelude.{◌≡◌, option_and_then, IfOk};
 ghost use Rattle.sqlite.specs.Order.{column};
 ghost use Rattle.sqlite.specs.declared.types.Value.TheVariants.{Int};
 ghost use Rattle.sqlite_typed.specs.Columns.{bytes_of, int_of, unless_null};
 ghost use Rattle.xa_policy.specs.Pattern.{read_pattern};
 ghost use Rattle.xa_policy.specs.Version.{read_version};
-ghost use Rattle.xa_store.specs.Rows.{given, is_set, kind_in, kind_number, role_in, version_in};
+ghost use Rattle.xa_store.specs.Opened.{type_numbered};
+ghost use Rattle.xa_store.specs.Rows.{given, is_set, kind_in, role_in, type_in, version_in};
 
 use crate::failure::failure_of;
 use sqlite::Row;
 use xa_notation::Role;
 use xa_policy::{DocumentKind, Pattern, Version};
 use xa_records::Failure;
-use xa_value::{Items, Text};
+use xa_value::{DataType, Items, Text};
 
 /// The number in a column.
 pub(crate) fn number_in(row: &Row, at: usize) -> Result<i64, Failure>
@@ -83,11 +84,22 @@ pub(crate) fn kind_in(row: &Row, at: usize) -> Result<DocumentKind, Failure>
     }
 }
 
-/// A kind of documents as a column holds it.
-pub(crate) fn kind_column(kind: DocumentKind) -> i64
-    ensures { result ≡ kind_number kind }
+/// The data type of that number.
+pub(crate) fn type_numbered(number: i64) -> Option<DataType>
+    ensures { result ≡ type_numbered number }
 {
-    i64::from(kind.place())
+    match u8::try_from(number) {
+        Ok(number) => DataType::from_number(number),
+        Err(_) => None,
+    }
+}
+
+/// The data type in a column.
+pub(crate) fn type_in(row: &Row, at: usize) -> Result<DataType, Failure>
+    ensures { IfOk result (λ data_type. data_type ≡ type_in (int_of (column row.now at))) }
+{
+    let number = number_in(row, at)?;
+    type_numbered(number).ok_or(Failure::Store)
 }
 
 /// The version in a column.

@@ -1,13 +1,11 @@
 //! How many tokens and documents a domain has.
-ghost use Rattle.std.specs.Prelude.{◌≡◌, IfOk};
+ghost use Rattle.std.specs.Prelude.{◌≡◌};
 ghost use Rattle.std.specs.FinMap.{len};
 ghost use Rattle.sqlite.specs.Held.{state};
-ghost use Rattle.sqlite.specs.State.{HasCleanDisk};
-ghost use Rattle.xa_store.specs.Quiet.{OnlyReads};
-ghost use Rattle.xa_store.specs.Sound.{Ours};
-ghost use Rattle.xa_store.specs.World.{rows_of, state_at};
+ghost use Rattle.xa_store.specs.Quiet.{OnlyReads, ReadsRows};
+ghost use Rattle.xa_store.specs.World.{state_at};
 
-use crate::query::shown;
+use crate::query::query_rows;
 use crate::sql;
 use sqlite::types::ValueRef;
 use sqlite::{Alter, Connection};
@@ -17,10 +15,10 @@ use xa_records::Failure;
 #[tactic(auto, using(crate::proofs::TokenLemmas::tokens_plain))]
 pub(crate) fn token_count<S: Alter>(conn: &mut Connection<S>, number: i64) -> Result<usize, Failure>
     ensures only_reads { OnlyReads (state S.Store conn.old) (state S.Store conn.new) result }
-    ensures reads { HasCleanDisk (state S.Store conn.new) → Ours (state S.Store conn.old)
-        → IfOk result (λ n. n ≡ len (state_at (rows_of (state S.Store conn.old).now.trees) number).tokens) }
+    ensures reads { ReadsRows (state S.Store conn.old) (state S.Store conn.new) result
+        (λ rows n. n ≡ len (state_at rows number).tokens) }
 {
-    let rows = shown(conn, sql::TOKENS, &[ValueRef::Int(number)])?;
+    let rows = query_rows(conn, sql::TOKENS, &[ValueRef::Int(number)])?;
     Ok(rows.as_slice().len())
 }
 
@@ -32,9 +30,9 @@ pub(crate) fn document_count<S: Alter>(
     number: i64,
 ) -> Result<usize, Failure>
     ensures only_reads { OnlyReads (state S.Store conn.old) (state S.Store conn.new) result }
-    ensures reads { HasCleanDisk (state S.Store conn.new) → Ours (state S.Store conn.old) → IfOk result (λ n.
-        n ≡ len (state_at (rows_of (state S.Store conn.old).now.trees) number).documents) }
+    ensures reads { ReadsRows (state S.Store conn.old) (state S.Store conn.new) result
+        (λ rows n. n ≡ len (state_at rows number).documents) }
 {
-    let rows = shown(conn, sql::DOCUMENTS, &[ValueRef::Int(number)])?;
+    let rows = query_rows(conn, sql::DOCUMENTS, &[ValueRef::Int(number)])?;
     Ok(rows.as_slice().len())
 }

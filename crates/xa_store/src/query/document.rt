@@ -10,16 +10,15 @@ ghost use Rattle.xa_policy.specs.DocumentKey.{compare_keys};
 ghost use Rattle.xa_policy.specs.Version.{version_text};
 ghost use Rattle.xa_records.specs.Readings.{active_texts, listing_of_state};
 ghost use Rattle.xa_store.specs.Lookup.{FindsDocument};
-ghost use Rattle.xa_store.specs.Quiet.{OnlyReads};
+ghost use Rattle.xa_store.specs.Quiet.{OnlyReads, ReadsRows};
 ghost use Rattle.xa_store.specs.Rows.{kind_number};
-ghost use Rattle.xa_store.specs.Sound.{Ours};
 ghost use Rattle.xa_store.specs.Texts.{document_shown};
-ghost use Rattle.xa_store.specs.World.{rows_of, state_at};
+ghost use Rattle.xa_store.specs.World.{state_at};
 
-use crate::query::column::kind_column;
+use crate::parameter::number_of_kind;
 use crate::query::document_row::DocumentFound;
-use crate::query::row::{all_told, one_told};
-use crate::query::shown;
+use crate::query::query_rows;
+use crate::query::row::{read_all, read_one};
 use crate::sql;
 use sqlite::types::ValueRef;
 use sqlite::{Alter, Connection, Row};
@@ -79,12 +78,12 @@ fn document_rows<'k, S: Alter>(
         ∷ SqlText key.now.id ∷ SqlText (version_text key.now.version) ∷ [])
         (state S.Store conn.old) (state S.Store conn.new) rows.items) }
 {
-    shown(
+    query_rows(
         conn,
         sql::DOCUMENT,
         &[
             ValueRef::Int(number),
-            ValueRef::Int(kind_column(key.kind)),
+            ValueRef::Int(number_of_kind(key.kind)),
             ValueRef::Text(key.id.as_bytes()),
             ValueRef::Text(version.as_bytes()),
         ],
@@ -100,13 +99,13 @@ pub(crate) fn document_of<S: Alter>(
     key: &DocumentKey,
 ) -> Result<Option<DocumentFound>, Failure>
     ensures only_reads { OnlyReads (state S.Store conn.old) (state S.Store conn.new) result }
-    ensures finds { HasCleanDisk (state S.Store conn.new) → Ours (state S.Store conn.old)
-        → IfOk result (FindsDocument number key.now (rows_of (state S.Store conn.old).now.trees)) }
+    ensures finds { ReadsRows (state S.Store conn.old) (state S.Store conn.new) result
+        (FindsDocument number key.now) }
 {
     key.version.reads_back();
     let version = key.version.to_text(alloc)?;
     let rows = document_rows(conn, number, key, &version)?;
-    one_told(alloc, rows.as_slice())
+    read_one(alloc, rows.as_slice())
 }
 
 /// All documents of the domain of that number, in the order of their keys; there are 1,024 at most. In
@@ -118,12 +117,11 @@ pub(crate) fn documents_of<S: Alter>(
     number: i64,
 ) -> Result<Items<Listed>, Failure>
     ensures only_reads { OnlyReads (state S.Store conn.old) (state S.Store conn.new) result }
-    ensures reads { HasCleanDisk (state S.Store conn.new) → Ours (state S.Store conn.old)
-        → IfOk result (λ listed.
-        listed ≡ listing_of_state (state_at (rows_of (state S.Store conn.old).now.trees) number)) }
+    ensures reads { ReadsRows (state S.Store conn.old) (state S.Store conn.new) result
+        (λ rows listed. listed ≡ listing_of_state (state_at rows number)) }
 {
-    let rows = shown(conn, sql::DOCUMENTS, &[ValueRef::Int(number)])?;
-    let listed = all_told::<Listed>(alloc, rows)?;
+    let rows = query_rows(conn, sql::DOCUMENTS, &[ValueRef::Int(number)])?;
+    let listed = read_all::<Listed>(alloc, rows)?;
     Ok(Items::from_vec(in_order(listed)))
 }
 
@@ -137,11 +135,10 @@ pub(crate) fn active_texts_of<S: Alter>(
     number: i64,
 ) -> Result<Items<ActiveText>, Failure>
     ensures only_reads { OnlyReads (state S.Store conn.old) (state S.Store conn.new) result }
-    ensures reads { HasCleanDisk (state S.Store conn.new) → Ours (state S.Store conn.old)
-        → IfOk result (λ texts.
-        texts ≡ active_texts (state_at (rows_of (state S.Store conn.old).now.trees) number)) }
+    ensures reads { ReadsRows (state S.Store conn.old) (state S.Store conn.new) result
+        (λ rows texts. texts ≡ active_texts (state_at rows number)) }
 {
-    let rows = shown(conn, sql::ACTIVE_DOCUMENTS, &[ValueRef::Int(number)])?;
-    let active = all_told::<ActiveText>(alloc, rows)?;
+    let rows = query_rows(conn, sql::ACTIVE_DOCUMENTS, &[ValueRef::Int(number)])?;
+    let active = read_all::<ActiveText>(alloc, rows)?;
     Ok(Items::from_vec(in_order(active)))
 }

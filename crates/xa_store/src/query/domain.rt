@@ -1,14 +1,12 @@
 //! The domain of a name: its number and its epoch.
 ghost use Rattle.std.specs.Prelude.{IfOk};
 ghost use Rattle.sqlite.specs.Held.{state};
-ghost use Rattle.sqlite.specs.State.{HasCleanDisk};
 ghost use Rattle.xa_store.specs.Lookup.{FindsDomain, TellDomain};
-ghost use Rattle.xa_store.specs.Quiet.{OnlyReads};
-ghost use Rattle.xa_store.specs.Sound.{Ours};
-ghost use Rattle.xa_store.specs.World.{rows_of};
+ghost use Rattle.xa_store.specs.Quiet.{OnlyReads, ReadsRows};
 
 use crate::query::column::number_in;
-use crate::query::shown;
+use crate::query::columns::domain_found;
+use crate::query::query_rows;
 use crate::sql;
 use sqlite::types::ValueRef;
 use sqlite::{Alter, Connection, Row};
@@ -32,23 +30,23 @@ pub(crate) fn domain_named<S: Alter>(
     name: &Text,
 ) -> Result<Option<DomainFound>, Failure>
     ensures only_reads { OnlyReads (state S.Store conn.old) (state S.Store conn.new) result }
-    ensures finds { HasCleanDisk (state S.Store conn.new) → Ours (state S.Store conn.old)
-        → IfOk result (FindsDomain name.now (rows_of (state S.Store conn.old).now.trees)) }
+    ensures finds { ReadsRows (state S.Store conn.old) (state S.Store conn.new) result
+        (FindsDomain name.now) }
 {
-    let rows = shown(conn, sql::DOMAIN, &[ValueRef::Text(name.as_bytes())])?;
-    domain_told(rows.as_slice())
+    let rows = query_rows(conn, sql::DOMAIN, &[ValueRef::Text(name.as_bytes())])?;
+    read_domain(rows.as_slice())
 }
 
-/// The domain that rows of `sql::DOMAIN` tell, whose columns are number, epoch: none, where there is no
-/// row, and a failure where there are several.
-fn domain_told(rows: &[Row]) -> Result<Option<DomainFound>, Failure>
+/// The domain that rows of `sql::DOMAIN` tell: none, where there is no row, and a failure where there are
+/// several.
+fn read_domain(rows: &[Row]) -> Result<Option<DomainFound>, Failure>
     ensures { IfOk result (TellDomain rows.now) }
 {
     match rows {
         [] => Ok(None),
         [row] => {
-            let number = number_in(row, 0)?;
-            let epoch = number_in(row, 1)?;
+            let number = number_in(row, domain_found::NUMBER)?;
+            let epoch = number_in(row, domain_found::EPOCH)?;
             if number < 0 || epoch < 0 {
                 return Err(Failure::Store);
             }

@@ -1,16 +1,14 @@
 //! The names of all domains.
-ghost use Rattle.std.specs.Prelude.{◌≡◌, IfOk};
+ghost use Rattle.std.specs.Prelude.{◌≡◌};
 ghost use Rattle.sqlite.specs.Held.{state};
-ghost use Rattle.sqlite.specs.State.{HasCleanDisk};
 ghost use Rattle.xa_records.specs.Kept.{names_of};
-ghost use Rattle.xa_store.specs.Quiet.{OnlyReads};
+ghost use Rattle.xa_store.specs.Quiet.{OnlyReads, ReadsRows};
 ghost use Rattle.xa_store.specs.Columns.{name_told};
-ghost use Rattle.xa_store.specs.Sound.{Ours};
-ghost use Rattle.xa_store.specs.World.{world_of};
+ghost use Rattle.xa_store.specs.World.{kept_of};
 
 use crate::query::column::text_in;
-use crate::query::row::{Told, all_told};
-use crate::query::shown;
+use crate::query::query_rows;
+use crate::query::row::{FromRow, read_all};
 use crate::sql;
 use sqlite::{Alter, Connection, Row};
 use std::alloc::Global;
@@ -18,10 +16,10 @@ use xa_records::Failure;
 use xa_value::{Items, Text};
 
 /// Read from the column of `sql::DOMAIN_NAMES`: name.
-impl Told for Text {
+impl FromRow for Text {
     ghost told = { name_told };
 
-    fn told(_: Global, row: &Row) -> Result<Text, Failure> {
+    fn from_row(_: Global, row: &Row) -> Result<Text, Failure> {
         text_in(row, 0)
     }
 }
@@ -33,9 +31,9 @@ pub(crate) fn names_in<S: Alter>(
     conn: &mut Connection<S>,
 ) -> Result<Items<Text>, Failure>
     ensures only_reads { OnlyReads (state S.Store conn.old) (state S.Store conn.new) result }
-    ensures reads { HasCleanDisk (state S.Store conn.new) → Ours (state S.Store conn.old)
-        → IfOk result (λ names. names ≡ names_of (world_of (state S.Store conn.old).now.trees)) }
+    ensures reads { ReadsRows (state S.Store conn.old) (state S.Store conn.new) result
+        (λ rows names. names ≡ names_of (kept_of rows)) }
 {
-    let rows = shown(conn, sql::DOMAIN_NAMES, &[])?;
-    all_told(alloc, rows)
+    let rows = query_rows(conn, sql::DOMAIN_NAMES, &[])?;
+    read_all(alloc, rows)
 }

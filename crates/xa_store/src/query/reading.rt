@@ -2,12 +2,10 @@
 //! documents.
 ghost use Rattle.std.specs.Prelude.{◌≡◌, pos, Some, IfOk};
 ghost use Rattle.sqlite.specs.Held.{state};
-ghost use Rattle.sqlite.specs.State.{HasCleanDisk};
 ghost use Rattle.xa_records.specs.Readings.{gate_of, listing_of, text_in, text_of, view_of, view_of_state};
 ghost use Rattle.xa_store.specs.Lookup.{TellsGate};
-ghost use Rattle.xa_store.specs.Quiet.{OnlyReads};
-ghost use Rattle.xa_store.specs.Sound.{Ours};
-ghost use Rattle.xa_store.specs.World.{rows_of, state_at, world_of};
+ghost use Rattle.xa_store.specs.Quiet.{OnlyReads, ReadsRows};
+ghost use Rattle.xa_store.specs.World.{kept_of, state_at};
 
 use crate::query::document::{active_texts_of, document_of, documents_of};
 use crate::query::domain::{DomainFound, domain_named};
@@ -47,8 +45,8 @@ pub(crate) fn gate_in<S: Alter>(
     name: &Text,
 ) -> Result<Option<Gate>, Failure>
     ensures only_reads { OnlyReads (state S.Store conn.old) (state S.Store conn.new) result }
-    ensures reads { HasCleanDisk (state S.Store conn.new) → Ours (state S.Store conn.old)
-        → IfOk result (λ gate. gate ≡ gate_of name.now (world_of (state S.Store conn.old).now.trees)) }
+    ensures reads { ReadsRows (state S.Store conn.old) (state S.Store conn.new) result
+        (λ rows gate. gate ≡ gate_of name.now (kept_of rows)) }
 {
     let found = domain_named(conn, name)?;
     let Some(domain) = found else {
@@ -66,9 +64,8 @@ pub(crate) fn text_in<S: Alter>(
     key: &DocumentKey,
 ) -> Result<Option<Items<u8>>, Failure>
     ensures only_reads { OnlyReads (state S.Store conn.old) (state S.Store conn.new) result }
-    ensures reads { HasCleanDisk (state S.Store conn.new) → Ours (state S.Store conn.old)
-        → IfOk result (λ text.
-        text ≡ text_of name.now key.now (world_of (state S.Store conn.old).now.trees)) }
+    ensures reads { ReadsRows (state S.Store conn.old) (state S.Store conn.new) result
+        (λ rows text. text ≡ text_of name.now key.now (kept_of rows)) }
 {
     let found = domain_named(conn, name)?;
     let Some(domain) = found else {
@@ -85,9 +82,8 @@ fn text_at<S: Alter>(
     key: &DocumentKey,
 ) -> Result<Option<Items<u8>>, Failure>
     ensures only_reads { OnlyReads (state S.Store conn.old) (state S.Store conn.new) result }
-    ensures reads { HasCleanDisk (state S.Store conn.new) → Ours (state S.Store conn.old)
-        → IfOk result (λ text.
-        text ≡ text_in key.now (state_at (rows_of (state S.Store conn.old).now.trees) number)) }
+    ensures reads { ReadsRows (state S.Store conn.old) (state S.Store conn.new) result
+        (λ rows text. text ≡ text_in key.now (state_at rows number)) }
 {
     match document_of(alloc, conn, number, key)? {
         Some(document) => Ok(Some(document.text)),
@@ -102,8 +98,8 @@ pub(crate) fn listing_in<S: Alter>(
     name: &Text,
 ) -> Result<Option<Items<Listed>>, Failure>
     ensures only_reads { OnlyReads (state S.Store conn.old) (state S.Store conn.new) result }
-    ensures reads { HasCleanDisk (state S.Store conn.new) → Ours (state S.Store conn.old)
-        → IfOk result (λ listed. listed ≡ listing_of name.now (world_of (state S.Store conn.old).now.trees)) }
+    ensures reads { ReadsRows (state S.Store conn.old) (state S.Store conn.new) result
+        (λ rows listed. listed ≡ listing_of name.now (kept_of rows)) }
 {
     let found = domain_named(conn, name)?;
     let Some(domain) = found else {
@@ -120,8 +116,8 @@ pub(crate) fn view_in<S: Alter>(
     name: &Text,
 ) -> Result<Option<KeptView>, Failure>
     ensures only_reads { OnlyReads (state S.Store conn.old) (state S.Store conn.new) result }
-    ensures reads { HasCleanDisk (state S.Store conn.new) → Ours (state S.Store conn.old)
-        → IfOk result (λ view. view ≡ view_of name.now (world_of (state S.Store conn.old).now.trees)) }
+    ensures reads { ReadsRows (state S.Store conn.old) (state S.Store conn.new) result
+        (λ rows view. view ≡ view_of name.now (kept_of rows)) }
 {
     let found = domain_named(conn, name)?;
     let Some(domain) = found else {
@@ -138,9 +134,8 @@ fn view_at<S: Alter>(
     number: i64,
 ) -> Result<KeptView, Failure>
     ensures only_reads { OnlyReads (state S.Store conn.old) (state S.Store conn.new) result }
-    ensures reads { HasCleanDisk (state S.Store conn.new) → Ours (state S.Store conn.old)
-        → IfOk result (λ view.
-        view ≡ view_of_state (state_at (rows_of (state S.Store conn.old).now.trees) number)) }
+    ensures reads { ReadsRows (state S.Store conn.old) (state S.Store conn.new) result
+        (λ rows view. view ≡ view_of_state (state_at rows number)) }
 {
     let texts = active_texts_of(alloc, conn, number)?;
     let root = root_of(alloc, conn, number)?;

@@ -1,15 +1,14 @@
 //! The root of a domain.
-ghost use Rattle.std.specs.Prelude.{◌≡◌, IfOk};
+ghost use Rattle.std.specs.Prelude.{◌≡◌};
 ghost use Rattle.sqlite.specs.Held.{state};
-ghost use Rattle.sqlite.specs.State.{HasCleanDisk};
-ghost use Rattle.xa_store.specs.Quiet.{OnlyReads};
+ghost use Rattle.xa_store.specs.Quiet.{OnlyReads, ReadsRows};
 ghost use Rattle.xa_store.specs.Columns.{root_told};
-ghost use Rattle.xa_store.specs.Sound.{Ours};
-ghost use Rattle.xa_store.specs.World.{rows_of, state_at};
+ghost use Rattle.xa_store.specs.World.{state_at};
 
 use crate::query::column::{kind_in, pattern_if_any, text_in, version_if_any};
-use crate::query::row::{Told, one_told};
-use crate::query::shown;
+use crate::query::columns::root_row;
+use crate::query::query_rows;
+use crate::query::row::{FromRow, read_one};
 use crate::sql;
 use sqlite::types::ValueRef;
 use sqlite::{Alter, Connection, Row};
@@ -17,16 +16,16 @@ use std::alloc::Global;
 use xa_policy::Reference;
 use xa_records::Failure;
 
-/// Read from the columns of `sql::ROOT`: kind, id, pattern, earliest, latest.
-impl Told for Reference {
+/// Read from the columns of `sql::ROOT`.
+impl FromRow for Reference {
     ghost told = { root_told };
 
-    fn told(_: Global, row: &Row) -> Result<Reference, Failure> {
-        let kind = kind_in(row, 0)?;
-        let id = text_in(row, 1)?;
-        let version = pattern_if_any(row, 2)?;
-        let earliest = version_if_any(row, 3)?;
-        let latest = version_if_any(row, 4)?;
+    fn from_row(_: Global, row: &Row) -> Result<Reference, Failure> {
+        let kind = kind_in(row, root_row::KIND)?;
+        let id = text_in(row, root_row::ID)?;
+        let version = pattern_if_any(row, root_row::PATTERN)?;
+        let earliest = version_if_any(row, root_row::EARLIEST)?;
+        let latest = version_if_any(row, root_row::LATEST)?;
         Ok(Reference {
             kind,
             id,
@@ -45,9 +44,9 @@ pub(crate) fn root_of<S: Alter>(
     number: i64,
 ) -> Result<Option<Reference>, Failure>
     ensures only_reads { OnlyReads (state S.Store conn.old) (state S.Store conn.new) result }
-    ensures reads { HasCleanDisk (state S.Store conn.new) → Ours (state S.Store conn.old)
-        → IfOk result (λ root. root ≡ (state_at (rows_of (state S.Store conn.old).now.trees) number).root) }
+    ensures reads { ReadsRows (state S.Store conn.old) (state S.Store conn.new) result
+        (λ rows root. root ≡ (state_at rows number).root) }
 {
-    let rows = shown(conn, sql::ROOT, &[ValueRef::Int(number)])?;
-    one_told(alloc, rows.as_slice())
+    let rows = query_rows(conn, sql::ROOT, &[ValueRef::Int(number)])?;
+    read_one(alloc, rows.as_slice())
 }

@@ -2,19 +2,18 @@
 ghost use Rattle.std.specs.Prelude.{◌≡◌, map, IfOk};
 ghost use Rattle.std.specs.FinMap.{entries};
 ghost use Rattle.sqlite.specs.Held.{state};
-ghost use Rattle.sqlite.specs.State.{HasCleanDisk};
 ghost use Rattle.sqlite_typed.specs.Columns.{bytes_of};
 ghost use Rattle.sqlite.specs.Order.{column};
 ghost use Rattle.xa_records.specs.Readings.{token_of};
 ghost use Rattle.xa_store.specs.Lookup.{FindsRole};
-ghost use Rattle.xa_store.specs.Quiet.{OnlyReads};
+ghost use Rattle.xa_store.specs.Quiet.{OnlyReads, ReadsRows};
 ghost use Rattle.xa_store.specs.Columns.{role_told, token_told};
-ghost use Rattle.xa_store.specs.Sound.{Ours};
-ghost use Rattle.xa_store.specs.World.{rows_of, state_at};
+ghost use Rattle.xa_store.specs.World.{state_at};
 
 use crate::query::column::{bytes_in, role_in};
-use crate::query::row::{Told, all_told, one_told};
-use crate::query::shown;
+use crate::query::columns::token_row;
+use crate::query::query_rows;
+use crate::query::row::{FromRow, read_all, read_one};
 use crate::sql;
 use sqlite::types::ValueRef;
 use sqlite::{Alter, Connection, Row};
@@ -24,21 +23,21 @@ use xa_records::{Digest, Failure, Token};
 use xa_value::Items;
 
 /// Read from the column of `sql::ROLE`: role.
-impl Told for Role {
+impl FromRow for Role {
     ghost told = { role_told };
 
-    fn told(_: Global, row: &Row) -> Result<Role, Failure> {
+    fn from_row(_: Global, row: &Row) -> Result<Role, Failure> {
         role_in(row, 0)
     }
 }
 
-/// Read from the columns of `sql::TOKENS`: digest, role.
-impl Told for Token {
+/// Read from the columns of `sql::TOKENS`.
+impl FromRow for Token {
     ghost told = { token_told };
 
-    fn told(_: Global, row: &Row) -> Result<Token, Failure> {
-        let digest = digest_in(row, 0)?;
-        let role = role_in(row, 1)?;
+    fn from_row(_: Global, row: &Row) -> Result<Token, Failure> {
+        let digest = digest_in(row, token_row::DIGEST)?;
+        let role = role_in(row, token_row::ROLE)?;
         Ok(Token { digest, role })
     }
 }
@@ -61,15 +60,15 @@ pub(crate) fn role_of<S: Alter>(
     digest: &Digest,
 ) -> Result<Option<Role>, Failure>
     ensures only_reads { OnlyReads (state S.Store conn.old) (state S.Store conn.new) result }
-    ensures finds { HasCleanDisk (state S.Store conn.new) → Ours (state S.Store conn.old)
-        → IfOk result (FindsRole number digest.now (rows_of (state S.Store conn.old).now.trees)) }
+    ensures finds { ReadsRows (state S.Store conn.old) (state S.Store conn.new) result
+        (FindsRole number digest.now) }
 {
-    let rows = shown(
+    let rows = query_rows(
         conn,
         sql::ROLE,
         &[ValueRef::Int(number), ValueRef::Blob(digest.as_bytes())],
     )?;
-    one_told(alloc, rows.as_slice())
+    read_one(alloc, rows.as_slice())
 }
 
 /// All tokens of the domain of that number, in the order of their digests; there are 32 at most. In time
@@ -81,10 +80,9 @@ pub(crate) fn tokens_of<S: Alter>(
     number: i64,
 ) -> Result<Items<Token>, Failure>
     ensures only_reads { OnlyReads (state S.Store conn.old) (state S.Store conn.new) result }
-    ensures reads { HasCleanDisk (state S.Store conn.new) → Ours (state S.Store conn.old)
-        → IfOk result (λ tokens. tokens
-        ≡ map token_of (entries (state_at (rows_of (state S.Store conn.old).now.trees) number).tokens)) }
+    ensures reads { ReadsRows (state S.Store conn.old) (state S.Store conn.new) result
+        (λ rows tokens. tokens ≡ map token_of (entries (state_at rows number).tokens)) }
 {
-    let rows = shown(conn, sql::TOKENS, &[ValueRef::Int(number)])?;
-    all_told(alloc, rows)
+    let rows = query_rows(conn, sql::TOKENS, &[ValueRef::Int(number)])?;
+    read_all(alloc, rows)
 }

@@ -8,7 +8,7 @@ ghost use Rattle.xa_store.specs.Execution.{StaysInside};
 ghost use Rattle.xa_store.specs.declared.schema.creation.Part.TheVariants as parts;
 
 use crate::error::OpenError;
-use crate::refusal::failed_by;
+use crate::failure::failed_by;
 use crate::sql;
 use crate::step::execution::execute_in;
 use sqlite::{Alter, Connection, Transaction};
@@ -36,8 +36,8 @@ pub(super) enum Part {
 }
 
 impl Part {
-    /// The statement that makes it.
-    pub(super) fn text(self) -> &'static str
+    /// The SQL that makes it.
+    pub(super) fn statement(self) -> &'static str
         ensures { result.now ≡ text_of self }
     {
         match self {
@@ -62,7 +62,7 @@ fn take<S: Alter>(tx: &mut Transaction<'_, S>, part: Part) -> Result<(), Failure
         → IsBefore part (state S.Store tx.old.conn.now).now
         → OnOk result (IsAfter part (state S.Store tx.new.conn.now).now) }
 {
-    execute_in(tx, part.text(), &[])
+    execute_in(tx, part.statement(), &[])
 }
 
 /// The tables of domains and of what each has by its own number.

@@ -24,7 +24,7 @@ pub(crate) enum Kind {
 impl Kind {
     /// The query of all rows of the table, in the order of their rowids. A bare column of a row's own
     /// key is its rowid.
-    pub(crate) fn text(self) -> &'static str
+    pub(crate) fn rows_query(self) -> &'static str
         ensures { result.now ≡ text_of self }
     {
         match self {
@@ -41,7 +41,7 @@ impl Kind {
     /// one. That they rise is what the order of the table's rows rests on, and of what a query shows
     /// only an aggregate tells the order in which a table has its rows. It makes two texts of all
     /// rowids, and its cost grows as that of sorting them.
-    pub(crate) fn order_text(self) -> &'static str
+    pub(crate) fn order_query(self) -> &'static str
         ensures { result.now ≡ order_text_of self }
     {
         match self {

@@ -9,7 +9,7 @@ ghost use Rattle.xa_store.specs.Execution.{StaysInside};
 ghost use Rattle.xa_store.specs.declared.schema.migration.Stage.TheVariants as stages;
 
 use crate::error::OpenError;
-use crate::refusal::failed_by;
+use crate::failure::failed_by;
 use crate::schema::creation::Part;
 use crate::sql;
 use crate::step::execution::execute_in;
@@ -30,13 +30,13 @@ enum Stage {
 }
 
 impl Stage {
-    /// Its text. It takes time and memory in proportion to the rows of sources of all domains, of which
+    /// Its SQL. It takes time and memory in proportion to the rows of sources of all domains, of which
     /// none is held here.
-    fn text(self) -> &'static str
+    fn statement(self) -> &'static str
         ensures { result.now ≡ text_of self }
     {
         match self {
-            Stage::Sources => Part::Sources.text(),
+            Stage::Sources => Part::Sources.statement(),
             Stage::Rows => sql::COPY_ATTRIBUTES,
             Stage::Attributes => sql::EMPTY_ATTRIBUTES,
             Stage::Number => sql::SET_SCHEMA,
@@ -53,7 +53,7 @@ fn take<S: Alter>(tx: &mut Transaction<'_, S>, stage: Stage) -> Result<(), Failu
         → IsBefore stage first (state S.Store tx.old.conn.now).now
         → OnOk result (IsAfter stage first (state S.Store tx.new.conn.now).now) }
 {
-    execute_in(tx, stage.text(), &[])
+    execute_in(tx, stage.statement(), &[])
 }
 
 /// All of them, one after another.

@@ -38,7 +38,7 @@ impl SchemaVersion {
 
     /// The query of the domains and places of the rows of sources, domain by domain, in the order of
     /// the places.
-    pub(crate) fn places_text(self) -> &'static str
+    pub(crate) fn places_query(self) -> &'static str
         ensures { result.now ≡ places_text_of self }
     {
         match self {
@@ -48,9 +48,9 @@ impl SchemaVersion {
     }
 }
 
-/// What is known of tables before their rows are checked.
+/// What a check of tables goes by.
 #[derive(Clone, Copy, Debug)]
-pub(crate) struct Known {
+pub(crate) struct Checking {
     /// Their schema.
     pub(crate) version: SchemaVersion,
     /// The number of the next domain.

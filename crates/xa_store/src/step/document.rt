@@ -3,10 +3,9 @@ ghost use Rattle.std.specs.Prelude.{◌≡◌};
 ghost use Rattle.sqlite.specs.Held.{state};
 ghost use Rattle.xa_store.specs.declared.step.Step.TheVariants.{AddDocument, DropDocument, SetActive};
 ghost use Rattle.xa_policy.specs.Version.{version_text};
-ghost use Rattle.xa_store.specs.Rows.{bit};
-ghost use Rattle.xa_store.specs.Execution.{IsTaken, StaysInside, Takes};
+ghost use Rattle.xa_store.specs.Execution.{IsTakenBy, StaysInside, Takes};
 
-use crate::query::column::kind_column;
+use crate::parameter::{number_of_activity, number_of_kind};
 use crate::sql;
 use crate::step::execution::execute_in;
 use sqlite::types::ValueRef;
@@ -15,13 +14,6 @@ use std::alloc::Global;
 use xa_policy::DocumentKey;
 use xa_records::Failure;
 use xa_value::Text;
-
-/// The number of an activity.
-fn number_of_activity(active: bool) -> i64
-    ensures { result ≡ bit active }
-{
-    if active { 1 } else { 0 }
-}
 
 /// Adds a document, which isn't active.
 pub(crate) fn add_document<S: Alter>(
@@ -32,8 +24,8 @@ pub(crate) fn add_document<S: Alter>(
     text: &[u8],
 ) -> Result<(), Failure>
     ensures same_reference { tx.new.conn.ghost_name ≡ tx.old.conn.ghost_name }
-    ensures taken { IsTaken (AddDocument number key.now text.now)
-        (state S.Store tx.old.conn.now) (state S.Store tx.new.conn.now) result }
+    ensures taken { IsTakenBy S.Store (AddDocument number key.now text.now)
+        tx.old.conn.now tx.new.conn.now result }
 {
     let version = key.version.to_text(alloc)?;
     execute_in(
@@ -41,7 +33,7 @@ pub(crate) fn add_document<S: Alter>(
         sql::ADD_DOCUMENT,
         &[
             ValueRef::Int(number),
-            ValueRef::Int(kind_column(key.kind)),
+            ValueRef::Int(number_of_kind(key.kind)),
             ValueRef::Text(key.id.as_bytes()),
             ValueRef::Text(version.as_bytes()),
             ValueRef::Blob(text),
@@ -68,7 +60,7 @@ fn set_active_at<'a, S: Alter>(
         sql::SET_ACTIVE,
         &[
             ValueRef::Int(number),
-            ValueRef::Int(kind_column(key.kind)),
+            ValueRef::Int(number_of_kind(key.kind)),
             ValueRef::Text(key.id.as_bytes()),
             ValueRef::Text(version.as_bytes()),
             ValueRef::Int(number_of_activity(active)),
@@ -85,8 +77,8 @@ pub(crate) fn set_active<S: Alter>(
     active: bool,
 ) -> Result<(), Failure>
     ensures same_reference { tx.new.conn.ghost_name ≡ tx.old.conn.ghost_name }
-    ensures taken { IsTaken (SetActive number key.now active)
-        (state S.Store tx.old.conn.now) (state S.Store tx.new.conn.now) result }
+    ensures taken { IsTakenBy S.Store (SetActive number key.now active)
+        tx.old.conn.now tx.new.conn.now result }
 {
     let version = key.version.to_text(alloc)?;
     set_active_at(tx, number, key, &version, active)
@@ -100,8 +92,7 @@ pub(crate) fn drop_document<S: Alter>(
     key: &DocumentKey,
 ) -> Result<(), Failure>
     ensures same_reference { tx.new.conn.ghost_name ≡ tx.old.conn.ghost_name }
-    ensures taken { IsTaken (DropDocument number key.now)
-        (state S.Store tx.old.conn.now) (state S.Store tx.new.conn.now) result }
+    ensures taken { IsTakenBy S.Store (DropDocument number key.now) tx.old.conn.now tx.new.conn.now result }
 {
     let version = key.version.to_text(alloc)?;
     execute_in(
@@ -109,7 +100,7 @@ pub(crate) fn drop_document<S: Alter>(
         sql::DROP_DOCUMENT,
         &[
             ValueRef::Int(number),
-            ValueRef::Int(kind_column(key.kind)),
+            ValueRef::Int(number_of_kind(key.kind)),
             ValueRef::Text(key.id.as_bytes()),
             ValueRef::Text(version.as_bytes()),
         ],

@@ -1,8 +1,7 @@
 //! The statements that add and drop a domain, and set its epoch and the number of the next.
 ghost use Rattle.std.specs.Prelude.{◌≡◌};
-ghost use Rattle.sqlite.specs.Held.{state};
 ghost use Rattle.xa_store.specs.declared.step.Step.TheVariants.{AddDomain, DropDomain, SetEpoch, SetNext};
-ghost use Rattle.xa_store.specs.Execution.{IsTaken};
+ghost use Rattle.xa_store.specs.Execution.{IsTakenBy};
 
 use crate::sql;
 use crate::step::execution::execute_in;
@@ -18,8 +17,7 @@ pub(crate) fn add_domain<S: Alter>(
     name: &Text,
 ) -> Result<(), Failure>
     ensures same_reference { tx.new.conn.ghost_name ≡ tx.old.conn.ghost_name }
-    ensures taken { IsTaken (AddDomain number name.now)
-        (state S.Store tx.old.conn.now) (state S.Store tx.new.conn.now) result }
+    ensures taken { IsTakenBy S.Store (AddDomain number name.now) tx.old.conn.now tx.new.conn.now result }
 {
     execute_in(
         tx,
@@ -31,8 +29,7 @@ pub(crate) fn add_domain<S: Alter>(
 /// Sets the number of the next domain.
 pub(crate) fn set_next<S: Alter>(tx: &mut Transaction<'_, S>, next: i64) -> Result<(), Failure>
     ensures same_reference { tx.new.conn.ghost_name ≡ tx.old.conn.ghost_name }
-    ensures taken { IsTaken (SetNext next)
-        (state S.Store tx.old.conn.now) (state S.Store tx.new.conn.now) result }
+    ensures taken { IsTakenBy S.Store (SetNext next) tx.old.conn.now tx.new.conn.now result }
 {
     execute_in(tx, sql::SET_NEXT, &[ValueRef::Int(next)])
 }
@@ -44,8 +41,7 @@ pub(crate) fn set_epoch<S: Alter>(
     epoch: i64,
 ) -> Result<(), Failure>
     ensures same_reference { tx.new.conn.ghost_name ≡ tx.old.conn.ghost_name }
-    ensures taken { IsTaken (SetEpoch number epoch)
-        (state S.Store tx.old.conn.now) (state S.Store tx.new.conn.now) result }
+    ensures taken { IsTakenBy S.Store (SetEpoch number epoch) tx.old.conn.now tx.new.conn.now result }
 {
     execute_in(
         tx,
@@ -57,8 +53,7 @@ pub(crate) fn set_epoch<S: Alter>(
 /// Takes a domain out, with all that is in it.
 pub(crate) fn drop_domain<S: Alter>(tx: &mut Transaction<'_, S>, number: i64) -> Result<(), Failure>
     ensures same_reference { tx.new.conn.ghost_name ≡ tx.old.conn.ghost_name }
-    ensures taken { IsTaken (DropDomain number)
-        (state S.Store tx.old.conn.now) (state S.Store tx.new.conn.now) result }
+    ensures taken { IsTakenBy S.Store (DropDomain number) tx.old.conn.now tx.new.conn.now result }
 {
     execute_in(tx, sql::DROP_DOMAIN, &[ValueRef::Int(number)])
 }

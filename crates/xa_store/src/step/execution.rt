@@ -15,7 +15,7 @@ use crate::step::Step;
 use crate::step::document::{add_document, drop_document, set_active};
 use crate::step::domain::{add_domain, drop_domain, set_epoch, set_next};
 use crate::step::root::{add_root, drop_root};
-use crate::step::source::{add_attribute, drop_source};
+use crate::step::source::{add_source_row, drop_source};
 use crate::step::token::{add_token, drop_token, set_role};
 use sqlite::types::ValueRef;
 use sqlite::{Alter, Transaction};
@@ -55,6 +55,7 @@ fn take<S: Alter>(tx: &mut Transaction<'_, S>, alloc: Global, step: &Step) -> Re
         Step::AddDomain { number, name } => add_domain(tx, *number, name),
         Step::SetNext(next) => set_next(tx, *next),
         Step::SetEpoch { number, epoch } => set_epoch(tx, *number, *epoch),
+        Step::DropDomain(number) => drop_domain(tx, *number),
         Step::AddToken {
             number,
             digest,
@@ -77,9 +78,10 @@ fn take<S: Alter>(tx: &mut Transaction<'_, S>, alloc: Global, step: &Step) -> Re
         Step::DropDocument { number, key } => drop_document(tx, alloc, *number, key),
         Step::AddRoot { number, root } => add_root(tx, alloc, *number, root),
         Step::DropRoot(number) => drop_root(tx, *number),
+        Step::AddSourceRow { number, place, row } => add_source_row(
+            tx, alloc, *number, *place, row,
+        ),
         Step::DropSource(number) => drop_source(tx, *number),
-        Step::DropDomain(number) => drop_domain(tx, *number),
-        Step::AddAttribute { number, place, row } => add_attribute(tx, alloc, *number, *place, row),
     }
 }
 
@@ -95,11 +97,8 @@ pub(crate) fn take_all<S: Alter>(
         → AllowsAll steps.now (rows_of (state S.Store tx.old.conn.now).now.trees)
         → OnOk result (Took steps.now (state S.Store tx.old.conn.now) (state S.Store tx.new.conn.now)) }
 {
-    match steps {
-        [] => Ok(()),
-        [step, rest @ ..] => {
-            take(tx, alloc, step)?;
-            take_all(tx, alloc, rest)
-        }
+    for step in steps {
+        take(tx, alloc, step)?;
     }
+    Ok(())
 }

@@ -1,29 +1,19 @@
 //! The statements that add a row of a source, and drop a source.
 ghost use Rattle.std.specs.Prelude.{◌≡◌};
-ghost use Rattle.sqlite.specs.Held.{state};
-ghost use Rattle.xa_store.specs.declared.step.Step.TheVariants.{AddAttribute, DropSource};
-ghost use Rattle.xa_store.specs.Rows.{type_number};
-ghost use Rattle.xa_store.specs.Execution.{IsTaken};
+ghost use Rattle.xa_store.specs.declared.step.Step.TheVariants.{AddSourceRow, DropSource};
+ghost use Rattle.xa_store.specs.Execution.{IsTakenBy};
 
+use crate::parameter::{number_of_type, text_or_null};
 use crate::sql;
 use crate::step::execution::execute_in;
-use crate::step::root::text_or_null;
 use sqlite::types::ValueRef;
 use sqlite::{Alter, Transaction};
 use std::alloc::Global;
 use xa_decide::SourceRow;
 use xa_records::Failure;
-use xa_value::Value;
-
-/// The number of the value's data type.
-fn number_of_type(value: &Value) -> i64
-    ensures { result ≡ type_number value.now }
-{
-    i64::from(value.data_type().number())
-}
 
 /// Adds a row of the source, at that place.
-pub(crate) fn add_attribute<S: Alter>(
+pub(crate) fn add_source_row<S: Alter>(
     tx: &mut Transaction<'_, S>,
     alloc: Global,
     number: i64,
@@ -31,8 +21,8 @@ pub(crate) fn add_attribute<S: Alter>(
     row: &SourceRow,
 ) -> Result<(), Failure>
     ensures same_reference { tx.new.conn.ghost_name ≡ tx.old.conn.ghost_name }
-    ensures taken { IsTaken (AddAttribute number place row.now)
-        (state S.Store tx.old.conn.now) (state S.Store tx.new.conn.now) result }
+    ensures taken { IsTakenBy S.Store (AddSourceRow number place row.now)
+        tx.old.conn.now tx.new.conn.now result }
 {
     let value = row.value.to_text(alloc)?;
     execute_in(
@@ -54,8 +44,7 @@ pub(crate) fn add_attribute<S: Alter>(
 /// Takes all rows of the source out.
 pub(crate) fn drop_source<S: Alter>(tx: &mut Transaction<'_, S>, number: i64) -> Result<(), Failure>
     ensures same_reference { tx.new.conn.ghost_name ≡ tx.old.conn.ghost_name }
-    ensures taken { IsTaken (DropSource number)
-        (state S.Store tx.old.conn.now) (state S.Store tx.new.conn.now) result }
+    ensures taken { IsTakenBy S.Store (DropSource number) tx.old.conn.now tx.new.conn.now result }
 {
     execute_in(tx, sql::DROP_SOURCE, &[ValueRef::Int(number)])
 }

@@ -1,26 +1,15 @@
 //! The statements that add and drop a token, and set its role.
 ghost use Rattle.std.specs.Prelude.{◌≡◌};
-ghost use Rattle.sqlite.specs.Held.{state};
 ghost use Rattle.xa_store.specs.declared.step.Step.TheVariants.{AddToken, DropToken, SetRole};
-ghost use Rattle.xa_store.specs.Rows.{role_number};
-ghost use Rattle.xa_store.specs.Execution.{IsTaken};
+ghost use Rattle.xa_store.specs.Execution.{IsTakenBy};
 
+use crate::parameter::number_of_role;
 use crate::sql;
 use crate::step::execution::execute_in;
 use sqlite::types::ValueRef;
 use sqlite::{Alter, Transaction};
 use xa_notation::Role;
 use xa_records::{Digest, Failure};
-
-/// The number of a role.
-fn number_of_role(role: Role) -> i64
-    ensures { result ≡ role_number role }
-{
-    match role {
-        Role::Ask => 0,
-        Role::Admin => 1,
-    }
-}
 
 /// Adds a token.
 pub(crate) fn add_token<S: Alter>(
@@ -30,8 +19,8 @@ pub(crate) fn add_token<S: Alter>(
     role: Role,
 ) -> Result<(), Failure>
     ensures same_reference { tx.new.conn.ghost_name ≡ tx.old.conn.ghost_name }
-    ensures taken { IsTaken (AddToken number digest.now role)
-        (state S.Store tx.old.conn.now) (state S.Store tx.new.conn.now) result }
+    ensures taken { IsTakenBy S.Store (AddToken number digest.now role)
+        tx.old.conn.now tx.new.conn.now result }
 {
     execute_in(
         tx,
@@ -52,8 +41,8 @@ pub(crate) fn set_role<S: Alter>(
     role: Role,
 ) -> Result<(), Failure>
     ensures same_reference { tx.new.conn.ghost_name ≡ tx.old.conn.ghost_name }
-    ensures taken { IsTaken (SetRole number digest.now role)
-        (state S.Store tx.old.conn.now) (state S.Store tx.new.conn.now) result }
+    ensures taken { IsTakenBy S.Store (SetRole number digest.now role)
+        tx.old.conn.now tx.new.conn.now result }
 {
     execute_in(
         tx,
@@ -73,8 +62,7 @@ pub(crate) fn drop_token<S: Alter>(
     digest: &Digest,
 ) -> Result<(), Failure>
     ensures same_reference { tx.new.conn.ghost_name ≡ tx.old.conn.ghost_name }
-    ensures taken { IsTaken (DropToken number digest.now)
-        (state S.Store tx.old.conn.now) (state S.Store tx.new.conn.now) result }
+    ensures taken { IsTakenBy S.Store (DropToken number digest.now) tx.old.conn.now tx.new.conn.now result }
 {
     execute_in(
         tx,

@@ -8,9 +8,9 @@ returns-then-is_same_value c =
     let value = c.args.value.now in
     let text = c.in_ok-text.text in
     let prints : text ≡ printed value = c.in_ok-text.ensures in
-    let reads : read (type_of value) text ≡ Ok c.in-Ok.read = rw (c.data_type.ensures, c.as_str.ensures) at c.in-Ok.ensures.value in
+    let reads : read (type_of value) text ≡ Ok c.in_ok-read.read = rw (c.data_type.ensures, c.as_str.ensures) at c.in_ok-read.ensures.value in
     let utf8 : is_utf8 text ≡ true = rw c.as_str.ensures at (is_utf8-from_IsUtf8 _ c.as_str.utf8) in
     record {
-      reads = value_reads value c.in-Ok.read text prints reads (c.is_same_value.ensures.0 c.if-is_same_value.true);
-      text = value_held value c.in-Ok.read text prints utf8 reads (c.is_same_value.ensures.0 c.if-is_same_value.true);
+      reads = value_reads value c.in_ok-read.read text prints reads (c.is_same_value.ensures.0 c.if-is_same_value.true);
+      text = value_held value c.in_ok-read.read text prints utf8 reads (c.is_same_value.ensures.0 c.if-is_same_value.true);
     }

@@ -11,11 +11,11 @@ Finds version old new r next = HasCleanDisk new → RestsIn (schema_of version) 
 pub returns-in_err-next : goal.returns-in_err-next
 returns-in_err-next g c =
     let is : c.from_residual.result ≡ Err c.in_err-next.field-0.0 = search rules in
-    rw is (not_looked (state g.S.Store c.args.conn.now) (state g.S.Store c.look.new.conn) c.in_err-next.field-0.0 c.in_err-next.ensures.asks c.in_err-next.ensures.finds)
+    rw is (not_looked (state g.S.Store c.args.conn.now) (state g.S.Store c.next_domain.new.conn) c.in_err-next.field-0.0 c.in_err-next.ensures.asks c.in_err-next.ensures.finds)
 
 pub returns : goal.returns
 returns g c =
     let fits : SFits w64 c.in_ok-next.next = search rules in
-    all_checked (state g.S.Store c.args.conn.now) (state g.S.Store c.look.new.conn) (state g.S.Store c.check_all.new.conn) c.in_ok-next.next c.in_ok-next.ensures.finds c.in_ok-next.ensures.asks
+    all_checked (state g.S.Store c.args.conn.now) (state g.S.Store c.next_domain.new.conn) (state g.S.Store c.check_all.new.conn) c.in_ok-next.next c.in_ok-next.ensures.finds c.in_ok-next.ensures.asks
     (λ up. (c.schema-schema.ensures.live up).0) c.check_all.result c.check_all.ensures.asks
-    (subst (Finds c.args.version (state g.S.Store c.look.new.conn) (state g.S.Store c.check_all.new.conn) c.check_all.result) (to_z-of_z w64 c.in_ok-next.next fits) c.check_all.ensures.finds)
+    (subst (Finds c.args.version (state g.S.Store c.next_domain.new.conn) (state g.S.Store c.check_all.new.conn) c.check_all.result) (to_z-of_z w64 c.in_ok-next.next fits) c.check_all.ensures.finds)

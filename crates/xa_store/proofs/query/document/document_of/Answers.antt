@@ -13,4 +13,4 @@ returns-clause-finds g c clean ours =
     let rows = c.in_ok-rows.rows.items in
     let reads = reads_as_version c.args.key.now.version c.reads_back.ensures in
     finds_in (TellsOne document_told rows) (FindsDocument c.args.number c.args.key.now (rows_of old.now.trees))
-    (document_found old (state g.S.Store c.document_rows.new.conn) c.args.number c.args.key.now reads ours rows (rw n at (c.in_ok-rows.ensures.shows clean))) c.one_told.result (rw c.as_slice.ensures.value at c.one_told.ensures)
+    (document_found old (state g.S.Store c.document_rows.new.conn) c.args.number c.args.key.now reads ours rows (rw n at (c.in_ok-rows.ensures.shows clean))) c.read_one.result (rw c.as_slice.ensures.value at c.read_one.ensures)

@@ -5,4 +5,4 @@ use Rattle.xa_store.proofs.query.name.names_in.Goals as goal
 
 pub returns-clause-reads : goal.returns-clause-reads
 returns-clause-reads g c clean ours =
-    becomes c.all_told.result _ _ (names_read (state g.S.Store c.args.conn.now) (state g.S.Store c.shown.new.conn) ours c.in_ok-rows.rows.items (c.in_ok-rows.ensures.shows clean)) c.all_told.ensures
+    becomes c.read_all.result _ _ (names_read (state g.S.Store c.args.conn.now) (state g.S.Store c.query_rows.new.conn) ours c.in_ok-rows.rows.items (c.in_ok-rows.ensures.shows clean)) c.read_all.ensures

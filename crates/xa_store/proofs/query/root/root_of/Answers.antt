@@ -11,4 +11,4 @@ returns-clause-reads g c clean ours =
     let old = state g.S.Store c.args.conn.now in
     let rows = c.in_ok-rows.rows.items in
     finds_in (TellsOne root_told rows) (λ root. root ≡ (state_at (rows_of old.now.trees) c.args.number).root)
-    (root_read old (state g.S.Store c.shown.new.conn) c.args.number ours rows (rw n at (c.in_ok-rows.ensures.shows clean))) c.one_told.result (rw c.as_slice.ensures.value at c.one_told.ensures)
+    (root_read old (state g.S.Store c.query_rows.new.conn) c.args.number ours rows (rw n at (c.in_ok-rows.ensures.shows clean))) c.read_one.result (rw c.as_slice.ensures.value at c.read_one.ensures)

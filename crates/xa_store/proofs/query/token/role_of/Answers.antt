@@ -13,4 +13,4 @@ returns-clause-finds g c clean ours =
     let old = state g.S.Store c.args.conn.now in
     let rows = c.in_ok-rows.rows.items in
     finds_in (TellsOne role_told rows) (FindsRole c.args.number c.args.digest.now (rows_of old.now.trees))
-    (role_found old (state g.S.Store c.shown.new.conn) c.args.number c.args.digest.now ours rows shown) c.one_told.result (rw c.as_slice.ensures.value at c.one_told.ensures)
+    (role_found old (state g.S.Store c.query_rows.new.conn) c.args.number c.args.digest.now ours rows shown) c.read_one.result (rw c.as_slice.ensures.value at c.read_one.ensures)

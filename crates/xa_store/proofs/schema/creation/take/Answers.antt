@@ -5,4 +5,4 @@ use Rattle.xa_store.proofs.schema.creation.take.Goals as goal
 pub returns-clause-makes : goal.returns-clause-makes
 returns-clause-makes g c clean inside before =
     on_ok c.execute_in.result (c.execute_in.ensures.runs clean inside)
-    (λ ran. taken c.args.part (state g.S.Store c.args.tx.now.conn.now) (state g.S.Store c.execute_in.new.tx.conn.now) ran.0 before (rw c.text.ensures at ran.1))
+    (λ ran. taken c.args.part (state g.S.Store c.args.tx.now.conn.now) (state g.S.Store c.execute_in.new.tx.conn.now) ran.0 before (rw c.statement.ensures at ran.1))
