@@ -31,7 +31,7 @@ pub(crate) struct Head {
 }
 
 /// What stands at the front of a stream.
-pub(crate) enum Front {
+pub(crate) enum Beginning {
     /// A whole head.
     Head(Head),
     /// Not yet a whole head.
@@ -43,7 +43,7 @@ pub(crate) enum Front {
 /// What stands at the front of the bytes. Only bytes with more field lines than a head may have
 /// want the large room: they may still begin no head at all.
 #[tactic(auto, using(crate::proofs::FrontLemmas::too_many))]
-pub(crate) fn read_front(alloc: Global, held: &[u8]) -> Result<Front, AllocError>
+pub(crate) fn read_front(alloc: Global, held: &[u8]) -> Result<Beginning, AllocError>
     ensures { IfOk result (IsFront held.now) }
 {
     let mut room = [EMPTY_HEADER_SPAN; MAX_FIELDS];
@@ -63,7 +63,7 @@ fn front_in(
     alloc: Global,
     held: &[u8],
     room: &mut [HeaderSpan],
-) -> Result<Option<Front>, AllocError>
+) -> Result<Option<Beginning>, AllocError>
     ensures { IfOk result (λ front.
         MatchOption front (RequestExceeds (length room.old) (window held.now)) (IsFront held.now)) }
 {
@@ -75,7 +75,7 @@ fn front_in(
         }
         Ok(Status::Partial) => Ok(Some(open_head(held))),
         Err(Error::TooManyHeaders) => Ok(None),
-        Err(_) => Ok(Some(Front::Fault(SessionFault::BadHead))),
+        Err(_) => Ok(Some(Beginning::Fault(SessionFault::BadHead))),
     }
 }
 
@@ -100,31 +100,31 @@ fn window(held: &[u8]) -> &[u8]
 
 /// The front of bytes in which no head is whole.
 #[tactic(auto, unfolding(crate::specs::Messages::IsUnfinished, crate::specs::Messages::IsFaulty))]
-fn open_head(held: &[u8]) -> Front
+fn open_head(held: &[u8]) -> Beginning
     requires none { HasNoRequest (window held.now) }
     requires open { MayBecomeRequest (window held.now) }
     ensures { IsFront held.now result }
 {
     if held.len() < MAX_HEAD_BYTES {
-        Front::More
+        Beginning::More
     } else {
-        Front::Fault(SessionFault::HeadTooLarge)
+        Beginning::Fault(SessionFault::HeadTooLarge)
     }
 }
 
 /// The front of bytes that begin with the head of that message, which has `len` bytes.
 #[tactic(auto, using(crate::proofs::FrontLemmas::has_head))]
-fn whole_head(held: &[u8], message: Message, len: usize) -> Front
+fn whole_head(held: &[u8], message: Message, len: usize) -> Beginning
     requires { IsHeadOf (window held.now) message len }
     ensures { IsFront held.now result }
 {
     match body_length(message.fields.as_slice()) {
-        Ok(body_len) => Front::Head(Head {
+        Ok(body_len) => Beginning::Head(Head {
             message,
             len,
             body_len,
         }),
-        Err(fault) => Front::Fault(fault),
+        Err(fault) => Beginning::Fault(fault),
     }
 }
 

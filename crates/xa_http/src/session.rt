@@ -7,7 +7,7 @@ ghost use Rattle.xa_http.specs.declared.session.Look.TheVariants as look;
 ghost use Rattle.xa_http.specs.declared.session.Next.TheVariants.{Ended};
 
 use crate::fault::SessionFault;
-use crate::front::{Front, Head, is_whole, read_front, whole_body};
+use crate::front::{Beginning, Head, is_whole, read_front, whole_body};
 use crate::message::Message;
 use crate::open_head::OpenHead;
 use std::alloc::{AllocError, Global};
@@ -96,6 +96,13 @@ impl Session {
         self.buffer.len() - self.start
     }
 
+    /// The bytes that are held.
+    fn held(&self) -> &[u8]
+        ensures { result.now ≡ self.now.held }
+    {
+        &self.buffer[self.start..]
+    }
+
     /// Ends the session: it answers no message any more, and keeps the bytes that it holds.
     pub fn end(&mut self)
         ensures { self.new ≡ record self.old { ended = true } }
@@ -114,22 +121,22 @@ impl Session {
             return Ok(Look::Ended);
         }
         if let Some(head) = &self.head {
-            return Ok(look_behind(&self.buffer[self.start..], head));
+            return Ok(look_behind(self.held(), head));
         }
         if self.is_surely_open() {
             return Ok(Look::More);
         }
-        match read_front(self.alloc, &self.buffer[self.start..])? {
-            Front::Head(head) => {
-                let look = look_behind(&self.buffer[self.start..], &head);
+        match read_front(self.alloc, self.held())? {
+            Beginning::Head(head) => {
+                let look = look_behind(self.held(), &head);
                 self.head = Some(head);
                 Ok(look)
             }
-            Front::More => {
+            Beginning::More => {
                 self.follow();
                 Ok(Look::More)
             }
-            Front::Fault(fault) => Ok(Look::Fault(fault)),
+            Beginning::Fault(fault) => Ok(Look::Fault(fault)),
         }
     }
 
@@ -159,13 +166,13 @@ impl Session {
         if self.is_surely_open() {
             return Ok(Next::More);
         }
-        match read_front(self.alloc, &self.buffer[self.start..])? {
-            Front::Head(head) => self.message_of(head),
-            Front::More => {
+        match read_front(self.alloc, self.held())? {
+            Beginning::Head(head) => self.message_of(head),
+            Beginning::More => {
                 self.follow();
                 Ok(Next::More)
             }
-            Front::Fault(fault) => {
+            Beginning::Fault(fault) => {
                 self.ended = true;
                 Ok(Next::Fault(fault))
             }
@@ -181,14 +188,14 @@ impl Session {
         if self.followed.len > 0 {
             self.follow();
         }
-        self.followed.is_unfinished(&self.buffer[self.start..])
+        self.followed.is_unfinished(self.held())
     }
 
     /// Follows the head at the start to the end of what is held.
     fn follow(&mut self)
         ensures { self.new ≡ self.old }
     {
-        self.followed = self.followed.advanced(&self.buffer[self.start..]);
+        self.followed = self.followed.advanced(self.held());
     }
 
     /// The message of that head, once its body is whole; until then the head is kept, and not read again.

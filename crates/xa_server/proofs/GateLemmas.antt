@@ -17,8 +17,8 @@ use Rattle.xa_records.specs.Kept.{Domain, Kept, state_of}
 use Rattle.xa_records.specs.Readings.{gate_of, gate_of_domain}
 use Rattle.xa_shelf.proofs.EntryLemmas.{all_promoted, all_put, all_removed, value_found}
 use Rattle.xa_server.specs.declared.revision.Revision.{Revision}
-use Rattle.xa_server.specs.declared.stop.Stop.{Stop}
-use Rattle.xa_server.specs.declared.stop.Stop.TheVariants.{Code, Failed}
+use Rattle.xa_server.specs.declared.unanswered.Unanswered.{Unanswered}
+use Rattle.xa_server.specs.declared.unanswered.Unanswered.TheVariants.{Code, Failed}
 use Rattle.xa_server.specs.Gates.{revision_by, revision_in, revision_of, revision_with, without_gate}
 use Rattle.xa_server.specs.Handling.{Answers, admitted_by}
 use Rattle.xa_server.specs.Machine.{Answer, admitted, digest_shown, permitted}
@@ -111,7 +111,7 @@ gates_left old new name others (entry ∷ gates) none are = (elim (bytes_eq name
 ]) refl
 
 -- after a message of that domain, whose gate was forgotten first
-pub changed_stands : (old new : Kept) (name : List ℕ) (result : Result (List ℕ) Stop) (meant : Answer) (stock : Stock) → Answers old new name result meant → AllStand old stock
+pub changed_stands : (old new : Kept) (name : List ℕ) (result : Result (List ℕ) Unanswered) (meant : Answer) (stock : Stock) → Answers old new name result meant → AllStand old stock
     → lookup (bytes_eq name) (without_gate name stock.gates) ≡ None → AllStand new (forgetting name stock)
 changed_stands old new name (Ok bytes) meant stock (after, is, changed) stand none = record {
   held = valid_grown old new (grows old new name after changed) stock.tally.held stand.held;

@@ -93,7 +93,7 @@ ready_without kept number room ready = all_removed (IsReady kept) (nat_eq number
 pub ready_with : (kept : Kept) (number : ℕ) (view : Ready) (room : Room) → IsReady kept (number, view) → AreReady kept room.views → AreReady kept (with_view number view room).views
 ready_with kept number view room this ready =
     let all = in_front number view room.views in
-    all_taken (IsReady kept) (fitting room.most room.bytes all) all (this, all_removed (IsReady kept) (nat_eq number) room.views ready)
+    all_taken (IsReady kept) (fitting room.max_count room.max_bytes all) all (this, all_removed (IsReady kept) (nat_eq number) room.views ready)
 
 -- by how much memory a view is counted that was made of what is kept
 pub estimated : (there : Option KeptView) (kept : KeptView) (ready : Ready) (read : ℕ) → Some kept ≡ there

@@ -7,8 +7,8 @@ use Rattle.xa_server.specs.Alone.{Event}
 use Rattle.xa_server.specs.declared.error_code.ErrorCode.{ErrorCode}
 use Rattle.xa_server.specs.declared.received.Received.{Received}
 use Rattle.xa_server.specs.declared.replies.Reply.{Reply}
-use Rattle.xa_server.specs.declared.stop.Stop.{Stop}
-use Rattle.xa_server.specs.declared.stop.Stop.TheVariants.{Code, Failed}
+use Rattle.xa_server.specs.declared.unanswered.Unanswered.{Unanswered}
+use Rattle.xa_server.specs.declared.unanswered.Unanswered.TheVariants.{Code, Failed}
 use Rattle.xa_server.specs.ErrorCode.{error_reply}
 use Rattle.xa_server.specs.Handling.{AnswersMessage, Counts, IsReplyOf}
 use Rattle.xa_server.specs.Machine.{Answer, general_reply, reply_and_state, reply_or_error, step}
@@ -56,14 +56,14 @@ turned_away received old new (Some name) code answered operator = record {
 }
 
 -- without success nothing has changed
-kept_so : (received : Received) (old new : Kept) (named : Option (List ℕ)) (stop : Stop) → AnswersMessage received old new named (Err stop) → new ≡ old
+kept_so : (received : Received) (old new : Kept) (named : Option (List ℕ)) (unanswered : Unanswered) → AnswersMessage received old new named (Err unanswered) → new ≡ old
 kept_so received old new None (Code code) answered = answered.1
 kept_so received old new None (Failed failure) answered = answered
 kept_so received old new (Some name) (Code code) answered = answered.1
 kept_so received old new (Some name) (Failed failure) answered = answered
 
 -- what goes back for a message is what serving it gives
-pub served : (received : Received) (old : Kept) (new : World) (result : Result (List ℕ) Stop) (reply : Reply)
+pub served : (received : Received) (old : Kept) (new : World) (result : Result (List ℕ) Unanswered) (reply : Reply)
     → AnswersMessage received old new.kept (owner received.message.now) result → IsReplyOf result reply
     → new.operator ≡ received.operator → IsServed (world_of received old) new received.moment received.message.now reply
 served received old new (Ok bytes) reply answered is operator =
@@ -80,7 +80,7 @@ served received old new (Err (Code code)) reply answered (inr is) operator =
     (unmoved (world_of received old) new (kept_so received old new.kept (owner received.message.now) (Code code) answered) operator)
 
 -- the keeper's count, by what goes back
-pub counted : (old new : ℕ) (result : Result (List ℕ) Stop) (reply : Reply) → Counts old new result → IsReplyOf result reply → CountsReply old new reply
+pub counted : (old new : ℕ) (result : Result (List ℕ) Unanswered) (reply : Reply) → Counts old new result → IsReplyOf result reply → CountsReply old new reply
 counted old new (Ok bytes) reply counts is = subst (CountsReply old new) (sym is) counts
 counted old new (Err (Failed Memory)) reply counts is = subst (CountsReply old new) (sym is) counts
 counted old new (Err (Failed Store)) reply counts is = subst (CountsReply old new) (sym is) counts

@@ -13,12 +13,12 @@ use Rattle.xa_records.specs.Kept.{IsChanged, Kept, names_of, state_of}
 use Rattle.xa_server.specs.declared.error_code.ErrorCode.{ErrorCode}
 use Rattle.xa_server.specs.declared.error_code.ErrorCode.TheVariants as error
 use Rattle.xa_server.specs.declared.received.Received.{Received}
-use Rattle.xa_server.specs.declared.stop.Stop.{Stop}
-use Rattle.xa_server.specs.declared.stop.Stop.TheVariants.{Code, Failed}
+use Rattle.xa_server.specs.declared.unanswered.Unanswered.{Unanswered}
+use Rattle.xa_server.specs.declared.unanswered.Unanswered.TheVariants.{Code, Failed}
 use Rattle.xa_server.specs.declared.replies.Reply.{Reply}
 use Rattle.xa_server.specs.declared.replies.Reply.TheVariants.{Sent, Refused}
 use Rattle.xa_server.specs.ErrorCode.{error_reply}
-use Rattle.xa_server.specs.Owner.{name_if}
+use Rattle.xa_server.specs.Owner.{name_if, owner}
 use Rattle.xa_server.specs.Stock.{AllStand, Stock}
 use Rattle.xa_server.specs.Machine.{Answer, answer, by_route, general_answer, general_by_route, or_body_fault}
 use Rattle.xa_server.specs.Machine.{permitted}
@@ -30,20 +30,24 @@ by_body answer given state = or_body_fault given >>= (λ x. answer x state)
 
 -- a message of the domain of that name was answered as its machine answers it, or it failed; nothing has changed but
 -- by a reply
-abbrev pub Answers : Kept → Kept → List ℕ → Result (List ℕ) Stop → Answer → Type 0
+abbrev pub Answers : Kept → Kept → List ℕ → Result (List ℕ) Unanswered → Answer → Type 0
 Answers old new name (Ok bytes) meant =
     (after : Option DomainState) × (meant ≡ Ok (bytes, after)) × IsChanged old new name after
 Answers old new name (Err (Code code)) meant = (meant ≡ Err code) × (new ≡ old)
 Answers old new name (Err (Failed failure)) meant = new ≡ old
 
 -- a message was answered so, or it failed; and nothing has changed
-abbrev pub Shows : {X : Type 0} → Kept → Kept → Result X Stop → Result X ErrorCode → Type 0
+abbrev pub Shows : {X : Type 0} → Kept → Kept → Result X Unanswered → Result X ErrorCode → Type 0
 Shows old new (Ok x) meant = (meant ≡ Ok x) × (new ≡ old)
 Shows old new (Err (Code code)) meant = (meant ≡ Err code) × (new ≡ old)
 Shows old new (Err (Failed failure)) meant = new ≡ old
 
+-- the same, where the keeper is sound
+abbrev pub Tells : {X : Type 0} → Custody → Custody → Result X Unanswered → Result X ErrorCode → Type 0
+Tells old new result meant = new.sound → Shows old.kept new.kept result meant
+
 -- a message was let in: then that is what is there, as the gate of the domain of that name
-abbrev pub Opens : {X : Type 0} → Kept → Kept → Option X → Result X Stop → Result (Unit {0}) ErrorCode → Type 0
+abbrev pub Opens : {X : Type 0} → Kept → Kept → Option X → Result X Unanswered → Result (Unit {0}) ErrorCode → Type 0
 Opens old new there (Ok x) meant = (there ≡ Some x) × (meant ≡ Ok tt) × (new ≡ old)
 Opens old new there (Err (Code code)) meant = (meant ≡ Err code) × (new ≡ old)
 Opens old new there (Err (Failed failure)) meant = new ≡ old
@@ -60,7 +64,7 @@ abbrev pub domain_named : Route → Option (List ℕ)
 domain_named route = option_and_then name_if (named_by route)
 
 -- a message that asks for this was answered, by the domain that its path names, if it names one
-abbrev pub AnswersRoute : Received → Kept → Kept → Option (List ℕ) → Route → Result (List ℕ) Stop → Type 0
+abbrev pub AnswersRoute : Received → Kept → Kept → Option (List ℕ) → Route → Result (List ℕ) Unanswered → Type 0
 AnswersRoute received old new None route result =
     Shows old new result (general_by_route received.operator (names_of old) received.message.now route)
 AnswersRoute received old new (Some name) route result =
@@ -68,21 +72,21 @@ AnswersRoute received old new (Some name) route result =
     (by_route received.operator (state_of name old) received.message.now received.moment route)
 
 -- a message was answered
-abbrev pub AnswersMessage : Received → Kept → Kept → Option (List ℕ) → Result (List ℕ) Stop → Type 0
+abbrev pub AnswersMessage : Received → Kept → Kept → Option (List ℕ) → Result (List ℕ) Unanswered → Type 0
 AnswersMessage received old new None result =
     Shows old new result (general_answer received.operator (names_of old) received.message.now)
 AnswersMessage received old new (Some name) result =
     Answers old new name result (answer received.operator (state_of name old) received.message.now received.moment)
 
 -- the keeper has counted one more failure for want of storage, where that is why, and else none
-abbrev pub Counts : {X : Type 0} → ℕ → ℕ → Result X Stop → Type 0
+abbrev pub Counts : {X : Type 0} → ℕ → ℕ → Result X Unanswered → Type 0
 Counts old new (Ok x) = new ≡ old
 Counts old new (Err (Code code)) = new ≡ old
 Counts old new (Err (Failed Memory)) = new ≡ old
 Counts old new (Err (Failed Store)) = IsOneMore old new
 
 -- what goes back for it
-abbrev pub IsReplyOf : Result (List ℕ) Stop → Reply → Type 0
+abbrev pub IsReplyOf : Result (List ℕ) Unanswered → Reply → Type 0
 IsReplyOf (Ok bytes) reply = reply ≡ Sent bytes
 IsReplyOf (Err (Failed failure)) reply = reply ≡ Refused failure
 IsReplyOf (Err (Code code)) reply = (reply ≡ Sent (error_reply code)) ⊎ (reply ≡ Refused Memory)
@@ -90,7 +94,7 @@ IsReplyOf (Err (Code code)) reply = (reply ≡ Sent (error_reply code)) ⊎ (rep
 -- ---- what a crash may leave
 
 -- unless the message failed
-abbrev pub IfTold : {X : Type 0} → Result X Stop → Type 0 → Type 0
+abbrev pub IfTold : {X : Type 0} → Result X Unanswered → Type 0 → Type 0
 IfTold (Ok x) claim = claim
 IfTold (Err (Code code)) claim = claim
 IfTold (Err (Failed failure)) claim = Unit {0}
@@ -126,7 +130,7 @@ LeavesMessage before after received old (Some name) =
 -- ---- what is done for a message
 
 -- what is told of the keeper after a part of a message was handled, where this a crash may leave
-pub record Keeping {X : Type 0} (old new : Custody) (result : Result X Stop) (leaves_so : Type 0) : Type 0 where
+pub record Keeping {X : Type 0} (old new : Custody) (result : Result X Unanswered) (leaves_so : Type 0) : Type 0 where
   -- where it is sound it was, and where the disk has given back what was written it had before
   pub sound : new.sound → old.sound
   pub clean : new.clean → old.clean
@@ -137,13 +141,23 @@ pub record Keeping {X : Type 0} (old new : Custody) (result : Result X Stop) (le
   pub counts : Counts old.faults new.faults result
 
 -- the keeper was asked to read, or wasn't asked: a crash leaves nothing that it might not have left before
-abbrev pub OnlyReads : {X : Type 0} → Custody → Custody → Result X Stop → Type 0
+abbrev pub OnlyReads : {X : Type 0} → Custody → Custody → Result X Unanswered → Type 0
 OnlyReads old new result = Keeping old new result (LeavesNoMore old.may_leave new.may_leave)
+
+-- it was asked for a message that asks for this, or for a message, or wasn't asked
+abbrev pub KeepsRoute : Custody → Custody → Received → Route → Result (List ℕ) Unanswered → Type 0
+KeepsRoute old new received route result =
+    Keeping old new result (LeavesRoute old.may_leave new.may_leave received old.kept (domain_named route) route)
+
+abbrev pub KeepsMessage : Custody → Custody → Received → Result (List ℕ) Unanswered → Type 0
+KeepsMessage old new received result =
+    Keeping old new result
+    (LeavesMessage old.may_leave new.may_leave received old.kept (owner received.message.now))
 
 -- what is told of all that a server shares, after a part of a message was handled before which all of it stood: of
 -- what is held of decisions this was done, and all still stands; without success the views are as they were
-pub record Sharing {X : Type 0} (old new : Custody) (before after : Stock) (result : Result X Stop) (works_so : Type 0)
-    : Type 0 where
+pub record Sharing {X : Type 0} (old new : Custody) (before after : Stock) (result : Result X Unanswered)
+    (works_so : Type 0) : Type 0 where
   pub works : AllStand old.kept before → new.sound → works_so
   pub stands : AllStand old.kept before → new.sound → AllStand new.kept after
   pub room : OnErr result (after.room ≡ before.room)
@@ -155,7 +169,7 @@ pub record OnlyForgets (old new : Custody) (before after : Stock) : Type 0 where
   pub room : after.room ≡ before.room
 
 -- a part of a message was handled: so it was answered, and this a crash may leave, or it failed
-pub record Handles {X : Type 0} (old new : Custody) (result : Result X Stop) (is_answered leaves_so : Type 0)
+pub record Handles {X : Type 0} (old new : Custody) (result : Result X Unanswered) (is_answered leaves_so : Type 0)
     : Type 0 where
   pub answers : new.sound → is_answered
   pub sound : new.sound → old.sound
@@ -165,20 +179,21 @@ pub record Handles {X : Type 0} (old new : Custody) (result : Result X Stop) (is
   pub counts : Counts old.faults new.faults result
 
 -- a message that asks for this was handled, which may change the domain that its path names
-pub record ChangesRoute (old new : Custody) (received : Received) (route : Route) (result : Result (List ℕ) Stop)
+pub record ChangesRoute (old new : Custody) (received : Received) (route : Route) (result : Result (List ℕ) Unanswered)
     : Type 0 where
   pub answers : new.sound → AnswersRoute received old.kept new.kept (domain_named route) route result
-  pub keeper : Keeping old new result
-      (LeavesRoute old.may_leave new.may_leave received old.kept (domain_named route) route)
+  pub keeper : KeepsRoute old new received route result
 
 -- as that machine of the domain of that name answers
-abbrev pub HandlesChange : Custody → Custody → List ℕ → Result (List ℕ) Stop → (Option DomainState → Answer) → Type 0
+abbrev pub HandlesChange : Custody → Custody → List ℕ → Result (List ℕ) Unanswered
+    → (Option DomainState → Answer) → Type 0
 HandlesChange old new name result machine =
     Handles old new result (Answers old.kept new.kept name result (machine (state_of name old.kept)))
     (LeavesAnswer old.may_leave new.may_leave old.kept name (machine (state_of name old.kept)))
 
 -- as that machine answers, which changes nothing
-abbrev pub HandlesReading : Custody → Custody → List ℕ → Result (List ℕ) Stop → (Option DomainState → Answer) → Type 0
+abbrev pub HandlesReading : Custody → Custody → List ℕ → Result (List ℕ) Unanswered
+    → (Option DomainState → Answer) → Type 0
 HandlesReading old new name result machine =
     Handles old new result (Answers old.kept new.kept name result (machine (state_of name old.kept)))
     (LeavesNoMore old.may_leave new.may_leave)

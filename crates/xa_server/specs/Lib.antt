@@ -20,7 +20,7 @@ pub mod Tokens
 pub mod Gates
 pub mod Stock
 pub mod Growth
-pub mod Stop
+pub mod Unanswered
 pub mod Handling
 pub mod Asking
 pub mod Connection

@@ -21,7 +21,11 @@ pub record Stock : Type 0 where
 
 -- as a server begins
 abbrev pub empty_stock : Stock
-empty_stock = record { tally = nothing_held; room = record { views = []; most = 128; bytes = 268_435_456 }; gates = [] }
+empty_stock = record {
+  tally = nothing_held;
+  room = record { views = []; max_count = 128; max_bytes = 268_435_456 };
+  gates = [];
+}
 
 -- the view is that of the domain of that number, wherever it is still there and of the view's epoch
 abbrev pub IsReady : Kept → ℕ × Ready → Type 0

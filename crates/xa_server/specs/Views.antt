@@ -11,8 +11,8 @@ use Rattle.xa_server.specs.declared.ready.Ready.{Ready}
 -- the views, how many of them there may be, and how many bytes they may take together
 pub record Room : Type 0 where
   pub views : List (ℕ × Ready)
-  pub most : ℕ
-  pub bytes : ℕ
+  pub max_count : ℕ
+  pub max_bytes : ℕ
 
 -- the view, if it is of that epoch
 abbrev pub view_if : ℕ → Ready → Option Viewed
@@ -46,7 +46,8 @@ shortened most bytes views = take (fitting most bytes views) views
 
 -- with that view under that number
 abbrev pub with_view : ℕ → Ready → Room → Room
-with_view number ready room = record room { views = shortened room.most room.bytes (in_front number ready room.views) }
+with_view number ready room =
+    record room { views = shortened room.max_count room.max_bytes (in_front number ready room.views) }
 
 -- a sum, as far as numbers of 64 bits go
 abbrev pub added : ℕ → ℕ → ℕ

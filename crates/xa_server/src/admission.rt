@@ -1,9 +1,9 @@
-//! Who may ask: 401 and 403.
+//! Whether a message is let in, by the token that it shows. If not, the reply is 401 or 403.
 ghost use Rattle.std.specs.Prelude.{◌≡◌, true, false, Some};
 ghost use Rattle.xa_records.specs.Kept.{state_of};
 ghost use Rattle.xa_records.specs.Readings.{gate_of};
 ghost use Rattle.xa_server.specs.Gates.{revision_of};
-ghost use Rattle.xa_server.specs.Handling.{OnlyReads, Opens, Shows, admitted_by};
+ghost use Rattle.xa_server.specs.Handling.{OnlyReads, Opens, Tells, admitted_by};
 ghost use Rattle.xa_server.specs.Machine.{admitted, by_operator, digest_shown, permitted};
 ghost use Rattle.xa_server.specs.Stock.{AllStand};
 
@@ -12,22 +12,22 @@ use crate::error_code::ErrorCode;
 use crate::gates::role_in;
 use crate::resources::Resources;
 use crate::revision::Revision;
-use crate::stop::Stop;
+use crate::unanswered::Unanswered;
 use std::alloc::Global;
 use xa_http::Message;
 use xa_notation::Role;
 use xa_records::{Digest, Gate, Records};
 use xa_value::Text;
 
-/// The digest of the token that the message shows.
+/// The digest of the token that the message shows, if it shows one.
 fn digest_shown(message: &Message) -> Option<Digest>
     ensures { result ≡ digest_shown message.now }
 {
     token_in(message.fields.as_slice()).map(|token| Digest::of(token))
 }
 
-/// Nothing more where the message shows the operator's token.
-pub(crate) fn by_operator(operator: Digest, message: &Message) -> Result<(), ErrorCode>
+/// Lets the message in if it shows the operator's token.
+pub(crate) fn admit_operator(operator: Digest, message: &Message) -> Result<(), ErrorCode>
     ensures { result ≡ by_operator operator message.now }
 {
     match digest_shown(message) {
@@ -36,7 +36,7 @@ pub(crate) fn by_operator(operator: Digest, message: &Message) -> Result<(), Err
     }
 }
 
-/// Nothing more where the role may ask for that.
+/// Whether the role may ask for that: to a role for decisions alone all else is `Forbidden`.
 fn permission(role: Role, for_decisions: bool) -> Result<(), ErrorCode>
     ensures { result ≡ permitted role for_decisions }
 {
@@ -46,8 +46,8 @@ fn permission(role: Role, for_decisions: bool) -> Result<(), ErrorCode>
     }
 }
 
-/// The domain's gate where the domain is there, and the digest is that of one of its tokens, whose role
-/// may ask for that. An absent domain and a wrong token both cost one call of the keeper.
+/// The domain's gate, if the digest is that of one of the domain's tokens, whose role may ask for that.
+/// An absent domain and a wrong token are both `Unauthorized`, and both take one call of the keeper.
 #[tactic(auto, using(crate::proofs::AdmissionLemmas::role_is))]
 fn gate_opened<R: Records>(
     alloc: Global,
@@ -55,7 +55,7 @@ fn gate_opened<R: Records>(
     name: &Text,
     for_decisions: bool,
     digest: &Digest,
-) -> Result<Gate, Stop>
+) -> Result<Gate, Unanswered>
     ensures tells { (R.custody records.new).sound
         → Opens (R.custody records.old).kept (R.custody records.new).kept
         (gate_of name.now (R.custody records.old).kept) result
@@ -68,16 +68,14 @@ fn gate_opened<R: Records>(
     Ok(gate)
 }
 
-/// Nothing more where the domain is there, and the message shows one of its tokens, whose role may ask
-/// for more than decisions.
-pub(crate) fn admission<R: Records>(
+/// Lets the message in if it shows one of the domain's tokens, whose role may ask for more than decisions.
+pub(crate) fn admit<R: Records>(
     alloc: Global,
     records: &mut R,
     name: &Text,
     message: &Message,
-) -> Result<(), Stop>
-    ensures tells { (R.custody records.new).sound
-        → Shows (R.custody records.old).kept (R.custody records.new).kept result
+) -> Result<(), Unanswered>
+    ensures tells { Tells (R.custody records.old) (R.custody records.new) result
         (admitted false (state_of name.now (R.custody records.old).kept) message.now) }
     ensures keeper { OnlyReads (R.custody records.old) (R.custody records.new) result }
 {
@@ -86,17 +84,18 @@ pub(crate) fn admission<R: Records>(
     Ok(())
 }
 
-/// The revision of the domain where it lets a message in that asks for a decision: by the gate that is
-/// remembered, or else by the keeper's, which is remembered then. The remembered gate is asked only
-/// whether it has the token: where it hasn't, the keeper is asked as for an absent domain, so that the
-/// time which an answer takes doesn't tell a stranger which domains there are.
-pub(crate) fn admitting_domain<R: Records>(
+/// Lets a message in that asks for a decision, if it shows one of the domain's tokens, and gives the
+/// domain's revision. The gate that is remembered is asked first, and only whether it has the token. If it
+/// hasn't, or none is remembered, the keeper is asked, and its gate is remembered. So a token that isn't
+/// the domain's takes one call of the keeper, whether the domain is there or not. What that call costs may
+/// differ.
+pub(crate) fn admit_ask<R: Records>(
     alloc: Global,
     resources: &mut Resources,
     records: &mut R,
     name: &Text,
     message: &Message,
-) -> Result<Revision, Stop>
+) -> Result<Revision, Unanswered>
     ensures tells { AllStand (R.custody records.old).kept resources.old → (R.custody records.new).sound
         → Opens (R.custody records.old).kept (R.custody records.new).kept
         (revision_of name.now (R.custody records.old).kept) result

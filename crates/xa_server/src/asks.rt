@@ -1,7 +1,7 @@
-//! The reply to an ask: a request for a decision that a domain has let in. What is held is given again;
-//! all else is worked out by what decides in the domain, which is kept ready for the next, counted, and
-//! held where it stays the same. A body that doesn't ask the policies is answered without what decides,
-//! where that isn't ready.
+//! The reply to an ask: a request for a decision that a domain has let in. A cached decision is given
+//! again. Any other is evaluated by the domain's view, which is cached for the next ask; the decision is
+//! counted, and cached if it is the same at every moment. A body that doesn't ask the policies is answered
+//! without a view, if none is cached.
 ghost use Rattle.std.specs.Prelude.{◌≡◌, ◌-◌, length, Some, IfOk, IfSome, OnErr};
 ghost use Rattle.xa_decide.specs.Asked.{asks_policies};
 ghost use Rattle.std.specs.Option.{ok_or};
@@ -11,8 +11,8 @@ ghost use Rattle.xa_server.specs.declared.error_code.ErrorCode.TheVariants.{Refu
 ghost use Rattle.xa_records.specs.Readings.{view_of};
 ghost use Rattle.xa_server.specs.Asking.{FreshReply, IfLetIn, IsAsked, IsFresh, IsResponse};
 ghost use Rattle.xa_server.specs.Asking.{IsResponseReply, MakesReady, key_asked, key_within};
-ghost use Rattle.xa_server.specs.Asking.{reply_asked, response_asked, view_told, worked_asked};
-ghost use Rattle.xa_server.specs.Handling.{Answers, OnlyReads, Shows};
+ghost use Rattle.xa_server.specs.Asking.{reply_asked, response_asked, worked_asked};
+ghost use Rattle.xa_server.specs.Handling.{Answers, OnlyReads, Tells};
 ghost use Rattle.xa_server.specs.Machine.{response_to, told};
 ghost use Rattle.xa_server.specs.Stock.{AllStand};
 ghost use Rattle.xa_server.specs.View.{AreKeyed, nothing_viewed};
@@ -26,7 +26,7 @@ use crate::ready::{Ready, bytes_of_tree, bytes_of_view};
 use crate::replies::decision_reply;
 use crate::resources::{Resources, Texts};
 use crate::revision::Revision;
-use crate::stop::Stop;
+use crate::unanswered::Unanswered;
 use crate::view::view_of_kept;
 use std::alloc::Global;
 use xa_cache::Key;
@@ -50,23 +50,28 @@ pub(crate) struct Ask<'a> {
     pub(crate) moment: Moment,
 }
 
-/// What is kept of the domain that decides there, with texts that are documents of their keys.
-fn kept_view<R: Records>(alloc: Global, records: &mut R, name: &Text) -> Result<KeptView, Stop>
-    ensures tells { (R.custody records.new).sound
-        → Shows (R.custody records.old).kept (R.custody records.new).kept result
+/// What the keeper has for the domain's view: its root, its rows, and texts that are documents of their
+/// keys.
+fn kept_view<R: Records>(
+    alloc: Global,
+    records: &mut R,
+    name: &Text,
+) -> Result<KeptView, Unanswered>
+    ensures tells { Tells (R.custody records.old) (R.custody records.new) result
         (ok_or (view_of name.now (R.custody records.old).kept) (Refused Absent)) }
     ensures keyed { (R.custody records.new).sound → IfOk result (λ kept. AreKeyed kept.texts) }
     ensures keeper { OnlyReads (R.custody records.old) (R.custody records.new) result }
 {
     let kept = records.view(alloc, name)?.ok_or(ABSENT)?;
+    // Nothing is done: by this law the prover knows that each text is a document of its key.
     records.keeps_documents();
     Ok(kept)
 }
 
-/// What decides in the domain, made from what is kept of it, with what a decision may cost. What this
-/// costs grows with the texts of the active documents, which the keeper copies, and with the rows of
-/// attributes, which are put in order. It grows also with those of the documents to which the root leads,
-/// each of which is looked up on the shelf or read.
+/// The domain's view under these limits, made of what the keeper has. What this costs grows with the texts
+/// of the active documents, which the keeper copies, and with the rows of attributes, which are put in
+/// order. It grows also with the texts of the documents to which the root leads, each of which is looked
+/// up on the shelf or read.
 #[tactic(auto, using(crate::proofs::ReadyLemmas::estimated))]
 fn ready_view<R: Records>(
     alloc: Global,
@@ -74,10 +79,8 @@ fn ready_view<R: Records>(
     records: &mut R,
     ask: &Ask<'_>,
     limits: Limits,
-) -> Result<Ready, Stop>
-    ensures tells { (R.custody records.new).sound
-        → MakesReady (R.custody records.old).kept (R.custody records.new).kept ask.now.revision result
-        (view_told (state_of ask.now.name.now (R.custody records.old).kept)) }
+) -> Result<Ready, Unanswered>
+    ensures tells { MakesReady (R.custody records.old) (R.custody records.new) ask.now result }
     ensures estimate { (R.custody records.new).sound
         → IfOk result (λ ready. IfSome (view_of ask.now.name.now (R.custody records.old).kept)
         (λ kept. ready.bytes ≡ added (bytes_of_view (reader.old.left - reader.new.left) (length kept.source))
@@ -92,54 +95,54 @@ fn ready_view<R: Records>(
     let bytes = bytes_of_view(read, rows).saturating_add(bytes_of_tree(&view));
     Ok(Ready {
         revision: ask.revision,
-        view: limits.of_view(view),
+        view: limits.apply_to(view),
         bytes,
     })
 }
 
-/// What decides in the domain, made of no more text than may be read for a message. Where that is too
-/// little, it is remembered of the domain.
+/// The domain's view, made of no more text than may be read for a message. A domain whose policies have
+/// more is remembered.
 fn ready_within<R: Records>(
     alloc: Global,
     texts: &mut Texts,
     limits: Limits,
     records: &mut R,
     ask: &Ask<'_>,
-) -> Result<Ready, Stop>
-    ensures tells { (R.custody records.new).sound
-        → MakesReady (R.custody records.old).kept (R.custody records.new).kept ask.now.revision result
-        (view_told (state_of ask.now.name.now (R.custody records.old).kept)) }
+) -> Result<Ready, Unanswered>
+    ensures tells { MakesReady (R.custody records.old) (R.custody records.new) ask.now result }
     ensures keeper { OnlyReads (R.custody records.old) (R.custody records.new) result }
 {
     let mut reader = TextReader::new(&mut texts.shelf, limits.reading);
     let ready = ready_view(alloc, &mut reader, records, ask, limits);
     let is_spent = reader.is_spent();
-    texts.unread.remember_if(is_spent, ask.revision);
+    if is_spent {
+        texts.oversized.remember(ask.revision);
+    }
     ready
 }
 
-/// The response to the request of the body by what decides.
+/// The response to the request of the body by the view.
 fn response_by(
     alloc: Global,
     view: &View,
     body: &RequestBody<'_>,
     moment: Moment,
-) -> Result<Responded, Stop>
+) -> Result<Responded, Unanswered>
     ensures { IsResponse (response_of view.now body.now moment) result }
 {
     let responded = respond(alloc, view, body, moment)?.ok_or(NOT_JSON)?;
     Ok(responded)
 }
 
-/// The reply by what decides: it is worked out, counted, and held where it stays the same.
-fn reply_by(
+/// The reply by the view: the decision is evaluated, counted, and cached if it may be.
+fn reply_by_view(
     alloc: Global,
     decisions: &mut Decisions,
     ask: &Ask<'_>,
     key: Option<Key>,
     view: &View,
     body: &RequestBody<'_>,
-) -> Result<Items<u8>, Stop>
+) -> Result<Items<u8>, Unanswered>
     requires { key ≡ key_within (key_asked ask.now body.now) }
     ensures tells { IsResponseReply (response_asked view.now ask.now body.now) result }
     ensures works { IsFresh (key_asked ask.now body.now)
@@ -151,9 +154,9 @@ fn reply_by(
     Ok(reply)
 }
 
-/// The reply by what is kept of the domain. What decides there is kept ready once the reply is made;
-/// without success it isn't. Where it is known that the domain's policies take too much to read, they
-/// aren't read again.
+/// The reply by a view that is made of what the keeper has. The view is cached once the reply is made, and
+/// without success it isn't. If it is known that the domain's policies take too much to read, they aren't
+/// read again.
 #[tactic(auto, using(crate::proofs::AskLemmas::replied, crate::proofs::AskLemmas::works_by, crate::proofs::AskLemmas::absent_reply, crate::proofs::AskLemmas::absent_worked))]
 fn reply_by_kept<R: Records>(
     alloc: Global,
@@ -162,10 +165,9 @@ fn reply_by_kept<R: Records>(
     ask: &Ask<'_>,
     key: Option<Key>,
     body: &RequestBody<'_>,
-) -> Result<Items<u8>, Stop>
+) -> Result<Items<u8>, Unanswered>
     requires { key ≡ key_within (key_asked ask.now body.now) }
-    ensures tells { (R.custody records.new).sound
-        → Shows (R.custody records.old).kept (R.custody records.new).kept result
+    ensures tells { Tells (R.custody records.old) (R.custody records.new) result
         (reply_asked (R.custody records.old).kept ask.now body.now) }
     ensures works { (R.custody records.new).sound
         → IsFresh (key_asked ask.now body.now) (worked_asked (R.custody records.old).kept ask.now body.now)
@@ -175,18 +177,19 @@ fn reply_by_kept<R: Records>(
     ensures room { OnErr result (resources.new.room ≡ resources.old.room) }
     ensures keeper { OnlyReads (R.custody records.old) (R.custody records.new) result }
 {
-    if resources.texts.unread.has(ask.revision) {
-        return Err(Stop::Failed(Failure::Memory));
+    if resources.texts.oversized.has(ask.revision) {
+        // Over the limit of reading: refused as `Limits` says.
+        return Err(Unanswered::Failed(Failure::Memory));
     }
     let limits = resources.limits;
     let ready = ready_within(alloc, &mut resources.texts, limits, records, ask)?;
-    let reply = reply_by(alloc, &mut resources.decisions, ask, key, &ready.view, body)?;
+    let reply = reply_by_view(alloc, &mut resources.decisions, ask, key, &ready.view, body)?;
     resources.views.keep(ready);
     Ok(reply)
 }
 
-/// The reply to a body that doesn't ask the policies: it is the same whatever decides, and nothing of
-/// the domain is read for it.
+/// The reply to a body that doesn't ask the policies: it is the same by any view, and nothing of the
+/// domain is read for it.
 fn reply_without_policies(
     alloc: Global,
     decisions: &mut Decisions,
@@ -194,18 +197,18 @@ fn reply_without_policies(
     ask: &Ask<'_>,
     key: Option<Key>,
     body: &RequestBody<'_>,
-) -> Result<Items<u8>, Stop>
+) -> Result<Items<u8>, Unanswered>
     requires { key ≡ key_within (key_asked ask.now body.now) }
     ensures tells { IsResponseReply (response_asked nothing_viewed ask.now body.now) result }
     ensures works { IsFresh (key_asked ask.now body.now)
         (response_asked nothing_viewed ask.now body.now) result decisions.old decisions.new }
 {
-    let nothing = limits.of_view(View::of_nothing(alloc)?);
-    reply_by(alloc, decisions, ask, key, &nothing, body)
+    let nothing = limits.apply_to(View::of_nothing(alloc)?);
+    reply_by_view(alloc, decisions, ask, key, &nothing, body)
 }
 
-/// The reply where no view is kept ready: the body's own questions come first, and what is kept of the
-/// domain is read only for a body that asks the policies.
+/// The reply where no view is cached: the body's own questions come first, and the keeper is asked only
+/// for a body that asks the policies.
 fn reply_without_view<R: Records>(
     alloc: Global,
     resources: &mut Resources,
@@ -213,7 +216,7 @@ fn reply_without_view<R: Records>(
     ask: &Ask<'_>,
     key: Option<Key>,
     body: &RequestBody<'_>,
-) -> Result<Items<u8>, Stop>
+) -> Result<Items<u8>, Unanswered>
     requires { key ≡ key_within (key_asked ask.now body.now) }
     ensures { FreshReply (R.custody records.old) (R.custody records.new) ask.now body.now
         resources.old resources.new result }
@@ -225,48 +228,48 @@ fn reply_without_view<R: Records>(
     reply_without_policies(alloc, &mut resources.decisions, limits, ask, key, body)
 }
 
-/// The reply by a decision that is worked out: by the view that is kept ready, where there is one, and
-/// no text is asked for; and else without it.
-fn fresh_reply<R: Records>(
+/// The reply by a decision that is evaluated: by the cached view, if there is one, for which no text is
+/// asked; else without it.
+fn reply_by_evaluation<R: Records>(
     alloc: Global,
     resources: &mut Resources,
     records: &mut R,
     ask: &Ask<'_>,
     key: Option<Key>,
     body: &RequestBody<'_>,
-) -> Result<Items<u8>, Stop>
+) -> Result<Items<u8>, Unanswered>
     requires { key ≡ key_within (key_asked ask.now body.now) }
     ensures { FreshReply (R.custody records.old) (R.custody records.new) ask.now body.now
         resources.old resources.new result }
 {
     if let Some(view) = resources.views.find(ask.revision) {
-        let reply = reply_by(alloc, &mut resources.decisions, ask, key, view, body)?;
+        let reply = reply_by_view(alloc, &mut resources.decisions, ask, key, view, body)?;
         resources.views.touch(ask.revision.number);
         return Ok(reply);
     }
     reply_without_view(alloc, resources, records, ask, key, body)
 }
 
-/// The reply by a decision that is worked out, for a body that isn't read yet: it is read once, whatever
-/// is asked of it.
-fn read_reply<R: Records>(
+/// The reply by a decision that is evaluated, for a body that isn't read yet: it is read once, whatever is
+/// asked of it.
+fn reply_to_unread<R: Records>(
     alloc: Global,
     resources: &mut Resources,
     records: &mut R,
     ask: &Ask<'_>,
     key: Option<Key>,
     body: &[u8],
-) -> Result<Items<u8>, Stop>
+) -> Result<Items<u8>, Unanswered>
     requires { key ≡ key_within (key_asked ask.now body.now) }
     ensures { FreshReply (R.custody records.old) (R.custody records.new) ask.now body.now
         resources.old resources.new result }
 {
     let read = RequestBody::read(alloc, body)?;
-    fresh_reply(alloc, resources, records, ask, key, &read)
+    reply_by_evaluation(alloc, resources, records, ask, key, &read)
 }
 
-/// The reply to the request of the body by the domain's policies: by the decision that is held, where
-/// one is, and else by one that is worked out.
+/// The reply to the request of the body by the domain's policies: by the cached decision, if there is one,
+/// and else by one that is evaluated.
 #[tactic(auto, using(crate::proofs::AskLemmas::answers, crate::proofs::AskLemmas::told_same))]
 pub(crate) fn reply_to_ask<R: Records>(
     alloc: Global,
@@ -274,7 +277,7 @@ pub(crate) fn reply_to_ask<R: Records>(
     records: &mut R,
     ask: &Ask<'_>,
     body: &[u8],
-) -> Result<Items<u8>, Stop>
+) -> Result<Items<u8>, Unanswered>
     ensures answers { IfLetIn (R.custody records.old) (R.custody records.new) ask.now resources.old
         (Answers (R.custody records.old).kept (R.custody records.new).kept ask.now.name.now result
         (told (response_to body.now ask.now.moment)
@@ -292,12 +295,11 @@ pub(crate) fn reply_to_ask<R: Records>(
     ensures keeper { OnlyReads (R.custody records.old) (R.custody records.new) result }
 {
     let Some(key) = key_within(alloc, ask.revision, body)? else {
-        return read_reply(alloc, resources, records, ask, None, body);
+        return reply_to_unread(alloc, resources, records, ask, None, body);
     };
     let most = resources.limits.reply;
     if let Some(reply) = resources.decisions.held_reply(alloc, &key, most)? {
         return Ok(reply);
     }
-    let key = Some(key);
-    read_reply(alloc, resources, records, ask, key, body)
+    reply_to_unread(alloc, resources, records, ask, Some(key), body)
 }

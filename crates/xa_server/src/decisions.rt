@@ -1,4 +1,4 @@
-//! The decisions that are held, with their counts.
+//! The cached decisions, with their counts.
 ghost use Rattle.std.specs.Prelude.{◌≡◌, true, option_map, IfOk};
 ghost use Rattle.xa_cache.specs.Bodies.{found};
 ghost use Rattle.xa_server.specs.Asking.{IsLookedUp, IsNoted, key_of_revision, key_within};
@@ -15,14 +15,17 @@ use xa_decide::Responded;
 use xa_records::Digest;
 use xa_value::Items;
 
-/// The most bytes of a request whose decision is looked up and held.
+/// The most bytes of a request whose decision is looked up and cached.
 const MAX_REQUEST_BYTES: usize = 16_384;
 
 /// The cache of decisions, and what was counted of them.
 #[derive(Drop)]
 pub(crate) struct Decisions {
+    /// The decisions, under their keys.
     cache: Cache,
+    /// How many were evaluated.
     evaluations: u64,
+    /// How many were to be cached, and weren't for want of memory.
     unkept: u64,
 }
 
@@ -39,8 +42,8 @@ impl Model for Decisions {
 }
 
 impl Decisions {
-    /// Nothing is held yet. The operator's token, of which tenants know nothing, makes the places of
-    /// what is held unknown to them.
+    /// Nothing is cached yet. The operator's token, of which tenants know nothing, makes the places in the
+    /// cache unknown to them.
     pub(crate) fn new(alloc: Global, operator: Digest) -> Result<Decisions, AllocError>
         ensures { IfOk result (λ d. d ≡ nothing_held) }
     {
@@ -51,22 +54,22 @@ impl Decisions {
         })
     }
 
-    /// How many decisions were worked out.
+    /// How many decisions were evaluated.
     pub(crate) fn evaluations(&self) -> u64
         ensures { result ≡ self.now.evaluations }
     {
         self.evaluations
     }
 
-    /// How many decisions were to be held, and weren't for want of memory.
+    /// How many decisions were to be cached, and weren't for want of memory.
     pub(crate) fn unkept(&self) -> u64
         ensures { result ≡ self.now.unkept }
     {
         self.unkept
     }
 
-    /// The reply by the decision that is held under the key, which is its newest use then. A body of
-    /// more bytes than that is refused here as where it is worked out.
+    /// The reply by the decision that is cached under the key, which is its newest use then. A body of
+    /// more bytes than `most` is refused here as where it is evaluated.
     pub(crate) fn held_reply(
         &mut self,
         alloc: Global,
@@ -78,13 +81,14 @@ impl Decisions {
         ensures moves { IsLookedUp (found key.now self.old.held) key.now self.old self.new }
     {
         match self.cache.look(key) {
+            // Over the limit of the response: refused as `Limits` says.
             Some(body) if body.len() as u64 > most => Err(AllocError),
             Some(body) => Ok(Some(decision_reply(alloc, body)?)),
             None => Ok(None),
         }
     }
 
-    /// Holds a decision, or counts that it couldn't.
+    /// Caches a decision, or counts that it couldn't.
     fn hold(&mut self, key: Key, body: Items<u8>)
         ensures held { IsHeld true key body self.old self.new }
         ensures evaluations { self.new.evaluations ≡ self.old.evaluations }
@@ -94,8 +98,8 @@ impl Decisions {
         }
     }
 
-    /// Counts a decision that was worked out, and holds it where there is a key for it, it is the same
-    /// at every moment and neither body is too large.
+    /// Counts a decision that was evaluated, and caches it if there is a key for it, it is the same at
+    /// every moment and neither body is too large.
     pub(crate) fn note(&mut self, key: Option<Key>, responded: Responded)
         ensures { IsNoted key responded.body responded.timeless self.old self.new }
     {
@@ -109,7 +113,7 @@ impl Decisions {
     }
 }
 
-/// The key under which a decision on that body is looked up and held, by the revision of the domain that
+/// The key under which a decision on that body is looked up and cached, by the revision of the domain that
 /// lets the message in. A body that is too large for that has none, and isn't copied.
 pub(crate) fn key_within(
     alloc: Global,

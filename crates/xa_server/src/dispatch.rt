@@ -3,15 +3,14 @@
 ghost use Rattle.std.specs.Prelude.{IsTrue};
 ghost use Rattle.xa_http.specs.declared.route.Route.TheVariants as to;
 ghost use Rattle.xa_records.specs.DomainName.{is_domain_name};
-ghost use Rattle.xa_server.specs.Asking.{WorksMessage, WorksRoute};
+ghost use Rattle.xa_server.specs.Asking.{SharesMessage, SharesRoute};
 ghost use Rattle.xa_server.specs.Handling.{AnswersMessage, AnswersRoute, ChangesRoute, HandlesChange};
-ghost use Rattle.xa_server.specs.Handling.{Keeping, LeavesMessage, LeavesRoute, OnlyForgets, OnlyReads};
-ghost use Rattle.xa_server.specs.Handling.{Sharing, domain_named};
+ghost use Rattle.xa_server.specs.Handling.{KeepsMessage, KeepsRoute, OnlyForgets, OnlyReads, domain_named};
 ghost use Rattle.xa_server.specs.Machine.{by_document_command, by_domain_command, by_operator_command};
 ghost use Rattle.xa_server.specs.Owner.{name_if, owner};
 ghost use Rattle.xa_server.specs.Stock.{AllStand};
 
-use crate::admission::{admission, admitting_domain, by_operator};
+use crate::admission::{admit, admit_ask, admit_operator};
 use crate::asks::{Ask, reply_to_ask};
 use crate::changes::{
     create, delete, drop_token, put_token, remove, set_active, set_root, set_source, upload,
@@ -22,7 +21,7 @@ use crate::name::name_if;
 use crate::readings::{domains, list, show, source};
 use crate::received::Received;
 use crate::resources::Resources;
-use crate::stop::Stop;
+use crate::unanswered::Unanswered;
 use std::alloc::Global;
 use xa_http::{DocumentCommand, DocumentParts, DomainCommand, OperatorCommand, Route, Routes};
 use xa_policy::DocumentKey;
@@ -36,7 +35,7 @@ fn by_operator_command<R: Records>(
     name: &Text,
     command: OperatorCommand,
     body: &[u8],
-) -> Result<Items<u8>, Stop>
+) -> Result<Items<u8>, Unanswered>
     requires { IsTrue (is_domain_name name.now) }
     ensures { HandlesChange (R.custody records.old) (R.custody records.new) name.now result
         (by_operator_command command body.now) }
@@ -56,7 +55,7 @@ fn by_domain_command<R: Records>(
     name: &Text,
     command: DomainCommand,
     body: &[u8],
-) -> Result<Items<u8>, Stop>
+) -> Result<Items<u8>, Unanswered>
     ensures { HandlesChange (R.custody records.old) (R.custody records.new) name.now result
         (by_domain_command command body.now) }
 {
@@ -76,7 +75,7 @@ fn by_document_command<R: Records>(
     name: &Text,
     command: DocumentCommand,
     key: &DocumentKey,
-) -> Result<Items<u8>, Stop>
+) -> Result<Items<u8>, Unanswered>
     ensures { HandlesChange (R.custody records.old) (R.custody records.new) name.now result
         (by_document_command command key.now) }
 {
@@ -98,12 +97,12 @@ fn operator_route<R: Records>(
     received: &Received<'_>,
     domain: Items<u8>,
     command: OperatorCommand,
-) -> Result<Items<u8>, Stop>
+) -> Result<Items<u8>, Unanswered>
     ensures handled { ChangesRoute (R.custody records.old) (R.custody records.new) received.now
         (to.Operator domain command) result }
     ensures shared { OnlyForgets (R.custody records.old) (R.custody records.new) resources.old resources.new }
 {
-    by_operator(received.operator, received.message)?;
+    admit_operator(received.operator, received.message)?;
     let name = name_if(domain).ok_or(ErrorCode::BadDomain)?;
     resources.forget(&name);
     by_operator_command(alloc, records, &name, command, received.body())
@@ -117,18 +116,16 @@ fn decision_route<R: Records>(
     records: &mut R,
     received: &Received<'_>,
     domain: Items<u8>,
-) -> Result<Items<u8>, Stop>
+) -> Result<Items<u8>, Unanswered>
     ensures answers { AllStand (R.custody records.old).kept resources.old → (R.custody records.new).sound
         → AnswersRoute received.now (R.custody records.old).kept (R.custody records.new).kept (name_if domain)
         (to.Decide domain) result }
-    ensures shared { Sharing (R.custody records.old) (R.custody records.new)
-        resources.old resources.new result
-        (WorksRoute received.now (R.custody records.old).kept
-        (to.Decide domain) result resources.old.tally resources.new.tally) }
+    ensures shared { SharesRoute (R.custody records.old) (R.custody records.new) received.now
+        (to.Decide domain) resources.old resources.new result }
     ensures keeper { OnlyReads (R.custody records.old) (R.custody records.new) result }
 {
     let name = name_if(domain).ok_or(ErrorCode::Unauthorized)?;
-    let revision = admitting_domain(alloc, resources, records, &name, received.message)?;
+    let revision = admit_ask(alloc, resources, records, &name, received.message)?;
     let ask = Ask {
         name: &name,
         revision,
@@ -147,13 +144,13 @@ fn domain_route<R: Records>(
     received: &Received<'_>,
     domain: Items<u8>,
     command: DomainCommand,
-) -> Result<Items<u8>, Stop>
+) -> Result<Items<u8>, Unanswered>
     ensures handled { ChangesRoute (R.custody records.old) (R.custody records.new) received.now
         (to.Domain domain command) result }
     ensures shared { OnlyForgets (R.custody records.old) (R.custody records.new) resources.old resources.new }
 {
     let name = name_if(domain).ok_or(ErrorCode::Unauthorized)?;
-    admission(alloc, records, &name, received.message)?;
+    admit(alloc, records, &name, received.message)?;
     resources.forget(&name);
     by_domain_command(alloc, records, &name, command, received.body())
 }
@@ -169,13 +166,13 @@ fn document_route<R: Records>(
     domain: Items<u8>,
     parts: DocumentParts,
     command: DocumentCommand,
-) -> Result<Items<u8>, Stop>
+) -> Result<Items<u8>, Unanswered>
     ensures handled { ChangesRoute (R.custody records.old) (R.custody records.new) received.now
         (to.Document domain parts command) result }
     ensures shared { OnlyForgets (R.custody records.old) (R.custody records.new) resources.old resources.new }
 {
     let name = name_if(domain).ok_or(ErrorCode::Unauthorized)?;
-    admission(alloc, records, &name, received.message)?;
+    admit(alloc, records, &name, received.message)?;
     let key = key_of_parts(parts).ok_or(ABSENT)?;
     resources.forget(&name);
     by_document_command(alloc, records, &name, command, &key)
@@ -188,21 +185,17 @@ fn reply_to_route<R: Records>(
     records: &mut R,
     received: &Received<'_>,
     route: Route,
-) -> Result<Items<u8>, Stop>
+) -> Result<Items<u8>, Unanswered>
     ensures answers { AllStand (R.custody records.old).kept resources.old → (R.custody records.new).sound
         → AnswersRoute received.now (R.custody records.old).kept (R.custody records.new).kept
         (domain_named route) route result }
-    ensures shared { Sharing (R.custody records.old) (R.custody records.new)
-        resources.old resources.new result
-        (WorksRoute received.now
-        (R.custody records.old).kept route result resources.old.tally resources.new.tally) }
-    ensures keeper { Keeping (R.custody records.old) (R.custody records.new) result
-        (LeavesRoute (R.custody records.old).may_leave (R.custody records.new).may_leave received.now
-        (R.custody records.old).kept (domain_named route) route) }
+    ensures shared { SharesRoute (R.custody records.old) (R.custody records.new) received.now route
+        resources.old resources.new result }
+    ensures keeper { KeepsRoute (R.custody records.old) (R.custody records.new) received.now route result }
 {
     match route {
         Route::Domains => {
-            by_operator(received.operator, received.message)?;
+            admit_operator(received.operator, received.message)?;
             domains(alloc, records)
         }
         Route::Operator { domain, command } => {
@@ -227,17 +220,13 @@ pub(crate) fn reply_to_message<R: Records>(
     resources: &mut Resources,
     records: &mut R,
     received: &Received<'_>,
-) -> Result<Items<u8>, Stop>
+) -> Result<Items<u8>, Unanswered>
     ensures answers { AllStand (R.custody records.old).kept resources.old → (R.custody records.new).sound
         → AnswersMessage received.now (R.custody records.old).kept (R.custody records.new).kept
         (owner received.now.message.now) result }
-    ensures shared { Sharing (R.custody records.old) (R.custody records.new)
-        resources.old resources.new result
-        (WorksMessage received.now
-        (R.custody records.old).kept result resources.old.tally resources.new.tally) }
-    ensures keeper { Keeping (R.custody records.old) (R.custody records.new) result
-        (LeavesMessage (R.custody records.old).may_leave (R.custody records.new).may_leave received.now
-        (R.custody records.old).kept (owner received.now.message.now)) }
+    ensures shared { SharesMessage (R.custody records.old) (R.custody records.new) received.now
+        resources.old resources.new result }
+    ensures keeper { KeepsMessage (R.custody records.old) (R.custody records.new) received.now result }
 {
     let route = routes.route(alloc, received.message)?;
     reply_to_route(alloc, resources, records, received, route)

@@ -49,49 +49,6 @@ pub enum ErrorCode {
 /// 404: what is asked for isn't there.
 pub(crate) const ABSENT: ErrorCode = ErrorCode::Refused(Refusal::Absent);
 
-/// The body of the reply to a fault of a body.
-#[tactic(auto, unfolding(crate::specs::ErrorCode::error_body))]
-fn body_of_notation(fault: NotationError) -> &'static [u8]
-    ensures { result.now ≡ error_body (code.Body fault) }
-{
-    match fault {
-        NotationError::NotJson => b"{\"Error\":\"NotJson\"}",
-        NotationError::MissingMember(_) => b"{\"Error\":\"MissingMember\"}",
-        NotationError::UnknownMember => b"{\"Error\":\"UnknownMember\"}",
-        NotationError::BadValue => b"{\"Error\":\"BadValue\"}",
-        NotationError::IllTyped(_) => b"{\"Error\":\"IllTyped\"}",
-        NotationError::UnknownAlgorithm => b"{\"Error\":\"UnknownAlgorithm\"}",
-        NotationError::TooLarge => b"{\"Error\":\"TooLarge\"}",
-    }
-}
-
-/// The body of the reply to a refused change or reading.
-#[tactic(auto, unfolding(crate::specs::ErrorCode::error_body))]
-fn body_of_refusal(refusal: Refusal) -> &'static [u8]
-    ensures { result.now ≡ error_body (code.Refused refusal) }
-{
-    match refusal {
-        Refusal::Exists => b"{\"Error\":\"Exists\"}",
-        Refusal::Absent => b"{\"Error\":\"Absent\"}",
-        Refusal::Quota => b"{\"Error\":\"Quota\"}",
-        Refusal::SameVersionOtherText => b"{\"Error\":\"SameVersionOtherText\"}",
-        Refusal::StillActive => b"{\"Error\":\"StillActive\"}",
-    }
-}
-
-/// The body of the reply to a stream that ends by that fault.
-#[tactic(auto, unfolding(crate::specs::ErrorCode::error_body))]
-fn body_of_session(fault: SessionFault) -> &'static [u8]
-    ensures { result.now ≡ error_body (code.Session fault) }
-{
-    match fault {
-        SessionFault::BadHead => b"{\"Error\":\"BadHead\"}",
-        SessionFault::BodyTooLarge => b"{\"Error\":\"BodyTooLarge\"}",
-        SessionFault::HeadTooLarge => b"{\"Error\":\"HeadTooLarge\"}",
-        SessionFault::TransferCoding => b"{\"Error\":\"TransferCoding\"}",
-    }
-}
-
 impl ErrorCode {
     /// The status of the error answer.
     fn status(self) -> StatusCode
@@ -146,6 +103,49 @@ impl ErrorCode {
         ensures { IfOk result (λ bytes. bytes ≡ error_reply self) }
     {
         items_of_reply(alloc, self.status(), Media::Json, self.extra(), self.body())
+    }
+}
+
+/// The body of the reply to a fault of a body.
+#[tactic(auto, unfolding(crate::specs::ErrorCode::error_body))]
+fn body_of_notation(fault: NotationError) -> &'static [u8]
+    ensures { result.now ≡ error_body (code.Body fault) }
+{
+    match fault {
+        NotationError::NotJson => b"{\"Error\":\"NotJson\"}",
+        NotationError::MissingMember(_) => b"{\"Error\":\"MissingMember\"}",
+        NotationError::UnknownMember => b"{\"Error\":\"UnknownMember\"}",
+        NotationError::BadValue => b"{\"Error\":\"BadValue\"}",
+        NotationError::IllTyped(_) => b"{\"Error\":\"IllTyped\"}",
+        NotationError::UnknownAlgorithm => b"{\"Error\":\"UnknownAlgorithm\"}",
+        NotationError::TooLarge => b"{\"Error\":\"TooLarge\"}",
+    }
+}
+
+/// The body of the reply to a refused change or reading.
+#[tactic(auto, unfolding(crate::specs::ErrorCode::error_body))]
+fn body_of_refusal(refusal: Refusal) -> &'static [u8]
+    ensures { result.now ≡ error_body (code.Refused refusal) }
+{
+    match refusal {
+        Refusal::Exists => b"{\"Error\":\"Exists\"}",
+        Refusal::Absent => b"{\"Error\":\"Absent\"}",
+        Refusal::Quota => b"{\"Error\":\"Quota\"}",
+        Refusal::SameVersionOtherText => b"{\"Error\":\"SameVersionOtherText\"}",
+        Refusal::StillActive => b"{\"Error\":\"StillActive\"}",
+    }
+}
+
+/// The body of the reply to a stream that ends by that fault.
+#[tactic(auto, unfolding(crate::specs::ErrorCode::error_body))]
+fn body_of_session(fault: SessionFault) -> &'static [u8]
+    ensures { result.now ≡ error_body (code.Session fault) }
+{
+    match fault {
+        SessionFault::BadHead => b"{\"Error\":\"BadHead\"}",
+        SessionFault::BodyTooLarge => b"{\"Error\":\"BodyTooLarge\"}",
+        SessionFault::HeadTooLarge => b"{\"Error\":\"HeadTooLarge\"}",
+        SessionFault::TransferCoding => b"{\"Error\":\"TransferCoding\"}",
     }
 }
 

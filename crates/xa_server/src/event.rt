@@ -16,25 +16,25 @@ pub struct Answer {
 /// Something that comes of a connection, or is to be done for it: a call of `Front`, with its arguments.
 #[derive(Clone, Copy)]
 pub enum Event<'a> {
-    /// `open`.
+    /// Opens a connection: `Front::open`.
     Begin,
-    /// `piece`.
+    /// Takes a piece of a connection's stream: `Front::piece`.
     Piece(Conn, &'a [u8]),
-    /// `answer`.
+    /// Answers the next of a connection at that moment: `Front::answer`.
     Answer(Conn, Moment),
-    /// `close`.
+    /// Closes a connection: `Front::close`.
     Finish(Conn),
 }
 
 /// What came of an event: what that call has given.
 #[derive(Debug, Drop)]
 pub enum Outcome {
-    /// Of `Begin`.
+    /// Of `Begin`: the connection that is open now.
     Begun(Result<Conn, FrontError>),
-    /// Of `Piece`.
+    /// Of `Piece`: that it was taken, whole.
     Held(Result<(), FrontError>),
-    /// Of `Answer`.
+    /// Of `Answer`: the answer, if there was something to answer.
     Answered(Result<Option<Answer>, FrontError>),
-    /// Of `Finish`.
+    /// Of `Finish`: that the connection is closed.
     Finished(Result<(), FrontError>),
 }

@@ -28,8 +28,11 @@ use xa_value::Moment;
 /// own bytes, whatever comes on the others in between; all are answered by the one server.
 #[derive(Drop)]
 pub struct Front<R: Records> {
+    /// Where memory comes from.
     alloc: Global,
+    /// The server, which answers all messages.
     server: Server<R>,
+    /// The connections.
     lines: Lines,
 }
 
@@ -85,14 +88,6 @@ impl<R: Records> Front<R> {
         self.lines.piece(conn, piece)
     }
 
-    /// Closes the connection. The bytes that it holds are gone.
-    pub fn close(&mut self, conn: Conn) -> Result<(), FrontError>
-        ensures closed { IsClosed conn self.old.lines result self.new.lines }
-        ensures server { self.new.server ≡ self.old.server }
-    {
-        self.lines.close(conn)
-    }
-
     /// Answers the first whole message of the connection's bytes, or the fault by which its stream ends;
     /// nothing where there is neither. No other connection's bytes change. Without memory before the
     /// message is cut off, or for the reply to the fault, nothing has changed. The reply to a fault is
@@ -121,27 +116,12 @@ impl<R: Records> Front<R> {
         }
     }
 
-    /// Whether the server's keeper can go on: one that can't answers `Store` to every call, so that every
-    /// message that wants it is refused. A message that wants nothing of it may still be answered.
-    pub(crate) fn is_open(&self) -> bool
-        ensures { result ≡ (R.custody self.now.server.records).is_open }
+    /// Closes the connection. The bytes that it holds are gone.
+    pub fn close(&mut self, conn: Conn) -> Result<(), FrontError>
+        ensures closed { IsClosed conn self.old.lines result self.new.lines }
+        ensures server { self.new.server ≡ self.old.server }
     {
-        self.server.is_open()
-    }
-
-    /// What stands at the front of the connection's stream. Nothing is changed.
-    pub(crate) fn look(&mut self, conn: Conn) -> Result<Look, FrontError>
-        ensures look { IsLooked conn self.old.lines result }
-        ensures same { self.new ≡ self.old }
-    {
-        self.lines.look(conn)
-    }
-
-    /// How many bytes the connection holds, if it is open.
-    pub(crate) fn held_len(&self, conn: Conn) -> Option<usize>
-        ensures { result ≡ held_at conn self.now.lines }
-    {
-        self.lines.held_len(conn)
+        self.lines.close(conn)
     }
 
     /// Makes these calls, one after another. Whatever comes on which connection, and in which pieces,
@@ -171,6 +151,29 @@ impl<R: Records> Front<R> {
             outcomes.push(outcome).unwrap();
         }
         Ok(outcomes)
+    }
+
+    /// Whether the server's keeper can go on: one that can't answers `Store` to every call, so that every
+    /// message that wants it is refused. A message that wants nothing of it may still be answered.
+    pub(crate) fn is_open(&self) -> bool
+        ensures { result ≡ (R.custody self.now.server.records).is_open }
+    {
+        self.server.is_open()
+    }
+
+    /// What stands at the front of the connection's stream. Nothing is changed.
+    pub(crate) fn look(&mut self, conn: Conn) -> Result<Look, FrontError>
+        ensures look { IsLooked conn self.old.lines result }
+        ensures same { self.new ≡ self.old }
+    {
+        self.lines.look(conn)
+    }
+
+    /// How many bytes the connection holds, if it is open.
+    pub(crate) fn held_len(&self, conn: Conn) -> Option<usize>
+        ensures { result ≡ held_at conn self.now.lines }
+    {
+        self.lines.held_len(conn)
     }
 
     /// Makes one call.

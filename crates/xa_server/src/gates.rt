@@ -1,4 +1,5 @@
-//! The gates that are remembered: of each domain at most one, under its name.
+//! The gates that are remembered: of each domain at most one, under its name. A gate is what lets messages
+//! in: the domain's tokens, with its number and epoch.
 ghost use Rattle.std.specs.Prelude.{◌≡◌, ◌⊎◌, [], IfOk, None, bytes_eq};
 ghost use Rattle.std.specs.Map.{lookup};
 ghost use Rattle.xa_server.specs.Gates.{revision_in, used, with_gate, without_gate};
@@ -16,21 +17,10 @@ use xa_value::Text;
 /// The most gates that are remembered.
 const MAX_GATES: usize = 512;
 
-/// The role of the token of that digest, among these.
-pub(crate) fn role_in(tokens: &[Token], digest: &Digest) -> Option<Role>
-    ensures { result ≡ role_in digest.now tokens.now }
-{
-    for token in tokens {
-        if token.digest == *digest {
-            return Some(token.role);
-        }
-    }
-    None
-}
-
 /// Gates that are remembered, each under its domain's name.
 #[derive(Drop)]
 pub(crate) struct Gates {
+    /// The gates, the one that was used last first.
     gates: LruCache<Text, Gate>,
 }
 
@@ -93,7 +83,21 @@ impl Gates {
         ensures forgotten { self.new ≡ without_gate name.now self.old }
         ensures gone { lookup (bytes_eq name.now) self.new ≡ None }
     {
+        // Nothing is done with the length: by the clause `valid` of this look the prover knows that no two
+        // gates stand under one name.
         let _length = self.gates.len();
         self.gates.pop(name);
     }
+}
+
+/// The role of the token of that digest, among these.
+pub(crate) fn role_in(tokens: &[Token], digest: &Digest) -> Option<Role>
+    ensures { result ≡ role_in digest.now tokens.now }
+{
+    for token in tokens {
+        if token.digest == *digest {
+            return Some(token.role);
+        }
+    }
+    None
 }

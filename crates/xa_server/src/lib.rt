@@ -1,4 +1,15 @@
 //! The decision server: one message after another, each answered by the machine of its own domain.
+//!
+//! Files in the order of a message: `server` has it answered by `dispatch`, which asks `admission` whether
+//! it is let in and goes on to `changes`, `readings` or `asks`. `admission` asks `authorization` and
+//! `gates`; `asks` asks `decisions`, `views`, `view` and `oversized`. All that is cached stands in
+//! `resources`. What is not answered with success is `unanswered`; the bytes of replies come from `replies`
+//! and `error_code`.
+//!
+//! Files of connections: `front` cuts the messages from the bytes that `lines` holds. `driving` reads a
+//! connection from a `Reader` until it ends, and `turns` sends each reply by `sending` to a `Writer`.
+//!
+//! In a file of functions each stands after those that it calls. In a file of a type its methods come first.
 #![tactic(auto)]
 
 mod admission;
@@ -6,11 +17,11 @@ mod asks;
 mod authorization;
 mod changes;
 mod clock;
-mod course;
 mod decisions;
 mod dispatch;
 mod document_key;
 mod driven;
+mod driving;
 mod error_code;
 mod event;
 mod front;
@@ -21,6 +32,7 @@ mod limits;
 mod lines;
 mod multiplexer;
 mod name;
+mod oversized;
 mod reader;
 mod readings;
 mod ready;
@@ -30,16 +42,15 @@ mod resources;
 mod revision;
 mod sending;
 mod server;
-mod stop;
 mod turns;
-mod unread;
+mod unanswered;
 mod view;
 mod views;
 mod writer;
 
 pub use clock::Clock;
-pub use course::drive;
 pub use driven::Driven;
+pub use driving::drive;
 pub use error_code::{ErrorCode, fault_reply};
 pub use event::{Answer, Event, Outcome};
 pub use front::{Front, lines_are_streams};

@@ -3,8 +3,8 @@ ghost use Rattle.std.specs.Prelude.{◌≡◌};
 
 use xa_decide::View;
 
-/// What the decision on one message may cost. These are numbers, and each message begins anew: none finds
-/// less for another's use.
+/// What the decision on one message may cost. Nothing is used up: each message begins anew, whatever
+/// others have asked. A message over a limit is refused as for want of memory, as any message may be.
 #[derive(Clone, Copy)]
 pub(crate) struct Limits {
     /// The work, in units.
@@ -12,12 +12,12 @@ pub(crate) struct Limits {
     /// The bytes of the response's body.
     pub(crate) reply: u64,
     /// The bytes of the texts of policies that are read for it. They are counted whether their documents
-    /// are held or not.
+    /// are on the shelf or not.
     pub(crate) reading: u64,
 }
 
 impl Limits {
-    /// There are none.
+    /// No limits.
     pub(crate) fn none() -> Limits {
         Limits {
             work: u64::MAX,
@@ -26,8 +26,8 @@ impl Limits {
         }
     }
 
-    /// The view, under these limits.
-    pub(crate) fn of_view(self, view: View) -> View
+    /// The same view, whose decisions are under the limits of work and of the response.
+    pub(crate) fn apply_to(self, view: View) -> View
         ensures { result ≡ view }
     {
         view.with_limit(self.work).with_reply_limit(self.reply)

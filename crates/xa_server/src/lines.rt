@@ -25,6 +25,7 @@ pub struct Conn {
 /// The connections, by their numbers: the session of each that is open. One that isn't has no buffer.
 #[derive(Drop)]
 pub(crate) struct Lines {
+    /// By number, the session of each connection that is open.
     pub(crate) sessions: Vec<Option<Session>>,
 }
 

@@ -47,8 +47,8 @@ pub trait Multiplexer {
         ensures said { said self.new ≡ said self.old };
 
     /// Whether its keeper can go on: one that can't answers `Store` to every call, so that every message
-    /// that wants it is refused. A message that wants nothing of it may still be answered, as by a
-    /// decision that is held. Nothing is changed.
+    /// that wants it is refused. A message that wants nothing of it may still be answered, as by a cached
+    /// decision. Nothing is changed.
     fn can_go_on(&mut self) -> bool
         ensures truth { result ≡ goes_on self.new }
         ensures same { state self.new ≡ state self.old }

@@ -5,13 +5,13 @@ ghost use Rattle.xa_decide.specs.Rows.{rows_body};
 ghost use Rattle.xa_records.specs.Kept.{names_of};
 ghost use Rattle.xa_records.specs.Listing.{listing_body, names_body};
 ghost use Rattle.xa_records.specs.Readings.{listing_of_state};
-ghost use Rattle.xa_server.specs.Handling.{HandlesReading, OnlyReads, Shows};
+ghost use Rattle.xa_server.specs.Handling.{HandlesReading, OnlyReads, Tells};
 ghost use Rattle.xa_server.specs.Machine.{by_document_command, told};
 ghost use Rattle.xa_server.specs.Replies.{json_reply};
 
 use crate::error_code::ABSENT;
 use crate::replies::json_reply;
-use crate::stop::Stop;
+use crate::unanswered::Unanswered;
 use std::alloc::Global;
 use xa_decide::write_rows;
 use xa_policy::DocumentKey;
@@ -24,7 +24,7 @@ pub(crate) fn list<R: Records>(
     alloc: Global,
     records: &mut R,
     name: &Text,
-) -> Result<Items<u8>, Stop>
+) -> Result<Items<u8>, Unanswered>
     ensures { HandlesReading (R.custody records.old) (R.custody records.new) name.now result
         (told (λ kept. Ok (json_reply (listing_body (listing_of_state kept))))) }
 {
@@ -39,7 +39,7 @@ pub(crate) fn source<R: Records>(
     alloc: Global,
     records: &mut R,
     name: &Text,
-) -> Result<Items<u8>, Stop>
+) -> Result<Items<u8>, Unanswered>
     ensures { HandlesReading (R.custody records.old) (R.custody records.new) name.now result
         (told (λ kept. Ok (json_reply (rows_body kept.source)))) }
 {
@@ -55,7 +55,7 @@ pub(crate) fn show<R: Records>(
     records: &mut R,
     name: &Text,
     key: &DocumentKey,
-) -> Result<Items<u8>, Stop>
+) -> Result<Items<u8>, Unanswered>
     ensures { HandlesReading (R.custody records.old) (R.custody records.new) name.now result
         (by_document_command document.Show key.now) }
 {
@@ -64,9 +64,8 @@ pub(crate) fn show<R: Records>(
 }
 
 /// The names of all domains. What this costs grows with their number.
-pub(crate) fn domains<R: Records>(alloc: Global, records: &mut R) -> Result<Items<u8>, Stop>
-    ensures tells { (R.custody records.new).sound
-        → Shows (R.custody records.old).kept (R.custody records.new).kept result
+pub(crate) fn domains<R: Records>(alloc: Global, records: &mut R) -> Result<Items<u8>, Unanswered>
+    ensures tells { Tells (R.custody records.old) (R.custody records.new) result
         (Ok (json_reply (names_body (names_of (R.custody records.old).kept)))) }
     ensures keeper { OnlyReads (R.custody records.old) (R.custody records.new) result }
 {

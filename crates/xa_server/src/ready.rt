@@ -20,10 +20,10 @@ const BYTES_OF_A_TEXT_BYTE: usize = 8;
 /// The bytes that a place of the linked tree takes: a set's list has room for its children and no more.
 const PLACE_BYTES: usize = 24;
 
-/// What decides in a domain at a revision of it.
+/// The view of a domain at a revision of it.
 #[derive(Drop)]
 pub(crate) struct Ready {
-    /// Whose view it is, and of which state.
+    /// The revision of the domain whose view it is.
     pub(crate) revision: Revision,
     /// The view.
     pub(crate) view: View,
@@ -31,8 +31,8 @@ pub(crate) struct Ready {
     pub(crate) bytes: usize,
 }
 
-/// An estimate of the memory that a view takes but for its tree, for which so many bytes of texts were
-/// read, with so many rows.
+/// An estimate of the memory that a view takes but for its linked tree, by the bytes of the texts that were
+/// read for it and the number of its rows.
 pub(crate) fn bytes_of_view(read: usize, rows: usize) -> usize
     ensures { result ≡ bytes_of_view read rows }
 {

@@ -10,6 +10,10 @@ use xa_http::{Extra, Media, reply};
 use xa_records::Failure;
 use xa_value::Items;
 
+/// The reply of a message that is refused (RFC 9110, section 15.6.4).
+const UNAVAILABLE: &[u8] =
+    b"HTTP/1.1 503 Service Unavailable\r\nContent-Type: application/json\r\nContent-Length: 23\r\n\r\n{\"Error\":\"Unavailable\"}";
+
 /// What a message gets: the bytes of its reply, or a refusal.
 #[derive(Debug, Drop)]
 pub enum Reply {
@@ -19,10 +23,6 @@ pub enum Reply {
     /// limit of the server's was reached (`Server::with_limit`, `with_reply_limit`, `with_reading`).
     Refused(Failure),
 }
-
-/// The reply of a message that is refused (RFC 9110, section 15.6.4).
-const UNAVAILABLE: &[u8] =
-    b"HTTP/1.1 503 Service Unavailable\r\nContent-Type: application/json\r\nContent-Length: 23\r\n\r\n{\"Error\":\"Unavailable\"}";
 
 impl Reply {
     /// The bytes that are sent: of a refused message the fixed 503.
@@ -36,6 +36,7 @@ impl Reply {
     }
 }
 
+/// The reply of a message that is refused: the fixed 503.
 #[tactic(auto, using(crate::proofs::ReplyLemmas::unavailable_is))]
 fn unavailable_reply() -> &'static [u8]
     ensures { result.now ≡ unavailable_reply }

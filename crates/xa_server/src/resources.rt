@@ -1,5 +1,5 @@
-//! What a server shares among all domains: the shelf of policies, the views that are kept ready, the
-//! decisions that are held, the gates that are remembered, and what the decision on a message may cost.
+//! What a server shares among all domains: the shelf of policies, the cached views, decisions and gates,
+//! and what the decision on a message may cost.
 ghost use Rattle.std.specs.Prelude.{◌≡◌, ◌⊎◌, [], IfOk, IsSome, None, bytes_eq};
 ghost use Rattle.std.specs.Map.{lookup};
 ghost use Rattle.xa_server.specs.Gates.{revision_in};
@@ -8,8 +8,8 @@ ghost use Rattle.xa_server.specs.Stock.{empty_stock, forgetting, remembering, us
 use crate::decisions::Decisions;
 use crate::gates::Gates;
 use crate::limits::Limits;
+use crate::oversized::Oversized;
 use crate::revision::Revision;
-use crate::unread::Unread;
 use crate::views::Views;
 use std::alloc::{AllocError, Global};
 use std::marker::Model;
@@ -22,16 +22,21 @@ use xa_value::Text;
 pub(crate) struct Texts {
     /// The policies that were read.
     pub(crate) shelf: Shelf,
-    /// The domains of which more would have to be read for a decision than may be.
-    pub(crate) unread: Unread,
+    /// The domains whose policies have more bytes than may be read for a message.
+    pub(crate) oversized: Oversized,
 }
 
 /// What a server shares among all domains.
 #[derive(Drop)]
 pub(crate) struct Resources {
+    /// The texts of policies.
     pub(crate) texts: Texts,
+    /// The cached views.
     pub(crate) views: Views,
+    /// The cached decisions.
     pub(crate) decisions: Decisions,
+    /// The gates that are remembered. Only the methods below reach them: a look-up that finds the token is
+    /// the gate's newest use, too.
     gates: Gates,
     /// What the decision on a message may cost.
     pub(crate) limits: Limits,
@@ -52,14 +57,14 @@ impl Model for Resources {
 }
 
 impl Resources {
-    /// Nothing is held yet, and a decision may cost anything.
+    /// Nothing is cached yet, and a decision may cost anything.
     pub(crate) fn new(alloc: Global, operator: Digest) -> Result<Resources, AllocError>
         ensures { IfOk result (λ r. r ≡ empty_stock) }
     {
         Ok(Resources {
             texts: Texts {
                 shelf: Shelf::new(alloc)?,
-                unread: Unread::new(alloc)?,
+                oversized: Oversized::new(alloc)?,
             },
             views: Views::new(alloc)?,
             decisions: Decisions::new(alloc, operator)?,
@@ -69,15 +74,19 @@ impl Resources {
     }
 
     /// From now on with these limits. The views that were kept had others; none is kept yet.
-    pub(crate) fn limit(&mut self, limits: Limits)
+    pub(crate) fn set_limits(&mut self, limits: Limits)
         ensures { self.new ≡ record {
           tally = self.old.tally;
-          room = record { views = []; most = self.old.room.most; bytes = self.old.room.bytes };
+          room = record {
+            views = [];
+            max_count = self.old.room.max_count;
+            max_bytes = self.old.room.max_bytes;
+          };
           gates = self.old.gates;
         } }
     {
         self.views.clear();
-        self.texts.unread.clear();
+        self.texts.oversized.clear();
         self.limits = limits;
     }
 

@@ -45,6 +45,7 @@ pub(crate) fn send_whole<W: Writer>(writer: &mut W, bytes: &[u8]) -> bool
         (W.writes writer.old) (W.writes writer.new) }
 {
     let mut sent = 0;
+    // Bounded, so that it ends whatever the writer answers.
     for _tried in 0..u64::MAX {
         if sent == bytes.len() {
             return flush(writer);

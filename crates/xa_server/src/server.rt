@@ -8,7 +8,7 @@ use crate::limits::Limits;
 use crate::received::Received;
 use crate::replies::Reply;
 use crate::resources::Resources;
-use crate::stop::Stop;
+use crate::unanswered::Unanswered;
 use std::alloc::{AllocError, AllocFailed, Global};
 use std::marker::Model;
 use xa_http::{Message, Routes};
@@ -18,10 +18,15 @@ use xa_value::{Items, Moment};
 /// A server over a keeper.
 #[derive(Drop)]
 pub struct Server<R: Records> {
+    /// Where memory comes from.
     alloc: Global,
+    /// The routes of the messages.
     routes: Routes,
+    /// The digest of the operator's token.
     operator: Digest,
+    /// The keeper.
     records: R,
+    /// What all domains share.
     resources: Resources,
 }
 
@@ -38,20 +43,6 @@ impl<R: Records> Model for Server<R> {
     ghost view = { λ s. record { operator = s.operator; records = s.records; tally = s.resources.tally } };
 
     ghost invariant = { λ s. (R.custody s.records).sound → AllStand (R.custody s.records).kept s.resources };
-}
-
-/// What goes back for a message that was answered, or wasn't.
-fn reply_of(alloc: Global, answered: Result<Items<u8>, Stop>) -> Reply
-    ensures { IsReplyOf answered result }
-{
-    match answered {
-        Ok(bytes) => Reply::Sent(bytes),
-        Err(Stop::Failed(failure)) => Reply::Refused(failure),
-        Err(Stop::Code(code)) => match code.reply(alloc) {
-            Ok(bytes) => Reply::Sent(bytes),
-            Err(_) => Reply::Refused(Failure::Memory),
-        },
-    }
 }
 
 impl<R: Records> Server<R> {
@@ -83,118 +74,6 @@ impl<R: Records> Server<R> {
             records,
             resources,
         })
-    }
-
-    /// The same server, which from now on refuses each message whose decision asks for more work than so
-    /// many units. A unit is a byte of a text or of a value that is made, copied or compared; a step, such
-    /// as an expression or a match, is 32, and a rule that is looked at 80 (`xa_expr::Budget`). Work is
-    /// counted and not timed, and each message begins anew. So the same message on the same state is
-    /// refused, or is not, on every machine, whatever other domains ask. Reading (`with_reading`) and
-    /// linking policies, administration, and decisions that are held aren't counted. A refusal is
-    /// `Reply::Refused` as for want of memory: nothing has changed, and the reply is the fixed 503. A
-    /// server that is new has no limit.
-    pub fn with_limit(self, units: u64) -> Server<R>
-        ensures { result ≡ self }
-    {
-        let limits = Limits {
-            work: units,
-            ..self.resources.limits
-        };
-        self.with_limits(limits)
-    }
-
-    /// The same server, which from now on refuses each message whose decision has a response of more
-    /// than so many bytes. These are the bytes of the body, with the escapes of its JSON; they are
-    /// counted before they are written. The body follows from the domain's state, the message's body and
-    /// the moment, and so does the refusal, whatever is held and whatever other domains ask; it is that
-    /// of `with_limit`. Documents and lists are shown whatever this is: how large they are is bounded by
-    /// what a domain may be given. A server that is new has no limit.
-    pub fn with_reply_limit(self, bytes: u64) -> Server<R>
-        ensures { result ≡ self }
-    {
-        let limits = Limits {
-            reply: bytes,
-            ..self.resources.limits
-        };
-        self.with_limits(limits)
-    }
-
-    /// The same server, which from now on refuses each message that asks policies whose texts have more
-    /// than so many bytes together. These are the policies to which the domain's root leads, each once.
-    /// Their texts are counted whether their documents are held or not, and each message begins anew. So
-    /// whether it is refused depends on the domain's documents and its root alone. A body that doesn't
-    /// ask the policies, a domain without a root, and a decision that is held have nothing read. A
-    /// refusal is `Reply::Refused` as for want of memory: nothing has changed, and the reply is the fixed
-    /// 503. A server that is new has no limit.
-    pub fn with_reading(self, bytes: u64) -> Server<R>
-        ensures { result ≡ self }
-    {
-        let limits = Limits {
-            reading: bytes,
-            ..self.resources.limits
-        };
-        self.with_limits(limits)
-    }
-
-    /// The same server, whose decisions may cost so much from now on.
-    fn with_limits(mut self, limits: Limits) -> Server<R>
-        ensures { result ≡ self }
-    {
-        self.resources.limit(limits);
-        self
-    }
-
-    /// The same server with room for at most so many views that are kept ready, or for 128, whichever is
-    /// less; none is kept yet. What it answers doesn't depend on them.
-    pub fn with_views(mut self, most: usize) -> Server<R>
-        ensures { result ≡ self }
-    {
-        self.resources.views.make_room_for(most);
-        self
-    }
-
-    /// The same server with room for views that are kept ready of so many bytes together, by an estimate
-    /// of the memory that each takes. None is kept yet. One of them may take all. A server that is new
-    /// has room for 256 MiB. What it answers doesn't depend on them.
-    pub fn with_room(mut self, bytes: usize) -> Server<R>
-        ensures { result ≡ self }
-    {
-        self.resources.views.make_room_of(bytes);
-        self
-    }
-
-    /// How many decisions were worked out; at the greatest number it stays.
-    pub fn evaluations(&self) -> u64
-        ensures { result ≡ self.now.tally.evaluations }
-    {
-        self.resources.decisions.evaluations()
-    }
-
-    /// How many decisions were to be held, and weren't for want of memory; at the greatest number it stays.
-    pub fn unkept(&self) -> u64
-        ensures { result ≡ self.now.tally.unkept }
-    {
-        self.resources.decisions.unkept()
-    }
-
-    /// How many texts of policies were read that weren't on the shelf; at the greatest number it stays.
-    pub fn readings(&self) -> u64 {
-        self.resources.texts.shelf.readings()
-    }
-
-    /// Whether the keeper can go on: one that can't answers `Store` to every call, so that every message
-    /// that wants it is refused.
-    pub fn is_open(&self) -> bool
-        ensures { result ≡ (R.custody self.now.records).is_open }
-    {
-        self.records.is_open()
-    }
-
-    /// The keeper, as the messages so far have left it.
-    pub fn into_records(self) -> R
-        ensures { result ≡ self.records }
-    {
-        self.records
     }
 
     /// Answers one message: by the machine of the domain that its path names, and no other domain's
@@ -257,6 +136,132 @@ impl<R: Records> Server<R> {
             replies.push(reply).unwrap();
         }
         Ok(replies)
+    }
+
+    /// The keeper, as the messages so far have left it.
+    pub fn into_records(self) -> R
+        ensures { result ≡ self.records }
+    {
+        self.records
+    }
+
+    /// Whether the keeper can go on: one that can't answers `Store` to every call, so that every message
+    /// that wants it is refused.
+    pub fn is_open(&self) -> bool
+        ensures { result ≡ (R.custody self.now.records).is_open }
+    {
+        self.records.is_open()
+    }
+
+    /// How many decisions were evaluated; at the greatest number it stays.
+    pub fn evaluations(&self) -> u64
+        ensures { result ≡ self.now.tally.evaluations }
+    {
+        self.resources.decisions.evaluations()
+    }
+
+    /// How many decisions were to be cached, and weren't for want of memory; at the greatest number it stays.
+    pub fn unkept(&self) -> u64
+        ensures { result ≡ self.now.tally.unkept }
+    {
+        self.resources.decisions.unkept()
+    }
+
+    /// How many texts of policies were read that weren't on the shelf; at the greatest number it stays.
+    pub fn readings(&self) -> u64 {
+        self.resources.texts.shelf.readings()
+    }
+
+    /// The same server, which from now on refuses each message whose decision asks for more work than so
+    /// many units. A unit is a byte of a text or of a value that is made, copied or compared; a step, such
+    /// as an expression or a match, is 32, and a rule that is looked at 80 (`xa_expr::Budget`). Work is
+    /// counted and not timed, and each message begins anew. So the same message on the same state is
+    /// refused, or is not, on every machine, whatever other domains ask. Reading (`with_reading`) and
+    /// linking policies, administration, and cached decisions aren't counted. A refusal is
+    /// `Reply::Refused` as for want of memory: nothing has changed, and the reply is the fixed 503. A
+    /// server that is new has no limit.
+    pub fn with_limit(self, units: u64) -> Server<R>
+        ensures { result ≡ self }
+    {
+        let limits = Limits {
+            work: units,
+            ..self.resources.limits
+        };
+        self.with_limits(limits)
+    }
+
+    /// The same server, which from now on refuses each message whose decision has a response of more
+    /// than so many bytes. These are the bytes of the body, with the escapes of its JSON; they are
+    /// counted before they are written. The body follows from the domain's state, the message's body and
+    /// the moment, and so does the refusal, whatever is cached and whatever other domains ask; it is that
+    /// of `with_limit`. Documents and lists are shown whatever this is: how large they are is bounded by
+    /// what a domain may be given. A server that is new has no limit.
+    pub fn with_reply_limit(self, bytes: u64) -> Server<R>
+        ensures { result ≡ self }
+    {
+        let limits = Limits {
+            reply: bytes,
+            ..self.resources.limits
+        };
+        self.with_limits(limits)
+    }
+
+    /// The same server, which from now on refuses each message that asks policies whose texts have more
+    /// than so many bytes together. These are the policies to which the domain's root leads, each once.
+    /// Their texts are counted whether their documents are on the shelf or not, and each message begins
+    /// anew. So whether it is refused depends on the domain's documents and its root alone. A body that
+    /// doesn't ask the policies, a domain without a root, and a cached decision have nothing read. A
+    /// refusal is `Reply::Refused` as for want of memory: nothing has changed, and the reply is the fixed
+    /// 503. A server that is new has no limit.
+    pub fn with_reading(self, bytes: u64) -> Server<R>
+        ensures { result ≡ self }
+    {
+        let limits = Limits {
+            reading: bytes,
+            ..self.resources.limits
+        };
+        self.with_limits(limits)
+    }
+
+    /// The same server, whose decisions may cost so much from now on.
+    fn with_limits(mut self, limits: Limits) -> Server<R>
+        ensures { result ≡ self }
+    {
+        self.resources.set_limits(limits);
+        self
+    }
+
+    /// The same server with room for at most so many cached views, or for 128, whichever is less; none is
+    /// cached yet. What it answers doesn't depend on them.
+    pub fn with_views(mut self, most: usize) -> Server<R>
+        ensures { result ≡ self }
+    {
+        self.resources.views.limit_count(most);
+        self
+    }
+
+    /// The same server with room for cached views of so many bytes together, by an estimate of the memory
+    /// that each takes. None is cached yet. One of them may take all. A server that is new has room for
+    /// 256 MiB. What it answers doesn't depend on them.
+    pub fn with_room(mut self, bytes: usize) -> Server<R>
+        ensures { result ≡ self }
+    {
+        self.resources.views.limit_bytes(bytes);
+        self
+    }
+}
+
+/// What goes back for a message that was answered, or wasn't.
+fn reply_of(alloc: Global, answered: Result<Items<u8>, Unanswered>) -> Reply
+    ensures { IsReplyOf answered result }
+{
+    match answered {
+        Ok(bytes) => Reply::Sent(bytes),
+        Err(Unanswered::Failed(failure)) => Reply::Refused(failure),
+        Err(Unanswered::Code(code)) => match code.reply(alloc) {
+            Ok(bytes) => Reply::Sent(bytes),
+            Err(_) => Reply::Refused(Failure::Memory),
+        },
     }
 }
 

@@ -56,7 +56,7 @@ pub(crate) fn play_one<F: Multiplexer>(
     }
 }
 
-/// What an outcome says of an answer.
+/// What an outcome says of an answer. The outcome of an `Event::Answer` is no other.
 fn answer_of(outcome: Outcome) -> Result<Option<Answer>, FrontError>
     ensures { result ≡ answer_of outcome }
 {
@@ -80,10 +80,8 @@ fn play_answer<F: Multiplexer>(
     ensures said { F.said front.new ≡ F.said front.old }
     ensures sound { F.is_sound front.new → F.is_sound front.old }
 {
-    match play_one(front, &Event::Answer(conn, moment)) {
-        Ok(outcome) => answer_of(outcome),
-        Err(_) => Err(FrontError::Memory),
-    }
+    let outcome = play_one(front, &Event::Answer(conn, moment))?;
+    answer_of(outcome)
 }
 
 /// Whether the keeper behind a front can't go on: that is asked after a message that was refused for want
@@ -253,5 +251,6 @@ pub(crate) fn answer_held<F: Multiplexer, W: Writer, C: Clock>(
             Turn::Ends(driven) => return Some(driven),
         }
     }
+    // Not reached: there are more turns than messages in what the connection held.
     Some(Driven::Memory)
 }

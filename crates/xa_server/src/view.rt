@@ -1,4 +1,4 @@
-//! What decides in a domain, by what is kept of it.
+//! The view of a domain, made of what the keeper has for it.
 ghost use Rattle.std.specs.Prelude.{◌≡◌, ◌+◌, ◌<◌, false, map, true, IfOk};
 ghost use Rattle.xa_decide.specs.Reading.{IsNotTooLarge};
 ghost use Rattle.xa_server.specs.View.{AreKeyed, active_by_key, read_for, viewed};
@@ -11,7 +11,7 @@ use xa_records::{ActiveText, KeptView};
 use xa_shelf::TextReader;
 use xa_value::Items;
 
-/// The document as references may resolve to it, by the key under which it is kept.
+/// The document as references may resolve to it, under its key.
 fn active_by_key(active: ActiveText) -> Active
     ensures { result ≡ active_by_key active }
 {
@@ -36,9 +36,8 @@ fn all_active(alloc: Global, texts: Items<ActiveText>) -> Result<Items<Active>, 
     Ok(active)
 }
 
-/// What decides. A text is read where the root leads to it, by the keys under which the texts are kept,
-/// and no other is looked at. What this costs grows with the number of the texts, and with those that are
-/// read.
+/// The view. A text is read if the root leads to it, by the keys under which the texts are kept, and no
+/// other is looked at. What this costs grows with the number of the texts, and with those that are read.
 pub(crate) fn view_of_kept(
     alloc: Global,
     reader: &mut TextReader<'_>,

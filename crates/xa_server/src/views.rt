@@ -1,4 +1,4 @@
-//! The views that are kept ready: of each domain at most one, under its number.
+//! The cached views: of each domain at most one, under its number.
 ghost use Rattle.std.specs.Prelude.{◌≡◌, ◌≤◌, ◌-◌, ◌^◌, true, false, [], take};
 ghost use Rattle.std.specs.Prelude.{min, nat_eq, nat_le, option_map, IfOk};
 ghost use Rattle.std.specs.Map.{remove_entry};
@@ -16,16 +16,19 @@ use xa_decide::View;
 /// The most views that are kept.
 const MAX_VIEWS: usize = 128;
 
-/// The most bytes that they take together, by their estimates, where nothing else is said: 256 MiB.
+/// The most bytes that they take together, by their estimates, unless another limit is set: 256 MiB.
 const DEFAULT_TOTAL_BYTES: usize = 268_435_456;
 
-/// Views that are kept ready, each under its domain's number. The map would hold any number of them: how
+/// Cached views, each under its domain's number. The map would hold any number of them: how
 /// many stay is said here.
 #[derive(Drop)]
 pub(crate) struct Views {
+    /// The views, the one that was used last first.
     ready: LruCache<u64, Ready>,
-    most: usize,
-    bytes: usize,
+    /// How many of them there may be.
+    max_count: usize,
+    /// How many bytes they may take together, by their estimates.
+    max_bytes: usize,
 }
 
 impl Model for Views {
@@ -38,7 +41,8 @@ impl Model for Views {
 
     ghost coded = { Prim.hlevel (codes, entry.the_row.coded) };
 
-    ghost view = { λ v. record { views = v.ready.entries; most = v.most; bytes = v.bytes } };
+    ghost view = { λ v.
+        record { views = v.ready.entries; max_count = v.max_count; max_bytes = v.max_bytes } };
 
     ghost invariant = { λ v. v.ready.cap ≡ 2 ^ 64 - 1 };
 }
@@ -46,36 +50,38 @@ impl Model for Views {
 impl Views {
     /// No views, and room for 128, of 256 MiB together.
     pub(crate) fn new(alloc: Global) -> Result<Views, AllocError>
-        ensures { IfOk result (λ views. views ≡ record { views = []; most = 128; bytes = 268_435_456 }) }
+        ensures { IfOk result (λ views.
+            views ≡ record { views = []; max_count = 128; max_bytes = 268_435_456 }) }
     {
         Ok(Views {
             ready: LruCache::unbounded(alloc)?,
-            most: MAX_VIEWS,
-            bytes: DEFAULT_TOTAL_BYTES,
+            max_count: MAX_VIEWS,
+            max_bytes: DEFAULT_TOTAL_BYTES,
         })
     }
 
     /// None is kept any longer.
     pub(crate) fn clear(&mut self)
-        ensures { self.new ≡ record { views = []; most = self.old.most; bytes = self.old.bytes } }
+        ensures { self.new
+            ≡ record { views = []; max_count = self.old.max_count; max_bytes = self.old.max_bytes } }
     {
         self.ready.clear();
     }
 
     /// None is kept any longer, and there is room for so many, or for 128, whichever is less.
-    pub(crate) fn make_room_for(&mut self, most: usize)
-        ensures { self.new ≡ record { views = []; most = min most 128; bytes = self.old.bytes } }
+    pub(crate) fn limit_count(&mut self, most: usize)
+        ensures { self.new ≡ record { views = []; max_count = min most 128; max_bytes = self.old.max_bytes } }
     {
         self.ready.clear();
-        self.most = cmp::min(most, MAX_VIEWS);
+        self.max_count = cmp::min(most, MAX_VIEWS);
     }
 
     /// None is kept any longer, and there is room for so many bytes.
-    pub(crate) fn make_room_of(&mut self, bytes: usize)
-        ensures { self.new ≡ record { views = []; most = self.old.most; bytes = bytes } }
+    pub(crate) fn limit_bytes(&mut self, bytes: usize)
+        ensures { self.new ≡ record { views = []; max_count = self.old.max_count; max_bytes = bytes } }
     {
         self.ready.clear();
-        self.bytes = bytes;
+        self.max_bytes = bytes;
     }
 
     /// The view of that revision: the one under its number, if it is of its epoch. One look-up.
@@ -103,10 +109,10 @@ impl Views {
     pub(crate) fn keep(&mut self, ready: Ready) -> bool
         ensures kept { result ≡ true → self.new ≡ with_view ready.revision.number ready self.old }
         ensures left { result ≡ false → self.new ≡ without ready.revision.number self.old }
-        ensures too_large { nat_le ready.bytes self.old.bytes ≡ false → result ≡ false }
+        ensures too_large { nat_le ready.bytes self.old.max_bytes ≡ false → result ≡ false }
     {
         let number = ready.revision.number;
-        if self.most == 0 || ready.bytes > self.bytes {
+        if self.max_count == 0 || ready.bytes > self.max_bytes {
             self.ready.pop(&number);
             return false;
         }
@@ -114,7 +120,7 @@ impl Views {
             self.ready.pop(&number);
             return false;
         }
-        shorten(&mut self.ready, self.most, self.bytes);
+        shorten(&mut self.ready, self.max_count, self.max_bytes);
         true
     }
 }
@@ -126,6 +132,8 @@ fn put(views: &mut LruCache<u64, Ready>, number: u64, ready: Ready) -> bool
     ensures put { result ≡ true → views.new.entries ≡ in_front number ready views.old.entries }
     ensures left { result ≡ false → views.new ≡ views.old }
 {
+    // Nothing is done with the length: by the clauses `len` and `fits` of this look the prover knows that
+    // fewer views stand in the map than it has places.
     let _length = views.len();
     match views.put(number, ready) {
         Ok(_) => true,

@@ -6,8 +6,8 @@ use Rattle.httparse.specs.declared.spans.HeaderSpan.{HeaderSpan}
 use Rattle.xa_http.specs.declared.message.Field.{Field}
 use Rattle.xa_http.specs.declared.message.Message.{Message}
 use Rattle.xa_http.specs.declared.front.Head.{Head}
-use Rattle.xa_http.specs.declared.front.Front.{Front}
-use Rattle.xa_http.specs.declared.front.Front.TheVariants as front
+use Rattle.xa_http.specs.declared.front.Beginning.{Beginning}
+use Rattle.xa_http.specs.declared.front.Beginning.TheVariants as beginning
 use Rattle.xa_http.specs.Length.{body_length}
 use Rattle.xa_http.specs.Messages.{message_of, fields_of, BeginsWithHead, IsUnfinished, IsFaulty}
 
@@ -33,7 +33,7 @@ KeepsHead held None = Unit {0}
 KeepsHead held (Some head) = HasHead held head
 
 -- that stands at the front of the bytes held
-abbrev pub IsFront : List ℕ → Front → Type 0
-IsFront held (front.Head head) = HasHead held head
-IsFront held front.More = IsUnfinished held
-IsFront held (front.Fault fault) = IsFaulty held fault
+abbrev pub IsFront : List ℕ → Beginning → Type 0
+IsFront held (beginning.Head head) = HasHead held head
+IsFront held beginning.More = IsUnfinished held
+IsFront held (beginning.Fault fault) = IsFaulty held fault

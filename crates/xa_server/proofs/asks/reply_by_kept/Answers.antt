@@ -12,9 +12,9 @@ returns-clause-stands g c = λ opens stand sound.
     let state = state_of c.args.ask.now.name.now kept in
     let old = subst (AllStand kept) (sym c.resources.view_is) stand in
     let made = c.in_ok-ready.ensures.tells sound in
-    let work = works_by state c.in_ok-ready.ready.view c.args.body.now c.args.ask.now.moment (key_of_revision c.args.ask.now.revision c.args.body.now) c.reply_by.result _ _ made.0 c.reply_by.ensures.works in
+    let work = works_by state c.in_ok-ready.ready.view c.args.body.now c.args.ask.now.moment (key_of_revision c.args.ask.now.revision c.args.body.now) c.reply_by_view.result _ _ made.0 c.reply_by_view.ensures.works in
     kept_stands kept c.args.ask.now.name.now c.args.body.now c.args.ask.now.moment c.args.ask.now.revision (g.met.R.Records.numbered c.args.records.now (c.in_ok-ready.ensures.keeper.sound sound)) opens
-    c.reply_by.result c.in_ok-ready.ready c.keep.result
-    (record { tally = c.resources.inside.decisions; room = c.resources.inside.views; gates = c.resources.inside.gates }) (record { tally = c.reply_by.new.decisions; room = c.keep.new.self; gates = c.resources.inside.gates })
+    c.reply_by_view.result c.in_ok-ready.ready c.keep.result
+    (record { tally = c.resources.inside.decisions; room = c.resources.inside.views; gates = c.resources.inside.gates }) (record { tally = c.reply_by_view.new.decisions; room = c.keep.new.self; gates = c.resources.inside.gates })
     work
     made.0 made.1 c.keep.ensures.kept c.keep.ensures.left refl old

@@ -2,7 +2,7 @@ use Rattle.std.proofs.Common.{rules, ◌≡◌, Ok, Err}
 use Rattle.std.specs.Option.{ok_or}
 use Rattle.xa_notation.specs.declared.notation_error.NotationError.TheVariants.{NotJson}
 use Rattle.xa_server.specs.declared.error_code.ErrorCode.TheVariants as error
-use Rattle.xa_server.specs.declared.stop.Stop.TheVariants.{Code}
+use Rattle.xa_server.specs.declared.unanswered.Unanswered.TheVariants.{Code}
 use Rattle.xa_server.proofs.AskLemmas.{no_response, response_so}
 use Rattle.xa_server.proofs.asks.response_by.Goals as goal
 

@@ -2,7 +2,7 @@ use Rattle.std.proofs.Common.{sym, subst}
 use Rattle.xa_server.specs.Asking.{key_of_revision}
 use Rattle.xa_server.specs.Work.{IsWorkedOut}
 use Rattle.xa_server.proofs.AskLemmas.{noted}
-use Rattle.xa_server.proofs.asks.reply_by.Goals as goal
+use Rattle.xa_server.proofs.asks.reply_by_view.Goals as goal
 
 pub returns-clause-works : goal.returns-clause-works
 returns-clause-works c =

@@ -23,7 +23,7 @@ const PIECE_BYTES: usize = 65_536;
 /// How often a connection is read from.
 const MAX_READS: u32 = 1_000_000;
 
-/// What an outcome says of a piece.
+/// What an outcome says of a piece. The outcome of an `Event::Piece` is no other.
 fn piece_of(outcome: Outcome) -> Result<(), FrontError>
     ensures { result ≡ piece_of outcome }
 {
@@ -43,10 +43,8 @@ fn play_piece<F: Multiplexer>(front: &mut F, conn: Conn, piece: &[u8]) -> Result
     ensures said { F.said front.new ≡ F.said front.old }
     ensures sound { F.is_sound front.new → F.is_sound front.old }
 {
-    match play_one(front, &Event::Piece(conn, piece)) {
-        Ok(outcome) => piece_of(outcome),
-        Err(_) => Err(FrontError::Memory),
-    }
+    let outcome = play_one(front, &Event::Piece(conn, piece))?;
+    piece_of(outcome)
 }
 
 /// Reads once from a connection of which no whole message is left, and answers all messages that are

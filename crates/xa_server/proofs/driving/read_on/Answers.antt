@@ -2,7 +2,7 @@ use Rattle.std.proofs.Common.{◌≡◌, ◌≢◌, ◌<◌, ◌≤◌, length, 
 use Rattle.std.specs.IoError.{error_kind}
 use Rattle.std.specs.declared.io.ErrorKind.TheVariants.{Interrupted}
 use Rattle.xa_server.proofs.CourseLemmas.{ended_read, failed_read, fed_read, not_fed, piece_answered, retried}
-use Rattle.xa_server.proofs.course.read_on.Goals as goal
+use Rattle.xa_server.proofs.driving.read_on.Goals as goal
 
 pub returns-in-Ok-eq0-clause-read : goal.returns-in-Ok-eq0-clause-read
 returns-in-Ok-eq0-clause-read g c = λ sound stream opens waits.

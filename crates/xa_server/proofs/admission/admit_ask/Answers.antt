@@ -3,7 +3,7 @@ use Rattle.std.proofs.Common.{rules, ◌≡◌, Some, inl, inr, refl, sym, subst
 use Rattle.xa_server.specs.Machine.{digest_shown}
 use Rattle.xa_server.specs.Stock.{AllStand}
 use Rattle.xa_server.proofs.GateLemmas.{known_opens, remembered_stands, used_stands}
-use Rattle.xa_server.proofs.admission.admitting_domain.Goals as goal
+use Rattle.xa_server.proofs.admission.admit_ask.Goals as goal
 
 pub returns-in-Some-clause-tells : goal.returns-in-Some-clause-tells
 returns-in-Some-clause-tells g c = λ stand sound.

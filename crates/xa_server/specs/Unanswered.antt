@@ -7,21 +7,21 @@ use Rattle.xa_records.specs.declared.refusal.ChangeError.{ChangeError}
 use Rattle.xa_records.specs.declared.refusal.ChangeError.TheVariants as change
 use Rattle.xa_records.specs.declared.refusal.Failure.TheVariants.{Memory}
 use Rattle.xa_server.specs.declared.error_code.ErrorCode.TheVariants.{Body, Refused}
-use Rattle.xa_server.specs.declared.stop.Stop.{Stop}
-use Rattle.xa_server.specs.declared.stop.Stop.TheVariants.{Code, Failed}
+use Rattle.xa_server.specs.declared.unanswered.Unanswered.{Unanswered}
+use Rattle.xa_server.specs.declared.unanswered.Unanswered.TheVariants.{Code, Failed}
 use Rattle.xa_server.specs.ErrorCode.{code_of_route_fault}
 
 -- of a change
-abbrev pub stop_of_change : ChangeError → Stop
-stop_of_change (change.Failed failure) = Failed failure
-stop_of_change (change.Refused refusal) = Code (Refused refusal)
+abbrev pub unanswered_of_change : ChangeError → Unanswered
+unanswered_of_change (change.Failed failure) = Failed failure
+unanswered_of_change (change.Refused refusal) = Code (Refused refusal)
 
 -- of a body
-abbrev pub stop_of_body : OrMemory NotationError → Stop
-stop_of_body or_memory.Memory = Failed Memory
-stop_of_body (or_memory.Error fault) = Code (Body fault)
+abbrev pub unanswered_of_body : OrMemory NotationError → Unanswered
+unanswered_of_body or_memory.Memory = Failed Memory
+unanswered_of_body (or_memory.Error fault) = Code (Body fault)
 
 -- of a route
-abbrev pub stop_of_route : OrMemory RouteFault → Stop
-stop_of_route or_memory.Memory = Failed Memory
-stop_of_route (or_memory.Error fault) = Code (code_of_route_fault fault)
+abbrev pub unanswered_of_route : OrMemory RouteFault → Unanswered
+unanswered_of_route or_memory.Memory = Failed Memory
+unanswered_of_route (or_memory.Error fault) = Code (code_of_route_fault fault)

@@ -1,7 +1,7 @@
 use Rattle.std.proofs.Common.{refl, arith}
 use Rattle.xa_server.proofs.CourseLemmas.{begun, held_ends, read_ends, read_more, read_out}
 use Rattle.xa_server.proofs.OpenLemmas.{open_trans}
-use Rattle.xa_server.proofs.course.drive.Goals as goal
+use Rattle.xa_server.proofs.driving.drive.Goals as goal
 
 pub returns-in-Some-clause-connection : goal.returns-in-Some-clause-connection
 returns-in-Some-clause-connection g c = λ sound. held_ends c.in-Some.driven _ c.args.conn _ _ _ _ (c.in-Some.ensures.held sound _ _)

@@ -1,6 +1,6 @@
 use Rattle.xa_server.specs.Driven.{KeepsOpen, known}
 use Rattle.xa_server.specs.Driving.{HasRead}
-use Rattle.xa_server.proofs.course.drive.Given as goal
+use Rattle.xa_server.proofs.driving.drive.Given as goal
 
 -- all that was held and read so far was answered, and more bytes are wanted
 abbrev pub invariant-loop-read : goal.invariant-loop-read

@@ -6,7 +6,7 @@ use Rattle.xa_server.specs.Stock.{AllStand}
 use Rattle.xa_server.proofs.AskLemmas.{keeper_left, replied, works_by}
 use Rattle.xa_server.proofs.ReadyLemmas.{ready_found}
 use Rattle.xa_server.proofs.StockLemmas.{left_stands, touched_stands}
-use Rattle.xa_server.proofs.asks.fresh_reply.Goals as goal
+use Rattle.xa_server.proofs.asks.reply_by_evaluation.Goals as goal
 
 pub returns-in_err-reply : goal.returns-in_err-reply
 returns-in_err-reply g c =
@@ -27,10 +27,10 @@ returns-in_err-reply g c =
       stands = λ opens stand sound.
           let old = subst (AllStand kept) (sym c.resources.view_is) stand in
           let told = ready_found kept c.args.ask.now.name.now c.args.ask.now.revision c.resources.inside.views.views c.in-Some.view.now opens old.views (sym c.in-Some.ensures) in
-          let work = works_by state c.in-Some.view.now c.args.body.now c.args.ask.now.moment (key_of_revision c.args.ask.now.revision c.args.body.now) c.reply_by.result _ _ told c.reply_by.ensures.works in
-          left_stands kept c.args.ask.now.name.now c.args.body.now c.args.ask.now.moment c.args.ask.now.revision (g.met.R.Records.numbered c.args.records.now sound) opens c.reply_by.result
+          let work = works_by state c.in-Some.view.now c.args.body.now c.args.ask.now.moment (key_of_revision c.args.ask.now.revision c.args.body.now) c.reply_by_view.result _ _ told c.reply_by_view.ensures.works in
+          left_stands kept c.args.ask.now.name.now c.args.body.now c.args.ask.now.moment c.args.ask.now.revision (g.met.R.Records.numbered c.args.records.now sound) opens c.reply_by_view.result
           (record { tally = c.resources.inside.decisions; room = c.resources.inside.views; gates = c.resources.inside.gates })
-          (record { tally = c.reply_by.new.decisions; room = c.resources.inside.views; gates = c.resources.inside.gates })
+          (record { tally = c.reply_by_view.new.decisions; room = c.resources.inside.views; gates = c.resources.inside.gates })
           work refl refl old;
       room = rw (← c.resources.view_is, stopped) refl;
       keeper = rw stopped (keeper_left custody c.in-Some.view.now c.args.body.now c.args.ask.now.moment (Err c.in_err-reply.field-0.0) c.in_err-reply.ensures.tells);
@@ -54,9 +54,9 @@ returns-in-Some g c =
       stands = λ opens stand sound.
           let old = subst (AllStand kept) (sym c.resources.view_is) stand in
           let told = ready_found kept c.args.ask.now.name.now c.args.ask.now.revision c.resources.inside.views.views c.in-Some.view.now opens old.views (sym c.in-Some.ensures) in
-          let work = works_by state c.in-Some.view.now c.args.body.now c.args.ask.now.moment (key_of_revision c.args.ask.now.revision c.args.body.now) c.reply_by.result _ _ told c.reply_by.ensures.works in
-          touched_stands kept c.args.ask.now.name.now c.args.body.now c.args.ask.now.moment c.args.ask.now.revision (g.met.R.Records.numbered c.args.records.now sound) opens c.reply_by.result
-          (record { tally = c.resources.inside.decisions; room = c.resources.inside.views; gates = c.resources.inside.gates }) (record { tally = c.reply_by.new.decisions; room = c.touch.new.self; gates = c.resources.inside.gates })
+          let work = works_by state c.in-Some.view.now c.args.body.now c.args.ask.now.moment (key_of_revision c.args.ask.now.revision c.args.body.now) c.reply_by_view.result _ _ told c.reply_by_view.ensures.works in
+          touched_stands kept c.args.ask.now.name.now c.args.body.now c.args.ask.now.moment c.args.ask.now.revision (g.met.R.Records.numbered c.args.records.now sound) opens c.reply_by_view.result
+          (record { tally = c.resources.inside.decisions; room = c.resources.inside.views; gates = c.resources.inside.gates }) (record { tally = c.reply_by_view.new.decisions; room = c.touch.new.self; gates = c.resources.inside.gates })
           work
           c.touch.ensures refl old;
       room = tt;

@@ -12,15 +12,16 @@ const MAX_DOMAINS: usize = 512;
 /// for it again. No clause speaks of these domains, since such a message is answered as if memory were
 /// wanting, which may be answered to any.
 #[derive(Drop)]
-pub(crate) struct Unread {
+pub(crate) struct Oversized {
+    /// The epochs, each under its domain's number.
     epochs: LruCache<u64, u64>,
 }
 
-impl Unread {
+impl Oversized {
     /// No domains, and room for 512.
-    pub(crate) fn new(alloc: Global) -> Result<Unread, AllocError> {
+    pub(crate) fn new(alloc: Global) -> Result<Oversized, AllocError> {
         let size = NonZeroUsize::new(MAX_DOMAINS).unwrap();
-        Ok(Unread {
+        Ok(Oversized {
             epochs: LruCache::new(alloc, size)?,
         })
     }
@@ -35,10 +36,8 @@ impl Unread {
         matches!(self.epochs.peek(&revision.number), Some(epoch) if *epoch == revision.epoch)
     }
 
-    /// Remembers the domain of that revision, at its epoch, where that was found and there is memory.
-    pub(crate) fn remember_if(&mut self, found: bool, revision: Revision) {
-        if found {
-            let _ = self.epochs.put(revision.number, revision.epoch);
-        }
+    /// Remembers the domain of that revision, at its epoch, where there is memory.
+    pub(crate) fn remember(&mut self, revision: Revision) {
+        let _put = self.epochs.put(revision.number, revision.epoch);
     }
 }
