@@ -39,6 +39,7 @@ pub enum StoreFault {
 }
 
 impl StoreFault {
+    /// What to do about it.
     fn advice(self) -> &'static str {
         match self {
             StoreFault::NoFolder => "can't be opened; its folder isn't there, make that first",
@@ -48,7 +49,7 @@ impl StoreFault {
             StoreFault::NoDatabase =>
                 "not a database of SQLite that can be read; name another file",
             StoreFault::Corrupt => "the file's pages are damaged; put back a backup",
-            StoreFault::Schema => "not a store of this program (schema)",
+            StoreFault::Schema => "not a store of this program (schema); name another file",
             StoreFault::Row => "a row of the store is damaged; put back a backup",
             StoreFault::Full => "the disk is full; make room on it",
             StoreFault::Disk => "the disk failed; look after it, or put back a backup",
@@ -140,6 +141,7 @@ impl Fault {
 /// A text on one line: a control character in it, such as a line feed, is shown by its number.
 #[derive(Clone, Copy)]
 pub struct OneLine<'a> {
+    /// The text.
     pub text: &'a str,
 }
 
@@ -159,7 +161,9 @@ impl fmt::Display for OneLine<'_> {
 /// The line that tells a fault.
 #[derive(Drop)]
 pub struct FaultLine<'a> {
+    /// What the program was asked to do.
     pub serving: &'a Serving<'a>,
+    /// Why it ends.
     pub fault: Fault,
 }
 

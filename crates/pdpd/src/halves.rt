@@ -7,14 +7,17 @@ use std::fs;
 use std::io::{self, Read};
 
 /// The length of a log from which on it has room for a commit: its header, and the head of a page.
-const LEAST_LOG: u64 = 56;
+const LEAST_LOG_BYTES: u64 = 56;
 
 /// The length of a file up to which it has no room for tables: one page.
-const MOST_BLANK: u64 = 4_096;
+const MOST_BLANK_BYTES: u64 = 4_096;
 
-/// Up to this byte a file's head says what it is: that it is SQLite's, and then by which version it
-/// is written.
-const HEAD: u64 = 19;
+/// Where in a file's head its write version stands.
+const WRITE_VERSION_AT: usize = 18;
+
+/// How many bytes of a file's head are read: the first 16 say that it is SQLite's, and the last is its
+/// write version.
+const HEAD_BYTES: u64 = 19;
 
 /// What is there of a store.
 #[derive(Clone, Copy, Debug, PartialEq, Eq)]
@@ -35,10 +38,10 @@ fn halves_of(file: u64, log: Option<u64>, is_logged: bool) -> Halves
     ensures { result ≡ halves_of file log is_logged }
 {
     match log {
-        Some(log) if file == 0 && log >= LEAST_LOG => Halves::LogAlone,
+        Some(log) if file == 0 && log >= LEAST_LOG_BYTES => Halves::LogAlone,
         Some(_) => Halves::Whole,
         None if !is_logged => Halves::Whole,
-        None if file <= MOST_BLANK => Halves::FileAlone,
+        None if file <= MOST_BLANK_BYTES => Halves::FileAlone,
         None => Halves::NoLog,
     }
 }
@@ -54,14 +57,14 @@ fn length_at(rt: &HostRuntime, path: &str) -> Option<u64> {
 /// The first bytes of the file at the path.
 fn head_at(rt: &HostRuntime, path: &str) -> io::Result<Vec<u8>> {
     let mut head = Vec::new(rt.alloc());
-    fs::open(rt, path)?.take(HEAD).read_to_end(&mut head)?;
+    fs::open(rt, path)?.take(HEAD_BYTES).read_to_end(&mut head)?;
     Ok(head)
 }
 
 /// Whether a file that begins so is one of SQLite whose commits are in a log first: its write
 /// version is 2 (SQLite's file format, 1.3).
 fn is_logged(head: &[u8]) -> bool {
-    head.starts_with(b"SQLite format 3\0") && head.last() == Some(&2) && head.len() as u64 == HEAD
+    head.starts_with(b"SQLite format 3\0") && head.get(WRITE_VERSION_AT) == Some(&2)
 }
 
 /// Whether the file at the path is one whose commits are in a log first.

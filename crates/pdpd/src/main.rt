@@ -12,12 +12,13 @@ ghost use Rattle.pdpd.specs.Exit.{ends_serving};
 ghost use Rattle.pdpd.specs.Fault.{IsNoAddress};
 
 mod command_line;
-mod errno;
 mod exit;
 mod fault;
 mod halves;
 mod heading;
 mod help;
+mod listening;
+mod mode;
 mod piece;
 mod replay;
 mod replayer;
@@ -62,7 +63,7 @@ fn report(rt: &HostRuntime, exit: Exit) -> Exit
 }
 
 /// Prints a text.
-fn tell(rt: &HostRuntime, text: &str) -> Exit
+fn print(rt: &HostRuntime, text: &str) -> Exit
     ensures { (result ≡ Done) ⊎ (result ≡ Failed) }
 {
     match rt.println(text) {
@@ -108,8 +109,8 @@ fn exit_of_words(rt: &HostRuntime, words: &[String]) -> Exit
     ensures { MayEnd (command_of (map string_bytes words.now)) result }
 {
     match command_of(words) {
-        Some(Command::Help) => tell(rt, help::HELP),
-        Some(Command::Version) => tell(rt, help::VERSION),
+        Some(Command::Help) => print(rt, help::HELP),
+        Some(Command::Version) => print(rt, help::VERSION),
         Some(Command::Replay(token)) => exit_of_replaying(rt, token.as_str()),
         Some(Command::Serve(serving)) => exit_of_serving(rt, &serving),
         None => report(rt, Exit::Usage),

@@ -29,7 +29,7 @@ impl Model for Piece {
 }
 
 impl Piece {
-    /// Of no bytes.
+    /// A piece of no bytes.
     pub fn new(alloc: Global) -> Result<Piece, AllocError>
         ensures { IfOk result (λ piece. piece ≡ []) }
     {

@@ -14,6 +14,7 @@ ghost use Rattle.pdpd.specs.Exit.{tells_of_entries};
 ghost use Rattle.pdpd.specs.Reading.{remaining_of};
 ghost use Rattle.pdpd.specs.Replay.{IsReplayed, IsTranscriptRead, Replays, beginning};
 ghost use Rattle.pdpd.specs.Replaying.{AreOf, AreReady, end_of};
+ghost use Rattle.pdpd.specs.Serving.{WasSound};
 ghost use Rattle.pdpd.specs.declared.exit.Exit.TheVariants.{Usage};
 
 use crate::exit::Exit;
@@ -35,7 +36,7 @@ pub struct Replayed<R: Records + Drop, W: Write + Drop> {
 }
 
 impl<R: Records + Drop, W: Write + Drop> Replayed<R, W> {
-    /// No entry was looked at.
+    /// One of which no entry was looked at, and how the program ends by that.
     fn unbegun(exit: Exit) -> Replayed<R, W>
         ensures exit { result.exit ≡ exit }
         ensures nothing { result.replayer ≡ None }
@@ -62,8 +63,7 @@ fn answer_entries<I: Read, R: Records + Drop, W: Write + Drop>(
         (remaining_of I.remaining transcript.old) (remaining_of I.remaining transcript.new) (end_of result) }
     ensures read { IsTranscriptRead (λ _. ⊤)
         (remaining_of I.remaining transcript.old) (remaining_of I.remaining transcript.new) (end_of result) }
-    ensures sound { (R.custody replayer.new.front.server.records).sound
-        → (R.custody replayer.old.front.server.records).sound }
+    ensures sound { WasSound R.custody replayer.old.front replayer.new.front }
     ensures err { IfErr result (λ exit. exit ≢ Usage) }
 {
     let mut bytes = Vec::new(replayer.alloc);

@@ -10,6 +10,7 @@ ghost use Rattle.xa_server.specs.Tally.{nothing_held};
 ghost use Rattle.pdpd.specs.Exit.{breaks_off};
 ghost use Rattle.pdpd.specs.Replay.{all_open};
 ghost use Rattle.pdpd.specs.Replaying.{AreReady, IsReady, StaysReady, Takes, TakesAsHeld, TakesOpen};
+ghost use Rattle.pdpd.specs.Serving.{WasSound};
 ghost use Rattle.pdpd.specs.Telling.{GoesOn, HasTold, LeavesAt, TakesPieces, left_to_answer, progress_at};
 ghost use Rattle.pdpd.specs.declared.exit.Exit.TheVariants.{Memory};
 ghost use Rattle.pdpd.specs.declared.telling.Progress.TheVariants.{Answered};
@@ -44,7 +45,7 @@ pub struct Replayer<R: Records + Drop, W: Write + Drop> {
 }
 
 impl<R: Records + Drop, W: Write + Drop> Replayer<R, W> {
-    /// Over what a keeper keeps; no connection is open yet.
+    /// A replayer over a keeper, for the operator of that token. No connection is open yet.
     pub fn new(alloc: Global, records: R, writer: W, token: &str) -> Result<Replayer<R, W>, Exit>
         ensures operator { IfOk result (λ replayer. replayer.front.server.operator ≡ sha256 token.now) }
         ensures records { IfOk result (λ replayer. replayer.front.server.records ≡ records) }
@@ -73,8 +74,7 @@ impl<R: Records + Drop, W: Write + Drop> Replayer<R, W> {
         ensures server { OnOk result ((R.custody self.new.front.server.records).sound
             → server_state R.custody self.new.front.server ≡ server_state R.custody self.old.front.server) }
         ensures writer { self.new.writer ≡ self.old.writer }
-        ensures sound { (R.custody self.new.front.server.records).sound
-            → (R.custody self.old.front.server.records).sound }
+        ensures sound { WasSound R.custody self.old.front self.new.front }
         ensures err { IfErr result (λ exit. IsTrue (breaks_off exit)) }
     {
         self.connections = open_all(self.alloc, &mut self.front)?;
@@ -91,14 +91,13 @@ impl<R: Records + Drop, W: Write + Drop> Replayer<R, W> {
             → TakesAsHeld heading.now bytes.now self.old.connections.items self.new.connections.items
             (front_state R.custody self.old.front) (front_state R.custody self.new.front)
             (writer_contents W.contents self.old.writer) (writer_contents W.contents self.new.writer)) }
-        ensures sound { (R.custody self.new.front.server.records).sound
-            → (R.custody self.old.front.server.records).sound }
+        ensures sound { WasSound R.custody self.old.front self.new.front }
         ensures err { IfErr result (λ exit. IsTrue (breaks_off exit)) }
     {
         let number = heading.connection;
-        let was = self.connection(number);
-        let is = self.connection_after(was, heading, bytes)?;
-        self.put(number, is);
+        let before = self.connection(number);
+        let after = self.connection_after(before, heading, bytes)?;
+        self.put(number, after);
         Ok(())
     }
 
@@ -110,7 +109,7 @@ impl<R: Records + Drop, W: Write + Drop> Replayer<R, W> {
         self.connections[number]
     }
 
-    /// Holds that of the connection of that number.
+    /// Holds this as the connection of that number.
     fn put(&mut self, number: usize, connection: TranscriptConnection)
         ensures after { self.new.connections.items ≡ slice_set self.old.connections.items number connection }
         ensures front { self.new.front ≡ self.old.front }
@@ -126,31 +125,31 @@ impl<R: Records + Drop, W: Write + Drop> Replayer<R, W> {
     #[tactic(auto, using(crate::proofs::TakingLemmas::closed, crate::proofs::TakingLemmas::passed_over, crate::proofs::TakingLemmas::gone_on, crate::proofs::ReadyLemmas::ready_open, crate::proofs::ReadyLemmas::ready_free, crate::proofs::ReadyLemmas::ready_takes, crate::proofs::ReadyLemmas::stays_closed, crate::proofs::ReadyLemmas::stays_over, crate::proofs::ReadyLemmas::stays_taken))]
     fn connection_after(
         &mut self,
-        was: TranscriptConnection,
+        before: TranscriptConnection,
         heading: &Heading,
         bytes: &[u8],
     ) -> Result<TranscriptConnection, Exit>
-        requires { IsReady was self.old.front.lines }
-        ensures stays { IfOk result (λ is. StaysReady was is self.old.front.lines self.new.front.lines) }
-        ensures taken { IfOk result (λ is. (R.custody self.new.front.server.records).sound
-            → Takes heading.now bytes.now was is
+        requires { IsReady before self.old.front.lines }
+        ensures stays { IfOk result (λ after.
+            StaysReady before after self.old.front.lines self.new.front.lines) }
+        ensures taken { IfOk result (λ after. (R.custody self.new.front.server.records).sound
+            → Takes heading.now bytes.now before after
             (front_state R.custody self.old.front) (front_state R.custody self.new.front)
             (writer_contents W.contents self.old.writer) (writer_contents W.contents self.new.writer)) }
         ensures others { self.new.connections ≡ self.old.connections }
-        ensures sound { (R.custody self.new.front.server.records).sound
-            → (R.custody self.old.front.server.records).sound }
+        ensures sound { WasSound R.custody self.old.front self.new.front }
         ensures err { IfErr result (λ exit. IsTrue (breaks_off exit)) }
     {
         if bytes.is_empty() {
-            finish(&mut self.front, was.conn)?;
+            finish(&mut self.front, before.conn)?;
             return begin(&mut self.front);
         }
-        if was.has_ended {
-            return Ok(was);
+        if before.has_ended {
+            return Ok(before);
         }
-        let has_ended = self.take(was.conn, heading, bytes)?;
+        let has_ended = self.take(before.conn, heading, bytes)?;
         Ok(TranscriptConnection {
-            conn: was.conn,
+            conn: before.conn,
             has_ended,
         })
     }
@@ -167,8 +166,7 @@ impl<R: Records + Drop, W: Write + Drop> Replayer<R, W> {
             (front_state R.custody self.old.front) (front_state R.custody self.new.front) has_ended
             (writer_contents W.contents self.old.writer) (writer_contents W.contents self.new.writer)) }
         ensures others { self.new.connections ≡ self.old.connections }
-        ensures sound { (R.custody self.new.front.server.records).sound
-            → (R.custody self.old.front.server.records).sound }
+        ensures sound { WasSound R.custody self.old.front self.new.front }
         ensures err { IfErr result (λ exit. IsTrue (breaks_off exit)) }
     {
         let mut rest = bytes;
@@ -195,8 +193,7 @@ impl<R: Records + Drop, W: Write + Drop> Replayer<R, W> {
             (front_state R.custody self.new.front) (progress_at has_ended)
             (writer_contents W.contents self.old.writer) (writer_contents W.contents self.new.writer)) }
         ensures others { self.new.connections ≡ self.old.connections }
-        ensures sound { (R.custody self.new.front.server.records).sound
-            → (R.custody self.old.front.server.records).sound }
+        ensures sound { WasSound R.custody self.old.front self.new.front }
         ensures err { IfErr result (λ exit. IsTrue (breaks_off exit)) }
     {
         let mut progress = self.first_answers(conn, heading, piece)?;
@@ -221,14 +218,14 @@ impl<R: Records + Drop, W: Write + Drop> Replayer<R, W> {
     ) -> Result<Progress, Exit>
         requires takes { TakesPieces conn self.old.front.lines }
         requires few { length piece.now ≤ 65_536 }
-        ensures left { IfOk result (λ is. LeavesAt conn self.old.front.lines self.new.front.lines is) }
-        ensures told { IfOk result (λ is. (R.custody self.new.front.server.records).sound
+        ensures left { IfOk result (λ progress.
+            LeavesAt conn self.old.front.lines self.new.front.lines progress) }
+        ensures told { IfOk result (λ progress. (R.custody self.new.front.server.records).sound
             → HasTold conn heading.now (λ stream. fed stream piece.now)
-            (front_state R.custody self.old.front) (front_state R.custody self.new.front) is
+            (front_state R.custody self.old.front) (front_state R.custody self.new.front) progress
             (writer_contents W.contents self.old.writer) (writer_contents W.contents self.new.writer)) }
         ensures others { self.new.connections ≡ self.old.connections }
-        ensures sound { (R.custody self.new.front.server.records).sound
-            → (R.custody self.old.front.server.records).sound }
+        ensures sound { WasSound R.custody self.old.front self.new.front }
         ensures err { IfErr result (λ exit. IsTrue (breaks_off exit)) }
     {
         let moment = heading.moment;
@@ -245,16 +242,17 @@ impl<R: Records + Drop, W: Write + Drop> Replayer<R, W> {
     #[tactic(auto, using(crate::proofs::PieceLemmas::asked_as, crate::proofs::LineLemmas::all_answers, crate::proofs::LineLemmas::answers_left, crate::proofs::LineLemmas::answers_fewer))]
     fn more_answers(&mut self, conn: Conn, heading: &Heading) -> Result<Progress, Exit>
         requires { GoesOn conn self.old.front.lines }
-        ensures left { IfOk result (λ is. LeavesAt conn self.old.front.lines self.new.front.lines is) }
-        ensures fewer { IfOk result (λ is.
-            left_to_answer is conn self.new.front.lines < left_to_answer Answered conn self.old.front.lines) }
-        ensures told { IfOk result (λ is. (R.custody self.new.front.server.records).sound
+        ensures left { IfOk result (λ progress.
+            LeavesAt conn self.old.front.lines self.new.front.lines progress) }
+        ensures fewer { IfOk result (λ progress.
+            left_to_answer progress conn self.new.front.lines
+            < left_to_answer Answered conn self.old.front.lines) }
+        ensures told { IfOk result (λ progress. (R.custody self.new.front.server.records).sound
             → HasTold conn heading.now (λ stream. stream)
-            (front_state R.custody self.old.front) (front_state R.custody self.new.front) is
+            (front_state R.custody self.old.front) (front_state R.custody self.new.front) progress
             (writer_contents W.contents self.old.writer) (writer_contents W.contents self.new.writer)) }
         ensures others { self.new.connections ≡ self.old.connections }
-        ensures sound { (R.custody self.new.front.server.records).sound
-            → (R.custody self.old.front.server.records).sound }
+        ensures sound { WasSound R.custody self.old.front self.new.front }
         ensures err { IfErr result (λ exit. IsTrue (breaks_off exit)) }
     {
         let moment = heading.moment;

@@ -1,6 +1,6 @@
 //! `pdpd serve`: connections, one after another.
 ghost use Rattle.std.specs.Prelude.{◌≡◌, ◌↔◌, IfErr, IfOk, MatchResult};
-ghost use Rattle.std.specs.Prelude.{OnOk, Err, None, Some, IsFalse, IsTrue};
+ghost use Rattle.std.specs.Prelude.{OnOk, Err, None, Some};
 ghost use Rattle.std.specs.Net.Grammar.{IsSocketText, Parses};
 ghost use Rattle.sqlite.specs.Files.{over_files};
 ghost use Rattle.xa_server.specs.Driven.{known};
@@ -8,97 +8,26 @@ ghost use Rattle.xa_server.specs.Front.{FrontState, front_state};
 ghost use Rattle.xa_server.specs.Lines.{none_open};
 ghost use Rattle.xa_server.specs.Tally.{nothing_held};
 ghost use Rattle.xa_store.specs.KeeperReading.{custody_by};
-ghost use Rattle.pdpd.specs.declared.fault.Fault.TheVariants.{Address, Connection};
+ghost use Rattle.pdpd.specs.declared.fault.Fault.TheVariants.{Address};
 ghost use Rattle.pdpd.specs.Connections.{AreIsolated, IsConnectionServed};
-ghost use Rattle.pdpd.specs.Fault.{IsNoAddress, IsOfConnections, IsOfFiles, IsOfServing};
-ghost use Rattle.pdpd.specs.Fault.{fault_of_end, goes_on_after, is_of_network, is_passing, is_want_of_room};
-ghost use Rattle.pdpd.specs.Serving.{Serves, ServesOne};
+ghost use Rattle.pdpd.specs.Fault.{IsNoAddress, IsOfConnections, IsOfFiles, IsOfServing, fault_of_end};
+ghost use Rattle.pdpd.specs.Serving.{Serves, ServesOne, WasSound};
 ghost use Rattle.pdpd.specs.Token.{IsOperator};
 
 use crate::command_line::Serving;
-use crate::errno::{
-    EHOSTDOWN, EMFILE, ENFILE, ENOBUFS, ENOMEM, ENONET, ENOPROTOOPT, EOPNOTSUPP, EPROTO,
-};
 use crate::fault::Fault;
+use crate::listening::Listening;
 use crate::settings::{Settings, front_of_tables};
 use crate::store::{FileRecords, records_in_file};
 use crate::token::operator_of_file;
 use crate::wall_clock::WallClock;
-use std::io::{self, ErrorKind};
-use std::net::{SocketAddr, TcpListener, TcpStream};
+use std::net::{SocketAddr, TcpListener};
 use std::rt::HostRuntime;
-use std::thread;
-use std::time::Duration;
 use xa_records::Records;
 use xa_server::{Clock, Driven, Front, Reader, Writer, drive};
 
-/// How often in a row a connection may fail as it is taken: a peer that closed it first doesn't end
-/// the program.
-const MAX_FAILURES: u32 = 1_000;
-
-/// How many milliseconds pass before a connection for which there was no room is taken again: 1,000
-/// of them are ten seconds.
-const PAUSE: u64 = 10;
-
-/// Whether the next connection may be taken after a failure of that kind: it was the peer's or the
-/// network's, not the listener's.
-fn is_passing(kind: ErrorKind) -> bool
-    ensures { result ≡ is_passing kind }
-{
-    matches!(
-        kind,
-        ErrorKind::ConnectionAborted
-            | ErrorKind::ConnectionReset
-            | ErrorKind::HostUnreachable
-            | ErrorKind::NetworkUnreachable
-            | ErrorKind::NetworkDown
-            | ErrorKind::TimedOut
-            | ErrorKind::Interrupted
-    )
-}
-
-/// Whether a failure of that number, which has no kind of its own, was the network's.
-fn is_of_network(number: u32) -> bool
-    ensures { result ≡ is_of_network number }
-{
-    matches!(
-        number,
-        EPROTO | ENOPROTOOPT | EHOSTDOWN | ENONET | EOPNOTSUPP
-    )
-}
-
-/// Whether by a failure of that number there was no room for a connection.
-fn is_want_of_room(number: u32) -> bool
-    ensures { result ≡ is_want_of_room number }
-{
-    matches!(number, EMFILE | ENFILE | ENOMEM | ENOBUFS)
-}
-
-/// The system's number of a failure; 0 where it has none.
-fn number_of(error: &io::Error) -> u32 {
-    match error.raw_os_error() {
-        Some(number) => number.unsigned_abs(),
-        None => 0,
-    }
-}
-
-/// Waits until the next connection may be taken after that failure, if it may.
-fn wait_after(rt: &HostRuntime, kind: ErrorKind, number: u32) -> Result<(), Fault>
-    ensures { MatchResult result (λ _. IsTrue (goes_on_after kind number))
-        (λ fault. (fault ≡ Connection) × IsFalse (goes_on_after kind number)) }
-{
-    if is_want_of_room(number) {
-        thread::sleep(rt, Duration::from_millis(PAUSE));
-        return Ok(());
-    }
-    if is_passing(kind) || is_of_network(number) {
-        return Ok(());
-    }
-    Err(Fault::Connection)
-}
-
-/// Whether the next connection is served after one that ended so.
-fn after(driven: Driven) -> Result<(), Fault>
+/// Fails if a connection that ended so ends the program, too, and says why.
+fn check_end(driven: Driven) -> Result<(), Fault>
     ensures after { MatchResult result (λ _. fault_of_end driven ≡ None)
         (λ fault. fault_of_end driven ≡ Some fault) }
     ensures err { IfErr result IsOfConnections }
@@ -108,47 +37,6 @@ fn after(driven: Driven) -> Result<(), Fault>
         Driven::Memory => Err(Fault::Memory),
         Driven::Shut => Err(Fault::Shut),
         _ => Ok(()),
-    }
-}
-
-/// Lets replies go out at once, and sets how long a connection may give nothing, or take nothing,
-/// in seconds; 0 for ever. Such a read or write fails.
-fn prepare(stream: &TcpStream, idle: usize) {
-    // A reply that waits for the peer's acknowledgement comes later, and is no other.
-    let _ = stream.set_nodelay(true);
-    if idle == 0 {
-        return;
-    }
-    let wait = Duration::from_secs(idle as u64);
-    // These fail only at a wait of no time, or of a stream that is gone, where the next read fails.
-    let _ = stream.set_read_timeout(Some(wait));
-    let _ = stream.set_write_timeout(Some(wait));
-}
-
-/// Where connections are taken.
-#[derive(Drop)]
-struct Listening {
-    rt: HostRuntime,
-    listener: TcpListener,
-    /// For how many seconds each may give nothing, or take nothing; 0 for ever.
-    idle: usize,
-}
-
-impl Listening {
-    /// The next connection, prepared.
-    fn next_connection(&self) -> Result<TcpStream, Fault>
-        ensures { IfErr result (λ fault. fault ≡ Connection) }
-    {
-        for _ in 0..MAX_FAILURES {
-            match self.listener.accept() {
-                Ok((stream, _peer)) => {
-                    prepare(&stream, self.idle);
-                    return Ok(stream);
-                }
-                Err(error) => wait_after(&self.rt, error.kind(), number_of(&error))?,
-            }
-        }
-        Err(Fault::Connection)
     }
 }
 
@@ -168,7 +56,7 @@ fn serve_connection<R: Records, I: Reader, W: Writer, C: Clock>(
         (known None (I.remaining reader.new) (I.reads reader.new) (W.contents writer.new)
         (W.writes writer.new) (C.told clock.new) None)) }
     ensures closed { front.new.lines ≡ none_open }
-    ensures sound { (R.custody front.new.server.records).sound → (R.custody front.old.server.records).sound }
+    ensures sound { WasSound R.custody front.old front.new }
     ensures err { IfErr result IsOfConnections }
 {
     let Ok(conn) = front.open() else {
@@ -178,7 +66,7 @@ fn serve_connection<R: Records, I: Reader, W: Writer, C: Clock>(
     let Ok(()) = front.close(conn) else {
         unreachable!()
     };
-    after(driven)
+    check_end(driven)
 }
 
 /// Takes a connection and serves it.
@@ -192,7 +80,7 @@ fn serve_next<R: Records, C: Clock>(
     ensures served { OnOk result ((R.custody front.new.server.records).sound
         → ServesOne (front_state R.custody front.old) (front_state R.custody front.new)) }
     ensures closed { front.new.lines ≡ none_open }
-    ensures sound { (R.custody front.new.server.records).sound → (R.custody front.old.server.records).sound }
+    ensures sound { WasSound R.custody front.old front.new }
     ensures err { IfErr result IsOfConnections }
 {
     let stream = listening.next_connection()?;
@@ -212,7 +100,7 @@ fn serve_connections<R: Records, C: Clock>(
     ensures served { OnOk result ((R.custody front.new.server.records).sound
         → Serves connections (front_state R.custody front.old) (front_state R.custody front.new)) }
     ensures closed { front.new.lines ≡ none_open }
-    ensures sound { (R.custody front.new.server.records).sound → (R.custody front.old.server.records).sound }
+    ensures sound { WasSound R.custody front.old front.new }
     ensures err { IfErr result IsOfConnections }
 {
     let Some(others) = connections.checked_sub(1) else {
@@ -239,7 +127,7 @@ fn serve_at<R: Records>(
     ensures served { OnOk result ((R.custody front.new.server.records).sound
         → Serves serving.now.connections
         (front_state R.custody front.old) (front_state R.custody front.new)) }
-    ensures sound { (R.custody front.new.server.records).sound → (R.custody front.old.server.records).sound }
+    ensures sound { WasSound R.custody front.old front.new }
     ensures err { IfErr result IsOfServing }
 {
     let Ok(listener) = TcpListener::bind(rt, address) else {
@@ -248,11 +136,7 @@ fn serve_at<R: Records>(
     if println!(rt; "listening {}", serving.address.as_str()).is_err() {
         return Err(Fault::Output);
     }
-    let listening = Listening {
-        rt: *rt,
-        listener,
-        idle,
-    };
+    let listening = Listening::new(rt, listener, idle);
     serve_connections(
         front,
         listening,
@@ -266,10 +150,7 @@ fn address_of(word: &str) -> Result<SocketAddr, Fault>
     ensures address { Parses IsSocketText word.now result }
     ensures err { IfErr result (λ fault. fault ≡ Address) }
 {
-    match SocketAddr::parse_ascii(word.as_bytes()) {
-        Ok(address) => Ok(address),
-        Err(_) => Err(Fault::Address),
-    }
+    SocketAddr::parse_ascii(word.as_bytes()).map_err(|_| Fault::Address)
 }
 
 /// The front of a server over the store in the file, for the operator whose token is the first line

@@ -9,20 +9,19 @@ use xa_value::number_up_to;
 
 /// The limit of work for one message where PDPD_WORK isn't set: some 0.3 seconds, in which everybody else
 /// waits. The dearest honest ask measured takes 3,500,000.
-const WORK: usize = 150_000_000;
+const DEFAULT_WORK: usize = 150_000_000;
 
 /// How many bytes the body of a response may have where PDPD_REPLY isn't set: 16 MiB.
-const REPLY: usize = 16_777_216;
+const DEFAULT_REPLY: usize = 16_777_216;
 
 /// How many bytes of policies may be read for one message where PDPD_READING isn't set.
-const READING: usize = 16_000_000;
+const DEFAULT_READING: usize = 16_000_000;
 
-/// How many bytes of memory the views of domains may take that are kept ready where PDPD_VIEWS isn't set:
-/// 256 MiB.
-const VIEWS: usize = 268_435_456;
+/// How many bytes of memory the domains' ready views may take where PDPD_VIEWS isn't set: 256 MiB.
+const DEFAULT_VIEWS: usize = 268_435_456;
 
 /// For how many seconds a connection may give nothing, or take nothing, where PDPD_IDLE isn't set.
-const IDLE: usize = 30;
+const DEFAULT_IDLE: usize = 30;
 
 /// A setting that the environment gives.
 #[derive(Clone, Copy)]
@@ -33,7 +32,7 @@ pub enum Setting {
     Reply,
     /// How many bytes of policies may be read for one message; 0 for any number.
     Reading,
-    /// How many bytes of memory the views of domains may take that are kept ready; by 0 none is kept.
+    /// How many bytes of memory the domains' ready views may take; by 0 none is kept.
     Views,
     /// For how many seconds a connection may give nothing, or take nothing; 0 for ever.
     Idle,
@@ -69,11 +68,11 @@ impl Setting {
         ensures { result ≡ default_of self }
     {
         match self {
-            Setting::Work => WORK,
-            Setting::Reply => REPLY,
-            Setting::Reading => READING,
-            Setting::Views => VIEWS,
-            Setting::Idle => IDLE,
+            Setting::Work => DEFAULT_WORK,
+            Setting::Reply => DEFAULT_REPLY,
+            Setting::Reading => DEFAULT_READING,
+            Setting::Views => DEFAULT_VIEWS,
+            Setting::Idle => DEFAULT_IDLE,
         }
     }
 

@@ -24,7 +24,7 @@ pub struct Settings {
     pub reply: usize,
     /// The bytes of policies that may be read.
     pub reading: usize,
-    /// The bytes of memory that the views of domains may take, which are kept ready.
+    /// The bytes of memory that the domains' ready views may take; by 0 none is kept.
     pub views: usize,
     /// For how many seconds a connection may give nothing, or take nothing; 0 for ever.
     pub idle: usize,
@@ -45,34 +45,12 @@ impl Settings {
     }
 }
 
-/// The server with that limit of work for one message; 0 for none.
-fn with_limit<R: Records>(server: Server<R>, work: usize) -> Server<R>
-    ensures { result ≡ server }
-{
-    if work == 0 {
-        return server;
+/// The limit that an operator has set: 0 is none.
+fn limit_of(set: usize) -> u64 {
+    match set {
+        0 => u64::MAX,
+        _ => set as u64,
     }
-    server.with_limit(work as u64)
-}
-
-/// The server with that limit of bytes for the body of a response; 0 for none.
-fn with_reply_limit<R: Records>(server: Server<R>, bytes: usize) -> Server<R>
-    ensures { result ≡ server }
-{
-    if bytes == 0 {
-        return server;
-    }
-    server.with_reply_limit(bytes as u64)
-}
-
-/// The server that has so many bytes of policies read for one message; 0 for any number.
-fn with_reading<R: Records>(server: Server<R>, bytes: usize) -> Server<R>
-    ensures { result ≡ server }
-{
-    if bytes == 0 {
-        return server;
-    }
-    server.with_reading(bytes as u64)
 }
 
 /// A server over the keeper, for that operator and by these settings, and its connections, none of
@@ -90,13 +68,16 @@ fn front_over<R: Records + Drop>(
     ensures err { IfErr result (λ fault. fault ≡ Memory) }
 {
     let server = Server::new(alloc, records, operator)?;
-    let server = with_reply_limit(with_limit(server, settings.work), settings.reply);
-    let server = with_reading(server, settings.reading).with_room(settings.views);
+    let server = server
+        .with_limit(limit_of(settings.work))
+        .with_reply_limit(limit_of(settings.reply))
+        .with_reading(limit_of(settings.reading))
+        .with_room(settings.views);
     Ok(Front::new(alloc, server)?)
 }
 
-/// The same over a keeper of tables. It is made for any store: that such a keeper is what a server asks
-/// for is shown once here, and would be shown at great length where the store is known.
+/// The same over a keeper of tables in any store. That such a keeper is what a server asks for is proved
+/// here once: where the store is known, that proof is long.
 pub fn front_of_tables<S: Alter + Drop>(
     alloc: Global,
     records: SqlRecords<S>,

@@ -14,6 +14,7 @@ ghost use Rattle.pdpd.specs.Fault.{IsOfStore};
 use crate::exit::Exit;
 use crate::fault::{Fault, OneLine, StoreFault};
 use crate::halves::{Halves, halves_at};
+use crate::mode::lets_others_read;
 use sqlite::{Connection, Error, ErrorCode, File, FileStore, MemStore};
 use std::alloc::Global;
 use std::fs::{self, OpenOptions};
@@ -68,13 +69,11 @@ fn fault_of_tables(error: OpenError) -> Fault
 
 /// Tells, by a line on standard error, of a file in which more stands than the program's tables, or
 /// other tables: it is served, but nothing is proved of what is kept there.
-fn tell_of_tables(rt: &HostRuntime, path: &str, are_ours: bool) {
-    if !are_ours {
-        let _ = eprintln!(rt;
-            "pdpd serve: {}: other tables, indexes or views stand beside the program's, or its own were made otherwise; it is served, but nothing is proved of what is kept there",
-            OneLine { text: path }
-        );
-    }
+fn tell_of_other_tables(rt: &HostRuntime, path: &str) {
+    let _ = eprintln!(rt;
+        "pdpd serve: {}: other tables, indexes or views stand beside the program's, or its own were made otherwise; it is served, but nothing is proved of what is kept there",
+        OneLine { text: path }
+    );
 }
 
 /// Tells, by a line on standard error, of a file beside which its log isn't.
@@ -101,13 +100,9 @@ fn look_at_halves(rt: &HostRuntime, path: &str) -> Result<(), Fault>
     }
 }
 
-/// The bits of a file's mode by which its group and all others can read it.
-const OTHERS_READ: u32 = 0o044;
-
 /// Tells, by a line on standard error, of a file that others can read.
 fn tell_of_readers(rt: &HostRuntime, path: &str) {
-    if matches!(fs::metadata(rt, path), Ok(found) if found.permissions().mode() & OTHERS_READ != 0)
-    {
+    if matches!(fs::metadata(rt, path), Ok(found) if lets_others_read(found.permissions().mode())) {
         let _ = eprintln!(rt;
             "pdpd serve: {}: others than its owner can read what is kept; chmod 600, and its log too (-wal)",
             OneLine { text: path }
@@ -118,7 +113,7 @@ fn tell_of_readers(rt: &HostRuntime, path: &str) {
 /// Makes the file, which its owner alone can read, where it isn't there: SQLite gives its log the
 /// same mode. Where it can't be made, opening it says why.
 fn make_file(rt: &HostRuntime, path: &str) {
-    // As names these are refused below.
+    // `Connection::open` refuses these names, so no file is made.
     if path == ":memory:" || path.starts_with("file:") {
         return;
     }
@@ -152,7 +147,9 @@ pub fn records_in_file(rt: &HostRuntime, path: &str) -> Result<FileRecords, Faul
     };
     match SqlRecords::open(rt.alloc(), conn) {
         Ok(records) => {
-            tell_of_tables(rt, path, records.is_ours());
+            if !records.is_ours() {
+                tell_of_other_tables(rt, path);
+            }
             Ok(records)
         }
         Err((error, _)) => Err(fault_of_tables(error)),
@@ -164,10 +161,8 @@ pub fn records_in_file(rt: &HostRuntime, path: &str) -> Result<FileRecords, Faul
 pub fn close_records(records: FileRecords) -> Result<(), Fault>
     ensures { IfErr result (λ e. e ≡ fault.Store Unclosed) }
 {
-    match records.into_connection().close() {
-        Ok(()) => Ok(()),
-        Err(_) => Err(Fault::Store(StoreFault::Unclosed)),
-    }
+    let closed = records.into_connection().close();
+    closed.map_err(|_| Fault::Store(StoreFault::Unclosed))
 }
 
 /// A keeper in memory, which keeps no domains yet.

@@ -27,7 +27,7 @@ pub enum Progress {
 }
 
 impl Progress {
-    /// After an answer, which is the last of its session or isn't.
+    /// What becomes of a connection after an answer, the last of its session or another.
     fn after_answer(last: bool) -> Progress
         ensures { result ≡ after_answer last }
     {
@@ -38,7 +38,7 @@ impl Progress {
         }
     }
 
-    /// After none.
+    /// What becomes of it after a call that found no answer.
     fn after_none(self) -> Progress
         ensures { result ≡ after_none self }
     {
@@ -83,14 +83,14 @@ pub fn answers_behind(outcomes: &[Outcome]) -> Result<&[Outcome], Exit>
 fn write_outcome<W: Write>(
     writer: &mut W,
     connection: usize,
-    was: Progress,
+    before: Progress,
     outcome: &Outcome,
 ) -> Result<Progress, Exit>
     requires { IsAnswer outcome.now }
     ensures written { OnOk result
         (Appends (W.contents writer.old) (W.contents writer.new)
         (reply_entries connection (reply_told outcome.now))) }
-    ensures progress { IfOk result (λ is. is ≡ progress_after was outcome.now) }
+    ensures progress { IfOk result (λ after. after ≡ progress_after before outcome.now) }
     ensures answered { OnOk result (HasAnswered outcome.now) }
     ensures err { IfErr result (λ exit. IsTrue (breaks_off exit)) }
 {
@@ -102,7 +102,7 @@ fn write_outcome<W: Write>(
             write_reply(writer, connection, answer.reply.bytes())?;
             Ok(Progress::after_answer(answer.last))
         }
-        Ok(None) => Ok(was.after_none()),
+        Ok(None) => Ok(before.after_none()),
         Err(error) => Err(exit_of_want(*error)),
     }
 }
@@ -118,7 +118,7 @@ pub fn write_outcomes<W: Write>(
     ensures written { OnOk result
         (Appends (W.contents writer.old) (W.contents writer.new)
         (reply_entries connection (replies_told outcomes.now))) }
-    ensures progress { IfOk result (λ is. is ≡ progress_of Answered outcomes.now) }
+    ensures progress { IfOk result (λ after. after ≡ progress_of Answered outcomes.now) }
     ensures answered { OnOk result (All HasAnswered outcomes.now) }
     ensures err { IfErr result (λ exit. IsTrue (breaks_off exit)) }
 {

@@ -7,6 +7,7 @@ ghost use Rattle.pdpd.specs.Fault.{IsOfToken};
 ghost use Rattle.pdpd.specs.Token.{IsOperator, IsOperatorOf, first_line};
 
 use crate::fault::{Fault, OneLine};
+use crate::mode::lets_others_read;
 use std::alloc::Global;
 use std::fs::{File, OpenFile};
 use std::io::{self, ErrorKind, Read};
@@ -16,9 +17,6 @@ use xa_records::Digest;
 
 /// At most this many bytes of the file are read: a token is shorter.
 const MAX_BYTES: u64 = 128;
-
-/// The bits of a file's mode by which its group and all others can read it.
-const OTHERS_READ: u32 = 0o044;
 
 /// A text up to its first line feed, or to its end.
 #[tactic(auto, using(crate::proofs::TokenLemmas::no_feed_more))]
@@ -79,11 +77,8 @@ fn operator_of<R: Read + Drop>(alloc: Global, reader: R) -> Result<Digest, Fault
 }
 
 /// Whether others than its owner can read the file.
-fn lets_others_read(file: &impl OpenFile) -> bool {
-    match file.metadata() {
-        Ok(metadata) => metadata.permissions().mode() & OTHERS_READ != 0,
-        Err(_) => false,
-    }
+fn is_open_to_others(file: &impl OpenFile) -> bool {
+    matches!(file.metadata(), Ok(found) if lets_others_read(found.permissions().mode()))
 }
 
 /// The digest of the operator's token, which is the first line of the file. A line on standard
@@ -96,7 +91,7 @@ pub fn operator_of_file(rt: &HostRuntime, path: &str) -> Result<Digest, Fault>
         Ok(file) => file,
         Err(error) => return Err(fault_of_reading(error)),
     };
-    if lets_others_read(&file) {
+    if is_open_to_others(&file) {
         let _ = eprintln!(rt;
             "pdpd serve: {}: others than its owner can read the operator's token; chmod 600",
             OneLine { text: path }

@@ -6,6 +6,7 @@ ghost use Rattle.xa_server.specs.Lines.{none_open, with_line};
 ghost use Rattle.pdpd.specs.Exit.{breaks_off};
 ghost use Rattle.pdpd.specs.Replay.{all_open};
 ghost use Rattle.pdpd.specs.Replaying.{AreOf, HasFree, IsBegun, IsOneOpen};
+ghost use Rattle.pdpd.specs.Serving.{WasSound};
 
 use crate::exit::Exit;
 use crate::heading::CONNECTIONS;
@@ -30,7 +31,7 @@ fn outcome_of<R: Records>(front: &mut Front<R>, event: &Event<'_>) -> Result<Out
     ensures does { IfOk result (λ outcome. (R.custody front.new.server.records).sound
         → DoesEvent event.now (front_state R.custody front.old) outcome (front_state R.custody front.new)) }
     ensures lines { IfOk result (λ outcome. DoesLines event.now front.old.lines outcome front.new.lines) }
-    ensures sound { (R.custody front.new.server.records).sound → (R.custody front.old.server.records).sound }
+    ensures sound { WasSound R.custody front.old front.new }
     ensures err { IfErr result (λ exit. IsTrue (breaks_off exit)) }
 {
     let mut outcomes = front.play(slice::from_ref(event))?;
@@ -47,7 +48,7 @@ pub fn begin<R: Records>(front: &mut Front<R>) -> Result<TranscriptConnection, E
     ensures begun { IfOk result (λ connection. IsBegun connection front.old.lines front.new.lines) }
     ensures server { OnOk result ((R.custody front.new.server.records).sound
         → server_state R.custody front.new.server ≡ server_state R.custody front.old.server) }
-    ensures sound { (R.custody front.new.server.records).sound → (R.custody front.old.server.records).sound }
+    ensures sound { WasSound R.custody front.old front.new }
     ensures err { IfErr result (λ exit. IsTrue (breaks_off exit)) }
 {
     let Outcome::Begun(begun) = outcome_of(front, &Event::Begin)? else {
@@ -67,7 +68,7 @@ pub fn finish<R: Records>(front: &mut Front<R>, conn: Conn) -> Result<(), Exit>
     ensures finished { OnOk result (front.new.lines ≡ with_line conn None front.old.lines) }
     ensures server { OnOk result ((R.custody front.new.server.records).sound
         → server_state R.custody front.new.server ≡ server_state R.custody front.old.server) }
-    ensures sound { (R.custody front.new.server.records).sound → (R.custody front.old.server.records).sound }
+    ensures sound { WasSound R.custody front.old front.new }
     ensures err { IfErr result (λ exit. IsTrue (breaks_off exit)) }
 {
     let Outcome::Finished(finished) = outcome_of(front, &Event::Finish(conn))? else {
@@ -88,7 +89,7 @@ pub fn open_all<R: Records>(
         (front.new.lines ≡ all_open) × AreOf connections.items all_open) }
     ensures server { OnOk result ((R.custody front.new.server.records).sound
         → server_state R.custody front.new.server ≡ server_state R.custody front.old.server) }
-    ensures sound { (R.custody front.new.server.records).sound → (R.custody front.old.server.records).sound }
+    ensures sound { WasSound R.custody front.old front.new }
     ensures err { IfErr result (λ exit. IsTrue (breaks_off exit)) }
 {
     let mut connections = Vec::with_capacity(alloc, CONNECTIONS)?;

@@ -12,6 +12,7 @@ pub struct WallClock {
 }
 
 impl WallClock {
+    /// The clock of the machine on which the program runs.
     pub fn new(rt: &HostRuntime) -> WallClock {
         WallClock { rt: *rt }
     }

@@ -16,5 +16,5 @@ returns-clause-closed g c =
 pub returns-clause-served : goal.returns-clause-served
 returns-clause-served g c =
     served_as g.R.Records.custody c.args.front.now c.open.new.self c.drive-driven.new.front c.close.new.self c.drive-driven.result c.in-Ok.conn c.in-Ok-close.field-0 _ _
-    c.after.result c.requires c.in-Ok.ensures.opened c.open.ensures.server c.drive-driven.ensures.connection c.drive-driven.ensures.stays_open
-    c.in-Ok-close.ensures.closed c.close.ensures.server c.after.ensures.after
+    c.check_end.result c.requires c.in-Ok.ensures.opened c.open.ensures.server c.drive-driven.ensures.connection c.drive-driven.ensures.stays_open
+    c.in-Ok-close.ensures.closed c.close.ensures.server c.check_end.ensures.after

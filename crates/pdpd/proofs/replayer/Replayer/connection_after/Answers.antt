@@ -7,7 +7,7 @@ use Rattle.pdpd.proofs.replayer.Replayer.connection_after.Goals as goal
 
 pub returns-then-is_empty-clause-taken : goal.returns-then-is_empty-clause-taken
 returns-then-is_empty-clause-taken g c =
-    closed_as (g.R.Records.custody c.begin.new.front.server.records).sound c.args.heading.now c.args.bytes.now c.args.was
+    closed_as (g.R.Records.custody c.begin.new.front.server.records).sound c.args.heading.now c.args.bytes.now c.args.before
     (front_state g.R.Records.custody c.args.self.now.front) (front_state g.R.Records.custody c.finish.new.front) (front_state g.R.Records.custody c.begin.new.front)
     (writer_contents g.W.Write.contents c.args.self.now.writer) c.begin.result (nil_from_length c.args.bytes.now (search rules))
     c.in_ok-finish.ensures.finished (λ sound. c.in_ok-finish.ensures.server (c.begin.ensures.sound sound)) c.begin.ensures.begun c.begin.ensures.server
