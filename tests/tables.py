@@ -26,7 +26,7 @@ from serving import OPERATOR, Checks, Served, is_program, making, message, polic
 TOP = pathlib.Path(__file__).resolve().parent.parent
 PROGRAM = os.path.abspath(sys.argv[1] if len(sys.argv) > 1 else f"{TOP}/crates/pdpd/out/pdpd")
 MESSAGES = 600
-SCHEMA, ROW = "not a store of this program (schema)", "a row of the store is damaged; put back a backup"
+SCHEMA, ROW = "not a store of this program (schema); name another file", "a row of the store is damaged; put back a backup"
 NO_LOG = "its log isn't there (-wal); where the file wasn't closed, by `pdpd` or by SQLite, the last changes are missing"
 
 checks = Checks("tests/tables.py")
