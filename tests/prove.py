@@ -5,10 +5,10 @@ crate was proved, what it took, and 'N passed, M failed'.
 usage: tests/prove.py
 
 `rt ci` gives each crate of a chain one processor as long as there are wrong bodies to try. So a forerunner,
-an `rt ci` over a copy without wrong bodies, goes ahead of it and proves each crate with two. First it proves
-those for which most others wait, in a run by name; those beside them are left to the judge. `rt ci` itself,
-the judge, which is run whole in this checkout, takes from the toolchain's store on this machine what was
-proved of the same files, and tries the wrong bodies beside. The judge alone decides: where the forerunner
+an `rt ci` over a copy without wrong bodies, goes ahead of it and proves each crate with two. It proves those
+for which others wait and the dearest, in runs by name; those beside them are left to the judge. `rt ci`
+itself, the judge, which is run whole in this checkout, takes from the toolchain's store on this machine what
+was proved of the same files, and tries the wrong bodies beside. The judge alone decides: where the forerunner
 fails or ends, the judge proves all itself.
 """
 import contextlib
@@ -39,8 +39,9 @@ COPIED = ("src", "specs", "proofs", "args", "status")
 ROOM_WANTED = 10
 # How long the judge waits for the forerunner to begin, and how often memory is looked at, in seconds.
 BEGINS_WITHIN, LOOKED_EVERY = 180, 5
-# The forerunner's runs, one after another: a crate with those below it, and then all.
-STAGES = (["xa_link"], [])
+# The forerunner's runs, one after another, each of a crate with those below it. In a run by all names `pdpd`
+# would be proved beside `xa_trials`, each with one job.
+STAGES = ("xa_link", "xa_trials")
 # How much the judge and its wrong bodies stand back behind the forerunner.
 NICE = 10
 # Bytes of memory that have to be free for the judge to try wrong bodies without asking for more: `rt ci` counts
@@ -161,18 +162,18 @@ class Run:
 
 
 class Stage(Run):
-    """A run of the forerunner, of the crates of these names and those below them, or of all."""
+    """A run of the forerunner, of the crate of this name and those below it."""
 
-    def __init__(self, forerunner, copied, names):
+    def __init__(self, forerunner, copied, name):
         # (`CI` refuses a run by names, which is no gate)
         surroundings = {name: value for name, value in os.environ.items() if name != "CI"}
         surroundings["TMPDIR"] = str(forerunner.folder / "tmp")
-        super().__init__(copied, forerunner.watch, forerunner.log, names, env=surroundings)
-        self.forerunner, self.names = forerunner, names
+        super().__init__(copied, forerunner.watch, forerunner.log, [name], env=surroundings)
+        self.forerunner, self.name = forerunner, name
 
     def has_seen(self, number):
         # else the judge were first at the crate that the next stage begins with
-        if self.names and self.seen.issuperset(self.names):
+        if self.name in self.seen and self.name != STAGES[-1]:
             self.forerunner.send_to_judge(signal.SIGSTOP)
 
 
@@ -228,11 +229,11 @@ class Forerunner:
     def goes_on(self, copied):
         """Reads the first run to its end, and goes on with the others, as long as none fails."""
         status = self.run.read()
-        for names in STAGES[1:]:
+        for name in STAGES[1:]:
             with self.turn:
                 if status or self.is_stopped:
                     break
-                self.run = Stage(self, copied, names)
+                self.run = Stage(self, copied, name)
             threading.Thread(target=self.begins, args=(self.run,), daemon=True).start()
             status = self.run.read()
         self.send_to_judge(signal.SIGCONT)
