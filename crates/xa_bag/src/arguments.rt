@@ -8,7 +8,7 @@ use crate::bag::Bag;
 use crate::value_or_bag::ValueOrBag;
 use xa_value::{DataType, Value};
 
-/// The value of an argument that is one of the type.
+/// The value of an argument that is one of the type. The type is of the contract alone.
 fn value_of(data_type: DataType, argument: &ValueOrBag) -> &Value
     requires { kind_of_argument argument.now ≡ kind.Value data_type }
     ensures { argument.now ≡ given.Value result.now }
@@ -19,7 +19,7 @@ fn value_of(data_type: DataType, argument: &ValueOrBag) -> &Value
     }
 }
 
-/// The bag of an argument that is one of the type.
+/// The bag of an argument that is one of the type. The type is of the contract alone.
 fn bag_of(data_type: DataType, argument: &ValueOrBag) -> &Bag
     requires { kind_of_argument argument.now ≡ kind.Bag data_type }
     ensures { argument.now ≡ given.Bag result.now }

@@ -14,9 +14,12 @@ const MANY: usize = 8;
 /// are its own, or those that are lent to it.
 #[derive(Debug, Drop)]
 pub struct Bag {
+    /// The type of the values.
     data_type: DataType,
-    /// Its own values, of which there are none if others are lent to it.
+    /// Its own values, of which there are none if others are lent to it. The list is there in either
+    /// case, since it knows the allocator that the bag was made with.
     own: Vec<Value>,
+    /// The values that are lent to it, which its copies share.
     lent: Option<Shared<Vec<Value>>>,
 }
 

@@ -14,7 +14,9 @@ use xa_value::{DataType, SortKey, Value};
 /// A bag without doubles in the making, beside the keys of its values if there may be many.
 #[derive(Drop)]
 pub(crate) struct Distinct<'a> {
+    /// The values so far.
     bag: Bag,
+    /// Their keys; none, if there will be few values, which are searched one after another.
     keys: Option<BTreeSet<SortKey<'a>>>,
 }
 
@@ -47,7 +49,7 @@ impl<'a> Distinct<'a> {
     }
 
     /// The values, and the value at their end, unless it is among them.
-    pub(crate) fn with(self, value: &'a Value) -> Result<Distinct<'a>, AllocError>
+    fn with(self, value: &'a Value) -> Result<Distinct<'a>, AllocError>
         requires { type_of value.now ≡ self.data_type }
         ensures { IfOk result (λ d. d ≡ bag_of self.entry.data_type
             (if is_among self.entry.values value.now then self.entry.values

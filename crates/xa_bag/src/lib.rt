@@ -1,5 +1,12 @@
 //! Bags of values, and the bag, set and higher-order functions of XACML 3.0 (core, appendix A.3.10
 //! to A.3.12).
+//!
+//! A function is given a `value_or_bag` for each argument. `apply` takes them apart by `arguments`, and calls
+//! `sets` or `higher_order`. Sets of many values are searched as `members`, and made as `distinct`.
+//!
+//! A higher-order function calls an `inner` one for each choice, up to the one that settles its `quantifier`.
+//! A `function` of values is inner: where it can be asked at once of all choices, that is by `relation` or
+//! `logic_at_once`.
 #![tactic(auto)]
 
 mod apply;

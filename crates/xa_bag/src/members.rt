@@ -18,8 +18,11 @@ pub(crate) const ORDERED_FROM: usize = 32;
 /// searched one after another.
 #[derive(Drop)]
 pub struct Members<'a> {
+    /// The type of the values.
     data_type: DataType,
+    /// The values, as the bag has them.
     values: &'a [Value],
+    /// Their keys, in order; none, if the values are searched one after another.
     keys: Option<Vec<SortKey<'a>>>,
 }
 

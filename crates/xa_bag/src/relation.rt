@@ -78,7 +78,8 @@ impl Relation {
     }
 }
 
-/// Where the value lies to which others compare so, if they do to any.
+/// The direction in which the easiest of the values lies furthest: others that compare so to any of the
+/// values compare so to this one.
 fn to_easiest(comparison: Comparison) -> Comparison
     ensures { result ≡ to_easiest comparison }
 {
@@ -88,7 +89,8 @@ fn to_easiest(comparison: Comparison) -> Comparison
     }
 }
 
-/// Where the value lies to which others compare so only if they do to all.
+/// The direction in which the hardest of the values lies furthest: others that compare so to this one
+/// compare so to all of the values.
 fn to_hardest(comparison: Comparison) -> Comparison
     ensures { result ≡ to_hardest comparison }
 {
@@ -183,6 +185,7 @@ fn all_equal(first: &Bag, second: &Bag) -> bool
     let Some(other) = others.first() else {
         return true;
     };
+    // All three are asked, since the proof is by what all of them answer: no `&&` and no `||`.
     let alike = are_all(first.values(), other) & are_all(others, other);
     first.is_empty() | alike
 }

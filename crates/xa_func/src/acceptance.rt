@@ -107,10 +107,10 @@ fn just_one<T: HasKind, W: Counting>(kind: Kind, arguments: &[T]) -> bool
 fn just_two<T: HasKind, W: Counting>(first: Kind, second: Kind, arguments: &[T]) -> bool
     ensures { IsTrue result ↔ (map (λ a. W.counts_as (T.kind_of a)) arguments.now ≡ first ∷ second ∷ []) }
 {
-    let [argument, others @ ..] = arguments else {
+    let [left, right] = arguments else {
         return false;
     };
-    is_of::<T, W>(argument, first) && just_one::<T, W>(second, others)
+    is_of::<T, W>(left, first) && is_of::<T, W>(right, second)
 }
 
 /// Whether there are three arguments of the kinds.
@@ -123,10 +123,10 @@ fn just_three<T: HasKind, W: Counting>(
     ensures { IsTrue result
         ↔ (map (λ a. W.counts_as (T.kind_of a)) arguments.now ≡ first ∷ second ∷ third ∷ []) }
 {
-    let [argument, others @ ..] = arguments else {
+    let [left, middle, right] = arguments else {
         return false;
     };
-    is_of::<T, W>(argument, first) && just_two::<T, W>(second, third, others)
+    is_of::<T, W>(left, first) && is_of::<T, W>(middle, second) && is_of::<T, W>(right, third)
 }
 
 /// Whether there are this many arguments of the kind, or more.

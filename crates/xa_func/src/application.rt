@@ -1,4 +1,7 @@
 //! What each function of values gives: from the function to what computes it.
+//!
+//! Each function here is an arm of `FuncId::apply`, or an arm of one, with the clauses of `apply` for that
+//! arm alone: the prover takes the arms one at a time, and then the match by what they answer.
 ghost use Rattle.std.specs.Prelude.{◌≡◌, false, map, IfOk};
 ghost use Rattle.xa_value.specs.Gives.{Gives, answered};
 ghost use Rattle.xa_value.specs.Reading.{grows as reading_grows};

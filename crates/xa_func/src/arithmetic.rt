@@ -1,5 +1,5 @@
 //! Functions of integers.
-ghost use Rattle.std.specs.Prelude.{◌≡◌, ◌<◌, ◌∷◌, [], length, slice_index_or, map, pos, neg_ℤ, unsigned_abs};
+ghost use Rattle.std.specs.Prelude.{◌≡◌, ◌<◌, ◌∷◌, [], length, slice_index_or, map, pos, unsigned_abs};
 ghost use Rattle.xa_value.specs.declared.data_type.DataType.TheVariants as data_type;
 ghost use Rattle.xa_value.specs.Order.{type_of};
 ghost use Rattle.xa_func.specs.declared.signature.Kind.TheVariants as kind;

@@ -1,9 +1,9 @@
 //! Days, times and durations: months and nanoseconds later, and ranges of times.
-ghost use Rattle.std.specs.Prelude.{◌≡◌, ◌≤◌, ◌<◌, ◌≤ℤ◌, ◌+ℤ◌, pos, neg_ℤ, unsigned_abs, IfOk};
+ghost use Rattle.std.specs.Prelude.{◌≡◌, ◌≤◌, ◌<◌, ◌≤ℤ◌, ◌+ℤ◌, pos, unsigned_abs, IfOk};
 ghost use Rattle.std.specs.Int.{int_div_euclid, int_rem_euclid};
 ghost use Rattle.xa_value.specs.Instant.{local_nanos};
 ghost use Rattle.xa_value.specs.Time.{day_nanos};
-ghost use Rattle.jiff_core.specs.Calendar.{IsBetween, IsWithin};
+ghost use Rattle.jiff_core.specs.Calendar.{IsWithin};
 ghost use Rattle.jiff_core.specs.Date.{epoch_day};
 ghost use Rattle.xa_value.specs.Duration.{IsMonths, IsNanos};
 ghost use Rattle.xa_func.specs.Civil.{day_of, day_result};

@@ -1,5 +1,10 @@
 //! The functions of XACML 3.0 on values: their names, their signatures and what they give (core,
 //! appendix A.3).
+//!
+//! A function is a `func_id`. `names` finds it by the `name` that a URI is. `acceptance` says whether
+//! arguments fit its `signature`. `application` takes them from `arguments` and calls what computes the
+//! function: `arithmetic`, `comparison`, `conversion`, `dates`, `logic` or `text`. A `fault` stands for a
+//! `status`.
 #![tactic(auto)]
 
 mod acceptance;

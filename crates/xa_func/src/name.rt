@@ -1,6 +1,6 @@
 //! What each function is called: its name in the version of the standard that brought it, and in a later one.
 ghost use Rattle.std.specs.Prelude.{◌≡◌, ◌++◌, bytes_eq};
-ghost use Rattle.xa_func.specs.Table.{row_of, text_row, move_row, higher_row, comparison_verb};
+ghost use Rattle.xa_func.specs.Table.{row, row_of, text_row, move_row, higher_row, comparison_verb};
 ghost use Rattle.xa_func.specs.Table.{arithmetic_verb, logic_verb, part_verb, printed_verb, bag_verb};
 ghost use Rattle.xa_func.specs.Table.{has_later_name, is_duration, names};
 ghost use Rattle.xa_func.specs.declared.func_id.FuncId.TheVariants as function_id;
@@ -9,6 +9,7 @@ use crate::func_id::{
     Arithmetic, BagFunction, Comparison, Direction, FuncId, HigherOrder, Logic, Moved, PrintedType,
     TextFunction, TextPart,
 };
+use std::marker::Model;
 use xa_value::DataType;
 
 /// What version 1.0 of the standard puts before the names of its functions.
@@ -21,19 +22,25 @@ const VERSION_2: &str = "urn:oasis:names:tc:xacml:2.0:function:";
 const VERSION_3: &str = "urn:oasis:names:tc:xacml:3.0:function:";
 
 /// A name: the version of the standard, what the function is of, and what it does.
-#[derive(Clone, Copy)]
+#[derive(Drop)]
 struct Name {
     version: &'static str,
     subject: &'static str,
     verb: &'static str,
 }
 
+impl Model for Name {
+    ghost use Rattle.xa_func.specs.Table.{Name as Row};
+
+    ghost Value = { Row };
+
+    ghost view = { λ n. record { version = n.version.now; subject = n.subject.now; verb = n.verb.now } };
+}
+
 impl Name {
     /// The name of the three parts.
     fn new(version: &'static str, subject: &'static str, verb: &'static str) -> Name
-        ensures version { result.version.now ≡ version.now }
-        ensures subject { result.subject.now ≡ subject.now }
-        ensures verb { result.verb.now ≡ verb.now }
+        ensures { result ≡ row version.now subject.now verb.now }
     {
         Name {
             version,
@@ -42,10 +49,17 @@ impl Name {
         }
     }
 
+    /// Whether the text is the name, in the version that brought it.
+    fn is_written_in_own_version(&self, uri: &str) -> bool
+        ensures { result ≡ bytes_eq uri.now (self.now.version ++ (self.now.subject ++ self.now.verb)) }
+    {
+        self.is_written(self.version, uri)
+    }
+
     /// Whether the text is the name, in the version.
     #[tactic(auto, using(crate::proofs::NameLemmas::stripped, crate::proofs::NameLemmas::unstripped))]
     fn is_written(&self, version: &str, uri: &str) -> bool
-        ensures { result ≡ bytes_eq uri.now (version.now ++ (self.now.subject.now ++ self.now.verb.now)) }
+        ensures { result ≡ bytes_eq uri.now (version.now ++ (self.now.subject ++ self.now.verb)) }
     {
         match uri.as_bytes().strip_prefix(version.as_bytes()) {
             None => false,
@@ -170,9 +184,7 @@ impl BagFunction {
 
 /// The name of the equality of the type.
 fn equality_name(data_type: DataType) -> Name
-    ensures version { result.version.now ≡ (row_of (function_id.Equal data_type)).version }
-    ensures subject { result.subject.now ≡ (row_of (function_id.Equal data_type)).subject }
-    ensures verb { result.verb.now ≡ (row_of (function_id.Equal data_type)).verb }
+    ensures { result ≡ row_of (function_id.Equal data_type) }
 {
     let version = if is_duration(data_type) {
         VERSION_3
@@ -184,9 +196,7 @@ fn equality_name(data_type: DataType) -> Name
 
 /// The name of a function of texts.
 fn text_name(function: TextFunction) -> Name
-    ensures version { result.version.now ≡ (text_row function).version }
-    ensures subject { result.subject.now ≡ (text_row function).subject }
-    ensures verb { result.verb.now ≡ (text_row function).verb }
+    ensures { result ≡ text_row function }
 {
     match function {
         TextFunction::NormalizeSpace => Name::new(VERSION_1, "string", "-normalize-space"),
@@ -197,9 +207,7 @@ fn text_name(function: TextFunction) -> Name
 
 /// The name of what moves a date, or a date with a time.
 fn move_name(moved: Moved, direction: Direction) -> Name
-    ensures version { result.version.now ≡ (move_row moved direction).version }
-    ensures subject { result.subject.now ≡ (move_row moved direction).subject }
-    ensures verb { result.verb.now ≡ (move_row moved direction).verb }
+    ensures { result ≡ move_row moved direction }
 {
     match (moved, direction) {
         (Moved::DateTimeByDayTime, Direction::Add) => Name::new(
@@ -237,9 +245,7 @@ fn move_name(moved: Moved, direction: Direction) -> Name
 
 /// The name of a function of a function.
 fn higher_name(function: HigherOrder) -> Name
-    ensures version { result.version.now ≡ (higher_row function).version }
-    ensures subject { result.subject.now ≡ (higher_row function).subject }
-    ensures verb { result.verb.now ≡ (higher_row function).verb }
+    ensures { result ≡ higher_row function }
 {
     match function {
         HigherOrder::AnyOf => Name::new(VERSION_3, "", "any-of"),
@@ -254,9 +260,7 @@ fn higher_name(function: HigherOrder) -> Name
 impl FuncId {
     /// The function's name, in the version that brought it.
     fn name(self) -> Name
-        ensures version { result.version.now ≡ (row_of self).version }
-        ensures subject { result.subject.now ≡ (row_of self).subject }
-        ensures verb { result.verb.now ≡ (row_of self).verb }
+        ensures { result ≡ row_of self }
     {
         match self {
             FuncId::Equal(data_type) => equality_name(data_type),
@@ -307,7 +311,7 @@ impl FuncId {
         ensures { result ≡ names uri.now self }
     {
         let name = self.name();
-        name.is_written(name.version, uri)
+        name.is_written_in_own_version(uri)
             || (self.has_later_name() && name.is_written(VERSION_3, uri))
     }
 }

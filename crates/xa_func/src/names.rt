@@ -1,5 +1,5 @@
 //! The function that a URI names.
-ghost use Rattle.std.specs.Prelude.{◌≡◌, ◌↔◌, map, find, flat_map, IsTrue, Option, Some};
+ghost use Rattle.std.specs.Prelude.{◌≡◌, ◌↔◌, map, find, flat_map, IsTrue, Some};
 ghost use Rattle.xa_func.specs.Names.{function_named};
 ghost use Rattle.xa_func.specs.Table.{names};
 ghost use Rattle.xa_func.specs.declared.func_id.FuncId.{FuncId};

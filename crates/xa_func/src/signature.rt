@@ -40,12 +40,16 @@ pub enum Signature {
     HigherOrder(HigherOrder),
 }
 
+/// One boolean.
 const BOOLEAN: Kind = Kind::Value(DataType::Boolean);
 
+/// One integer.
 const INTEGER: Kind = Kind::Value(DataType::Integer);
 
+/// One string.
 const STRING: Kind = Kind::Value(DataType::String);
 
+/// One time of day.
 const TIME: Kind = Kind::Value(DataType::Time);
 
 impl Kind {

@@ -1,5 +1,5 @@
 //! Functions of texts.
-ghost use Rattle.std.specs.Prelude.{◌≡◌, ◌<◌, map, length, chars, encode_utf8_all, string_bytes, IfOk};
+ghost use Rattle.std.specs.Prelude.{◌≡◌, map, chars, encode_utf8_all, IfOk};
 ghost use Rattle.std.specs.List.{concat};
 ghost use Rattle.xa_value.specs.declared.data_type.DataType.TheVariants as data_type;
 ghost use Rattle.xa_func.specs.declared.signature.Kind.TheVariants as kind;

@@ -1,5 +1,5 @@
 //! Bytes as hexadecimal digits and in base64, read and printed.
-ghost use Rattle.std.specs.Prelude.{◌≡◌, not, IfOk, filter};
+ghost use Rattle.std.specs.Prelude.{◌≡◌, IfOk};
 ghost use Rattle.xa_value.specs.Binary.{hex_text, without_blanks, base64_text};
 ghost use Rattle.xa_value.specs.parsing.Binary.{read_hex, read_base64};
 ghost use Rattle.xa_value.specs.Gives.{Gives};

@@ -1,6 +1,6 @@
 //! Dates, with and without a time, read and printed.
 ghost use Rattle.std.specs.Prelude.{◌≡◌, ◌≤◌, ◌<◌, ◌≤ℤ◌, unsigned_abs, ◌++◌, OnOk, IsTrue};
-ghost use Rattle.std.specs.Prelude.{SomeIff, string_bytes, length, drop, pos, true};
+ghost use Rattle.std.specs.Prelude.{SomeIff, string_bytes, length, drop, pos};
 ghost use Rattle.jiff_core.specs.Date.{IsYmd, epoch_day};
 ghost use Rattle.xa_value.specs.Calendar.{is_day, day_text, date_text, date_time_text, day_number};
 ghost use Rattle.xa_value.specs.parsing.Calendar.{date_of, date_time_of, year_of, read_date, read_date_time};
@@ -9,7 +9,7 @@ ghost use Rattle.xa_value.specs.parsing.Time.{read_clock};
 
 use crate::lexical::{has_shape, push_padded, two_digits};
 use crate::read_error::ReadError;
-use crate::time::{DAY, Time, push_clock, read_clock};
+use crate::time::{DAY_NANOS, Time, push_clock, read_clock};
 use crate::zone::{Offset, push_zone, read_zone};
 use jiff_core::civil;
 use std::alloc::AllocError;
@@ -111,7 +111,7 @@ impl DateTime {
         ensures { SomeIff result ((pos 1 ≤ℤ day.year) × (nanos < day_nanos)) record
             { year = unsigned_abs day.year; month = day.month; day = day.day; nanos = nanos; zone = zone } }
     {
-        if day.year < 1 || nanos >= DAY {
+        if day.year < 1 || nanos >= DAY_NANOS {
             return None;
         }
         Some(DateTime {

@@ -1,19 +1,16 @@
-//! Durations, read and printed.
-ghost use Rattle.std.specs.Prelude.{◌≡◌, [], codes, ◌+◌, ◌-◌, ◌*◌, ◌^◌, ◌≤◌, ◌<◌, ◌++◌, min, if◌then◌else◌};
-ghost use Rattle.std.specs.Prelude.{pos, neg_ℤ, drop, OnOk, SomeIff, string_bytes, length, true};
-ghost use Rattle.xa_value.specs.Time.{nanoseconds};
-ghost use Rattle.xa_value.specs.parsing.Time.{fraction_length, fraction_digits};
-ghost use Rattle.xa_value.specs.Duration.{most_months, most_nanos, IsMonths, IsNanos, part_text, sign_text};
-ghost use Rattle.xa_value.specs.Duration.{year_month_text, seconds_text, clock_part_text, day_time_text};
+//! Durations, and how they are read from texts.
+ghost use Rattle.std.specs.Prelude.{◌≡◌, ◌+◌, ◌-◌, ◌*◌, ◌^◌, ◌≤◌, min};
+ghost use Rattle.std.specs.Prelude.{drop, SomeIff, length, true};
+ghost use Rattle.xa_value.specs.Duration.{most_months, most_nanos, IsMonths, IsNanos};
 ghost use Rattle.xa_value.specs.parsing.Duration.{part_length, part, after, after_part, seconds_length};
-ghost use Rattle.xa_value.specs.parsing.Duration.{seconds_part, seconds_fraction, without_minus, within};
-ghost use Rattle.xa_value.specs.parsing.Duration.{is_years_and_months, months_of, read_year_month};
+ghost use Rattle.xa_value.specs.parsing.Duration.{seconds_fraction, without_minus, within};
+ghost use Rattle.xa_value.specs.parsing.Duration.{is_years_and_months, read_year_month};
 ghost use Rattle.xa_value.specs.parsing.Duration.{is_clock_part, is_days_and_clock, seconds_of};
 ghost use Rattle.xa_value.specs.parsing.Duration.{total_nanos, nanos_of, has_short_fraction, read_day_time};
 
 use crate::lexical::{begins_with, digit_count, number};
 use crate::read_error::ReadError;
-use crate::time::{LONGEST_FRACTION, SECOND, fraction_length, fraction_nanos};
+use crate::time::{LONGEST_FRACTION, SECOND_NANOS, fraction_length, fraction_nanos};
 use std::marker::Model;
 
 /// 10,000 years, in months: more than lie between any two dates, of the years 1 to 9999.
@@ -232,6 +229,13 @@ pub(crate) fn read_year_month(text: &[u8]) -> Result<YearMonthDuration, ReadErro
     )
 }
 
+/// What follows hours and minutes, whose units are 72 and 77 as characters.
+fn after_minutes(clock: &[u8]) -> &[u8]
+    ensures { result.now ≡ after_part 77 (after_part 72 clock.now) }
+{
+    after_part(b'M', after_part(b'H', clock))
+}
+
 /// Whether hours, minutes and seconds stand after `T`: at least one part, and nothing else.
 #[tactic(auto, unfolding(crate::specs::parsing::Duration::is_clock_part))]
 fn is_clock_part(text: &[u8]) -> bool
@@ -240,7 +244,7 @@ fn is_clock_part(text: &[u8]) -> bool
     let [b'T', clock @ ..] = text else {
         return false;
     };
-    let rest = after_part(b'M', after_part(b'H', clock));
+    let rest = after_minutes(clock);
     !clock.is_empty() && after(seconds_length(rest), rest).is_empty()
 }
 
@@ -260,7 +264,7 @@ fn is_days_and_clock(text: &[u8]) -> bool
 fn seconds_of(clock: &[u8]) -> &[u8]
     ensures { result.now ≡ seconds_of clock.now }
 {
-    let rest = after_part(b'M', after_part(b'H', clock));
+    let rest = after_minutes(clock);
     &rest[..seconds_length(rest)]
 }
 
@@ -293,7 +297,7 @@ fn total_within(
 {
     let hours = u128::from(days) * 24 + u128::from(hours);
     let seconds = (hours * 60 + u128::from(minutes)) * 60 + u128::from(seconds);
-    let magnitude = seconds * u128::from(SECOND) + u128::from(fraction);
+    let magnitude = seconds * u128::from(SECOND_NANOS) + u128::from(fraction);
     if magnitude > MOST_NANOS_WRITTEN {
         return Err(ReadError::OutOfRange);
     }

@@ -1,10 +1,10 @@
 //! Durations, printed in canonical form.
 ghost use Rattle.std.specs.Prelude.{◌≡◌, [], codes, ◌<◌, ◌++◌, if◌then◌else◌, OnOk, string_bytes};
-ghost use Rattle.xa_value.specs.Duration.{part_text, sign_text};
+ghost use Rattle.xa_value.specs.Duration.{part_text};
 ghost use Rattle.xa_value.specs.Duration.{year_month_text, seconds_text, clock_part_text, day_time_text};
 
 use crate::duration::{DayTimeDuration, YearMonthDuration};
-use crate::time::{DAY, HOUR, MINUTE, SECOND, push_fraction};
+use crate::time::{DAY_NANOS, HOUR_NANOS, MINUTE_NANOS, SECOND_NANOS, push_fraction};
 use std::alloc::AllocError;
 
 /// Writes a minus for what is below zero.
@@ -54,9 +54,9 @@ fn push_seconds(text: &mut String, nanos: u64) -> Result<(), AllocError>
     if nanos == 0 {
         return Ok(());
     }
-    let seconds = nanos / SECOND;
+    let seconds = nanos / SECOND_NANOS;
     write!(text, "{seconds}")?;
-    push_fraction(text, (nanos % SECOND) as u32)?;
+    push_fraction(text, (nanos % SECOND_NANOS) as u32)?;
     text.push('S')
 }
 
@@ -69,9 +69,9 @@ fn push_clock_part(text: &mut String, nanos: u64) -> Result<(), AllocError>
         return Ok(());
     }
     text.push('T')?;
-    push_part(text, nanos / HOUR, 'H')?;
-    push_part(text, nanos / MINUTE % 60, 'M')?;
-    push_seconds(text, nanos % MINUTE)
+    push_part(text, nanos / HOUR_NANOS, 'H')?;
+    push_part(text, nanos / MINUTE_NANOS % 60, 'M')?;
+    push_seconds(text, nanos % MINUTE_NANOS)
 }
 
 /// Writes the duration as days, hours, minutes and seconds.
@@ -85,6 +85,6 @@ pub(crate) fn push_day_time(text: &mut String, duration: DayTimeDuration) -> Res
     }
     push_sign(text, duration.nanos() < 0)?;
     text.push('P')?;
-    push_part(text, (nanos / u128::from(DAY)) as u64, 'D')?;
-    push_clock_part(text, (nanos % u128::from(DAY)) as u64)
+    push_part(text, (nanos / u128::from(DAY_NANOS)) as u64, 'D')?;
+    push_clock_part(text, (nanos % u128::from(DAY_NANOS)) as u64)
 }

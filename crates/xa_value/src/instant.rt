@@ -6,7 +6,7 @@ ghost use Rattle.xa_value.specs.Instant.{local_nanos};
 ghost use Rattle.xa_value.specs.Zone.{offset_of};
 
 use crate::calendar::DateTime;
-use crate::time::{DAY, MINUTE};
+use crate::time::{DAY_NANOS, MINUTE_NANOS};
 use crate::zone::{Offset, offset_of};
 
 impl DateTime {
@@ -31,7 +31,7 @@ fn local_nanos(day: i32, nanos: u64) -> i128
     ensures value { result ≡ day *ℤ pos 86_400_000_000_000 +ℤ pos nanos }
     ensures within { IsBetween (neg_ℤ (pos (2 ^ 100))) (pos (2 ^ 100)) result }
 {
-    i128::from(day) * i128::from(DAY) + i128::from(nanos)
+    i128::from(day) * i128::from(DAY_NANOS) + i128::from(nanos)
 }
 
 /// The nanoseconds by which the zone is ahead of UTC.
@@ -39,5 +39,5 @@ fn offset_nanos(zone: Option<Offset>) -> i128
     ensures value { result ≡ offset_of zone *ℤ pos 60_000_000_000 }
     ensures within { IsBetween (neg_ℤ (pos (2 ^ 100))) (pos (2 ^ 100)) result }
 {
-    i128::from(offset_of(zone)) * i128::from(MINUTE)
+    i128::from(offset_of(zone)) * i128::from(MINUTE_NANOS)
 }

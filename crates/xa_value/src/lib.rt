@@ -1,4 +1,13 @@
 //! The values that policies and requests speak of, and the types by which contracts see them.
+//!
+//! A `value` is of a `data_type`. `reading` reads it from a text by `number`, `time`, `calendar`, `duration`
+//! or `binary`; times and dates may end in a `zone`, and all stand on `lexical`. `printing` writes it by the
+//! same files and `duration_printing`, and `round_trip` says that what was read and is written reads as it
+//! was. `plain` has it as a text, a boolean or a number of another notation. `order` compares values by a
+//! `sort_key`, and days and times by an `instant`.
+//!
+//! Contracts see a `text`, `bytes`, `items` and what is `boxed` or `shared` as what is in them. Want of
+//! memory goes by `or_memory`.
 #![tactic(auto)]
 
 mod binary;
@@ -44,6 +53,6 @@ pub use read_error::ReadError;
 pub use shared::Shared;
 pub use sort_key::SortKey;
 pub use text::{Text, TextRef};
-pub use time::{DAY as DAY_NANOS, MINUTE as MINUTE_NANOS, Time};
+pub use time::{DAY_NANOS, MINUTE_NANOS, Time};
 pub use value::Value;
 pub use zone::Offset;

@@ -7,7 +7,7 @@ ghost use Rattle.xa_value.specs.Moment.{IsMoment, day_number_of, nanos_of, date_
 ghost use Rattle.xa_value.specs.Time.{day_nanos};
 
 use crate::calendar::{Date, DateTime};
-use crate::time::{SECOND, Time};
+use crate::time::{SECOND_NANOS, Time};
 use crate::zone::Offset;
 use jiff_core::civil;
 use std::marker::Model;
@@ -99,6 +99,6 @@ impl Moment {
         ensures value { result ≡ nanos_of self }
         ensures within { result < day_nanos }
     {
-        self.seconds.rem_euclid(SECONDS_OF_A_DAY) as u64 * SECOND
+        self.seconds.rem_euclid(SECONDS_OF_A_DAY) as u64 * SECOND_NANOS
     }
 }

@@ -1,5 +1,5 @@
 //! Booleans and integers, read and printed.
-ghost use Rattle.std.specs.Prelude.{◌≡◌, ◌^◌, ◌-◌, min, ◌++◌, OnOk, string_bytes};
+ghost use Rattle.std.specs.Prelude.{◌≡◌, ◌++◌, OnOk, string_bytes};
 ghost use Rattle.std.specs.Fmt.{signed_decimal};
 ghost use Rattle.xa_value.specs.Number.{boolean_text};
 ghost use Rattle.xa_value.specs.parsing.Number.{read_boolean, integer_of, without_sign, read_integer};

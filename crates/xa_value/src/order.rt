@@ -1,7 +1,7 @@
 //! Equality and order of values.
 ghost use Rattle.std.specs.Prelude.{◌≡◌};
 ghost use Rattle.std.specs.Cmp.{IsEquivalence};
-ghost use Rattle.xa_value.specs.Order.{type_of, number_of, bytes_of, key_of, compare_keys};
+ghost use Rattle.xa_value.specs.Order.{number_of, bytes_of, key_of, compare_keys};
 ghost use Rattle.xa_value.specs.Order.{same, is_ordered, order, IsOrder, KeysTellApart};
 
 use crate::data_type::DataType;
@@ -23,7 +23,7 @@ fn is_ordered(data_type: DataType) -> bool
 impl Value {
     /// The number by which the value compares.
     #[tactic(auto, unfolding(crate::specs::Order::number_of))]
-    fn number(&self) -> i128
+    fn ordering_number(&self) -> i128
         ensures { result ≡ number_of self.now }
     {
         match self {
@@ -44,7 +44,7 @@ impl Value {
 
     /// The bytes by which the value compares.
     #[tactic(auto, unfolding(crate::specs::Order::bytes_of))]
-    fn bytes(&self) -> &[u8]
+    fn ordering_bytes(&self) -> &[u8]
         ensures { result.now ≡ bytes_of self.now }
     {
         match self {
@@ -59,7 +59,7 @@ impl Value {
         ensures value { result ≡ key_of self.now }
         ensures law { KeysTellApart }
     {
-        SortKey::new(self.number(), self.bytes())
+        SortKey::new(self.ordering_number(), self.ordering_bytes())
     }
 
     /// Whether the values are equal: of one type, and of the same instant, number or bytes (XACML
@@ -82,8 +82,8 @@ impl Value {
         ensures { result ≡ same self.now other.now }
     {
         self.data_type().is_same(other.data_type())
-            && self.number() == other.number()
-            && self.bytes() == other.bytes()
+            && self.ordering_number() == other.ordering_number()
+            && self.ordering_bytes() == other.ordering_bytes()
     }
 
     /// The order of two values of one type, if it is integer, string, time, date or dateTime
@@ -105,8 +105,8 @@ impl Value {
     fn key_order(&self, other: &Value) -> Ordering
         ensures { result ≡ compare_keys (key_of self.now) (key_of other.now) }
     {
-        self.number()
-            .cmp(&other.number())
-            .then(self.bytes().cmp(other.bytes()))
+        self.ordering_number()
+            .cmp(&other.ordering_number())
+            .then(self.ordering_bytes().cmp(other.ordering_bytes()))
     }
 }

@@ -36,7 +36,8 @@ impl Value {
     }
 }
 
-/// The value of the text by the reader of its type.
+/// The value of the text by the reader of its type. Apart from `read`, so that its law on grammars is
+/// shown once, and not for each type.
 fn read_by_type(
     alloc: Global,
     data_type: DataType,

@@ -1,6 +1,6 @@
 //! Times of day, read and printed.
-ghost use Rattle.std.specs.Prelude.{◌≡◌, ◌+◌, ◌≤◌, ◌<◌, ◌%◌, ◌++◌, true};
-ghost use Rattle.std.specs.Prelude.{OnOk, string_bytes, length, drop, SomeIff};
+ghost use Rattle.std.specs.Prelude.{◌≡◌, ◌+◌, ◌≤◌, ◌<◌, ◌++◌, true};
+ghost use Rattle.std.specs.Prelude.{OnOk, string_bytes, length, SomeIff};
 ghost use Rattle.xa_value.specs.parsing.Lexical.{digit_count};
 ghost use Rattle.xa_value.specs.Time.{day_nanos, nanoseconds, significant_digits};
 ghost use Rattle.xa_value.specs.Time.{fraction_text, clock_text, time_text};
@@ -14,16 +14,16 @@ use std::alloc::AllocError;
 use std::marker::Model;
 
 /// The nanoseconds of a second.
-pub(crate) const SECOND: u64 = 1_000_000_000;
+pub(crate) const SECOND_NANOS: u64 = 1_000_000_000;
 
 /// The nanoseconds of a minute.
-pub const MINUTE: u64 = 60_000_000_000;
+pub const MINUTE_NANOS: u64 = 60_000_000_000;
 
 /// The nanoseconds of an hour.
-pub(crate) const HOUR: u64 = 3_600_000_000_000;
+pub(crate) const HOUR_NANOS: u64 = 3_600_000_000_000;
 
 /// The nanoseconds of a day.
-pub const DAY: u64 = 86_400_000_000_000;
+pub const DAY_NANOS: u64 = 86_400_000_000_000;
 
 /// The length of the longest fraction of a second: its point and nine digits.
 pub(crate) const LONGEST_FRACTION: usize = 10;
@@ -53,7 +53,7 @@ impl Time {
     pub fn new(nanos: u64, zone: Option<Offset>) -> Option<Time>
         ensures { SomeIff result (nanos < day_nanos) record { nanos = nanos; zone = zone } }
     {
-        if nanos < DAY {
+        if nanos < DAY_NANOS {
             Some(Time { nanos, zone })
         } else {
             None
@@ -90,7 +90,7 @@ pub(crate) fn fraction_length(text: &[u8]) -> usize
 
 /// The digits of a fraction of a second, in nanoseconds.
 #[tactic(auto, using(crate::proofs::TimeLemmas::nanoseconds_lt, crate::proofs::TimeLemmas::number_short, crate::proofs::TimeLemmas::small_power), unfolding(crate::specs::Time::nanoseconds))]
-pub(crate) fn nanoseconds(digits: &[u8]) -> u64
+fn nanoseconds(digits: &[u8]) -> u64
     requires digits { digit_count digits.now ≡ length digits.now }
     requires short { length digits.now ≤ 9 }
     ensures value { result ≡ nanoseconds digits.now }
@@ -149,7 +149,7 @@ fn clock_nanos(text: &[u8]) -> u64
     let hours = u64::from(two_digits(text, 0));
     let minutes = u64::from(two_digits(text, 3));
     let seconds = u64::from(two_digits(text, 6));
-    ((hours * 60 + minutes) * 60 + seconds) * SECOND + fraction_nanos(&text[8..])
+    ((hours * 60 + minutes) * 60 + seconds) * SECOND_NANOS + fraction_nanos(&text[8..])
 }
 
 /// The time of the text, `hh:mm:ss` with or without a fraction and a zone.
@@ -201,12 +201,12 @@ pub(crate) fn push_clock(text: &mut String, nanos: u64) -> Result<(), AllocError
     requires { nanos < day_nanos }
     ensures { OnOk result (string_bytes text.new ≡ string_bytes text.old ++ clock_text nanos) }
 {
-    push_padded(text, 2, (nanos / HOUR) as u32)?;
+    push_padded(text, 2, (nanos / HOUR_NANOS) as u32)?;
     text.push(':')?;
-    push_padded(text, 2, (nanos / MINUTE % 60) as u32)?;
+    push_padded(text, 2, (nanos / MINUTE_NANOS % 60) as u32)?;
     text.push(':')?;
-    push_padded(text, 2, (nanos / SECOND % 60) as u32)?;
-    push_fraction(text, (nanos % SECOND) as u32)
+    push_padded(text, 2, (nanos / SECOND_NANOS % 60) as u32)?;
+    push_fraction(text, (nanos % SECOND_NANOS) as u32)
 }
 
 /// Writes the time of day and its zone.

@@ -1,6 +1,6 @@
 //! Zones and their offsets from UTC, read and printed.
 ghost use Rattle.std.specs.Prelude.{◌≡◌, ◌++◌, neg_ℤ, if◌then◌else◌, OnOk};
-ghost use Rattle.std.specs.Prelude.{string_bytes, length, IfOk, pos, SomeIff};
+ghost use Rattle.std.specs.Prelude.{string_bytes, length, SomeIff};
 ghost use Rattle.xa_value.specs.Zone.{IsOffset, offset_text, zone_text, offset_of};
 ghost use Rattle.xa_value.specs.parsing.Zone.{is_offset_text, read_offset, read_zone};
 
