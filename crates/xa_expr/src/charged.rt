@@ -15,7 +15,9 @@ use xa_value::{DataType, OrMemory, Value};
 /// A function of values, each of whose calls takes what it costs from the work that the message may ask for.
 #[derive(Drop)]
 pub(crate) struct Charged<'a, C: Context> {
+    /// The function that is called.
     pub(crate) function: FuncId,
+    /// The context, from whose work the calls are taken.
     pub(crate) context: &'a C,
 }
 

@@ -194,7 +194,7 @@ fn scalar_function(name: &Text) -> Result<FuncId, CheckError>
 fn apply_function(function: FuncId, arguments: Items<Typed>) -> Result<Typed, CheckError>
     ensures { result ≡ applied function arguments }
 {
-    if !is_counted(function, arguments.len()) {
+    if !takes_count(function, arguments.len()) {
         return Err(CheckError::WrongCount);
     }
     if !accepts(function, arguments.as_slice()) {
@@ -211,7 +211,7 @@ fn accepts(function: FuncId, arguments: &[Typed]) -> bool
 }
 
 /// Whether the function takes this many arguments, none of which is a function.
-fn is_counted(function: FuncId, count: usize) -> bool
+fn takes_count(function: FuncId, count: usize) -> bool
     ensures { result ≡ counted (signature_of function) count }
 {
     match function.signature() {
@@ -228,28 +228,28 @@ fn apply_to_function(
 ) -> Result<Typed, CheckError>
     ensures { IsTrue (is_scalar inner) → result ≡ higher_applied function inner arguments }
 {
-    if !is_higher_counted(function, inner, arguments.len()) {
+    if !higher_order_takes_count(function, inner, arguments.len()) {
         return Err(CheckError::WrongCount);
     }
-    if !is_accepted(function, inner, arguments.as_slice()) {
+    if !higher_order_accepts(function, inner, arguments.as_slice()) {
         return Err(CheckError::WrongType);
     }
     Ok(Typed::HigherOrder(function, inner, arguments))
 }
 
 /// Whether the higher-order function takes this many arguments after the inner one.
-fn is_higher_counted(function: HigherOrder, inner: FuncId, count: usize) -> bool
+fn higher_order_takes_count(function: HigherOrder, inner: FuncId, count: usize) -> bool
     ensures { result ≡ higher_counted function inner count }
 {
     match function {
         HigherOrder::AllOfAny | HigherOrder::AllOfAll => count == 2,
-        _ => is_counted(inner, count),
+        _ => takes_count(inner, count),
     }
 }
 
 /// Whether the inner function is one of values, and the arguments after it are what the higher-order
 /// function takes.
-fn is_accepted(function: HigherOrder, inner: FuncId, arguments: &[Typed]) -> bool
+fn higher_order_accepts(function: HigherOrder, inner: FuncId, arguments: &[Typed]) -> bool
     ensures { result ≡ is_scalar inner && higher_accepted function inner (map kind_of_typed arguments.now) }
 {
     takes_each(inner, arguments) && has_bags(function, arguments) && gives_boolean(function, inner)

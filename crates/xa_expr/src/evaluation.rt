@@ -1,6 +1,6 @@
 //! The values of checked expressions (XACML 3.0, core, section 7.4), where the results of variables are
 //! given.
-ghost use Rattle.std.specs.Prelude.{◌≡◌, map, if◌then◌else◌, Some, IfOk};
+ghost use Rattle.std.specs.Prelude.{◌≡◌, map, if◌then◌else◌, IfOk};
 ghost use Rattle.xa_value.specs.Gives.{Gives};
 ghost use Rattle.xa_func.specs.declared.func_id.FuncId.TheVariants as function_id;
 ghost use Rattle.xa_func.specs.Logic.{or_of, and_of, n_among};

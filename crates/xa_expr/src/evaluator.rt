@@ -25,8 +25,11 @@ use xa_value::OrMemory;
 /// definitions.
 #[derive(Drop)]
 pub struct Evaluator<'a, C: Context> {
+    /// Where the values of attributes come from.
     context: &'a C,
+    /// The variables that expressions may name.
     variables: &'a Variables,
+    /// What the first of them came to, as many as were worked out.
     results: Vec<Result<ValueOrBag, Fault>>,
 }
 
@@ -44,54 +47,6 @@ impl<'a, C: Context> Model for Evaluator<'a, C> {
     ghost view = { λ e. (e.context.now, e.variables.now) };
 
     ghost invariant = { λ e. AreFirst (C.values_of e.context.now) e.variables.now e.results.items };
-}
-
-/// Works out the variables that the expression names and those before them. Where all were worked out,
-/// nobody looks at the expression.
-fn prepare<C: Context>(
-    alloc: Global,
-    context: &C,
-    definitions: &[Definition],
-    results: &mut Vec<Result<ValueOrBag, Fault>>,
-    expression: &Typed,
-) -> Result<(), AllocError>
-    requires right { AreFirst (C.values_of context.now) definitions.now results.old.items }
-    requires typed { AreTyped definitions.now }
-    ensures right { AreFirst (C.values_of context.now) definitions.now results.new.items }
-    ensures exact { IfOk result (λ _. length results.new.items
-        ≡ max (length results.old.items) (min (reach expression.now) (length definitions.now))) }
-{
-    if results.len() == definitions.len() {
-        return Ok(());
-    }
-    match last_variable(context, expression)? {
-        Some(place) => work_out(alloc, context, definitions, results, place),
-        None => Ok(()),
-    }
-}
-
-/// What the expression comes to, and what is worked out for it, in the results.
-fn value_with<C: Context>(
-    alloc: Global,
-    context: &C,
-    definitions: &[Definition],
-    results: &mut Vec<Result<ValueOrBag, Fault>>,
-    expression: &Typed,
-) -> Result<ValueOrBag, OrMemory<Fault>>
-    requires right { AreFirst (C.values_of context.now) definitions.now results.old.items }
-    requires variables { AreTyped definitions.now }
-    requires typed { IsTyped (kinds definitions.now) expression.now }
-    ensures value { Gives result (value_of (C.values_of context.now) definitions.now expression.now) }
-    ensures typed { IfOk result (λ given. kind_of_argument given ≡ kind_of_typed expression.now) }
-    ensures right { AreFirst (C.values_of context.now) definitions.now results.new.items }
-{
-    prepare(alloc, context, definitions, results, expression)?;
-    let scope = Scope {
-        context,
-        definitions,
-        results: results.as_slice(),
-    };
-    evaluate(alloc, &scope, expression)
 }
 
 impl<'a, C: Context> Evaluator<'a, C> {
@@ -151,4 +106,52 @@ pub fn value<C: Context>(
     ensures fits { MeetsNoMisfit (C.values_of context.now) variables.now expression.now }
 {
     Evaluator::new(alloc, context, variables).value(alloc, expression)
+}
+
+/// Works out the variables that the expression names and those before them. Where all were worked out,
+/// nobody looks at the expression.
+fn prepare<C: Context>(
+    alloc: Global,
+    context: &C,
+    definitions: &[Definition],
+    results: &mut Vec<Result<ValueOrBag, Fault>>,
+    expression: &Typed,
+) -> Result<(), AllocError>
+    requires right { AreFirst (C.values_of context.now) definitions.now results.old.items }
+    requires typed { AreTyped definitions.now }
+    ensures right { AreFirst (C.values_of context.now) definitions.now results.new.items }
+    ensures exact { IfOk result (λ _. length results.new.items
+        ≡ max (length results.old.items) (min (reach expression.now) (length definitions.now))) }
+{
+    if results.len() == definitions.len() {
+        return Ok(());
+    }
+    match last_variable(context, expression)? {
+        Some(place) => work_out(alloc, context, definitions, results, place),
+        None => Ok(()),
+    }
+}
+
+/// What the expression comes to, and what is worked out for it, in the results.
+fn value_with<C: Context>(
+    alloc: Global,
+    context: &C,
+    definitions: &[Definition],
+    results: &mut Vec<Result<ValueOrBag, Fault>>,
+    expression: &Typed,
+) -> Result<ValueOrBag, OrMemory<Fault>>
+    requires right { AreFirst (C.values_of context.now) definitions.now results.old.items }
+    requires variables { AreTyped definitions.now }
+    requires typed { IsTyped (kinds definitions.now) expression.now }
+    ensures value { Gives result (value_of (C.values_of context.now) definitions.now expression.now) }
+    ensures typed { IfOk result (λ given. kind_of_argument given ≡ kind_of_typed expression.now) }
+    ensures right { AreFirst (C.values_of context.now) definitions.now results.new.items }
+{
+    prepare(alloc, context, definitions, results, expression)?;
+    let scope = Scope {
+        context,
+        definitions,
+        results: results.as_slice(),
+    };
+    evaluate(alloc, &scope, expression)
 }

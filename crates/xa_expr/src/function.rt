@@ -21,7 +21,7 @@ use crate::work::{units_of_bag_function, units_of_higher_order, units_of_values}
 use std::alloc::Global;
 use xa_bag::{BagFault, ValueOrBag, apply_bag_function, apply_higher_order};
 use xa_func::{BagFunction, FuncFault, FuncId, HigherOrder};
-use xa_value::{DataType, OrMemory, Value};
+use xa_value::{DataType, OrMemory, Value, map_error};
 
 /// What a function of values gives.
 #[tactic(auto, using(crate::proofs::FunctionLemmas::result_typed))]
@@ -36,11 +36,9 @@ pub(crate) fn of_values<C: Context>(
     ensures typed { IfOk result (λ given. kind_of_argument given ≡ result_kind (signature_of function)) }
 {
     context.spend(units_of_calls(function, 1, units_of_values(arguments)))?;
-    match function.apply(alloc, arguments) {
-        Ok(value) => Ok(ValueOrBag::Value(value)),
-        Err(OrMemory::Memory) => Err(OrMemory::Memory),
-        Err(OrMemory::Error(fault)) => Err(OrMemory::Error(Fault::with(fault.status()))),
-    }
+    let given = function.apply(alloc, arguments);
+    let value = map_error(given, |fault| Fault::with(fault.status()))?;
+    Ok(ValueOrBag::Value(value))
 }
 
 /// What was given, its fault told by the status code alone.
@@ -50,11 +48,7 @@ fn by_status(
     ensures { MatchGiven given (λ value. result ≡ Ok value) (result ≡ Err Memory)
         (λ fault. result ≡ Err (Error (fault_with (status_of fault)))) }
 {
-    match given {
-        Ok(value) => Ok(value),
-        Err(OrMemory::Memory) => Err(OrMemory::Memory),
-        Err(OrMemory::Error(fault)) => Err(OrMemory::Error(Fault::with(fault.status()))),
-    }
+    map_error(given, |fault| Fault::with(fault.status()))
 }
 
 /// What a bag function of the type gives.

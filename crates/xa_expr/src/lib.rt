@@ -1,5 +1,17 @@
 //! Expressions with their types and values, and targets (XACML 3.0, core, sections 5.6 to 5.9, 5.23 to
 //! 5.25, 5.27 to 5.29, 5.31 and 7.3 to 7.8).
+//!
+//! An expression is read as an `expr`. `checking` finds its functions and the `variables` that it names, and
+//! makes a `typed` of it, or gives a `check_error`.
+//!
+//! An `evaluator` goes by a `context`, which gives the bag of a `designator`. It has the variables worked
+//! out by `working_out`, and then the expression by `evaluation`. This reads what was worked out from its
+//! `scope`, and calls a `function`, whose inner function is `charged`. Whatever has no value is a `fault`.
+//!
+//! A `target` is made of matches (`match_`: `match` is a keyword), each of which is told by `looked` or by
+//! `answering`. What each part comes to is a `matching`. `timeless` finds whether the clock is asked.
+//!
+//! `work` says what each step costs and counts what is left; `rates` says what calls cost beside that.
 #![tactic(auto)]
 
 mod answering;

@@ -68,7 +68,8 @@ impl Looked {
         }
     }
 
-    /// What a match by an equality is, by a look for its literal; whether there must be a value.
+    /// What a match by an equality comes to by this look for its literal. Where a value must be present,
+    /// none at all is a fault.
     pub(crate) fn matching(self, must_be_present: bool) -> Matching
         ensures { result ≡ match_by must_be_present self }
     {

@@ -21,8 +21,11 @@ use xa_value::{DataType, Value, memory_apart};
 /// designator's bag. The function takes two such values and gives a boolean.
 #[derive(Debug, Drop)]
 pub struct Match {
+    /// The function that is asked.
     function: FuncId,
+    /// Its first argument.
     literal: Value,
+    /// Whose values are its second argument, one after another.
     designator: Designator,
     pub ghost right: { IsTrue (may_ask function (argument_kinds literal designator.data_type)) },
 }

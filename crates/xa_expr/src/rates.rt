@@ -5,10 +5,12 @@ use crate::work::STEP;
 use xa_func::{FuncId, TextFunction, TextPart};
 use xa_value::DataType;
 
-/// What a call costs: units for itself, and how often its arguments' units are taken.
+/// What a call costs.
 #[derive(Clone, Copy)]
 struct Rate {
+    /// The units of the call itself.
     call: u64,
+    /// How often the units of the arguments are taken.
     times: u64,
 }
 

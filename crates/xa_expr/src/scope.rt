@@ -21,9 +21,27 @@ use xa_value::OrMemory;
 /// out of them, from the first on.
 #[derive(Drop)]
 pub(crate) struct Scope<'a, C> {
+    /// Where the values of attributes come from.
     pub(crate) context: &'a C,
+    /// The definitions of the variables that the expression may name.
     pub(crate) definitions: &'a [Definition],
+    /// What the first of them came to, as many as were worked out.
     pub(crate) results: &'a [Result<ValueOrBag, Fault>],
+}
+
+impl<'a, C: Context> Scope<'a, C> {
+    /// The result of the variable at the place.
+    pub(crate) fn variable(&self, place: usize) -> Result<ValueOrBag, OrMemory<Fault>>
+        requires { AreOfKinds (kinds self.now.definitions.now) self.now.results.now }
+        ensures value { Gives result (result_at (slice_get self.now.results.now place)) }
+        ensures typed { IfOk result (λ given.
+            slice_get (kinds self.now.definitions.now) place ≡ Some (kind_of_argument given)) }
+    {
+        let Some(outcome) = self.results.get(place) else {
+            return Err(OrMemory::Error(Fault::ProcessingError));
+        };
+        outcome_copy(self.context, outcome)
+    }
 }
 
 /// What the designator gives (core, section 7.3.5): its bag, or a fault where that is empty and must not
@@ -63,20 +81,5 @@ fn outcome_copy<C: Context>(
     match outcome {
         Ok(given) => Ok(given_copy(context, given)?),
         Err(fault) => Err(OrMemory::Error(*fault)),
-    }
-}
-
-impl<'a, C: Context> Scope<'a, C> {
-    /// The result of the variable at the place.
-    pub(crate) fn variable(&self, place: usize) -> Result<ValueOrBag, OrMemory<Fault>>
-        requires { AreOfKinds (kinds self.now.definitions.now) self.now.results.now }
-        ensures value { Gives result (result_at (slice_get self.now.results.now place)) }
-        ensures typed { IfOk result (λ given.
-            slice_get (kinds self.now.definitions.now) place ≡ Some (kind_of_argument given)) }
-    {
-        let Some(outcome) = self.results.get(place) else {
-            return Err(OrMemory::Error(Fault::ProcessingError));
-        };
-        outcome_copy(self.context, outcome)
     }
 }

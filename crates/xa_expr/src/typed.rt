@@ -50,7 +50,7 @@ fn result_kind(signature: Signature) -> Kind
 }
 
 /// The kind of what a higher-order function gives, whose inner function gives values of the type.
-pub(crate) fn kind_given(function: HigherOrder, data_type: DataType) -> Kind
+fn kind_given(function: HigherOrder, data_type: DataType) -> Kind
     ensures { result ≡ kind_given function data_type }
 {
     match function {

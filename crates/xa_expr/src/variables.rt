@@ -1,5 +1,5 @@
 //! The variables of a policy, by their definitions.
-ghost use Rattle.std.specs.Prelude.{◌≡◌, false, [], ◌∷◌, ◌++◌, Some, IfOk, IsTrue, OnOk, OnErr};
+ghost use Rattle.std.specs.Prelude.{◌≡◌, false, [], ◌∷◌, ◌++◌, IfOk, IsTrue, OnOk, OnErr};
 ghost use Rattle.xa_value.specs.Gives.{Gives};
 ghost use Rattle.xa_expr.specs.Defining.{defined, may_be_defined};
 ghost use Rattle.xa_expr.specs.Typed.{IsTyped};
@@ -28,7 +28,9 @@ pub struct Definition {
 /// The variables of a policy: definitions in order, each of which may name those before it.
 #[derive(Debug, Drop)]
 pub struct Variables {
+    /// The definitions, in order.
     definitions: Vec<Definition>,
+    /// The place of each among them, by its name.
     places: BTreeMap<Text, usize>,
 }
 

@@ -27,15 +27,16 @@ pub const LOOK: u64 = STEP / 4;
 /// them once more.
 pub(crate) const VALUE: u64 = 16;
 
-/// With how many values of a bag another is compared at most where it is searched for: from that many on
-/// they are ordered, and then it is compared with as many as the logarithm of their number.
-const COMPARISONS: u64 = 32;
+/// With how many values of a bag one that is searched for is compared at most: from that many on they are
+/// ordered, and then it is compared with as many as the logarithm of their number.
+const MOST_COMPARISONS: u64 = 32;
 
 /// What is left of the work that a message may ask for, in units: a byte of text or of a value that is
 /// made, copied or compared. No clause speaks of it: a message that asks for too much is answered like
 /// one for which memory is wanting.
 #[derive(Drop)]
 pub struct Budget {
+    /// The units that may still be spent.
     left: Cell<u64>,
 }
 
@@ -116,7 +117,7 @@ pub fn units_of_given(given: &ValueOrBag) -> u64 {
 }
 
 /// The units of the arguments together.
-pub(crate) fn units_of_arguments(arguments: &[ValueOrBag]) -> u64 {
+fn units_of_arguments(arguments: &[ValueOrBag]) -> u64 {
     arguments.iter().fold(
         0u64,
         |units, argument| units.saturating_add(units_of_given(argument)),
@@ -141,9 +142,9 @@ fn comparisons_in(function: BagFunction, arguments: &[ValueOrBag]) -> u64 {
     }
 }
 
-/// With how many values another is compared at most that is searched for among this many.
+/// With how many of so many values one that is searched for is compared at most.
 fn comparisons_among(count: usize) -> u64 {
-    (count as u64).max(1).min(COMPARISONS)
+    (count as u64).max(1).min(MOST_COMPARISONS)
 }
 
 /// With how many others each value is compared at most where the values of one of two bags are searched

@@ -10,6 +10,7 @@ use Rattle.xa_policy.specs.declared.version_error.VersionError.{VersionError}
 use Rattle.xa_policy.specs.declared.version_error.VersionError.TheVariants.{BadText, TooLong}
 use Rattle.xa_policy.specs.Version.{parts, is_short}
 
+-- `*`, and `+`
 abbrev pub is_star : List ℕ → Bool
 is_star part = bytes_eq part (codes "*")
 

@@ -30,6 +30,7 @@ decision_of_none DenyUnlessPermit = Deny
 decision_of_none PermitUnlessDeny = Permit
 decision_of_none _ = NotApplicable
 
+-- what no children come to
 abbrev pub of_none : Alg → Combination
 of_none algorithm =
     record { algorithm = algorithm; decision = decision_of_none algorithm; fault = None; duties = no_duties }

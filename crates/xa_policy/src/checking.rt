@@ -35,6 +35,7 @@ fn check_condition(
     Ok(Some(condition))
 }
 
+/// The assignment of an attribute with its checked expression.
 fn check_assignment(
     alloc: Global,
     assignment: &AttributeAssignmentExpression<Expr>,
@@ -52,6 +53,7 @@ fn check_assignment(
     })
 }
 
+/// The assignments with their checked expressions, in order.
 fn check_assignments(
     alloc: Global,
     assignments: &[AttributeAssignmentExpression<Expr>],
@@ -117,6 +119,8 @@ pub(crate) fn check_duties(
     })
 }
 
+/// The rule with its checked condition, and then its checked obligations and advice. Its target holds no
+/// expressions.
 pub(crate) fn check_rule(
     alloc: Global,
     rule: Rule<Expr>,

@@ -16,8 +16,11 @@ use xa_func::Status;
 #[derive(Debug, Drop)]
 pub(crate) struct Combination {
     algorithm: Alg,
+    /// What the children so far decide, if there is no other.
     decision: Decision,
+    /// The status of the first child so far that is Indeterminate, or of the one that ended it.
     fault: Option<Status>,
+    /// The obligations and advice of the children so far that decide Permit or Deny, in order.
     duties: Duties,
 }
 
@@ -28,10 +31,10 @@ impl Alg {
     {
         match self {
             Alg::DenyOverrides | Alg::OrderedDenyOverrides | Alg::PermitUnlessDeny => {
-                decision.is(Effect::Deny)
+                decision.has_effect(Effect::Deny)
             }
             Alg::PermitOverrides | Alg::OrderedPermitOverrides | Alg::DenyUnlessPermit => {
-                decision.is(Effect::Permit)
+                decision.has_effect(Effect::Permit)
             }
             Alg::FirstApplicable => decision.is_applicable(),
             Alg::OnlyOneApplicable => false,

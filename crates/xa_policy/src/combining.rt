@@ -148,7 +148,7 @@ fn only_one_applicable(children: &[Child]) -> Decision
 {
     for (place, child) in children.iter().enumerate() {
         if child.applies() {
-            return unless_another_applies(child.decision, children.split_at(place + 1).1);
+            return unless_another_applies(child.decision, &children[place + 1..]);
         }
         if child.may_apply() {
             return Decision::IndeterminateDenyPermit;

@@ -47,10 +47,7 @@ impl Effect {
     pub(crate) fn is(self, effect: Effect) -> bool
         ensures { result ≡ same_effect effect self }
     {
-        matches!(
-            (effect, self),
-            (Effect::Permit, Effect::Permit) | (Effect::Deny, Effect::Deny)
-        )
+        effect == self
     }
 
     /// The effect left open: {P} of Permit, {D} of Deny.
@@ -66,13 +63,10 @@ impl Effect {
 
 impl Decision {
     /// Whether it is the decision with this effect.
-    pub(crate) fn is(self, effect: Effect) -> bool
+    pub(crate) fn has_effect(self, effect: Effect) -> bool
         ensures { result ≡ is (decision_with effect) self }
     {
-        matches!(
-            (effect, self),
-            (Effect::Permit, Decision::Permit) | (Effect::Deny, Decision::Deny)
-        )
+        effect.decision() == self
     }
 
     /// The effect, where it is a Permit or a Deny.

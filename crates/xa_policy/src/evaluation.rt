@@ -25,6 +25,9 @@ use crate::verdict::Verdict;
 use std::alloc::{AllocError, Global};
 use xa_expr::{Context, Evaluator, Fault, Matching, STEP, Typed, Variables};
 
+/// The units of a policy, a set or a rule that is looked at, and of what becomes of it behind its target.
+const CHILD: u64 = 2 * STEP + STEP / 2;
+
 /// What the tree decides (XACML 3.0, core, sections 7.9 to 7.15 and 7.18), why where that is
 /// Indeterminate, its obligations and advice, and where `names_policies` says so the policies and policy
 /// sets that are named with it (5.49). No child is evaluated after the one that settles its parent, and
@@ -46,9 +49,6 @@ pub fn evaluate<C: Context>(
     let verdict = evaluate_linked(alloc, linked, target, context, &mut ids)?;
     Ok(Evaluated::new(verdict, ids.into_items()))
 }
-
-/// The units of a policy, a set or a rule that is looked at, and of what becomes of it behind its target.
-const CHILD: u64 = 2 * STEP + STEP / 2;
 
 /// What the target of the tree's root comes to; that of a reference that leads to nothing is
 /// Indeterminate. Each root that is looked at is counted.
@@ -204,7 +204,7 @@ fn only_applicable_rule<'a, C: Context>(
             Matching::NoMatch => continue,
             Matching::Indeterminate(fault) => return Ok(Verdict::undecided(alloc, fault)),
             Matching::Match => {
-                let others = rules.split_at(place + 1).1;
+                let others = &rules[place + 1..];
                 return rule_unless_another(alloc, context, evaluator, rule, others);
             }
         }
@@ -341,7 +341,7 @@ fn only_applicable_child<C: Context>(
             Matching::NoMatch => continue,
             Matching::Indeterminate(fault) => return Ok(Verdict::undecided(alloc, fault)),
             Matching::Match => {
-                let others = children.split_at(place + 1).1;
+                let others = &children[place + 1..];
                 return child_unless_another(alloc, context, child, others, ids);
             }
         }

@@ -22,6 +22,9 @@ use xa_bag::ValueOrBag;
 use xa_expr::{Context, Evaluator, Fault, LOOK, STEP, Typed, units_of_given};
 use xa_value::{Items, OrMemory, Text, Value, memory_apart};
 
+/// The units of an assignment beside its texts and its value, which are copied.
+const ASSIGNMENT: u64 = 2 * STEP;
+
 /// The assignment, with the value.
 fn with_value(
     expression: &AttributeAssignmentExpression<Typed>,
@@ -44,9 +47,6 @@ fn units_of_text(text: &Option<Text>) -> u64 {
         None => 0,
     }
 }
-
-/// The units of an assignment beside its texts and its value, which are copied.
-const ASSIGNMENT: u64 = 2 * STEP;
 
 /// The units of the assignments of what the expression gives: of each itself, its texts and its value.
 fn units_of_assignments(
@@ -176,19 +176,19 @@ fn with_own_of<'a, C: Context>(
     alloc: Global,
     evaluator: &mut Evaluator<'a, C>,
     own: &DutyExpressions<Typed>,
-    mut evaluated: Verdict,
+    mut verdict: Verdict,
     effect: Effect,
 ) -> Result<Verdict, AllocError>
     requires { AreTypedDuties (kinds evaluator.old.1) own.now }
-    ensures value { IfOk result (λ e. e ≡ with_found effect evaluated
+    ensures value { IfOk result (λ e. e ≡ with_found effect verdict
         (own_duties (value_of (C.values_of evaluator.old.0) evaluator.old.1) effect own.now)) }
     ensures kept { evaluator.new ≡ evaluator.old }
 {
-    evaluator.spend(evaluated.duties.units_of_moving())?;
+    evaluator.spend(verdict.duties.units_of_moving())?;
     match memory_apart(own_duties(alloc, evaluator, effect, own))? {
         Ok(duties) => {
-            evaluated.duties.append(duties)?;
-            Ok(evaluated)
+            verdict.duties.append(duties)?;
+            Ok(verdict)
         }
         Err(fault) => Ok(Verdict::left_open(alloc, effect, fault)),
     }
@@ -199,15 +199,15 @@ pub(crate) fn with_own<'a, C: Context>(
     alloc: Global,
     evaluator: &mut Evaluator<'a, C>,
     own: &DutyExpressions<Typed>,
-    evaluated: Verdict,
+    verdict: Verdict,
 ) -> Result<Verdict, AllocError>
     requires { AreTypedDuties (kinds evaluator.old.1) own.now }
     ensures value { IfOk result (λ e.
-        e ≡ with_own (value_of (C.values_of evaluator.old.0) evaluator.old.1) own.now evaluated) }
+        e ≡ with_own (value_of (C.values_of evaluator.old.0) evaluator.old.1) own.now verdict) }
     ensures kept { evaluator.new ≡ evaluator.old }
 {
-    match evaluated.decision.effect() {
-        None => Ok(evaluated),
-        Some(effect) => with_own_of(alloc, evaluator, own, evaluated, effect),
+    match verdict.decision.effect() {
+        None => Ok(verdict),
+        Some(effect) => with_own_of(alloc, evaluator, own, verdict, effect),
     }
 }

@@ -15,6 +15,7 @@ use xa_value::{Items, Shared};
 /// put there once, and taken away once at most.
 #[derive(Debug, Drop)]
 pub(crate) struct Identifiers {
+    /// Whether they are asked for.
     names_policies: bool,
     found: Vec<Shared<DocumentKey>>,
 }
@@ -70,8 +71,8 @@ impl Identifiers {
         }
     }
 
-    /// Keeps all where the policy set that found those from this place on decides Permit or Deny, and
-    /// else those before it alone.
+    /// Keeps the first `count`, and those behind them too where the policy set that found them decides
+    /// Permit or Deny.
     pub(crate) fn keep_by(&mut self, decision: Decision, count: usize)
         ensures { self.new ≡ kept_by decision count self.old }
     {

@@ -1,5 +1,14 @@
 //! Policies, and what they decide (XACML 3.0, core, sections 7.9 to 7.15 and 7.18, appendix C), and
 //! their versions (5.10 to 5.13).
+//!
+//! `policy` and `policy_set` hold rules (`rule`), obligations and advice (`duty`), whose expressions
+//! `checking` has checked. `linked` is the tree of them in which `reference` has given way to what it leads
+//! to; `designators` tells which attributes it asks for. `version` and `pattern` are read and written.
+//!
+//! `evaluation` works out what a tree decides. `combination` takes the verdicts (`verdict`) of children one
+//! after another, `fulfilment` adds obligations and advice, and `identifiers` the keys (`document_key`) that
+//! are named; the whole is `evaluated`. `combining` has the algorithms alone, on `decision`, and `mirror`
+//! their laws.
 #![tactic(auto)]
 
 mod checking;

@@ -5,7 +5,7 @@ ghost use Rattle.xa_policy.specs.Version.{parts, is_short};
 ghost use Rattle.xa_policy.specs.Pattern.{is_star, is_plus, is_pattern, part_of};
 ghost use Rattle.xa_policy.specs.Pattern.{read_pattern, part_text, pattern_text, IsPattern};
 
-use crate::version::{MOST_NUMBERS, is_short, number_of, push_number};
+use crate::version::{MAX_NUMBERS, is_short, number_of, push_number};
 use crate::version_error::VersionError;
 use std::alloc::{AllocError, Global};
 use std::marker::Model;
@@ -25,7 +25,9 @@ pub enum PatternPart {
 /// A pattern of versions (XACML 3.0, section 5.13): the list of its parts.
 #[derive(Clone, Copy, Debug, PartialEq, Eq)]
 pub struct Pattern {
-    parts: [PatternPart; MOST_NUMBERS],
+    /// The parts, and `*` behind them.
+    parts: [PatternPart; MAX_NUMBERS],
+    /// How many there are.
     count: usize,
 }
 
@@ -70,7 +72,7 @@ impl Pattern {
         requires short { IsTrue (is_short (parts text.now)) }
         ensures { result ≡ map part_of (parts text.now) }
     {
-        let mut parts = [PatternPart::AnyNumber; MOST_NUMBERS];
+        let mut parts = [PatternPart::AnyNumber; MAX_NUMBERS];
         let mut count = 0;
         for part in text.split('.') {
             parts[count] = part_of(part);
@@ -121,18 +123,21 @@ fn is_pattern(text: &str) -> bool
     true
 }
 
+/// Whether the text is a number, `*` or `+`.
 fn is_part(part: &[u8]) -> bool
     ensures { result ≡ (is_number part.now || is_star part.now || is_plus part.now) }
 {
     is_number(part) || is_star(part) || is_plus(part)
 }
 
+/// Whether the text is `*`.
 fn is_star(part: &[u8]) -> bool
     ensures { result ≡ is_star part.now }
 {
     part == b"*".as_slice()
 }
 
+/// Whether the text is `+`.
 fn is_plus(part: &[u8]) -> bool
     ensures { result ≡ is_plus part.now }
 {
@@ -169,6 +174,7 @@ fn push_parts(text: &mut String, parts: &[PatternPart]) -> Result<(), AllocError
     }
 }
 
+/// Writes a number, `*` or `+`.
 fn push_part(text: &mut String, part: PatternPart) -> Result<(), AllocError>
     ensures { OnOk result (string_bytes text.new ≡ string_bytes text.old ++ part_text part) }
 {

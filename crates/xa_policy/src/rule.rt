@@ -46,6 +46,7 @@ fn condition_value<'a, C: Context>(
     };
     match evaluator.value(alloc, condition)? {
         ValueOrBag::Value(Value::Boolean(answer)) => Ok(answer),
+        // A condition is checked to be a boolean: nothing else comes here.
         _ => Ok(false),
     }
 }
@@ -88,8 +89,8 @@ pub(crate) fn evaluate_rule<'a, C: Context>(
         Matching::NoMatch => Ok(Verdict::not_applicable(alloc)),
         Matching::Indeterminate(fault) => Ok(Verdict::left_open(alloc, rule.effect, fault)),
         Matching::Match => {
-            let evaluated = by_condition(alloc, evaluator, rule.effect, &rule.condition)?;
-            with_own(alloc, evaluator, &rule.duties, evaluated)
+            let verdict = by_condition(alloc, evaluator, rule.effect, &rule.condition)?;
+            with_own(alloc, evaluator, &rule.duties, verdict)
         }
     }
 }

@@ -32,6 +32,7 @@ impl Verdict {
         }
     }
 
+    /// NotApplicable, without obligations and advice. Nothing is allocated.
     pub(crate) fn not_applicable(alloc: Global) -> Verdict
         ensures { result ≡ not_applicable }
     {

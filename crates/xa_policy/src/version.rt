@@ -20,18 +20,20 @@ use std::marker::Model;
 use xa_value::{Text, is_number, number_up_to};
 
 /// The most numbers of a version or a pattern: a bound of this project's own, so that each takes no memory.
-pub(crate) const MOST_NUMBERS: usize = 8;
+pub(crate) const MAX_NUMBERS: usize = 8;
 
 /// The most digits of a number, with which it fits 32 bits.
-const MOST_DIGITS: usize = 9;
+const MAX_DIGITS: usize = 9;
 
 /// The greatest number of this many digits.
-const GREATEST: usize = 999_999_999;
+const MAX_NUMBER: usize = 999_999_999;
 
 /// A version (XACML 3.0, section 5.12): the list of its numbers.
 #[derive(Clone, Copy, Debug)]
 pub struct Version {
-    numbers: [u32; MOST_NUMBERS],
+    /// The numbers, and zeros behind them.
+    numbers: [u32; MAX_NUMBERS],
+    /// How many there are.
     count: usize,
 }
 
@@ -73,7 +75,7 @@ impl Version {
         requires short { IsTrue (is_short (parts text.now)) }
         ensures { result ≡ map (digits_value 10) (parts text.now) }
     {
-        let mut numbers = [0; MOST_NUMBERS];
+        let mut numbers = [0; MAX_NUMBERS];
         let mut count = 0;
         for part in text.split('.') {
             numbers[count] = number_of(part);
@@ -121,7 +123,7 @@ fn is_version(text: &str) -> bool
 pub(crate) fn is_short(text: &str) -> bool
     ensures { result ≡ is_short (parts text.now) }
 {
-    text.split('.').count() <= MOST_NUMBERS && text.split('.').all(|part| part.len() <= MOST_DIGITS)
+    text.split('.').count() <= MAX_NUMBERS && text.split('.').all(|part| part.len() <= MAX_DIGITS)
 }
 
 /// The number that the digits write.
@@ -132,7 +134,7 @@ pub(crate) fn number_of(part: &str) -> u32
     ensures value { result ≡ digits_value 10 part.now }
     ensures small { result < 1_000_000_000 }
 {
-    match number_up_to(GREATEST, part.as_bytes()) {
+    match number_up_to(MAX_NUMBER, part.as_bytes()) {
         Some(number) => number as u32,
         None => unreachable!(),
     }
