@@ -40,13 +40,6 @@ impl Model for Cache {
     ghost invariant = { λ c. c.bodies.cap ≡ 512 };
 }
 
-/// Whether the request's body and the decision's are short enough to be kept.
-pub fn fits(key: &Key, body: &Items<u8>) -> bool
-    ensures { result ≡ fits key.now body.now }
-{
-    key.body().len() <= MAX_BODY_BYTES && body.len() <= MAX_BODY_BYTES
-}
-
 impl Cache {
     ghost use Rattle.xa_cache.specs.Ends.{ends_as};
 
@@ -86,6 +79,13 @@ impl Cache {
         }
         put(&mut self.bodies, key, body)
     }
+}
+
+/// Whether the request's body and the decision's are short enough to be kept.
+pub fn fits(key: &Key, body: &Items<u8>) -> bool
+    ensures { result ≡ fits key.now body.now }
+{
+    key.body().len() <= MAX_BODY_BYTES && body.len() <= MAX_BODY_BYTES
 }
 
 /// Puts the body first, where there is memory.

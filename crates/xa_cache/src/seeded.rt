@@ -1,13 +1,13 @@
 //! How keys are hashed: a body's parts of seven bytes are the coefficients of a polynomial, whose
-//! value at a secret point is the hash.
+//! value at a secret point, modulo the prime 2^61 - 1, is the hash.
 ghost use Rattle.std.specs.Prelude.{◌≡◌, ◌+◌, ◌*◌, ◌<◌, ◌^◌, fold, drop};
 ghost use Rattle.xa_cache.specs.Hashing.{folded, hashed, hasher_at, seeded_by};
 ghost use Rattle.xa_cache.specs.Hashing.{term, terms, valued, valued_by_four, part};
 
 use std::hash::{BuildHasher, DefaultHasher, Hasher};
 
-/// One more than the prime by which values are taken: 2^61. Each part is less.
-const WHOLE: u128 = 0x2000_0000_0000_0000;
+/// One more than the prime. Each part is less.
+const TWO_TO_61: u128 = 0x2000_0000_0000_0000;
 
 /// Hashers that begin with a secret: who doesn't know it can't choose bodies of one hash.
 #[derive(Clone, Copy)]
@@ -136,14 +136,15 @@ fn product(number: u64, power: u64) -> u128
     folded(number as u128 * power as u128)
 }
 
-/// The same number modulo the prime, and a shorter one.
+/// The same number modulo the prime, and a shorter one. It may still be the prime or more: a value is never
+/// reduced all the way, since nothing rests on it but time.
 fn folded(number: u128) -> u128
     ensures { result ≡ folded number }
 {
-    number % WHOLE + number / WHOLE
+    number % TWO_TO_61 + number / TWO_TO_61
 }
 
-/// A part of seven bytes as a number: as below, at once.
+/// A part of seven bytes as a number: what [`part`] gives, at once.
 fn whole_part(bytes: &[u8; 7]) -> u64
     ensures { result ≡ part bytes.now }
 {

@@ -13,7 +13,7 @@ use Rattle.httparse.specs.declared.spans.RequestSpans.{RequestSpans}
 use Rattle.xa_http.specs.declared.message.Field.{Field}
 use Rattle.xa_http.specs.declared.message.Message.{Message}
 use Rattle.xa_http.specs.declared.fault.SessionFault.{SessionFault}
-use Rattle.xa_http.specs.declared.front.Head.{Head}
+use Rattle.xa_http.specs.declared.beginning.Head.{Head}
 use Rattle.xa_http.specs.Length.{body_length}
 use Rattle.xa_http.specs.Closing.{closes}
 use Rattle.xa_http.specs.Messages.{window, fields_of, BeginsWithHead, BeginsWithMessage, BeginsWithSome, IsUnfinished, IsFaulty}
@@ -53,9 +53,9 @@ too_many held room fits exceeds =
     let front = exceeds.0 in
     let rest = exceeds.1 in
     let h = exceeds.3 in
-    let whole : take 16384 held ≡ front ++ rest = exceeds.2 in
+    let whole : take 16_384 held ≡ front ++ rest = exceeds.2 in
     let read : front ++ print_end lf ≡ print_request h ++ [] = exceeds.4.1 in
-    omega (arith, fits, head_fits h, exceeds.5, length-take 16384 held, simp length-append at (ap length whole), simp length-append at (ap length read))
+    omega (arith, fits, head_fits h, exceeds.5, length-take 16_384 held, simp length-append at (ap length whole), simp length-append at (ap length read))
 
 -- the field line of a name and a value
 field_from : List ℕ × List ℕ → Field
@@ -84,15 +84,15 @@ pub begins : (held : List ℕ) (h : RequestHead) (len : ℕ) → ReadsRequest (w
     → len ≡ length (print_request h) → BeginsWithHead held h (drop len held)
 unfolding window
 begins held h len reads is =
-    let front = take 16384 held in
-    let rest = drop len front ++ drop 16384 held in
-    let split : front ++ drop 16384 held ≡ held = take-append-drop 16384 held in
+    let front = take 16_384 held in
+    let rest = drop len front ++ drop 16_384 held in
+    let split : front ++ drop 16_384 held ≡ held = take-append-drop 16_384 held in
     let read : front ≡ print_request h ++ drop len front = reads.1 in
     let whole : held ≡ print_request h ++ rest
-    = sym split ∙ ap (λ (x : List ℕ). x ++ drop 16384 held) read ∙ append_assoc (print_request h) (drop len front) (drop 16384 held) in
+    = sym split ∙ ap (λ (x : List ℕ). x ++ drop 16_384 held) read ∙ append_assoc (print_request h) (drop len front) (drop 16_384 held) in
     let after : drop len held ≡ rest = ap (λ (x : List ℕ). drop len x) whole ∙ ap (λ (k : ℕ). drop k (print_request h ++ rest)) is ∙ drop-append_seam (print_request h) rest in
     let same : held ≡ print_request h ++ drop len held = whole ∙ ap (λ (x : List ℕ). print_request h ++ x) (sym after) in
-    ((reads.0, same), omega (arith, length-take 16384 held, simp length-append at (ap length read)))
+    ((reads.0, same), omega (arith, length-take 16_384 held, simp length-append at (ap length read)))
 
 -- the head is whole, and its body is taken
 pub has_head : (held : List ℕ) (message : Message) (len n : ℕ) → IsHeadOf (window held) message len

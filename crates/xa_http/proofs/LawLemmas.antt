@@ -36,10 +36,10 @@ head_in_window : (held : List ℕ) (h : RequestHead) (after : List ℕ) → Begi
 unfolding window
 head_in_window held h after b =
     let printed = print_request h in
-    let left = 16384 - length printed in
-    let sum : 16384 ≡ length printed + left = omega (arith, b.1) in (
+    let left = 16_384 - length printed in
+    let sum : 16_384 ≡ length printed + left = omega (arith, b.1) in (
       take left after,
-      (b.0.0, ap (λ (x : List ℕ). take 16384 x) b.0.1 ∙ ap (λ (k : ℕ). take k (printed ++ after)) sum ∙ take-append-add printed after left),
+      (b.0.0, ap (λ (x : List ℕ). take 16_384 x) b.0.1 ∙ ap (λ (k : ℕ). take k (printed ++ after)) sum ∙ take-append-add printed after left),
     )
 
 -- so it is no opened one
@@ -53,17 +53,17 @@ head_not_never held h after b never =
     never [] h (w.0 ++ []) (ReadsRequest-append (window held) h w.0 [] w.1)
 
 -- the window of at least as many bytes as it has stays
-window_full : (held more : List ℕ) → 16384 ≤ length held → window (held ++ more) ≡ window held
+window_full : (held more : List ℕ) → 16_384 ≤ length held → window (held ++ more) ≡ window held
 unfolding window
-window_full held more full = take-append-le 16384 held more full
+window_full held more full = take-append-le 16_384 held more full
 
 -- bytes that follow change no certainty
 never_kept : (held more : List ℕ) → NeverHasRequest (window held) → NeverHasRequest (window (held ++ more))
 unfolding window
 never_kept held more never = λ m h rest reads.
-    let r = front_of_more 16384 held more in
-    let same : take 16384 (held ++ more) ++ m ≡ take 16384 held ++ (r.0 ++ m)
-    = ap (λ (x : List ℕ). x ++ m) r.1 ∙ append_assoc (take 16384 held) r.0 m in
+    let r = front_of_more 16_384 held more in
+    let same : take 16_384 (held ++ more) ++ m ≡ take 16_384 held ++ (r.0 ++ m)
+    = ap (λ (x : List ℕ). x ++ m) r.1 ∙ append_assoc (take 16_384 held) r.0 m in
     never (r.0 ++ m) h rest (reads.0, sym same ∙ reads.1)
 
 pub keeps_messages : KeepsMessages

@@ -153,12 +153,12 @@ opened part.ValueReturn bytes is =
     open_section bytes is.2 is.3 is.0 is.1 is.4 is.5 line.0 line.1
 
 -- where all that is held was followed, and it is less than a head may have, more bytes may make a message of it
-pub unfinished : (held : List ℕ) (head : OpenHead) → IsOpenHead held head → length held ≤ head.len → IsTrue (nat_lt (length held) 16384) → IsUnfinished held
+pub unfinished : (held : List ℕ) (head : OpenHead) → IsOpenHead held head → length held ≤ head.len → IsTrue (nat_lt (length held) 16_384) → IsUnfinished held
 unfolding IsUnfinished window
 unfinished held head is all less =
-    let short : length held < 16384 = grind (arith, nat_tests) in
+    let short : length held < 16_384 = grind (arith, nat_tests) in
     let whole : take head.len held ≡ held = take_all head.len held (omega (arith, all)) in
-    let front : take 16384 held ≡ held = take_all 16384 held (omega (arith, short)) in
+    let front : take 16_384 held ≡ held = take_all 16_384 held (omega (arith, short)) in
     inl (subst Opened (whole ∙ sym front) (opened head.part (take head.len held) is.1), short)
 
 -- ---- the next byte

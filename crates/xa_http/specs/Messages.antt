@@ -35,11 +35,11 @@ message_of h body = record {
 
 -- the bytes in which a head is looked for: it has at most 16,384
 unfoldable pub window : List ℕ → List ℕ
-window held = take 16384 held
+window held = take 16_384 held
 
 -- the bytes begin with the head h, of no more bytes than a head may have, and after is what follows it
 abbrev pub BeginsWithHead : List ℕ → RequestHead → List ℕ → Type 0
-BeginsWithHead held h after = ReadsRequest held h after × (length (print_request h) ≤ 16384)
+BeginsWithHead held h after = ReadsRequest held h after × (length (print_request h) ≤ 16_384)
 
 -- the bytes begin with that message, and rest is what follows it
 unfoldable pub BeginsWithMessage : List ℕ → Message → List ℕ → Type 0
@@ -73,12 +73,12 @@ IsBodyOpen held =
 
 -- more bytes may make a message of what is held
 unfoldable pub IsUnfinished : List ℕ → Type 0
-IsUnfinished held = (IsHeadOpen held × (length held < 16384)) ⊎ IsBodyOpen held
+IsUnfinished held = (IsHeadOpen held × (length held < 16_384)) ⊎ IsBodyOpen held
 
 -- no head is whole, and none can be of what is held: none begins like that, or it has more bytes than a head may have
 abbrev pub IsOpeningFaulty : List ℕ → SessionFault → Type 0
 IsOpeningFaulty held BadHead = NeverHasRequest (window held)
-IsOpeningFaulty held HeadTooLarge = IsHeadOpen held × (16384 ≤ length held)
+IsOpeningFaulty held HeadTooLarge = IsHeadOpen held × (16_384 ≤ length held)
 IsOpeningFaulty held fault = ⊥
 
 -- a head is whole, and it has too many fields, or the body that it announces is not taken
@@ -91,16 +91,16 @@ unfoldable pub IsFaulty : List ℕ → SessionFault → Type 0
 IsFaulty held fault = IsOpeningFaulty held fault ⊎ IsHeadFaulty held fault
 
 -- what stands at the front of the bytes of a stream that goes on
-abbrev pub Stands : List ℕ → Look → Type 0
-Stands held look.Message = BeginsWithSome held
-Stands held look.More = IsUnfinished held
-Stands held (look.Fault fault) = IsFaulty held fault
-Stands held look.Ended = ⊥
+abbrev pub StandsAtFront : List ℕ → Look → Type 0
+StandsAtFront held look.Message = BeginsWithSome held
+StandsAtFront held look.More = IsUnfinished held
+StandsAtFront held (look.Fault fault) = IsFaulty held fault
+StandsAtFront held look.Ended = ⊥
 
 -- what a session would answer if it were asked
 abbrev pub IsLook : Stream → Look → Type 0
 IsLook stream look.Ended = stream.ended ≡ true
-IsLook stream look = (stream.ended ≡ false) × Stands stream.held look
+IsLook stream look = (stream.ended ≡ false) × StandsAtFront stream.held look
 
 -- what a session answers to the bytes that it holds, and what it holds then
 abbrev pub IsNext : Stream → Next → Stream → Type 0

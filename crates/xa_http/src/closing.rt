@@ -74,7 +74,8 @@ fn names_close(list: &[u8]) -> bool
     is_close(trim_ows(rest))
 }
 
-/// Whether no message follows one of that minor version with these fields.
+/// Whether no message follows one of that minor version of HTTP/1 with these fields. After one of HTTP/1.0
+/// none does.
 #[tactic(auto, unfolding(crate::specs::Closing::closes))]
 pub(crate) fn closes(minor: u8, fields: &[Field]) -> bool
     ensures { result ≡ closes minor fields.now }

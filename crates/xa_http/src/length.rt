@@ -36,12 +36,7 @@ pub(crate) fn is_named(field: &Field, name: &str) -> bool
 fn has_field(fields: &[Field], name: &str) -> bool
     ensures { result ≡ list_any (is_named name.now) fields.now }
 {
-    for field in fields {
-        if is_named(field, name) {
-            return true;
-        }
-    }
-    false
+    fields.iter().any(|field| is_named(field, name))
 }
 
 /// The length on which the fields of that name agree.

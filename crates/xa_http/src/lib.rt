@@ -1,12 +1,20 @@
 //! HTTP/1.x as this server speaks it: the messages of a stream, what a message's path asks for, and
 //! the bytes of a reply.
+//!
+//! `session` cuts messages from a stream. `beginning` reads the head at its front, which `head` copies and
+//! of which `length` and `closing` read the fields; `open_head` follows one that isn't whole yet. A stream
+//! that can't go on has a `fault`. `laws` says that pieces make no difference.
+//!
+//! `routes` gives the `route` of a message: `parts` parts its path, `table` finds the place there and what
+//! the `method` asks for, which is a `command`, and `content_type` judges the body's media type. `replies`
+//! writes the bytes of a reply.
 #![tactic(auto)]
 
+mod beginning;
 mod closing;
 mod command;
 mod content_type;
 mod fault;
-mod front;
 mod head;
 mod laws;
 mod length;

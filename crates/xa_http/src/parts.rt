@@ -24,8 +24,8 @@ pub(crate) fn split_once(text: &[u8], by: u8) -> Option<(&[u8], &[u8])>
 pub(crate) fn before(bytes: &[u8], byte: u8) -> &[u8]
     ensures { result.now ≡ before byte bytes.now }
 {
-    for (i, b) in bytes.iter().enumerate() {
-        if *b == byte {
+    for (i, other) in bytes.iter().enumerate() {
+        if *other == byte {
             return &bytes[..i];
         }
     }
@@ -36,8 +36,8 @@ pub(crate) fn before(bytes: &[u8], byte: u8) -> &[u8]
 pub(crate) fn from_first(bytes: &[u8], byte: u8) -> Option<&[u8]>
     ensures { option_map (λ rest. rest.now) result ≡ from_first byte bytes.now }
 {
-    for (i, b) in bytes.iter().enumerate() {
-        if *b == byte {
+    for (i, other) in bytes.iter().enumerate() {
+        if *other == byte {
             return Some(&bytes[i..]);
         }
     }

@@ -7,6 +7,9 @@ use crate::table::Place;
 use http::StatusCode;
 use std::alloc::{AllocError, Global};
 
+/// Any head of a reply fits into this many bytes.
+const HEAD_ROOM: usize = 256;
+
 /// The media type of a reply's body.
 #[derive(Clone, Copy, Debug, PartialEq, Eq)]
 pub enum Media {
@@ -39,9 +42,6 @@ impl Media {
     }
 }
 
-/// Any head of a reply fits into this many bytes.
-const HEAD_ROOM: usize = 256;
-
 /// The bytes of a reply (RFC 9112, section 4): its status line, the fields Content-Type and
 /// Content-Length and the extra one, and the body.
 #[tactic(auto, unfolding(crate::specs::Reply::http_bytes))]
@@ -65,6 +65,7 @@ pub fn reply(
     Ok(bytes)
 }
 
+/// Adds the status line (RFC 9112, section 4), with its line end.
 #[tactic(auto, unfolding(crate::specs::Reply::status_line))]
 fn push_status_line(bytes: &mut Vec<u8>, status: StatusCode) -> Result<(), AllocError>
     ensures { OnOk result (bytes.new.items ≡ bytes.old.items ++ status_line status) }
@@ -76,6 +77,7 @@ fn push_status_line(bytes: &mut Vec<u8>, status: StatusCode) -> Result<(), Alloc
     bytes.extend_from_slice(b"\r\n")
 }
 
+/// The reason phrase of the status, empty where it has none.
 #[tactic(auto, unfolding(crate::specs::Reply::phrase))]
 fn phrase(status: StatusCode) -> &'static str
     ensures { result.now ≡ phrase status }
@@ -83,6 +85,7 @@ fn phrase(status: StatusCode) -> &'static str
     status.canonical_reason().unwrap_or("")
 }
 
+/// Adds a field line (RFC 9112, section 5), with its line end.
 #[tactic(auto, unfolding(crate::specs::Reply::field_line))]
 fn push_field_line(bytes: &mut Vec<u8>, name: &str, value: &str) -> Result<(), AllocError>
     ensures { OnOk result (bytes.new.items ≡ bytes.old.items ++ field_line name.now value.now) }
@@ -93,6 +96,7 @@ fn push_field_line(bytes: &mut Vec<u8>, name: &str, value: &str) -> Result<(), A
     bytes.extend_from_slice(b"\r\n")
 }
 
+/// Adds the field line of the extra field, and nothing where there is none.
 #[tactic(auto, unfolding(crate::specs::Reply::extra_lines))]
 fn push_extra_lines(bytes: &mut Vec<u8>, extra: Extra) -> Result<(), AllocError>
     ensures { OnOk result (bytes.new.items ≡ bytes.old.items ++ extra_lines extra) }
@@ -104,7 +108,7 @@ fn push_extra_lines(bytes: &mut Vec<u8>, extra: Extra) -> Result<(), AllocError>
     }
 }
 
-/// The field `Allow`, with the methods that are served at the place.
+/// Adds the field line of `Allow`, with the methods that are served at the place.
 #[tactic(auto, unfolding(crate::specs::Reply::field_line))]
 fn push_allow(bytes: &mut Vec<u8>, place: Place) -> Result<(), AllocError>
     ensures { OnOk result

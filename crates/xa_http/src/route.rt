@@ -26,22 +26,30 @@ pub enum Route {
     Domains,
     /// What the operator asks for of one domain.
     Operator {
+        /// The domain, as the path names it.
         domain: Items<u8>,
+        /// What is asked for.
         command: OperatorCommand,
     },
     /// Decisions of a domain on a request.
     Decide {
+        /// The domain, as the path names it.
         domain: Items<u8>,
     },
     /// What else is asked for in a domain.
     Domain {
+        /// The domain, as the path names it.
         domain: Items<u8>,
+        /// What is asked for.
         command: DomainCommand,
     },
     /// What is asked for of one document of a domain.
     Document {
+        /// The domain, as the path names it.
         domain: Items<u8>,
+        /// The parts of the path that name the document.
         parts: DocumentParts,
+        /// What is asked for.
         command: DocumentCommand,
     },
 }

@@ -17,6 +17,21 @@ use std::alloc::{AllocError, Global};
 use std::{fmt, str};
 use xa_value::{Items, OrMemory};
 
+/// The part of a path that names the domain: part 0 is what stands before the first slash.
+const DOMAIN_PART: usize = 2;
+
+/// The part of an operator's path that names the domain.
+const OPERATOR_DOMAIN_PART: usize = 3;
+
+/// The part of a document's path that names its kind.
+const KIND_PART: usize = 4;
+
+/// The part of a document's path that names its id.
+const ID_PART: usize = 5;
+
+/// The part of a document's path that names its version.
+const VERSION_PART: usize = 6;
+
 /// The routes of all that is served. They are made once, for all messages.
 #[derive(Drop)]
 pub struct Routes {
@@ -98,18 +113,18 @@ fn route_to(alloc: Global, path: &[u8], command: Command) -> Result<Route, Alloc
     Ok(match command {
         Command::Domains => Route::Domains,
         Command::Operator(command) => Route::Operator {
-            domain: decoded_part(alloc, path, 3)?,
+            domain: decoded_part(alloc, path, OPERATOR_DOMAIN_PART)?,
             command,
         },
         Command::Decide => Route::Decide {
-            domain: decoded_part(alloc, path, 2)?,
+            domain: decoded_part(alloc, path, DOMAIN_PART)?,
         },
         Command::Domain(command) => Route::Domain {
-            domain: decoded_part(alloc, path, 2)?,
+            domain: decoded_part(alloc, path, DOMAIN_PART)?,
             command,
         },
         Command::Document(command) => Route::Document {
-            domain: decoded_part(alloc, path, 2)?,
+            domain: decoded_part(alloc, path, DOMAIN_PART)?,
             parts: document_parts(alloc, path)?,
             command,
         },
@@ -121,9 +136,9 @@ fn document_parts(alloc: Global, path: &[u8]) -> Result<DocumentParts, AllocErro
     ensures { IfOk result (λ parts. parts ≡ document_parts path.now) }
 {
     Ok(DocumentParts {
-        kind: decoded_part(alloc, path, 4)?,
-        id: decoded_part(alloc, path, 5)?,
-        version: decoded_part(alloc, path, 6)?,
+        kind: decoded_part(alloc, path, KIND_PART)?,
+        id: decoded_part(alloc, path, ID_PART)?,
+        version: decoded_part(alloc, path, VERSION_PART)?,
     })
 }
 

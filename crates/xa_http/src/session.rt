@@ -2,12 +2,12 @@
 ghost use Rattle.std.specs.Prelude.{◌≡◌, ◌≤◌, ◌++◌, [], true, false, length, drop};
 ghost use Rattle.std.specs.Prelude.{IfOk, IsTrue, MatchResult, Ok, OnOk, OnErr};
 ghost use Rattle.xa_http.specs.parsing.Front.{HasHead};
-ghost use Rattle.xa_http.specs.Messages.{IsLook, IsNext, IsUnfinished, Stands};
+ghost use Rattle.xa_http.specs.Messages.{IsLook, IsNext, IsUnfinished, StandsAtFront};
 ghost use Rattle.xa_http.specs.declared.session.Look.TheVariants as look;
 ghost use Rattle.xa_http.specs.declared.session.Next.TheVariants.{Ended};
 
+use crate::beginning::{Beginning, Head, is_whole, read_front, whole_body};
 use crate::fault::SessionFault;
-use crate::front::{Beginning, Head, is_whole, read_front, whole_body};
 use crate::message::Message;
 use crate::open_head::OpenHead;
 use std::alloc::{AllocError, Global};
@@ -43,12 +43,15 @@ pub enum Look {
 #[derive(Drop)]
 pub struct Session {
     alloc: Global,
+    /// The bytes that have come, with those before the start, which were answered and aren't dropped yet.
     buffer: Vec<u8>,
+    /// Where the bytes begin that are held.
     start: usize,
     /// The head at the start, where it was read and its body wasn't whole then.
     head: Option<Head>,
     /// How far the head at the start was followed, where it wasn't whole.
     followed: OpenHead,
+    /// Whether no message is answered any more.
     ended: bool,
 }
 
@@ -222,7 +225,7 @@ impl Session {
 /// follows it is whole.
 fn look_behind(held: &[u8], head: &Head) -> Look
     requires { HasHead held.now head.now }
-    ensures { Stands held.now result }
+    ensures { StandsAtFront held.now result }
 {
     if is_whole(held, head) {
         Look::Message

@@ -81,5 +81,6 @@ size = fold-Linked ℕ size_step
 abbrev pub unless_large : Linked → Result Linked LinkError
 unless_large linked = if nat_lt 1_000 (size linked) then Err TooLarge else Ok linked
 
+-- the tree of a reference, or that it is too large
 unfoldable pub link : List Active → Reference → Result Linked LinkError
 link active reference = unless_large (tree active reference)

@@ -17,7 +17,7 @@ use Rattle.xa_policy.specs.Version.{compare_versions}
 use Rattle.xa_link.specs.declared.active.Active.{Active}
 use Rattle.xa_link.specs.Resolution.{fits, not_after, not_before}
 
--- a kind and an id
+-- a kind, by its place among kinds, and an id
 pub record Name : Type 0 where
   pub rank : ℕ
   pub id : List ℕ
@@ -28,6 +28,7 @@ name kind id = record { rank = place_of_kind kind; id = id }
 abbrev pub name_of : Active → Name
 name_of document = name document.kind document.id
 
+-- by kind and id
 abbrev pub compare_names : Name → Name → Ordering
 compare_names = then_cmp (on (λ n. n.rank) nat_cmp) (on (λ n. n.id) (slice_cmp nat_cmp))
 
@@ -58,6 +59,7 @@ by_pattern (Number m ∷ parts) (n ∷ ns) = ordering_then (nat_cmp n m) (by_pat
 by_pattern (AnyNumber ∷ parts) ns = Equal
 by_pattern (AnyNumbers ∷ parts) ns = Equal
 
+-- whether it is later, or earlier, than all versions that match the pattern, if there is one
 abbrev pub is_after_pattern : Option (List PatternPart) → List ℕ → Bool
 is_after_pattern None v = false
 is_after_pattern (Some pattern) v = is_gt (by_pattern pattern v)
@@ -84,6 +86,7 @@ standing_of reference document =
     ordering_then (compare_names (name reference.kind reference.id) (name_of document))
     (by_version reference document.version)
 
+-- where there is no document, behind all of them
 abbrev pub standing : Reference → Option Active → Ordering
 standing reference None = Greater
 standing reference (Some document) = standing_of reference document

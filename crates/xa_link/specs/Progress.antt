@@ -16,6 +16,7 @@ pub record Progress : Type 0 where
   pub active : List Active
   pub read : List Bool
 
+-- the document at a place was read; none was past the end of the marks
 abbrev pub is_read : List Bool → ℕ → Bool
 is_read [] place = false
 is_read (first ∷ rest) zero = first

@@ -1,5 +1,9 @@
 //! The documents that references stand for, and the trees that they are linked to (XACML 3.0, core,
 //! sections 5.10 to 5.13).
+//!
+//! `resolution` says which of the active documents (`active`) a reference stands for, and `index` finds it
+//! by `order` where many are asked for. `resolved` reads a document once and has its references resolved
+//! (`placed`); `linking` makes the tree of it, which has no more parts than `room` leaves.
 #![tactic(auto)]
 
 mod active;

@@ -80,8 +80,9 @@ fn unless_circular(path: &[usize], place: Option<usize>) -> Option<usize>
 }
 
 /// Whether the part of a document is a reference that leads to nothing at the end of the path: to no
-/// document, back to one on the path, or one too far. That such a part is unresolved is all that is
-/// proved: where this says false, a part that leads to nothing is linked as any other, to the same leaf.
+/// document, back to one on the path, or one too far. Such a part is a leaf, for which nothing is read.
+/// The clauses say so of an answer of true. A part of which the answer is false goes to
+/// `linked_document`, which gives the same leaf to one that leads to nothing.
 #[tactic(auto, using(crate::proofs::LinkingLemmas::no_further, crate::proofs::LinkingLemmas::nowhere, crate::proofs::LedLemmas::unread_no_further, crate::proofs::LedLemmas::unread_nowhere))]
 fn leads_nowhere(path: &Path<'_>, part: &Placed) -> bool
     ensures leaf { IsTrue result → (active : List Document)
@@ -109,7 +110,7 @@ fn longer_path(alloc: Global, place: usize, path: &[usize]) -> Result<Items<usiz
     Ok(longer)
 }
 
-/// A reference that leads to nothing takes no room.
+/// The leaf of a reference that leads to nothing, which takes no room.
 fn leaf(room: usize) -> Fitted<Linked>
     ensures { result ≡ record { part = Unresolved; room = room } }
 {

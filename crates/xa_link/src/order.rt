@@ -40,16 +40,11 @@ fn compare_found(active: &[Active], first: usize, second: usize) -> Ordering
     ensures { result
         ≡ option_cmp compare_documents (slice_get active.now first) (slice_get active.now second) }
 {
-    let Some(document) = active.get(first) else {
-        return if second < active.len() {
-            Ordering::Less
-        } else {
-            Ordering::Equal
-        };
-    };
-    match active.get(second) {
-        Some(other) => compare_documents(document, other),
-        None => Ordering::Greater,
+    match (active.get(first), active.get(second)) {
+        (Some(document), Some(other)) => compare_documents(document, other),
+        (Some(_), None) => Ordering::Greater,
+        (None, Some(_)) => Ordering::Less,
+        (None, None) => Ordering::Equal,
     }
 }
 
@@ -71,7 +66,8 @@ pub(crate) fn places_in_order(alloc: Global, active: &[Active]) -> Result<Vec<us
     Ok(order)
 }
 
-/// How the version compares with the numbers that the pattern begins with.
+/// How the version compares with the numbers that the pattern begins with; with the whole pattern, where
+/// that is numbers alone.
 fn by_pattern(parts: &[PatternPart], numbers: &[u32]) -> Ordering
     ensures { result ≡ by_pattern parts.now numbers.now }
 {
@@ -129,8 +125,8 @@ fn is_too_early(reference: &Reference, version: &Version) -> bool
     is_before_pattern(&reference.version, version) || !not_before(&reference.earliest, version)
 }
 
-/// Whether the version stands before those that may do, among them or behind them, where the newest is
-/// the first.
+/// Where the version stands to those that may do, the newest being the first: Less before them, Equal
+/// among them, Greater behind them.
 fn by_version(reference: &Reference, version: &Version) -> Ordering
     ensures { result ≡ by_version reference.now version.now }
 {
@@ -143,7 +139,8 @@ fn by_version(reference: &Reference, version: &Version) -> Ordering
     }
 }
 
-/// Whether the document stands before those that may fit the reference, among them or behind them.
+/// Where the document stands to those that may fit the reference: Less before them, Equal among them,
+/// Greater behind them.
 fn standing_of(reference: &Reference, document: &Active) -> Ordering
     ensures { result ≡ standing_of reference.now document.now }
 {
@@ -152,8 +149,8 @@ fn standing_of(reference: &Reference, document: &Active) -> Ordering
     )
 }
 
-/// Whether the document at the place stands before those that may fit the reference, among them or
-/// behind them.
+/// Where the document at the place stands to those that may fit the reference; Greater, where there is
+/// none.
 pub(crate) fn standing_at(active: &[Active], place: usize, reference: &Reference) -> Ordering
     ensures { result ≡ standing reference.now (slice_get active.now place) }
 {

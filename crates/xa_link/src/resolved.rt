@@ -32,7 +32,9 @@ pub(crate) enum Finding {
 #[derive(Drop)]
 pub(crate) struct Resolved<'a> {
     alloc: Global,
+    /// The active documents.
     index: Index<'a>,
+    /// What is known of each place; nothing of those past its end.
     documents: Vec<Finding>,
 }
 
@@ -45,6 +47,43 @@ impl<'a> Model for Resolved<'a> {
     ghost view = { λ r. record { active = r.index; read = marks r.documents.items } };
 
     ghost invariant = { λ r. AreRight r.index r.documents.items };
+}
+
+impl<'a> Resolved<'a> {
+    /// No reference is resolved yet, and nothing allocated.
+    pub(crate) fn new(alloc: Global, active: &'a [Active]) -> Resolved<'a>
+        ensures { result ≡ record { active = active.now; read = [] } }
+    {
+        Resolved {
+            alloc,
+            index: Index::new(alloc, active),
+            documents: Vec::new(alloc),
+        }
+    }
+
+    /// The document at the place, with places for its references. It is read when it is first wanted,
+    /// and once, also where its text isn't a document.
+    pub(crate) fn document_at(
+        &mut self,
+        reader: &mut TextReader<'_>,
+        place: usize,
+    ) -> Result<Option<Shared<Placed>>, AllocError>
+        ensures value { IfOk result (λ document. document ≡ placed_at self.old.active place) }
+        ensures kept { self.new.active ≡ self.old.active }
+        ensures read { Counted result (λ other. other == place) self.old self.new reader.old reader.new }
+    {
+        if let Finding::Looked(found) = found_at(self.documents.as_slice(), place)? {
+            return Ok(found);
+        }
+        let found = placed_at(self.alloc, &mut self.index, reader, place)?;
+        keep(&mut self.documents, place, share_of(&found)?)?;
+        Ok(found)
+    }
+
+    /// The allocator.
+    pub(crate) fn alloc(&self) -> Global {
+        self.alloc
+    }
 }
 
 /// Makes the place one of those that documents may be at.
@@ -136,41 +175,4 @@ fn placed_at<'a>(
     };
     let document = with_places(alloc, index, parsed.get().document())?;
     Ok(Some(Shared::new(alloc, document)?))
-}
-
-impl<'a> Resolved<'a> {
-    /// No reference is resolved yet, and nothing allocated.
-    pub(crate) fn new(alloc: Global, active: &'a [Active]) -> Resolved<'a>
-        ensures { result ≡ record { active = active.now; read = [] } }
-    {
-        Resolved {
-            alloc,
-            index: Index::new(alloc, active),
-            documents: Vec::new(alloc),
-        }
-    }
-
-    /// The document at the place, with places for its references. It is read when it is first wanted,
-    /// and once, also where its text isn't a document.
-    pub(crate) fn document_at(
-        &mut self,
-        reader: &mut TextReader<'_>,
-        place: usize,
-    ) -> Result<Option<Shared<Placed>>, AllocError>
-        ensures value { IfOk result (λ document. document ≡ placed_at self.old.active place) }
-        ensures kept { self.new.active ≡ self.old.active }
-        ensures read { Counted result (λ other. other == place) self.old self.new reader.old reader.new }
-    {
-        if let Finding::Looked(found) = found_at(self.documents.as_slice(), place)? {
-            return Ok(found);
-        }
-        let found = placed_at(self.alloc, &mut self.index, reader, place)?;
-        keep(&mut self.documents, place, share_of(&found)?)?;
-        Ok(found)
-    }
-
-    /// The allocator.
-    pub(crate) fn alloc(&self) -> Global {
-        self.alloc
-    }
 }

@@ -4,11 +4,12 @@ ghost use Rattle.xa_link.specs.Room.{less_one};
 
 use crate::link_error::LinkError;
 
-/// A part of a tree for which there is room, and the room that it leaves: how many more policies and
-/// policy sets there may be.
+/// A part of a tree for which there is room, and the room that it leaves.
 #[derive(Debug, Drop)]
 pub(crate) struct Fitted<T> {
+    /// The part.
     pub(crate) part: T,
+    /// How many more policies and policy sets there may be.
     pub(crate) room: usize,
 }
 

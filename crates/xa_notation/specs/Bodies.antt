@@ -49,6 +49,7 @@ old_token d = do
   _ ← fits table.OldToken d
   needed_member member.Token d >>= token
 
+-- the two, as a body writes them
 unfoldable pub new_token_of : List ℕ → Result NewToken NotationError
 new_token_of body = json body >>= new_token
 
@@ -76,5 +77,6 @@ root d = do
   size ← size_of d
   if size == 0 then Ok None else chosen_root d >>= (λ reference. Ok (Some reference))
 
+-- the root that a body sets
 unfoldable pub root_of : List ℕ → Result (Option Reference) NotationError
 root_of body = json body >>= root

@@ -277,12 +277,12 @@ written_child set d = do
   child_named set name inner
 
 -- a policy set inside too many others is too large as soon as its object is met
-abbrev pub too_deep : Data → Result WrittenSetWithChildren NotationError
-too_deep d = if is_some (as_object d) then Err TooLarge else Err BadValue
+abbrev pub too_deep : Data → NotationError
+too_deep d = if is_some (as_object d) then TooLarge else BadValue
 
 -- a policy set in which at most this many stand inside one another, it being one of them
 unfoldable pub written_set_within : ℕ → Data → Result WrittenSetWithChildren NotationError
-written_set_within zero d = too_deep d
+written_set_within zero d = Err (too_deep d)
 written_set_within (suc depth) d = written_set_of (written_child (written_set_within depth)) d
 
 -- a policy, and a policy set, as a whole document, with its key

@@ -83,28 +83,31 @@ fn is_rule_name(text: &str, algorithm: Alg) -> bool
     }
 }
 
+/// Whether the text is the algorithm's name in a policy set.
+fn is_policy_name(text: &str, algorithm: Alg) -> bool
+    ensures { result ≡ bytes_eq text.now (policy_uri_of algorithm) }
+{
+    text == policy_uri(algorithm)
+}
+
 /// The first of the algorithms that the text names in a policy.
 fn first_rule_named(algorithms: &[Alg], text: &str) -> Option<Alg>
     ensures { result ≡ find (λ a. is_name text.now (rule_uri_of a)) algorithms.now }
 {
-    for algorithm in algorithms {
-        if is_rule_name(text, *algorithm) {
-            return Some(*algorithm);
-        }
-    }
-    None
+    algorithms
+        .iter()
+        .copied()
+        .find(|algorithm| is_rule_name(text, *algorithm))
 }
 
 /// The first of the algorithms that the text names in a policy set.
 fn first_policy_named(algorithms: &[Alg], text: &str) -> Option<Alg>
     ensures { result ≡ find (λ a. bytes_eq text.now (policy_uri_of a)) algorithms.now }
 {
-    for algorithm in algorithms {
-        if text == policy_uri(*algorithm) {
-            return Some(*algorithm);
-        }
-    }
-    None
+    algorithms
+        .iter()
+        .copied()
+        .find(|algorithm| is_policy_name(text, *algorithm))
 }
 
 /// The algorithm that the text names in a policy.

@@ -59,12 +59,14 @@ fn written_assignments(
     each(alloc, &AssignmentReader, values)
 }
 
-/// Reads an obligation or a piece of advice (core, sections 5.39 and 5.40), by its object and by its
-/// members for the id and the effect.
+/// Reads an obligation or a piece of advice (core, sections 5.39 and 5.40).
 #[derive(Drop)]
 struct DutyReader {
+    /// Which of the two it is.
     object: Object,
+    /// The member that holds its id.
     id: Member,
+    /// The member that holds its effect.
     effect: Member,
 }
 

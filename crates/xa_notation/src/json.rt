@@ -1,5 +1,5 @@
 //! How objects, their members and plain values are read from JSON.
-ghost use Rattle.std.specs.Prelude.{◌≡◌, Result, option_map, MatchResult};
+ghost use Rattle.std.specs.Prelude.{◌≡◌, Result, is_some, option_map, MatchResult};
 ghost use Rattle.std.specs.Option.{ok_or};
 ghost use Rattle.std.specs.Result.{result_map_both};
 ghost use Rattle.serde_json.specs.Data.{Data};
@@ -47,7 +47,7 @@ pub fn needed_member(value: &Json, name: Member) -> Result<&Json, NotationError>
     member_at(value, name).ok_or(NotationError::MissingMember(name))
 }
 
-/// The members of an object.
+/// The members of an object; the fault is BadValue.
 fn members(value: &Json) -> Result<&Map<String, Json>, NotationError>
     ensures { result_map_both (λ m. members_view m.now.entries) (λ e. e) result
         ≡ ok_or (as_object (view value.now)) NotationError.BadValue }
@@ -74,7 +74,8 @@ fn has_only(entries: &[Entry], members: &Map<String, Json>) -> bool
     true
 }
 
-/// Nothing, of an object that has no members but those of the table.
+/// Checks that the value is an object, else BadValue, and has no members but those of the table, else
+/// UnknownMember.
 fn check_known(value: &Json, entries: &[Entry]) -> Result<(), NotationError>
     ensures { result ≡ knows entries.now (view value.now) }
 {
@@ -85,7 +86,7 @@ fn check_known(value: &Json, entries: &[Entry]) -> Result<(), NotationError>
     }
 }
 
-/// Nothing, where a member is there that the entry says has to be.
+/// Checks that the member is there if the entry says that it has to be; the fault is MissingMember.
 fn check_entry(value: &Json, entry: Entry) -> Result<(), NotationError>
     ensures { result ≡ has_entry entry (view value.now) }
 {
@@ -98,7 +99,8 @@ fn check_entry(value: &Json, entry: Entry) -> Result<(), NotationError>
     }
 }
 
-/// Nothing, where all members are there that the table says have to be.
+/// Checks that all members are there that the table says have to be; the fault is MissingMember, of the
+/// first in table order.
 fn check_needed(value: &Json, entries: &[Entry]) -> Result<(), NotationError>
     ensures { result ≡ has_needed entries.now (view value.now) }
 {
@@ -108,8 +110,8 @@ fn check_needed(value: &Json, entries: &[Entry]) -> Result<(), NotationError>
     Ok(())
 }
 
-/// Nothing, of an object whose members are those of its table. The faults are, in this order, BadValue
-/// of what is no object, UnknownMember, and MissingMember in table order.
+/// Checks that the value is an object whose members are those of its table. The faults are, in this
+/// order, BadValue of what is no object, UnknownMember, and MissingMember in table order.
 #[tactic(auto, unfolding(crate::specs::Json::fits))]
 pub fn check_members(value: &Json, object: Object) -> Result<(), NotationError>
     ensures { result ≡ fits object (view value.now) }
@@ -118,16 +120,18 @@ pub fn check_members(value: &Json, object: Object) -> Result<(), NotationError>
     check_needed(value, object.members())
 }
 
-/// Which of the members is there.
+/// Whether the member is there.
+fn has_member(value: &Json, name: Member) -> bool
+    ensures { result ≡ is_some (at name (view value.now)) }
+{
+    member_at(value, name).is_some()
+}
+
+/// The first of these members that is there.
 fn present_member(value: &Json, names: &[Member]) -> Option<Member>
     ensures { result ≡ present_member names.now (view value.now) }
 {
-    for name in names {
-        if member_at(value, *name).is_some() {
-            return Some(*name);
-        }
-    }
-    None
+    names.iter().copied().find(|name| has_member(value, *name))
 }
 
 /// The one that is there, of an object of that many members.
@@ -141,7 +145,7 @@ fn sole_member(first: Member, count: usize, found: Option<Member>) -> Result<Mem
     }
 }
 
-/// How many members an object has.
+/// How many members an object has; the fault is BadValue.
 #[tactic(auto, using(crate::proofs::JsonLemmas::count_of_members_view))]
 pub(crate) fn member_count(value: &Json) -> Result<usize, NotationError>
     ensures { result ≡ size_of (view value.now) }
@@ -149,7 +153,8 @@ pub(crate) fn member_count(value: &Json) -> Result<usize, NotationError>
     Ok(members(value)?.len())
 }
 
-/// The one of the alternatives that is there.
+/// The one of the alternatives that is there, of an object of one member. The faults are BadValue of what
+/// is no object, MissingMember of the first alternative where there is no member, and UnknownMember.
 #[tactic(auto, unfolding(crate::specs::Json::chosen_member))]
 pub(crate) fn chosen_member(value: &Json, choice: Choice) -> Result<Member, NotationError>
     ensures { result ≡ chosen_member choice (view value.now) }
@@ -189,7 +194,7 @@ pub fn optional_text(
     }
 }
 
-/// True or false.
+/// True or false; the fault is BadValue.
 pub(crate) fn flag(value: &Json) -> Result<bool, NotationError>
     ensures { result ≡ flag (view value.now) }
 {
@@ -204,7 +209,7 @@ pub fn items(value: &Json) -> Result<&[Json], NotationError>
     Ok(items.as_slice())
 }
 
-/// The items of an array that may be left out.
+/// The items of an array that may be left out, and has none then; the fault is BadValue.
 pub(crate) fn items_if_any<'a>(value: Option<&'a Json>) -> Result<&'a [Json], NotationError>
     ensures { result_map_both (λ vs. items_view vs.now) (λ e. e) result
         ≡ items_if_any (option_map (λ v. view v.now) value.entry) }
@@ -215,7 +220,7 @@ pub(crate) fn items_if_any<'a>(value: Option<&'a Json>) -> Result<&'a [Json], No
     }
 }
 
-/// The items, of which there is one at least.
+/// The items, of which there has to be one at least; the fault is BadValue.
 #[tactic(auto, using(crate::proofs::JsonLemmas::some_items))]
 pub(crate) fn not_empty(items: &[Json]) -> Result<&[Json], NotationError>
     ensures { result_map_both (λ vs. items_view vs.now) (λ e. e) result ≡ not_empty (items_view items.now) }

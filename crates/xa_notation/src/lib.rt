@@ -1,5 +1,13 @@
 //! Policy documents, read from their JSON notation (XACML 3.0, core, section 5), and the bodies of
 //! messages that administer a domain.
+//!
+//! `document` reads a text in two steps. First its shape: `json` reads objects by the tables of members in
+//! `tables` and `member`; `policy_set` reads the whole document, and goes down by `policy`, `rule`,
+//! `target`, `variables` and `duties` to `expression`, `attribute` and `plain_members`, with `algorithm` for
+//! names. What it gives is `written`. Then its types: `typing` makes policies and policy sets of it.
+//!
+//! `root_body` and `token_body`, with `token`, read the bodies. `reading` is what a crate above reads a
+//! further object by.
 #![tactic(auto)]
 
 mod algorithm;

@@ -18,7 +18,7 @@ use xa_value::{DataType, OrMemory, Text, category_uri};
 /// a path.
 const MAX_ID_BYTES: usize = 512;
 
-/// A copy of the id of a policy or a policy set.
+/// A copy of the id of a policy or a policy set, of 1 to 512 bytes; the fault is BadValue.
 pub(crate) fn id(alloc: Global, value: &Json) -> Result<Text, OrMemory<NotationError>>
     ensures { Gives result (id (view value.now)) }
 {
@@ -36,7 +36,7 @@ pub(crate) fn version(value: &Json) -> Result<Version, NotationError>
     Version::read(text(value)?).map_err(|_| NotationError::BadValue)
 }
 
-/// A pattern of versions.
+/// A pattern of versions; the fault is BadValue.
 pub(crate) fn pattern(value: &Json) -> Result<Pattern, NotationError>
     ensures { result ≡ pattern (view value.now) }
 {
@@ -63,7 +63,7 @@ pub(crate) fn optional_pattern(value: Option<&Json>) -> Result<Option<Pattern>, 
     }
 }
 
-/// The effect of the name.
+/// The effect of the name; the fault is BadValue.
 #[tactic(auto, unfolding(crate::specs::Values::effect_named))]
 fn effect_named(text: &str) -> Result<Effect, NotationError>
     ensures { result ≡ effect_named text.now }
@@ -82,14 +82,14 @@ pub(crate) fn effect(value: &Json) -> Result<Effect, NotationError>
     effect_named(text(value)?)
 }
 
-/// The algorithm of a policy.
+/// The algorithm of a policy. The faults are BadValue of what is no text, and UnknownAlgorithm.
 pub(crate) fn rule_algorithm(value: &Json) -> Result<Alg, NotationError>
     ensures { result ≡ rule_algorithm (view value.now) }
 {
     rule_algorithm_named(text(value)?).ok_or(NotationError::UnknownAlgorithm)
 }
 
-/// The algorithm of a policy set.
+/// The algorithm of a policy set, with the same faults.
 pub(crate) fn policy_algorithm(value: &Json) -> Result<Alg, NotationError>
     ensures { result ≡ policy_algorithm (view value.now) }
 {
@@ -123,7 +123,7 @@ pub(crate) fn optional_category(
     }
 }
 
-/// Nothing, of a description, which is a text that may be left out.
+/// Checks a description, which is a text that may be left out; the fault is BadValue.
 pub(crate) fn check_description(value: Option<&Json>) -> Result<(), NotationError>
     ensures { result ≡ description (option_map (λ v. view v.now) value.entry) }
 {

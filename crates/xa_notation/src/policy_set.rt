@@ -140,13 +140,13 @@ fn written_set_of(
 }
 
 /// The fault of a policy set that stands inside too many others.
-fn too_deep(value: &Json) -> Result<WrittenSetWithChildren, NotationError>
+fn too_deep(value: &Json) -> NotationError
     ensures { result ≡ too_deep (view value.now) }
 {
     if value.is_object() {
-        Err(NotationError::TooLarge)
+        NotationError::TooLarge
     } else {
-        Err(NotationError::BadValue)
+        NotationError::BadValue
     }
 }
 
@@ -161,7 +161,7 @@ fn written_set_within(
     ensures { Gives result (written_set_within depth (view value.now)) }
 {
     if depth == 0 {
-        return Ok(too_deep(value)?);
+        return Err(too_deep(value).into());
     }
     written_set_of(alloc, value, depth - 1)
 }

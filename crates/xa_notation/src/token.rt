@@ -18,6 +18,7 @@ pub enum Role {
     Admin,
 }
 
+/// Whether all characters are visible ASCII.
 fn all_visible(text: &[u8]) -> bool
     ensures { result ≡ list_all is_visible text.now }
 {

@@ -20,7 +20,9 @@ use xa_value::{Items, OrMemory, Text};
 /// Definitions of variables, of which no two have one name.
 #[derive(Debug, Drop)]
 struct Definitions {
+    /// The definitions, in order.
     variables: Vec<WrittenVariable>,
+    /// Their names, among which one is found without a look at each.
     names: BTreeSet<Text>,
 }
 

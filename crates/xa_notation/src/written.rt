@@ -72,8 +72,11 @@ pub(crate) struct WrittenSet {
 /// A policy, a policy set with its children, or a reference.
 #[derive(Debug, Drop)]
 pub(crate) enum WrittenTree {
+    /// A policy.
     Policy(WrittenPolicy),
+    /// A policy set, with its children in order.
     PolicySet(WrittenSet, Items<WrittenTree>),
+    /// A reference.
     Reference(Reference),
 }
 
@@ -84,10 +87,12 @@ pub(crate) struct WrittenSetWithChildren {
     pub(crate) children: Items<WrittenTree>,
 }
 
-/// A whole document: a policy or a policy set, with its key once more beside it.
+/// A whole document.
 #[derive(Debug, Drop)]
 pub(crate) struct WrittenDocument {
+    /// The key of the tree's policy or policy set, once more.
     pub(crate) key: DocumentKey,
+    /// A policy, or a policy set with its children.
     pub(crate) tree: WrittenTree,
 }
 

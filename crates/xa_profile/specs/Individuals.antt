@@ -10,10 +10,11 @@ use Rattle.xa_profile.specs.declared.individuals.TooMany.{TooMany}
 use Rattle.xa_profile.specs.declared.request.Request.{Request}
 use Rattle.xa_profile.specs.Request.{has_twice}
 
--- an individual is the places of its objects among all objects of the request, in the request's order and each once
+-- a place is one of the chosen ones
 abbrev pub is_chosen : List ℕ → ℕ → Bool
 is_chosen chosen place = list_any (λ p. p == place) chosen
 
+-- an individual is the places of its objects among all objects of the request, in the request's order and each once
 abbrev pub in_request_order : List CategoryObject → List ℕ → List ℕ
 in_request_order objects chosen = filter (is_chosen chosen) (range_with_len 0 (length objects))
 
@@ -91,5 +92,6 @@ all_individuals objects (first ∷ others) = map (individual_named objects) (fir
 abbrev pub at_most_64 : {X : Type 0} → List X → Result (List X) TooMany
 at_most_64 xs = if nat_lt 64 (length xs) then Err (record {}) else Ok xs
 
+-- the individuals of a request, or that they are too many
 unfoldable pub individuals : Request → Result (List Individual) TooMany
 individuals request = at_most_64 (all_individuals request.objects request.references)

@@ -14,7 +14,7 @@ ghost use Rattle.xa_profile.specs.parsing.Tree.{view, items_view};
 use crate::member::Member;
 use crate::number::number;
 use crate::reading::{
-    Reader, each, flag, holds_or_not_profile, items_if_any, member_at, needed_text, optional_text,
+    Reader, check, each, flag, items_if_any, member_at, needed_text, optional_text,
 };
 use crate::request_error::RequestError;
 use json::Value as Json;
@@ -47,7 +47,7 @@ fn plain_of<'a>(value: &Json<'a>) -> Option<Plain<TextRef<'a>>>
     }
 }
 
-/// Reads the kind of a value.
+/// Reads the kind of a value: the data type that its JSON type stands for.
 #[derive(Drop)]
 struct KindReader;
 
@@ -102,17 +102,17 @@ fn named_type(value: Option<&Json<'_>>) -> Result<Option<DataType>, RequestError
     }
 }
 
-/// The type that a text names.
+/// The type that a text names; the fault is NotProfile.
 fn data_type(value: &Json<'_>) -> Result<DataType, RequestError>
     ensures { result ≡ ok_or (option_and_then type_named (as_str (view value.now))) RequestError.NotProfile }
 {
-    match value.as_str() {
-        Some(name) => DataType::from_uri(name).ok_or(RequestError::NotProfile),
-        None => Err(RequestError::NotProfile),
-    }
+    value
+        .as_str()
+        .and_then(DataType::from_uri)
+        .ok_or(RequestError::NotProfile)
 }
 
-/// A value of the type.
+/// A value of the type; the fault is NotProfile.
 #[tactic(auto, unfolding(crate::specs::Attribute::value))]
 fn value_of(
     alloc: Global,
@@ -122,9 +122,7 @@ fn value_of(
     ensures value { Gives result (value data_type (view json.now)) }
     ensures of_type { IfOk result (λ v. type_of v ≡ data_type) }
 {
-    let Some(plain) = plain_of(json) else {
-        return Err(RequestError::NotProfile.into());
-    };
+    let plain = plain_of(json).ok_or(RequestError::NotProfile)?;
     let value = Value::from_plain(alloc, data_type, &plain);
     map_error(value, |_| RequestError::NotProfile)
 }
@@ -154,7 +152,7 @@ fn values_of(
     ensures { Gives result (values named (items_view items.now)) }
 {
     let kinds = each(alloc, &KindReader, items)?;
-    holds_or_not_profile(is_one_kind(kinds.as_slice()))?;
+    check(is_one_kind(kinds.as_slice()))?;
     bag_of(alloc, type_of_values(named, kinds.as_slice()), items)
 }
 

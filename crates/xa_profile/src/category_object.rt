@@ -52,9 +52,10 @@ fn category_of(
     }
 }
 
-/// Reads a Category object, under a shorthand or not.
+/// Reads a Category object.
 #[derive(Drop)]
 struct ObjectReader {
+    /// The category under whose shorthand the object stands, if it does.
     shorthand: Option<Category>,
 }
 

@@ -4,7 +4,7 @@ ghost use Rattle.std.specs.List.{list_all};
 ghost use Rattle.xa_value.specs.Gives.{Gives};
 ghost use Rattle.xa_profile.specs.Individuals.{with_each, combinations, at_most_64};
 
-use crate::individuals::{MOST, TooMany};
+use crate::individuals::{MAX_INDIVIDUALS, TooMany};
 use std::alloc::{AllocError, Global};
 use xa_value::{Items, OrMemory};
 
@@ -32,7 +32,7 @@ fn are_too_many(combinations: usize, places: usize) -> bool
     ensures { result ≡ nat_lt 64 (combinations * places) }
 {
     match combinations.checked_mul(places) {
-        Some(count) => count > MOST,
+        Some(count) => count > MAX_INDIVIDUALS,
         None => true,
     }
 }
@@ -52,7 +52,8 @@ fn with_each(
     Ok(all)
 }
 
-/// The combination with each of the places behind it, at the end. It is copied for all places but the last.
+/// Puts the combination with each of the places behind it at the end. It is copied for all places but the
+/// last.
 fn push_with_each(
     alloc: Global,
     all: &mut Vec<Items<usize>>,
@@ -71,7 +72,7 @@ fn push_with_each(
     Ok(())
 }
 
-/// Copies of the combination with each of the places behind it, at the end.
+/// Puts a copy of the combination with each of the places behind it at the end.
 fn push_copies(
     alloc: Global,
     all: &mut Vec<Items<usize>>,

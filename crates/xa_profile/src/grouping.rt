@@ -62,7 +62,7 @@ fn put<'a>(
     }
 }
 
-/// A group of one place, at the end, with its number by its category.
+/// Puts a group of one place at the end, and its number under its category.
 fn put_new<'a>(
     alloc: Global,
     numbers: &mut BTreeMap<&'a str, usize>,

@@ -21,7 +21,7 @@ use thiserror::Error;
 use xa_value::{Items, OrMemory, Text};
 
 /// How many individual requests a request may have. Each of them is decided for itself.
-pub(crate) const MOST: usize = 64;
+pub(crate) const MAX_INDIVIDUALS: usize = 64;
 
 /// More individual requests than a request may have, which is 64.
 #[derive(Clone, Copy, Debug, PartialEq, Eq, Error)]
@@ -173,7 +173,7 @@ fn individuals_named(
     ensures exact { IsTrue (nat_lt 64 (length references.now))
         → result ≡ answered (at_most_64 (map (individual_named objects.now) references.now)) }
 {
-    if references.len() > MOST {
+    if references.len() > MAX_INDIVIDUALS {
         return Err(TooMany.into());
     }
     let by_id = ObjectsById::new(alloc, objects)?;

@@ -1,4 +1,14 @@
 //! Requests of the JSON Profile of XACML 3.0, the individual requests that they stand for, and responses.
+//!
+//! `request` reads a body: `tree`, with `number`, makes JSON of it, and `reading` its members, of which
+//! `category_object` and `attribute` make objects.
+//!
+//! `individuals` gives the individual requests: by references, through `objects_by_id`, or as
+//! `combinations` of the objects that `grouping` finds of each category. `repetition` and `distinct` look
+//! whether something stands twice.
+//!
+//! `response` writes results by `writing`, with `included` for the attributes of the request and
+//! `identifiers` for the policies that are named.
 #![tactic(auto)]
 
 mod attribute;

@@ -5,31 +5,57 @@ ghost use Rattle.xa_profile.specs.Member.{name_of};
 /// A member of a request or a response that isn't a category's shorthand.
 #[derive(Clone, Copy, Debug, PartialEq, Eq)]
 pub(crate) enum Member {
+    /// `Request`.
     Request,
+    /// `ReturnPolicyIdList`.
     ReturnPolicyIdList,
+    /// `CombinedDecision`.
     CombinedDecision,
+    /// `Category`.
     Category,
+    /// `MultiRequests`.
     MultiRequests,
+    /// `RequestReference`.
     RequestReference,
+    /// `ReferenceId`.
     ReferenceId,
+    /// `CategoryId`.
     CategoryId,
+    /// `Id`.
     Id,
+    /// `Attribute`.
     Attribute,
+    /// `AttributeId`.
     AttributeId,
+    /// `DataType`.
     DataType,
+    /// `Issuer`.
     Issuer,
+    /// `IncludeInResult`.
     IncludeInResult,
+    /// `Value`.
     Value,
+    /// `Response`.
     Response,
+    /// `Decision`.
     Decision,
+    /// `Status`.
     Status,
+    /// `StatusCode`.
     StatusCode,
+    /// `Obligations`.
     Obligations,
+    /// `AssociatedAdvice`.
     AssociatedAdvice,
+    /// `AttributeAssignment`.
     AttributeAssignment,
+    /// `PolicyIdentifierList`.
     PolicyIdentifierList,
+    /// `PolicyIdReference`.
     PolicyIdReference,
+    /// `PolicySetIdReference`.
     PolicySetIdReference,
+    /// `Version`.
     Version,
 }
 

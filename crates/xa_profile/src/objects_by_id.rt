@@ -15,6 +15,7 @@ use std::marker::Model;
 #[derive(Drop)]
 pub(crate) struct ObjectsById<'a> {
     objects: &'a [CategoryObject],
+    /// The first place of each id.
     places: BTreeMap<&'a str, usize>,
 }
 
@@ -50,6 +51,7 @@ impl<'a> ObjectsById<'a> {
         Ok(ObjectsById { objects, places })
     }
 
+    /// The objects.
     pub(crate) fn objects(&self) -> &'a [CategoryObject]
         ensures { result.now ≡ self.now }
     {
@@ -64,7 +66,7 @@ impl<'a> ObjectsById<'a> {
     }
 }
 
-/// The first place of each id.
+/// The first place of the objects of each id.
 fn first_places<'a>(
     alloc: Global,
     objects: &'a [CategoryObject],
@@ -79,7 +81,7 @@ fn first_places<'a>(
     Ok(places)
 }
 
-/// The place of the object by its id, if it has one that has no place.
+/// Puts the place of the object under its id, if it has one under which there is none.
 fn put_object<'a>(
     places: &mut BTreeMap<&'a str, usize>,
     object: &'a CategoryObject,
@@ -95,7 +97,7 @@ fn put_object<'a>(
     }
 }
 
-/// The place of the text, unless it has one.
+/// Puts the place under the text, unless there is one.
 fn put_first<'a>(
     places: &mut BTreeMap<&'a str, usize>,
     text: &'a str,

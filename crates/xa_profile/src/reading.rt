@@ -1,4 +1,5 @@
-//! How members are read from JSON.
+//! How members are read from the JSON of a request, which borrows its texts from the body. Some of this is
+//! what xa_notation has for documents, whose JSON owns its texts and is of another type.
 ghost use Rattle.std.specs.Prelude.{◌≡◌, Result, option_map};
 ghost use Rattle.serde_json.specs.Data.{Data};
 ghost use Rattle.serde_json.specs.Find.{get};
@@ -31,8 +32,8 @@ pub(crate) fn shorthand_at<'v, 'a>(value: &'v Json<'a>, category: Category) -> O
     value.get(category.shorthand())
 }
 
-/// Nothing, where it holds.
-pub(crate) fn holds_or_not_profile(holds: bool) -> Result<(), RequestError>
+/// Checks that it holds; the fault is NotProfile.
+pub(crate) fn check(holds: bool) -> Result<(), RequestError>
     ensures { result ≡ holds_or_not_profile holds }
 {
     if holds {
@@ -42,14 +43,14 @@ pub(crate) fn holds_or_not_profile(holds: bool) -> Result<(), RequestError>
     }
 }
 
-/// Nothing, of an object.
+/// Checks that the value is an object; the fault is NotProfile.
 pub(crate) fn check_object(value: &Json<'_>) -> Result<(), RequestError>
     ensures { result ≡ check_object (view value.now) }
 {
-    holds_or_not_profile(matches!(value, Json::Object(_)))
+    check(matches!(value, Json::Object(_)))
 }
 
-/// A copy of a text.
+/// A copy of a text; the fault is NotProfile.
 pub(crate) fn text(alloc: Global, value: &Json<'_>) -> Result<Text, OrMemory<RequestError>>
     ensures { Gives result (text (view value.now)) }
 {
@@ -57,7 +58,7 @@ pub(crate) fn text(alloc: Global, value: &Json<'_>) -> Result<Text, OrMemory<Req
     Ok(Text::new(alloc, text)?)
 }
 
-/// A copy of a text that has to be there.
+/// A copy of a text that has to be there; the fault is NotProfile.
 pub(crate) fn needed_text(
     alloc: Global,
     value: Option<&Json<'_>>,
@@ -68,7 +69,7 @@ pub(crate) fn needed_text(
     text(alloc, value)
 }
 
-/// A copy of a text that may be left out.
+/// A copy of a text that may be left out; the fault is NotProfile.
 pub(crate) fn optional_text(
     alloc: Global,
     value: Option<&Json<'_>>,
@@ -81,7 +82,7 @@ pub(crate) fn optional_text(
     }
 }
 
-/// True or false, and false where it is left out.
+/// True or false, and false where it is left out; the fault is NotProfile.
 pub(crate) fn flag(value: Option<&Json<'_>>) -> Result<bool, RequestError>
     ensures { result ≡ flag (option_map (λ v. view v.now) value.entry) }
 {
@@ -119,6 +120,7 @@ pub(crate) trait Reader {
     /// What the value stands for.
     ghost reads: { Self → Data → Result Self.Output ReadFault };
 
+    /// What the value stands for, or its first fault.
     fn read(&self, alloc: Global, value: &Json<'_>) -> Result<Self::Output, OrMemory<RequestError>>
         ensures { Gives result (reads self.now (view value.now)) };
 }

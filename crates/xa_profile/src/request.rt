@@ -8,9 +8,7 @@ ghost use Rattle.xa_profile.specs.parsing.Tree.{view};
 
 use crate::category_object::{CategoryObject, all_objects};
 use crate::member::Member;
-use crate::reading::{
-    Reader, check_object, each, flag, holds_or_not_profile, items_or_itself, member_at, text,
-};
+use crate::reading::{Reader, check, check_object, each, flag, items_or_itself, member_at, text};
 use crate::repetition::has_twice;
 use crate::request_error::RequestError;
 use crate::tree::json;
@@ -31,6 +29,21 @@ pub struct Request {
     /// The requests of MultiRequests, each by the ids of its objects; none where there is no such
     /// member, or no item in it.
     pub references: Items<Items<Text>>,
+}
+
+impl Request {
+    /// The request that a body is (JSON Profile, section 4): NotJson of what is no JSON in UTF-8, and
+    /// NotProfile of JSON that is no object with a member Request, or whose Request is none of the
+    /// Profile: it has another shape, or two objects of one Id.
+    #[tactic(auto, unfolding(crate::specs::Request::request_of))]
+    pub fn read(alloc: Global, body: &[u8]) -> Result<Request, OrMemory<RequestError>>
+        ensures { Gives result (request_of body.now) }
+    {
+        let mut scratch = Scratch::new(alloc);
+        let value = json(alloc, body, &mut scratch)?;
+        let member = member_at(&value, Member::Request).ok_or(RequestError::NotProfile)?;
+        request_from(alloc, member)
+    }
 }
 
 /// Reads a text.
@@ -118,7 +131,7 @@ fn request_from(alloc: Global, value: &Json<'_>) -> Result<Request, OrMemory<Req
     let return_policy_id_list = flag(member_at(value, Member::ReturnPolicyIdList))?;
     let combined_decision = flag(member_at(value, Member::CombinedDecision))?;
     let objects = all_objects(alloc, value)?;
-    holds_or_not_profile(!has_id_twice(alloc, objects.as_slice())?)?;
+    check(!has_id_twice(alloc, objects.as_slice())?)?;
     let references = all_references(alloc, member_at(value, Member::MultiRequests))?;
     Ok(Request {
         return_policy_id_list,
@@ -126,19 +139,4 @@ fn request_from(alloc: Global, value: &Json<'_>) -> Result<Request, OrMemory<Req
         objects,
         references,
     })
-}
-
-impl Request {
-    /// The request that a body is (JSON Profile, section 4): NotJson of what is no JSON in UTF-8, and
-    /// NotProfile of JSON that is no object with a member Request, or whose Request is none of the
-    /// Profile: it has another shape, or two objects of one Id.
-    #[tactic(auto, unfolding(crate::specs::Request::request_of))]
-    pub fn read(alloc: Global, body: &[u8]) -> Result<Request, OrMemory<RequestError>>
-        ensures { Gives result (request_of body.now) }
-    {
-        let mut scratch = Scratch::new(alloc);
-        let value = json(alloc, body, &mut scratch)?;
-        let member = member_at(&value, Member::Request).ok_or(RequestError::NotProfile)?;
-        request_from(alloc, member)
-    }
 }

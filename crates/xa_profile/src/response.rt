@@ -16,6 +16,9 @@ use xa_func::Status;
 use xa_policy::{AttributeAssignment, Decision, Duty, Evaluated};
 use xa_value::Items;
 
+/// An ordinary response, of one result without obligations, fits into this many bytes.
+const BODY_ROOM: usize = 256;
+
 /// One of the results of a response (JSON Profile, section 5.2).
 #[derive(Debug, Drop)]
 pub struct ResultObject {
@@ -33,6 +36,31 @@ pub struct Response<'a> {
     pub objects: &'a [CategoryObject],
     /// The results, in order: one for each individual request, or one alone where these aren't decided.
     pub results: Items<ResultObject>,
+}
+
+impl<'a> Response<'a> {
+    /// Writes the response.
+    #[tactic(auto, unfolding(crate::specs::Response::response_data))]
+    fn write(&self, alloc: Global, out: &mut Writer) -> Result<(), AllocError>
+        ensures { Appends result out.old out.new
+            (tokens (response_data self.now.objects.now self.now.results)) }
+    {
+        out.begin_object()?;
+        out.key(Member::Response.name())?;
+        write_results(alloc, out, self.objects, self.results.as_slice())?;
+        out.end_object()
+    }
+
+    /// The body that the response is sent as: its JSON, with no space. Each text is written where it is
+    /// to stand, with no tree of JSON before.
+    #[tactic(auto, unfolding(crate::specs::Response::response_body), using(crate::proofs::TokenLemmas::text_of_tokens))]
+    pub fn to_body(&self, alloc: Global) -> Result<Vec<u8>, AllocError>
+        ensures { IfOk result (λ body. body.items ≡ response_body self.now.objects.now self.now.results) }
+    {
+        let mut out = Writer::new(Vec::with_capacity(alloc, BODY_ROOM)?);
+        self.write(alloc, &mut out)?;
+        Ok(out.into_inner())
+    }
 }
 
 /// The decision as it is shown (core, section 5.53): the three kinds of Indeterminate are one.
@@ -146,32 +174,4 @@ fn write_results(
         write_result(alloc, out, objects, result_object)?;
     }
     out.end_array()
-}
-
-/// An ordinary response, of one result without obligations, fits into this many bytes.
-const BODY_ROOM: usize = 256;
-
-impl<'a> Response<'a> {
-    /// Writes the response.
-    #[tactic(auto, unfolding(crate::specs::Response::response_data))]
-    fn write(&self, alloc: Global, out: &mut Writer) -> Result<(), AllocError>
-        ensures { Appends result out.old out.new
-            (tokens (response_data self.now.objects.now self.now.results)) }
-    {
-        out.begin_object()?;
-        out.key(Member::Response.name())?;
-        write_results(alloc, out, self.objects, self.results.as_slice())?;
-        out.end_object()
-    }
-
-    /// The body that the response is sent as: its JSON, with no space. Each text is written where it is
-    /// to stand, with no tree of JSON before.
-    #[tactic(auto, unfolding(crate::specs::Response::response_body), using(crate::proofs::TokenLemmas::text_of_tokens))]
-    pub fn to_body(&self, alloc: Global) -> Result<Vec<u8>, AllocError>
-        ensures { IfOk result (λ body. body.items ≡ response_body self.now.objects.now self.now.results) }
-    {
-        let mut out = Writer::new(Vec::with_capacity(alloc, BODY_ROOM)?);
-        self.write(alloc, &mut out)?;
-        Ok(out.into_inner())
-    }
 }

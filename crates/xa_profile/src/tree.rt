@@ -16,7 +16,7 @@ use xa_value::OrMemory;
 /// How deep arrays and objects may nest: as deep as `serde_json` reads them.
 const MAX_DEPTH: usize = 127;
 
-/// Whether none of the value's numbers is too large.
+/// Whether the value holds no number that is too large.
 #[cycle(is_readable)]
 fn is_readable(value: &Json<'_>) -> bool
     ensures { result ≡ is_readable (value_view value.now) }
@@ -29,7 +29,7 @@ fn is_readable(value: &Json<'_>) -> bool
     }
 }
 
-/// Whether that holds of each of the items.
+/// Whether no item holds a number that is too large.
 #[cycle(is_readable)]
 fn items_are_readable(items: &Vec<Json<'_>>) -> bool
     ensures { result ≡ items_are_readable (items_view items.now.items) }
@@ -42,7 +42,7 @@ fn items_are_readable(items: &Vec<Json<'_>>) -> bool
     true
 }
 
-/// Whether that holds of each of the members.
+/// Whether no member's value holds a number that is too large.
 #[cycle(is_readable)]
 fn members_are_readable<'a>(members: &Vec<(&'a str, Json<'a>)>) -> bool
     ensures { result ≡ members_are_readable (members_view members.now.items) }
@@ -55,7 +55,7 @@ fn members_are_readable<'a>(members: &Vec<(&'a str, Json<'a>)>) -> bool
     true
 }
 
-/// The JSON of a text.
+/// The JSON of a text. A number that is too large makes it invalid.
 fn value_of<'a>(alloc: Global, text: &'a str, scratch: &'a mut Scratch) -> Result<Json<'a>, Error>
     ensures ok { IfOk result (λ v. read text.now ≡ Some (view v)) }
     ensures invalid { IfErr result (λ e. e ≢ Error.OutOfMemory → read text.now ≡ None) }

@@ -22,6 +22,7 @@ const MAX_DOCUMENTS: usize = 128;
 pub struct Shelf {
     alloc: Global,
     documents: LruCache<String, Shared<Parsed>>,
+    /// How many texts were read and not found.
     readings: u64,
 }
 
@@ -98,7 +99,8 @@ impl Shelf {
             → self.new ≡ record { texts = self.old.texts; readings = one_more self.old.readings } }
     {
         let document = self.read(text.as_bytes())?;
-        let _put = put_up(&mut self.documents, self.alloc, text, &document);
+        // Without memory it isn't kept, and is answered all the same.
+        let _kept = keep(&mut self.documents, self.alloc, text, &document);
         Ok(document)
     }
 }
@@ -124,8 +126,8 @@ fn share_under(
     }
 }
 
-/// Puts a share of the document up under a copy of its text.
-fn put_up(
+/// Keeps a share of the document under a copy of its text. Without memory nothing changes.
+fn keep(
     documents: &mut LruCache<String, Shared<Parsed>>,
     alloc: Global,
     text: &str,

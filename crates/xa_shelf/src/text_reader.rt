@@ -16,7 +16,9 @@ use xa_value::{OrMemory, Shared};
 #[derive(Drop)]
 pub struct TextReader<'a> {
     shelf: &'a mut Shelf,
+    /// How many bytes may yet be asked for.
     left: u64,
+    /// Whether more were asked for than there were left.
     is_spent: bool,
 }
 

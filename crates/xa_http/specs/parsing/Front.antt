@@ -5,9 +5,9 @@ use Rattle.httparse.specs.Spans.{span_bytes}
 use Rattle.httparse.specs.declared.spans.HeaderSpan.{HeaderSpan}
 use Rattle.xa_http.specs.declared.message.Field.{Field}
 use Rattle.xa_http.specs.declared.message.Message.{Message}
-use Rattle.xa_http.specs.declared.front.Head.{Head}
-use Rattle.xa_http.specs.declared.front.Beginning.{Beginning}
-use Rattle.xa_http.specs.declared.front.Beginning.TheVariants as beginning
+use Rattle.xa_http.specs.declared.beginning.Head.{Head}
+use Rattle.xa_http.specs.declared.beginning.Beginning.{Beginning}
+use Rattle.xa_http.specs.declared.beginning.Beginning.TheVariants as beginning
 use Rattle.xa_http.specs.Length.{body_length}
 use Rattle.xa_http.specs.Messages.{message_of, fields_of, BeginsWithHead, IsUnfinished, IsFaulty}
 

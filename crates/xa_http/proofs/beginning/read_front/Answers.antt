@@ -1,6 +1,6 @@
 use Rattle.std.proofs.Common.{◌≤◌, length, ap, arith}
 use Rattle.xa_http.proofs.FrontLemmas.{too_many}
-use Rattle.xa_http.proofs.front.read_front.Goals as goal
+use Rattle.xa_http.proofs.beginning.read_front.Goals as goal
 
 pub unreachable-requires : goal.unreachable-requires
 unreachable-requires c =

@@ -2,7 +2,7 @@ use Rattle.std.proofs.Common.{◌≡◌, false, Ok, ◌∷◌, take, sym, ap, su
 use Rattle.xa_notation.specs.Document.{document_of}
 use Rattle.xa_shelf.specs.Readings.{AreDocuments, is_among, texts_of}
 use Rattle.xa_shelf.proofs.DocumentLemmas.{put_documents, put_texts}
-use Rattle.xa_shelf.proofs.shelf.put_up.Goals as goal
+use Rattle.xa_shelf.proofs.shelf.keep.Goals as goal
 
 pub returns-clause-documents : goal.returns-clause-documents
 returns-clause-documents c =

@@ -1,5 +1,5 @@
 use Rattle.xa_http.proofs.FrontLemmas.{has_head, head_faulty}
-use Rattle.xa_http.proofs.front.whole_head.Goals as goal
+use Rattle.xa_http.proofs.beginning.whole_head.Goals as goal
 
 pub returns-in-Ok : goal.returns-in-Ok
 returns-in-Ok c = let h = c.in-Ok.ensures in let k = c.as_slice.ensures in has_head _ _ _ _ c.requires (cc (h, k))

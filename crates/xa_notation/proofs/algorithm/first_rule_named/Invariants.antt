@@ -1,9 +1,0 @@
-use Rattle.std.proofs.Common.{◌≡◌, drop}
-use Rattle.std.specs.Prelude.{find}
-use Rattle.xa_notation.specs.Algorithms.{is_name, rule_uri_of}
-use Rattle.xa_notation.proofs.algorithm.first_rule_named.Given as goal
-
--- the text names none of those so far
-abbrev pub invariant-loop-algorithm : goal.invariant-loop-algorithm
-invariant-loop-algorithm l =
-    find (λ a. is_name l.text (rule_uri_of a)) (drop l.algorithm-index l.algorithms) ≡ find (λ a. is_name l.text (rule_uri_of a)) l.algorithms
