@@ -21,9 +21,13 @@ use xa_value::{Moment, Text, Value};
 /// The context of the decision on an individual request.
 #[derive(Drop)]
 pub(crate) struct IndividualContext<'a> {
+    /// Its Category objects, which are asked first.
     objects: IndividualObjects<'a>,
+    /// The source of attributes, which is asked last.
     source: &'a Source,
+    /// What the clock shows.
     moment: Moment,
+    /// What the message may still ask for.
     work: &'a Work,
 }
 

@@ -46,7 +46,9 @@ pub struct Responded {
 /// The results of a request, and whether they are the same at every moment.
 #[derive(Drop)]
 struct Outcome {
+    /// A result for each individual request, or one where these aren't decided.
     results: Items<ResultObject>,
+    /// Whether no attribute of the clock is asked for.
     timeless: bool,
 }
 
@@ -98,15 +100,18 @@ fn one_outcome(alloc: Global, fault: Fault) -> Result<Outcome, AllocError>
     })
 }
 
-/// What the individual requests of a request are decided by: a view, whether policies and policy sets are
-/// to be named, the Category objects of the request, and a moment. Beside these it has the work that all
-/// of them together may ask for.
+/// What the individual requests of a request are decided by.
 #[derive(Drop)]
 struct Deciding<'a> {
+    /// The tree, and the source of attributes.
     view: &'a View,
+    /// Whether policies and policy sets are to be named.
     names_policies: bool,
+    /// The Category objects of the request.
     objects: &'a [IndexedObject<'a>],
+    /// What the clock shows.
     moment: Moment,
+    /// What all individual requests together may ask for.
     work: &'a Work,
 }
 

@@ -20,17 +20,21 @@ use xa_bag::{Bag, Members};
 use xa_expr::{Budget, Designator};
 use xa_profile::{Attribute, CategoryObject};
 
-/// A Category object, with its attributes to be found by their ids and types, and by their issuers as
-/// well, with their values to be searched where that is asked for often, with what names its entity, and
-/// with what it is to write what stands of it in a result. It is made once for an object, whatever the
-/// number of the individual requests that have it.
+/// A Category object, with its attributes to be found, and with what is told of it once for all: it is made
+/// once for an object, whatever the number of the individual requests that have it.
 #[derive(Drop)]
 pub(crate) struct IndexedObject<'a> {
+    /// The object.
     object: &'a CategoryObject,
+    /// The places of its attributes by their ids and types.
     by_name: Vec<usize>,
+    /// Their places by their ids, types and issuers.
     by_issuer: Vec<usize>,
+    /// Their values, to be searched where that is asked for often.
     members: Option<Vec<Members<'a>>>,
+    /// What names its entity.
     naming: Naming<'a>,
+    /// What it is to write what stands of it in a result.
     writing: Writing,
 }
 

@@ -20,6 +20,7 @@ use xa_expr::{Budget, Designator};
 
 /// Category objects by their categories.
 struct ByCategory<'a> {
+    /// There is no value of the type: this gives it the lifetime of its items, which are references.
     _of: PhantomData<&'a IndexedObject<'a>>,
 }
 
@@ -35,12 +36,14 @@ impl<'a> Keying for ByCategory<'a> {
     }
 }
 
-/// The Category objects of an individual request, to be found by their categories; and how much it is to
-/// find an attribute of one of them.
+/// The Category objects of an individual request, to be found by their categories.
 #[derive(Drop)]
 pub(crate) struct IndividualObjects<'a> {
+    /// The objects, in request order.
     objects: Vec<&'a IndexedObject<'a>>,
+    /// Their places by their categories.
     order: Vec<usize>,
+    /// The units of finding an attribute of one of them.
     search: u64,
 }
 

@@ -13,9 +13,13 @@ use std::marker::Model;
 pub(crate) struct Key<'a> {
     /// A data type's number, moved past those of all types where an issuer is a part of the key.
     pub(crate) number: usize,
+    /// The category's URI.
     pub(crate) category: &'a str,
+    /// The entity, of a row.
     pub(crate) entity: &'a str,
+    /// The attribute's id.
     pub(crate) id: &'a str,
+    /// Who says so.
     pub(crate) issuer: &'a str,
 }
 

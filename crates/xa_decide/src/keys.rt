@@ -28,35 +28,6 @@ fn unsought_key<'a>() -> Key<'a>
     }
 }
 
-/// The key of an attribute's id and type.
-pub(crate) fn name_key(id: &str, data_type: DataType) -> Key<'_>
-    ensures { result ≡ name_key id.now data_type }
-{
-    Key {
-        number: usize::from(data_type.number()),
-        category: "",
-        entity: "",
-        id,
-        issuer: "",
-    }
-}
-
-/// The key of an attribute's id, type and issuer, where it has one.
-pub(crate) fn issuer_key<'a>(id: &'a str, data_type: DataType, issuer: &'a Option<Text>) -> Key<'a>
-    ensures { result ≡ issuer_key id.now data_type issuer.now }
-{
-    match issuer {
-        None => name_key(id, data_type),
-        Some(issuer) => Key {
-            number: TYPES + usize::from(data_type.number()),
-            category: "",
-            entity: "",
-            id,
-            issuer: issuer.as_str(),
-        },
-    }
-}
-
 /// The key of a category.
 pub(crate) fn category_key(category: &str) -> Key<'_>
     ensures { result ≡ category_key category.now }
@@ -108,6 +79,20 @@ pub(crate) fn issued_row_key<'a>(
             issuer: issuer.as_str(),
         },
     }
+}
+
+/// The key of an attribute's id and type.
+pub(crate) fn name_key(id: &str, data_type: DataType) -> Key<'_>
+    ensures { result ≡ name_key id.now data_type }
+{
+    row_key("", "", id, data_type)
+}
+
+/// The key of an attribute's id, type and issuer, where it has one.
+pub(crate) fn issuer_key<'a>(id: &'a str, data_type: DataType, issuer: &'a Option<Text>) -> Key<'a>
+    ensures { result ≡ issuer_key id.now data_type issuer.now }
+{
+    issued_row_key("", "", id, data_type, issuer)
 }
 
 /// Attributes by their ids and types.

@@ -1,5 +1,19 @@
 //! The decision on a request: each of its individual requests in its context, by the tree of policies
 //! that the root stands for.
+//!
+//! Files of calls: `view` is what a domain's decisions depend on, with its `source` of rows, each a
+//! `source_row`, which `rows` reads and writes. `request_body` holds a request, and `asked` says whether
+//! that asks the policies. `decision` decides and responds, and `timeless` says which answers are the same
+//! at every moment.
+//!
+//! Files of values: the `context` of an individual request looks for those of an `attribute` among its
+//! `individual_objects`, each an `indexed_object`; then it asks the `clock`, and then the source, for the
+//! `entity` that the objects are `naming`. There are two ways over the same objects and rows: values are
+//! copied into a `bag`, or a `look` goes over them where they are.
+//!
+//! Files of indexes and of cost: what is sought is a `key`, which `keys` makes, and it is found by the
+//! `order` of the items' keys. A message is paid for from its `work`; `response_work` says how much it is to
+//! write a result, as a sum of `writing`s.
 #![tactic(auto)]
 
 mod asked;

@@ -1,4 +1,10 @@
 //! Looks for a value among those of a designator, where they are: no value is copied.
+//!
+//! A look goes from the objects of an individual request to one of them, to its attributes, to one of these
+//! and to its values, each by a method of its own; at each step few are gone through one after another, and
+//! many are found by their places. A bag of the same values is put together step by step as well: by
+//! `IndividualObjects::bag`, `push_of_category`, `push_object` and `push_attribute`, and of the source by
+//! `Source::bag`.
 ghost use Rattle.std.specs.Prelude.{◌≡◌, [], ◌∷◌, bytes_eq, filter, map, IfOk, IfSome, if◌then◌else◌};
 ghost use Rattle.std.specs.List.{flat_map};
 ghost use Rattle.xa_expr.specs.Looked.{looked};
@@ -22,8 +28,11 @@ use xa_value::Value;
 /// look at each; where the values are in order, those of a search.
 #[derive(Drop)]
 pub(crate) struct Look<'a> {
+    /// What it is paid from.
     pub(crate) work: &'a Work,
+    /// The designator.
     pub(crate) designator: &'a Designator,
+    /// The value that is looked for.
     pub(crate) sought: &'a Value,
 }
 

@@ -11,8 +11,12 @@ use xa_expr::STEP;
 /// How many items are looked at one after another, since a search among so few would take longer.
 const FEW: usize = 8;
 
-/// The places of that many items.
+/// The places of a few items: as many as `FEW`.
 const PLACES: &[usize] = &[0, 1, 2, 3, 4, 5, 6, 7];
+
+/// The units of each halving of items in order: its bounds are looked for from both ends, by keys of
+/// several texts.
+const HALVING: u64 = STEP + STEP / 2;
 
 /// Whether so many items are looked at one after another.
 pub(crate) fn are_few(count: usize) -> bool
@@ -25,10 +29,6 @@ pub(crate) fn are_few(count: usize) -> bool
 fn halvings(count: usize) -> u64 {
     u64::from(64u32.saturating_sub(count.leading_zeros()))
 }
-
-/// The units of each halving of items in order: its bounds are looked for from both ends, by keys of
-/// several texts.
-const HALVING: u64 = STEP + STEP / 2;
 
 /// The units of a search among so many items in order: the same each time that they are halved. A look at
 /// a few is a part of the look-up.
@@ -57,7 +57,7 @@ pub(crate) trait Keying {
         ensures { result ≡ key_of item.now };
 }
 
-/// The item that has the place.
+/// The item that has the place: `get`, with a clause in the words of what an order finds.
 pub(crate) fn item_at<T>(items: &[T], place: usize) -> Option<&T>
     ensures { option_map (λ item. item.now) result ≡ slice_get items.now place }
 {
@@ -71,7 +71,7 @@ fn key_at<'a, K: Keying>(items: &'a [K::Item], place: usize) -> Option<Key<'a>>
     items.get(place).map(|item| K::key(item))
 }
 
-/// How the key of the item at the place compares.
+/// How the key of the item at the place compares with that key. An order has no place without an item.
 fn order_at<K: Keying>(items: &[K::Item], place: usize, key: &Key<'_>) -> Ordering
     ensures { result ≡ order_at K.key_of items.now key.now place }
 {

@@ -11,7 +11,9 @@ use xa_value::memory_apart;
 /// it. Contracts see its bytes.
 #[derive(Debug, Drop)]
 pub struct RequestBody<'a> {
+    /// The body.
     bytes: &'a [u8],
+    /// What was read of it.
     request: Result<Request, RequestError>,
 }
 

@@ -43,7 +43,7 @@ const NUMBER: Writing = Writing {
     bytes: 1,
 };
 
-/// An attribute of the request; nothing, where it isn't to stand in a result.
+/// What it is to write an attribute of the request: nothing, where it isn't to stand in a result.
 fn writing_of_attribute(attribute: &Attribute) -> Writing {
     if !attribute.include_in_result {
         return Writing::NOTHING;
@@ -54,7 +54,7 @@ fn writing_of_attribute(attribute: &Attribute) -> Writing {
         .and(Writing::of_bag(&attribute.values))
 }
 
-/// The object's attributes that are to stand in a result; nothing, where there are none.
+/// What it is to write those of the object's attributes that are to stand in a result.
 fn writing_of_attributes(object: &CategoryObject) -> Writing {
     object.attributes.as_slice().iter().fold(
         Writing::NOTHING,
@@ -62,8 +62,8 @@ fn writing_of_attributes(object: &CategoryObject) -> Writing {
     )
 }
 
-/// What stands of the object in each result that has it; nothing, where none of its attributes is to
-/// stand there.
+/// What it is to write what stands of the object in each result that has it: nothing, where none of its
+/// attributes is to stand there.
 pub(crate) fn writing_of_object(object: &CategoryObject) -> Writing {
     let attributes = writing_of_attributes(object);
     if attributes.units == 0 {
@@ -74,7 +74,7 @@ pub(crate) fn writing_of_object(object: &CategoryObject) -> Writing {
         .and(Writing::of_text(&object.category))
 }
 
-/// What stands of the objects at the places in a result.
+/// What it is to write what stands of the objects at the places in a result.
 fn writing_at(objects: &[IndexedObject<'_>], places: &[usize]) -> Writing {
     let mut all = Writing::NOTHING;
     for place in places {
@@ -85,7 +85,7 @@ fn writing_at(objects: &[IndexedObject<'_>], places: &[usize]) -> Writing {
     all
 }
 
-/// An attribute that an obligation or a piece of advice carries.
+/// What it is to write an attribute that an obligation or a piece of advice carries.
 fn writing_of_assignment(assignment: &AttributeAssignment) -> Writing {
     ATTRIBUTE
         .and(Writing::of_text(&assignment.attribute_id))
@@ -94,7 +94,7 @@ fn writing_of_assignment(assignment: &AttributeAssignment) -> Writing {
         .and(Writing::of_value(&assignment.value))
 }
 
-/// An obligation or a piece of advice.
+/// What it is to write an obligation or a piece of advice.
 fn writing_of_duty(duty: &Duty) -> Writing {
     duty.assignments.as_slice().iter().fold(
         DUTY.and(Writing::of_text(&duty.id)),
@@ -102,23 +102,23 @@ fn writing_of_duty(duty: &Duty) -> Writing {
     )
 }
 
-/// Obligations, or advice.
+/// What it is to write obligations, or advice.
 fn writing_of_each(duties: &[Duty]) -> Writing {
     duties.iter().fold(Writing::NOTHING, |all, duty| all.and(writing_of_duty(duty)))
 }
 
-/// Obligations and advice.
+/// What it is to write obligations and advice.
 fn writing_of_duties(duties: &Duties) -> Writing {
     writing_of_each(duties.obligations()).and(writing_of_each(duties.advice()))
 }
 
-/// A policy or a policy set that is named.
+/// What it is to name a policy or a policy set.
 fn writing_of_key(key: &DocumentKey) -> Writing {
     NAME.and(Writing::of_text(&key.id))
         .and(NUMBER.times(key.version.numbers().len()))
 }
 
-/// The policies and policy sets that are named.
+/// What it is to name the policies and policy sets.
 fn writing_of_keys(keys: &[Shared<DocumentKey>]) -> Writing {
     keys.iter().fold(
         Writing::NOTHING,
@@ -126,7 +126,7 @@ fn writing_of_keys(keys: &[Shared<DocumentKey>]) -> Writing {
     )
 }
 
-/// The result of the individual request that has the objects at these places.
+/// What it is to write the result of the individual request that has the objects at these places.
 pub(crate) fn writing_of_result(
     objects: &[IndexedObject<'_>],
     places: &[usize],

@@ -82,7 +82,8 @@ pub fn read_rows(alloc: Global, body: &[u8]) -> Result<Items<SourceRow>, OrMemor
     rows(alloc, &value)
 }
 
-/// Writes a text as a member.
+/// Writes a text as a member. This and the two below are those of `xa_profile` again: its members, and so
+/// their names, are others.
 fn write_text(out: &mut Writer, name: Member, text: &str) -> Result<(), AllocError>
     ensures { Appends result out.old out.new (key (name_of name) ∷ string text.now ∷ []) }
 {

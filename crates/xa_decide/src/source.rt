@@ -17,12 +17,14 @@ use xa_bag::Bag;
 use xa_expr::{Budget, Designator, units_of};
 use xa_value::Items;
 
-/// The rows of the source, to be found by their categories, entities, ids and types, and by their
-/// issuers as well.
+/// The rows of the source, to be found.
 #[derive(Debug, Drop)]
 pub(crate) struct Source {
+    /// The rows.
     rows: Items<SourceRow>,
+    /// Their places by their categories, entities, ids and types.
     by_row: Vec<usize>,
+    /// Their places by their issuers as well.
     by_issued_row: Vec<usize>,
 }
 

@@ -22,7 +22,6 @@ pub(crate) fn is_timeless_tree(tree: &Option<Result<Linked, LinkError>>) -> bool
 {
     match tree {
         Some(Ok(linked)) => timeless(linked),
-        Some(Err(_)) => true,
-        None => true,
+        Some(Err(_)) | None => true,
     }
 }

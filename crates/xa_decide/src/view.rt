@@ -18,6 +18,9 @@ use xa_policy::{Linked, Reference};
 use xa_shelf::TextReader;
 use xa_value::{Items, memory_apart};
 
+/// So many units or bytes as nobody reaches.
+const NO_LIMIT: u64 = u64::MAX;
+
 /// What a domain's decisions depend on: the tree that its root stands for among its active documents, if
 /// it has one, and its source rows; made ready for any number of requests: the tree is linked, and the
 /// rows are in order. Of the documents it holds what the tree shares with them, and nothing of those to
@@ -26,10 +29,15 @@ use xa_value::{Items, memory_apart};
 /// answered as if memory were wanting.
 #[derive(Debug, Drop)]
 pub struct View {
+    /// The tree that decides, where there is one; it may be too large.
     tree: Option<Result<Linked, LinkError>>,
+    /// The source of attributes.
     source: Source,
+    /// Whether no designator of the tree names the clock.
     timeless: bool,
+    /// How many units of work a message may ask for.
     limit: u64,
+    /// How many bytes the body of a response may have.
     reply_limit: u64,
 }
 
@@ -137,8 +145,8 @@ impl View {
             tree,
             source,
             timeless,
-            limit: u64::MAX,
-            reply_limit: u64::MAX,
+            limit: NO_LIMIT,
+            reply_limit: NO_LIMIT,
         })
     }
 
@@ -150,8 +158,8 @@ impl View {
             tree: None,
             source: Source::new(alloc, Items::new(alloc))?,
             timeless: true,
-            limit: u64::MAX,
-            reply_limit: u64::MAX,
+            limit: NO_LIMIT,
+            reply_limit: NO_LIMIT,
         })
     }
 

@@ -20,20 +20,22 @@ const LARGE: usize = 256;
 const SCANS: u64 = 16;
 
 /// With how many values another is compared at most that is searched for among values in order, and each
-/// where they are put in order: a request has fewer than two to this.
-const COMPARISONS: u64 = 18;
+/// where they are put in order: the logarithm of their number, since a request has fewer than 2^18.
+const COMPARISONS_IN_ORDER: u64 = 18;
 
 /// How many more values of large bags may be looked at one after another, and whether more were asked
 /// for. No clause speaks of it: a look that is refused ends the decision like want of memory, and then
 /// the request is decided again with the values in order.
 #[derive(Drop)]
 struct Scans {
+    /// How many more values.
     values: Budget,
+    /// Whether more were asked for.
     are_exceeded: Cell<bool>,
 }
 
 impl Scans {
-    /// So many values.
+    /// So many values, of which none has been looked at.
     fn of(values: u64) -> Scans {
         Scans {
             values: Budget::new(values),
@@ -63,9 +65,13 @@ enum Search {
 /// The work of one message, and the bytes that its response may still have.
 #[derive(Drop)]
 pub(crate) struct Work {
+    /// The units that the message may still ask for.
     budget: Budget,
+    /// The bytes that its response may still have.
     reply: Budget,
+    /// The bytes that its response may have in all.
     reply_limit: u64,
+    /// How its large bags are searched.
     search: Search,
 }
 
@@ -125,7 +131,7 @@ impl Work {
     /// Takes the units of a search for the value among values in order.
     pub(crate) fn spend_on_search(&self, sought: &Value) -> Result<(), AllocError> {
         let units = units_of(sought).saturating_add(LOOK);
-        self.spend(units.saturating_mul(COMPARISONS))
+        self.spend(units.saturating_mul(COMPARISONS_IN_ORDER))
     }
 
     /// The values of each attribute, to be searched by their order; none, where they are searched one by one.
@@ -165,7 +171,7 @@ impl Work {
         if !is_large(bag) {
             return Ok(Members::new(bag, 0));
         }
-        self.spend(units_of_bag(bag).saturating_mul(COMPARISONS))?;
+        self.spend(units_of_bag(bag).saturating_mul(COMPARISONS_IN_ORDER))?;
         Ok(Members::new(bag, bag.len()))
     }
 }

@@ -6,6 +6,9 @@ use xa_bag::Bag;
 use xa_expr::{is_of_one_size, units_of, units_of_printing};
 use xa_value::{Text, Value};
 
+/// The units of each byte that escapes add to a text: what is escaped is written by itself.
+const ESCAPED: u64 = 7;
+
 /// What it is to write a part of a response.
 #[derive(Clone, Copy)]
 pub(crate) struct Writing {
@@ -20,7 +23,7 @@ impl Writing {
     /// Nothing is written.
     pub(crate) const NOTHING: Writing = Writing { units: 0, bytes: 0 };
 
-    /// Both of these.
+    /// What it is to write both of these.
     pub(crate) fn and(self, other: Writing) -> Writing {
         Writing {
             units: self.units.saturating_add(other.units),
@@ -28,7 +31,7 @@ impl Writing {
         }
     }
 
-    /// So many of these.
+    /// What it is to write so many of these.
     pub(crate) fn times(self, count: usize) -> Writing {
         Writing {
             units: self.units.saturating_mul(count as u64),
@@ -36,7 +39,7 @@ impl Writing {
         }
     }
 
-    /// A text.
+    /// What it is to write a text.
     pub(crate) fn of_text(text: &Text) -> Writing {
         let bytes = text.as_bytes();
         let count = bytes.len() as u64;
@@ -47,7 +50,7 @@ impl Writing {
         }
     }
 
-    /// A text that may be left out.
+    /// What it is to write a text that may be left out.
     pub(crate) fn of_text_if_any(text: &Option<Text>) -> Writing {
         match text {
             Some(text) => Writing::of_text(text),
@@ -55,7 +58,7 @@ impl Writing {
         }
     }
 
-    /// A value. What has no text of its own is printed first.
+    /// What it is to write a value. What has no text of its own is printed first.
     pub(crate) fn of_value(value: &Value) -> Writing {
         let widening = widening(value);
         Writing {
@@ -66,7 +69,7 @@ impl Writing {
         }
     }
 
-    /// The values of a bag. Where these are of one size, nobody looks at them.
+    /// What it is to write the values of a bag. Where these are of one size, nobody looks at them.
     pub(crate) fn of_bag(bag: &Bag) -> Writing {
         match bag.values() {
             [first, ..] if is_of_one_size(bag.data_type()) => {
@@ -76,7 +79,7 @@ impl Writing {
         }
     }
 
-    /// The values, one after another.
+    /// What it is to write the values, one after another.
     fn of_values(values: &[Value]) -> Writing {
         values.iter().fold(
             Writing::NOTHING,
@@ -85,15 +88,13 @@ impl Writing {
     }
 }
 
-/// The units of each byte that escapes add to a text: what is escaped is written by itself.
-const ESCAPED: u64 = 7;
-
 /// Whether JSON has an escape for the byte.
 fn is_escaped(byte: u8) -> bool {
     byte < 0x20 || byte == b'"' || byte == b'\\'
 }
 
-/// How many bytes an escape takes more than the byte that it stands for.
+/// How many bytes an escape takes more than the byte that it stands for: one where it is a backslash and a
+/// character, five where it is `\u` and four digits.
 fn escaping(byte: u8) -> u64 {
     match byte {
         b'"' | b'\\' | 8 | 9 | 10 | 12 | 13 => 1,
@@ -102,7 +103,8 @@ fn escaping(byte: u8) -> u64 {
     }
 }
 
-/// Whether a byte of the text has an escape.
+/// Whether a byte of the text has an escape. Few texts have one, so that escapes are counted in these alone.
+/// Each byte is looked at, with no branch at the first that has one, so that several may be taken at once.
 fn has_escapes(text: &[u8]) -> bool {
     text.iter()
         .fold(false, |found, byte| found | is_escaped(*byte))
@@ -121,8 +123,7 @@ fn escapes_in(text: &[u8]) -> u64 {
 /// more in base64.
 fn widening(value: &Value) -> u64 {
     match value {
-        Value::String(text) => escapes_in(text.as_bytes()),
-        Value::AnyUri(text) => escapes_in(text.as_bytes()),
+        Value::String(text) | Value::AnyUri(text) => escapes_in(text.as_bytes()),
         Value::HexBinary(bytes) => bytes.as_slice().len() as u64,
         Value::Base64Binary(bytes) => bytes.as_slice().len() as u64 / 3,
         _ => 0,
@@ -140,10 +141,8 @@ fn units_of_widening(value: &Value, widening: u64) -> u64 {
 /// How many bytes of text or of its binary the value has; one, where it is of another type.
 fn length_of(value: &Value) -> u64 {
     match value {
-        Value::String(text) => text.as_bytes().len() as u64,
-        Value::AnyUri(text) => text.as_bytes().len() as u64,
-        Value::HexBinary(bytes) => bytes.as_slice().len() as u64,
-        Value::Base64Binary(bytes) => bytes.as_slice().len() as u64,
+        Value::String(text) | Value::AnyUri(text) => text.as_bytes().len() as u64,
+        Value::HexBinary(bytes) | Value::Base64Binary(bytes) => bytes.as_slice().len() as u64,
         _ => 1,
     }
 }

@@ -38,8 +38,7 @@ within change (Some state) = change state >>= (λ next. Ok (Some next))
 -- ---- tokens
 
 abbrev pub with_tokens : FinMap compare_bytes Role → DomainState → DomainState
-with_tokens tokens state =
-    record { tokens = tokens; documents = state.documents; root = state.root; source = state.source }
+with_tokens tokens state = record state { tokens = tokens }
 
 -- a token is put in, or its role replaced
 abbrev pub token_put : List ℕ → Role → DomainState → Result DomainState Refusal
@@ -56,8 +55,7 @@ token_dropped digest state =
 -- ---- documents
 
 abbrev pub with_documents : FinMap compare_keys StoredDocument → DomainState → DomainState
-with_documents documents state =
-    record { tokens = state.tokens; documents = documents; root = state.root; source = state.source }
+with_documents documents state = record state { documents = documents }
 
 abbrev pub with_document : DocumentKey → List ℕ → Bool → DomainState → DomainState
 with_document key text active state =
@@ -99,12 +97,8 @@ deleted key state =
 
 -- the root is another, or none
 abbrev pub root_set : Option Reference → DomainState → Result DomainState Refusal
-root_set root state =
-    Ok (record { tokens = state.tokens; documents = state.documents; root = root; source = state.source })
+root_set root state = Ok (record state { root = root })
 
 -- the rows of the source are these, and no others
 abbrev pub source_set : List SourceRow → DomainState → Result DomainState Refusal
-source_set rows state =
-    if nat_le (length rows) 4_096
-    then Ok (record { tokens = state.tokens; documents = state.documents; root = state.root; source = rows })
-    else Err Quota
+source_set rows state = if nat_le (length rows) 4_096 then Ok (record state { source = rows }) else Err Quota

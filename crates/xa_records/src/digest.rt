@@ -15,6 +15,7 @@ use std::marker::Model;
 /// The SHA-256 digest of a token (FIPS 180-4): what is kept of it.
 #[derive(Clone, Copy, Debug)]
 pub struct Digest {
+    /// Its bytes.
     bytes: [u8; 32],
 }
 

@@ -6,20 +6,21 @@ ghost use Rattle.xa_records.specs.DomainName.{begins_name, continues_name, is_do
 /// The most bytes that may follow the first of a domain's name, which each path of the domain repeats.
 const MAX_LATER_BYTES: usize = 31;
 
-/// A small letter or a digit.
+/// Whether the byte is a small letter or a digit.
 fn begins_name(byte: u8) -> bool
     ensures { result ≡ begins_name byte }
 {
     byte.is_ascii_lowercase() || byte.is_ascii_digit()
 }
 
-/// A small letter, a digit or a dash.
+/// Whether the byte is a small letter, a digit or a dash.
 fn continues_name(byte: u8) -> bool
     ensures { result ≡ continues_name byte }
 {
     begins_name(byte) || byte == b'-'
 }
 
+/// Whether all bytes are small letters, digits and dashes.
 fn all_continue(bytes: &[u8]) -> bool
     ensures { result ≡ list_all continues_name bytes.now }
 {
@@ -31,13 +32,8 @@ fn all_continue(bytes: &[u8]) -> bool
 pub fn is_domain_name(name: &[u8]) -> bool
     ensures { result ≡ is_domain_name name.now }
 {
-    match name {
-        [] => false,
-        [first, later @ ..] => {
-            if later.len() > MAX_LATER_BYTES || !begins_name(*first) {
-                return false;
-            }
-            all_continue(later)
-        }
-    }
+    let [first, later @ ..] = name else {
+        return false;
+    };
+    later.len() <= MAX_LATER_BYTES && begins_name(*first) && all_continue(later)
 }

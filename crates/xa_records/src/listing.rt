@@ -13,7 +13,7 @@ use xa_profile::{ToJson, write_items};
 use xa_value::Text;
 
 /// Writes a text as a member.
-fn write_text(out: &mut Writer, name: &str, text: &str) -> Result<(), AllocError>
+fn write_named_text(out: &mut Writer, name: &str, text: &str) -> Result<(), AllocError>
     ensures { Appends result out.old out.new (key name.now ∷ string text.now ∷ []) }
 {
     out.key(name)?;
@@ -28,9 +28,9 @@ impl ToJson for Listed {
         out.begin_object()?;
         out.key("Active")?;
         out.boolean(self.active)?;
-        write_text(out, "Id", self.key.id.as_str())?;
-        write_text(out, "Kind", self.key.kind.name())?;
-        write_text(out, "Version", version.as_str())?;
+        write_named_text(out, "Id", self.key.id.as_str())?;
+        write_named_text(out, "Kind", self.key.kind.name())?;
+        write_named_text(out, "Version", version.as_str())?;
         out.end_object()
     }
 }

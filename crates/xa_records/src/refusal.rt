@@ -116,9 +116,7 @@ pub fn count_failure<X>(faults: &mut u64, done: &Result<X, ChangeError>)
     ensures { CountsChange faults.old faults.new done.now }
 {
     match done {
-        Ok(_) => {},
-        Err(ChangeError::Refused(_)) => {},
-        Err(ChangeError::Failed(Failure::Memory)) => {},
         Err(ChangeError::Failed(Failure::Store)) => *faults = faults.saturating_add(1),
+        Ok(_) | Err(ChangeError::Refused(_)) | Err(ChangeError::Failed(Failure::Memory)) => {}
     }
 }

@@ -1,4 +1,8 @@
-//! Whether roots and source rows are the very same.
+//! Whether roots and source rows are the very same, so that an epoch need not rise.
+//!
+//! Each function compares as the derived `==` does. A derived `==` says no more than that the parts are `==`,
+//! and a contract asks whether the whole is identical: so each type is compared by a function of its own
+//! that says so, and a whole by those of its parts.
 ghost use Rattle.std.specs.Prelude.{◌≡◌, ◌↔◌, IsTrue};
 
 use xa_decide::SourceRow;
@@ -19,8 +23,7 @@ fn is_same_text_if_any(one: &Option<Text>, other: &Option<Text>) -> bool
     match (one, other) {
         (Some(one), Some(other)) => is_same_text(one, other),
         (None, None) => true,
-        (Some(_), None) => false,
-        (None, Some(_)) => false,
+        (Some(_), None) | (None, Some(_)) => false,
     }
 }
 
@@ -45,8 +48,7 @@ fn is_same_pattern(one: &Option<Pattern>, other: &Option<Pattern>) -> bool
     match (one, other) {
         (Some(one), Some(other)) => are_same_parts(one.parts(), other.parts()),
         (None, None) => true,
-        (Some(_), None) => false,
-        (None, Some(_)) => false,
+        (Some(_), None) | (None, Some(_)) => false,
     }
 }
 
@@ -61,14 +63,15 @@ fn is_same_part(one: &PatternPart, other: &PatternPart) -> bool
 fn are_same_parts(one: &[PatternPart], other: &[PatternPart]) -> bool
     ensures { IsTrue result ↔ (one.now ≡ other.now) }
 {
-    match (one, other) {
-        ([], []) => true,
-        ([part, parts @ ..], [first, others @ ..]) => {
-            is_same_part(part, first) && are_same_parts(parts, others)
-        }
-        ([], [_, ..]) => false,
-        ([_, ..], []) => false,
+    if one.len() != other.len() {
+        return false;
     }
+    for place in 0..one.len() {
+        if !is_same_part(&one[place], &other[place]) {
+            return false;
+        }
+    }
+    true
 }
 
 /// Whether the two references are one.
@@ -89,8 +92,7 @@ pub fn is_same_root(one: &Option<Reference>, other: &Option<Reference>) -> bool
     match (one, other) {
         (Some(one), Some(other)) => is_same_reference(one, other),
         (None, None) => true,
-        (Some(_), None) => false,
-        (None, Some(_)) => false,
+        (Some(_), None) | (None, Some(_)) => false,
     }
 }
 
@@ -116,14 +118,15 @@ fn is_same_row(one: &SourceRow, other: &SourceRow) -> bool
 fn are_same_rows(one: &[SourceRow], other: &[SourceRow]) -> bool
     ensures { IsTrue result ↔ (one.now ≡ other.now) }
 {
-    match (one, other) {
-        ([], []) => true,
-        ([row, rows @ ..], [first, others @ ..]) => {
-            is_same_row(row, first) && are_same_rows(rows, others)
-        }
-        ([], [_, ..]) => false,
-        ([_, ..], []) => false,
+    if one.len() != other.len() {
+        return false;
     }
+    for place in 0..one.len() {
+        if !is_same_row(&one[place], &other[place]) {
+            return false;
+        }
+    }
+    true
 }
 
 /// Whether the sources have the same rows, in the same order.

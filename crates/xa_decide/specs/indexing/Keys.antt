@@ -10,14 +10,22 @@ use Rattle.xa_profile.specs.declared.category_object.CategoryObject.{CategoryObj
 use Rattle.xa_decide.specs.declared.source_row.SourceRow.{SourceRow}
 use Rattle.xa_decide.specs.indexing.Index.{Sought, sought}
 
--- an attribute's id and type
-abbrev pub name_key : List ℕ → DataType → Sought
-name_key id t = sought (place_of t) [] [] id []
+-- a row's category, entity, id and type
+abbrev pub row_key : List ℕ → List ℕ → List ℕ → DataType → Sought
+row_key category entity id t = sought (place_of t) category entity id []
 
 -- and its issuer, where it has one; one without an issuer has another number than any that has one
+abbrev pub issued_row_key : List ℕ → List ℕ → List ℕ → DataType → Option (List ℕ) → Sought
+issued_row_key category entity id t None = row_key category entity id t
+issued_row_key category entity id t (Some issuer) = sought (11 + place_of t) category entity id issuer
+
+-- an attribute's id and type: those of a row of no category and no entity
+abbrev pub name_key : List ℕ → DataType → Sought
+name_key id t = row_key [] [] id t
+
+-- and its issuer, where it has one
 abbrev pub issuer_key : List ℕ → DataType → Option (List ℕ) → Sought
-issuer_key id t None = name_key id t
-issuer_key id t (Some issuer) = sought (11 + place_of t) [] [] id issuer
+issuer_key id t issuer = issued_row_key [] [] id t issuer
 
 -- what nobody asks for: its number is past those of all types
 abbrev pub unsought : Sought
@@ -40,15 +48,6 @@ category_key category = sought 0 category [] [] []
 
 abbrev pub object_key_of : Bor CategoryObject → Sought
 object_key_of o = category_key o.now.category
-
--- a row's category, entity, id and type
-abbrev pub row_key : List ℕ → List ℕ → List ℕ → DataType → Sought
-row_key category entity id t = sought (place_of t) category entity id []
-
--- and its issuer, where it has one; one without an issuer has another number than any that has one
-abbrev pub issued_row_key : List ℕ → List ℕ → List ℕ → DataType → Option (List ℕ) → Sought
-issued_row_key category entity id t None = row_key category entity id t
-issued_row_key category entity id t (Some issuer) = sought (11 + place_of t) category entity id issuer
 
 abbrev pub row_key_of : SourceRow → Sought
 row_key_of row = row_key row.category row.entity row.attribute_id (type_of row.value)

@@ -15,10 +15,12 @@ use std::marker::Model;
 use xa_policy::DocumentKey;
 use xa_value::Items;
 
-/// A document: its text, and whether references may resolve to it.
+/// A document, without its key.
 #[derive(Drop)]
 pub(crate) struct Document {
+    /// The text, as it was uploaded.
     text: Items<u8>,
+    /// Whether references may resolve to it.
     active: bool,
 }
 
@@ -84,7 +86,11 @@ fn listed_as(key: &DocumentKey, document: &Document) -> Result<Listed, AllocErro
 }
 
 /// A copy of the text of the document of that key.
-fn text_of(alloc: Global, key: &DocumentKey, document: &Document) -> Result<ActiveText, AllocError>
+fn active_text(
+    alloc: Global,
+    key: &DocumentKey,
+    document: &Document,
+) -> Result<ActiveText, AllocError>
     ensures { IfOk result (λ active. active ≡ record { key = key.now; text = document.now.text }) }
 {
     Ok(ActiveText {
@@ -93,9 +99,10 @@ fn text_of(alloc: Global, key: &DocumentKey, document: &Document) -> Result<Acti
     })
 }
 
-/// The documents of a domain by their keys.
+/// The documents of a domain.
 #[derive(Drop)]
 pub(crate) struct Documents {
+    /// The documents by their keys.
     documents: BTreeMap<DocumentKey, Document>,
 }
 
@@ -187,7 +194,7 @@ impl Documents {
         let mut texts = Vec::new(alloc);
         for (key, document) in self.documents.iter() {
             if document.is_active() {
-                texts.push(text_of(alloc, key, document)?)?;
+                texts.push(active_text(alloc, key, document)?)?;
             }
         }
         Ok(Items::from_vec(texts))

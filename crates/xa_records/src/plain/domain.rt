@@ -29,11 +29,17 @@ use xa_value::Items;
 /// A domain: its number, its epoch and its state.
 #[derive(Drop)]
 pub(crate) struct PlainDomain {
+    /// Its number, which no other domain ever has.
     number: u64,
+    /// How often its documents, its root or its source rows have changed.
     epoch: u64,
+    /// Its tokens.
     tokens: Tokens,
+    /// Its documents.
     documents: Documents,
+    /// The reference at which decisions start, if one is set.
     root: Option<Reference>,
+    /// The rows of its source of attributes.
     source: Items<SourceRow>,
 }
 
@@ -86,30 +92,6 @@ impl PlainDomain {
         })
     }
 
-    /// Puts a token in, or replaces its role.
-    pub(crate) fn put_token(&mut self, digest: Digest, role: Role) -> Result<(), ChangeError>
-        ensures does { Alters (token_put digest role) self.old self.new result }
-        ensures store { ¬ IsErrOf result (Failed Store) }
-    {
-        if !self.tokens.has_room_for(&digest) {
-            return Err(ChangeError::Refused(Refusal::Quota));
-        }
-        self.tokens.put(digest, role)?;
-        Ok(())
-    }
-
-    /// Takes a token away.
-    pub(crate) fn drop_token(&mut self, digest: Digest) -> Result<(), ChangeError>
-        ensures does { Alters (token_dropped digest) self.old self.new result }
-        ensures store { ¬ IsErrOf result (Failed Store) }
-    {
-        if !self.tokens.contains(&digest) {
-            return Err(ChangeError::Refused(Refusal::Absent));
-        }
-        self.tokens.remove(&digest);
-        Ok(())
-    }
-
     /// What decides in it.
     pub(crate) fn view(&self, alloc: Global) -> Result<KeptView, AllocError>
         ensures { IfOk result (λ view. view ≡ view_of_state self.now.state) }
@@ -142,32 +124,27 @@ impl PlainDomain {
         self.documents.listed(alloc)
     }
 
-    /// Sets the root, or takes it away.
-    pub(crate) fn set_root(&mut self, root: Option<Reference>) -> Result<(), ChangeError>
-        ensures does { Alters (root_set root) self.old self.new result }
-        ensures store { IsErrOf result (Failed Store) → CantRaiseEpoch (root_set root) self.old }
+    /// Puts a token in, or replaces its role.
+    pub(crate) fn put_token(&mut self, digest: Digest, role: Role) -> Result<(), ChangeError>
+        ensures does { Alters (token_put digest role) self.old self.new result }
+        ensures store { ¬ IsErrOf result (Failed Store) }
     {
-        if is_same_root(&self.root, &root) {
-            return Ok(());
+        if !self.tokens.has_room_for(&digest) {
+            return Err(ChangeError::Refused(Refusal::Quota));
         }
-        self.epoch = next_after(self.epoch)?;
-        self.root = root;
+        self.tokens.put(digest, role)?;
         Ok(())
     }
 
-    /// Puts these rows into the source of attributes, in place of all that were there.
-    pub(crate) fn set_source(&mut self, rows: Items<SourceRow>) -> Result<(), ChangeError>
-        ensures does { Alters (source_set rows) self.old self.new result }
-        ensures store { IsErrOf result (Failed Store) → CantRaiseEpoch (source_set rows) self.old }
+    /// Takes a token away.
+    pub(crate) fn drop_token(&mut self, digest: Digest) -> Result<(), ChangeError>
+        ensures does { Alters (token_dropped digest) self.old self.new result }
+        ensures store { ¬ IsErrOf result (Failed Store) }
     {
-        if !may_be_kept(&rows) {
-            return Err(ChangeError::Refused(Refusal::Quota));
+        if !self.tokens.contains(&digest) {
+            return Err(ChangeError::Refused(Refusal::Absent));
         }
-        if is_same_source(&self.source, &rows) {
-            return Ok(());
-        }
-        self.epoch = next_after(self.epoch)?;
-        self.source = rows;
+        self.tokens.remove(&digest);
         Ok(())
     }
 
@@ -183,7 +160,7 @@ impl PlainDomain {
         ensures store { IsErrOf result (Failed Store) → CantRaiseEpoch (uploaded key text.now) self.old }
     {
         if let Some(document) = self.documents.get(&key) {
-            return again(document, text);
+            return upload_again(document, text);
         }
         if !self.documents.has_room() {
             return Err(ChangeError::Refused(Refusal::Quota));
@@ -223,6 +200,35 @@ impl PlainDomain {
         Ok(())
     }
 
+    /// Sets the root, or takes it away.
+    pub(crate) fn set_root(&mut self, root: Option<Reference>) -> Result<(), ChangeError>
+        ensures does { Alters (root_set root) self.old self.new result }
+        ensures store { IsErrOf result (Failed Store) → CantRaiseEpoch (root_set root) self.old }
+    {
+        if is_same_root(&self.root, &root) {
+            return Ok(());
+        }
+        self.epoch = next_after(self.epoch)?;
+        self.root = root;
+        Ok(())
+    }
+
+    /// Puts these rows into the source of attributes, in place of all that were there.
+    pub(crate) fn set_source(&mut self, rows: Items<SourceRow>) -> Result<(), ChangeError>
+        ensures does { Alters (source_set rows) self.old self.new result }
+        ensures store { IsErrOf result (Failed Store) → CantRaiseEpoch (source_set rows) self.old }
+    {
+        if !may_be_kept(&rows) {
+            return Err(ChangeError::Refused(Refusal::Quota));
+        }
+        if is_same_source(&self.source, &rows) {
+            return Ok(());
+        }
+        self.epoch = next_after(self.epoch)?;
+        self.source = rows;
+        Ok(())
+    }
+
     /// Whether references may resolve to the document of that key.
     fn activity_of(&self, key: &DocumentKey) -> Result<bool, Refusal>
         ensures { result ≡ activity_at key.now self.now.state }
@@ -235,7 +241,7 @@ impl PlainDomain {
 }
 
 /// What becomes of an upload over a document of the same key.
-fn again(document: &Document, text: &[u8]) -> Result<Upload, ChangeError>
+fn upload_again(document: &Document, text: &[u8]) -> Result<Upload, ChangeError>
     ensures { result ≡ upload_again document.now text.now }
 {
     if document.text() != text {

@@ -27,7 +27,9 @@ use xa_value::{Items, Text};
 /// Domains by their names, and the number of the next that is made.
 #[derive(Drop)]
 pub(crate) struct Domains {
+    /// The domains by their names.
     by_name: BTreeMap<Text, PlainDomain>,
+    /// The number of the next that is made.
     next: u64,
 }
 

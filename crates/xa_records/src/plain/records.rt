@@ -31,7 +31,9 @@ use xa_value::{Items, Text};
 /// logarithm of the number of domains.
 #[derive(Drop)]
 pub struct PlainRecords {
+    /// What it keeps.
     domains: Domains,
+    /// How many calls have failed with `Store`.
     faults: u64,
     pub ghost numbered: { IsNumbered domains } by { Prim.hlevel props },
     pub ghost documented: { KeepsDocuments domains } by { Prim.hlevel (props, key.the_row.coded) },

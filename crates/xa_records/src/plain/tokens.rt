@@ -12,9 +12,10 @@ use std::marker::Model;
 use xa_notation::Role;
 use xa_value::Items;
 
-/// The tokens of a domain: their roles by their digests.
+/// The tokens of a domain.
 #[derive(Drop)]
 pub(crate) struct Tokens {
+    /// Their roles by their digests.
     roles: BTreeMap<Digest, Role>,
 }
 

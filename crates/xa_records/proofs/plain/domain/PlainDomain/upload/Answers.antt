@@ -11,7 +11,7 @@ use Rattle.xa_records.proofs.plain.domain.PlainDomain.upload.Goals as goal
 
 pub returns-in-Some-clause-does : goal.returns-in-Some-clause-does
 returns-in-Some-clause-does c =
-    subst (λ (r : Result Upload ChangeError). Alters (uploaded c.args.key c.args.text.now) c.args.self.now c.args.self.now r) (sym c.again.ensures)
+    subst (λ (r : Result Upload ChangeError). Alters (uploaded c.args.key c.args.text.now) c.args.self.now c.args.self.now r) (sym c.upload_again.ensures)
     (subst (λ (d : Domain). Alters (uploaded c.args.key c.args.text.now) d d (upload_again c.in-Some.document.now c.args.text.now)) c.self.view_is
     (plain.upload_is_again (record { number = c.self.inside.number; epoch = c.self.inside.epoch; state = record { tokens = c.self.inside.tokens; documents = c.self.inside.documents; root = c.self.inside.root; source = c.self.inside.source } }) c.args.key c.args.text.now c.in-Some.document.now (sym c.in-Some.ensures)))
 
