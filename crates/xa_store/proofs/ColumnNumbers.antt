@@ -1,5 +1,6 @@
 -- The numbers by which columns hold kinds, roles, activities and types.
 use Rattle.std.proofs.Common.{◌≡◌, ℕ, zero, suc, ℤ, pos, negsuc, Bool, true, false, if◌then◌else◌, Option, Some, None, IfOk, refl, sym, to_z, of_z, w64, arith}
+use Rattle.std.specs.Int.{from_bool}
 use Rattle.std.specs.Option.{ok_or}
 use Rattle.std.specs.Prelude.{unwrap_or}
 use Rattle.xa_store.proofs.Common.{ints, DocumentKind, Failure, Role, is_bit, is_count, nat_of, type_numbered, bit, is_set, kind_in, kind_number, role_in, role_number, type_in}
@@ -28,6 +29,11 @@ of_role Admin = record { back = refl; held = refl; low = refl }
 pub of_activity : (active : Bool) → IsBitOf bit is_set active
 of_activity true = record { back = refl; held = refl; low = refl }
 of_activity false = record { back = refl; held = refl; low = refl }
+
+-- a truth counts as its bit
+pub bit_counted : (b : Bool) → pos (from_bool b) ≡ bit b
+bit_counted true = refl
+bit_counted false = refl
 
 beyond : (n : ℕ) → is_bit (pos (suc (suc n))) ≡ true → ⊥
 beyond n h = grind (arith, ints)

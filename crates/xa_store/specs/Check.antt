@@ -12,7 +12,7 @@ use Rattle.sqlite.specs.Given.{HasGiven, IsPlain}
 use Rattle.sqlite.specs.Listing.{understood}
 use Rattle.sqlite.specs.Held.{Held, state}
 use Rattle.sqlite.specs.Order.{Row, column}
-use Rattle.sqlite.specs.State.{State, HasCleanDisk, Shown, Shows, Survives}
+use Rattle.sqlite.specs.State.{State, HasCleanDisk, IsRolledBack, IsUnchanged, Shown, Shows, Survives}
 use Rattle.sqlite.specs.Store.{Ghosts}
 use Rattle.sqlite.specs.Tree.{Trees}
 use Rattle.sqlite.specs.declared.error.Error.{Error}
@@ -117,9 +117,14 @@ TellsSound sound (Err NotThisSchema) = ⊥
 TellsSound sound (Err Store) = Unit {0}
 TellsSound sound (Err Memory) = Unit {0}
 
--- this is found, of tables of the schema that are at rest
-abbrev pub FindsIn : SchemaVersion → State → State → Type 0 → Type 0
-FindsIn version old new claim = HasCleanDisk new → RestsIn (schema_of version) old → claim
+module _ {S : Type 0} (g : Ghosts S) where
+  -- what a call that only reads leaves, of the connection before and after
+  abbrev pub AsksOver : {X : Type 0} → SchemaVersion → Held S → Held S → Result X OpenError → Type 0
+  AsksOver version old new result = Asks version (state g old) (state g new) result
+
+  -- this is found, of tables of the schema that are at rest
+  abbrev pub FindsIn : SchemaVersion → Held S → Held S → Type 0 → Type 0
+  FindsIn version old new claim = HasCleanDisk (state g new) → RestsIn (schema_of version) (state g old) → claim
 
 -- what the tables hold was checked by a test of them
 pub record CheckedBy (version : SchemaVersion) (sound : Trees → Bool) (old new : State)
@@ -183,6 +188,15 @@ TellsNext kind next last (Some row) (Err e) = TellsNumber kind next last row (Er
 TellsNext kind next last None (Ok (Some number)) = ⊥
 TellsNext kind next last None (Ok None) = Unit {0}
 TellsNext kind next last None (Err e) = IsFailure e
+
+module _ {S : Type 0} (g : Ghosts S) where
+  -- a crash leaves what it left before
+  abbrev pub SurvivesOver : Held S → Held S → Type 0
+  SurvivesOver old new = Survives (state g old) (state g new) (λ _. ⊥)
+
+  -- the connection holds what it held, or its transaction is undone
+  abbrev pub IsKeptOrUndone : Held S → Held S → Type 0
+  IsKeptOrUndone old new = IsUnchanged (state g old) (state g new) ⊎ IsRolledBack (state g old) (state g new)
 
 module _ {S : Type 0} (g : Ghosts S) (kind : Kind) (next : ℤ) (last : Option ℤ) (old new : Held S) where
   -- one more row, which fits or doesn't

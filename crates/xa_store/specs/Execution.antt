@@ -1,9 +1,12 @@
 -- What the steps of a change do in their transaction.
-use Rattle.std.specs.Prelude.{◌≡◌, ◌⊎◌, ℕ, false, List, [], ◌∷◌, Option, Result, IsTrue, OnOk, OnErr}
+use Rattle.std.specs.Prelude.{◌≡◌, ◌⊎◌, ℕ, false, List, [], ◌∷◌, Option, Result, Ok, IsTrue, OnOk, OnErr}
 use Rattle.sqlite.specs.Held.{Held, state}
-use Rattle.sqlite.specs.State.{State, HasCleanDisk, KeepsCommit, KeepsCounts, Shows, Survives}
+use Rattle.sqlite.specs.Order.{Row}
+use Rattle.sqlite.specs.State.{State, Executes, HasCleanDisk, KeepsCommit, KeepsCounts, Shows, Survives}
+use Rattle.sqlite.specs.Steps.{FailsToCommit}
 use Rattle.sqlite.specs.Store.{Ghosts}
 use Rattle.sqlite.specs.Tree.{Trees}
+use Rattle.sqlite.specs.declared.error.Error.{Error}
 use Rattle.sqlite.specs.declared.types.Value.{Value}
 use Rattle.sqlite.specs.declared.types.Value.TheVariants.{Text}
 use Rattle.sqlite_typed.specs.Columns.{or_null}
@@ -49,8 +52,15 @@ pub record IsTaken {X : Type 0} (step : Step) (old new : State) (result : Result
 
 module _ {S : Type 0} (g : Ghosts S) where
   -- and so of the connection before and after
+  abbrev pub StaysInsideOver : {X : Type 0} → Held S → Held S → Result X Failure → Type 0
+  StaysInsideOver old new result = StaysInside (state g old) (state g new) result
+
   abbrev pub IsTakenBy : {X : Type 0} → Step → Held S → Held S → Result X Failure → Type 0
   IsTakenBy step old new result = IsTaken step (state g old) (state g new) result
+
+  -- the statement ran with what it was given
+  abbrev pub Ran : List ℕ → Row → Held S → Held S → Type 0
+  Ran sql given old new = (count : ℕ) × Executes sql given (state g old) (state g new) (Ok count)
 
 -- the tables are the rows after the steps
 pub record Holds (steps : List Step) (before : Rows) (db : Trees) : Type 0 where
@@ -68,6 +78,14 @@ pub record Made (steps : List Step) (old new : State) : Type 0 where
 abbrev pub Committed : State → State → Type 0
 Committed old new =
     IsTrue old.in_transaction × Shows old new old.now old.now false × KeepsCounts old new × (new.marks ≡ [])
+
+module _ {S : Type 0} (g : Ghosts S) where
+  -- the transaction's connection before and after: it was committed, or why it wasn't
+  abbrev pub CommittedOver : Held S → Held S → Type 0
+  CommittedOver old new = Committed (state g old) (state g new)
+
+  abbrev pub FailsToCommitOver : Held S → Held S → Error → Type 0
+  FailsToCommitOver old new = FailsToCommit (state g old) (state g new)
 
 -- All the steps or none of them, also over a crash.
 pub record Runs {X : Type 0} (steps : List Step) (old new : State) (result : Result X Failure) : Type 0 where

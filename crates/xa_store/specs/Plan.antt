@@ -2,7 +2,9 @@
 use Rattle.std.specs.Prelude.{◌≡◌, ◌⊎◌, ◌+◌, ◌<◌, ◌≤◌, ◌^◌, ℕ, ℤ, pos, Result}
 use Rattle.std.specs.Prelude.{Ok, Err, IfOk, List, [], ◌∷◌, Option, Some, None}
 use Rattle.std.specs.List.{AllByRecursion}
-use Rattle.sqlite.specs.State.{State, HasCleanDisk}
+use Rattle.sqlite.specs.Held.{Held, state}
+use Rattle.sqlite.specs.State.{HasCleanDisk}
+use Rattle.sqlite.specs.Store.{Ghosts}
 use Rattle.sqlite_keyed.specs.Keyed.{IsKeyedBy}
 use Rattle.xa_policy.specs.declared.reference.Reference.{Reference}
 use Rattle.xa_decide.specs.declared.source_row.SourceRow.{SourceRow}
@@ -81,11 +83,13 @@ PlansOver change found Finds result =
     (name : List ℕ) → (rows : Rows) → AreNumbered rows → IsKeyedBy number_key rows.domains
     → IsDomain name rows found → Finds rows → IsPlanned change name rows result
 
--- the change is planned by what our tables held, in which the domain was found
-abbrev pub PlansFound : Change → DomainFound → State → State → Result (List Step) ChangeError → Type 0
-PlansFound change found old new result =
-    HasCleanDisk new → Ours old
-    → (name : List ℕ) → IsDomain name (rows_now old) found → IsPlanned change name (rows_now old) result
+module _ {S : Type 0} (g : Ghosts S) where
+  -- the change is planned by what our tables held, in which the domain was found
+  abbrev pub PlansFound : Change → DomainFound → Held S → Held S → Result (List Step) ChangeError → Type 0
+  PlansFound change found old new result =
+      HasCleanDisk (state g new) → Ours (state g old)
+      → (name : List ℕ) → IsDomain name (rows_now (state g old)) found
+      → IsPlanned change name (rows_now (state g old)) result
 
 -- an upload that takes no steps has found its very text in place
 abbrev pub upload_by : List Step → Upload

@@ -1,7 +1,11 @@
 -- What a call that only reads leaves of a connection, and what it tells of the rows.
-use Rattle.std.specs.Prelude.{Result, IfOk, IsTrue, OnOk}
-use Rattle.sqlite.specs.State.{State, HasCleanDisk}
+use Rattle.std.specs.Prelude.{ℕ, List, Result, IfOk, IsTrue, OnOk}
+use Rattle.sqlite.specs.Held.{Held, state}
+use Rattle.sqlite.specs.Order.{Row}
+use Rattle.sqlite.specs.State.{State, FailsToQuery, HasCleanDisk, Shown}
+use Rattle.sqlite.specs.Store.{Ghosts}
 use Rattle.sqlite.specs.Tree.{Trees}
+use Rattle.sqlite.specs.declared.error.Error.{Error}
 use Rattle.xa_records.specs.declared.refusal.ChangeError.{ChangeError}
 use Rattle.xa_records.specs.Keeper.{IfAnswered}
 use Rattle.xa_store.specs.Sound.{Ours, Rests, SameNow}
@@ -25,6 +29,27 @@ pub record OnlyReadsForChange {X : Type 0} (old new : State) (result : Result X 
   pub quiet : Quiet old new
   pub opens : HasCleanDisk new → IfAnswered result (IsTrue new.is_open)
 
--- over our tables: what was read, if it was, stands so to their rows
-abbrev pub ReadsRows : {X E : Type 0} → State → State → Result X E → (Rows → X → Type 0) → Type 0
-ReadsRows old new result reads = HasCleanDisk new → Ours old → IfOk result (reads (rows_now old))
+module _ {S : Type 0} (g : Ghosts S) where
+  -- the rows that a query shows, and why it fails, by the connection before and after
+  abbrev pub ShownOver : List ℕ → Row → Held S → Held S → List Row → Type 0
+  ShownOver sql given old new = Shown sql given (state g old) (state g new)
+
+  abbrev pub FailsToQueryOver : List ℕ → Row → Held S → Held S → Error → Type 0
+  FailsToQueryOver sql given old new = FailsToQuery sql given (state g old) (state g new)
+
+  -- a call that only reads, of the connection before and after
+  abbrev pub OnlyReadsOver : {X E : Type 0} → Held S → Held S → Result X E → Type 0
+  OnlyReadsOver old new result = OnlyReads (state g old) (state g new) result
+
+  -- and one for a change
+  abbrev pub OnlyReadsForChangeOver : {X : Type 0} → Held S → Held S → Result X ChangeError → Type 0
+  OnlyReadsForChangeOver old new result = OnlyReadsForChange (state g old) (state g new) result
+
+  -- over our tables: this holds of their rows
+  abbrev pub OverRows : Held S → Held S → (Rows → Type 0) → Type 0
+  OverRows old new claim = HasCleanDisk (state g new) → Ours (state g old) → claim (rows_now (state g old))
+
+  -- over our tables: what was read, if it was, stands so to their rows
+  abbrev pub ReadsRows : {X E : Type 0} → Held S → Held S → Result X E → (Rows → X → Type 0) → Type 0
+  ReadsRows old new result reads =
+      HasCleanDisk (state g new) → Ours (state g old) → IfOk result (reads (rows_now (state g old)))

@@ -1,6 +1,8 @@
 -- What a change does to a connection: it is planned by queries, and then its steps are taken in one transaction.
 use Rattle.std.specs.Prelude.{◌≡◌, ◌⊎◌, ℕ, List, Result, Ok, Err, IsTrue}
+use Rattle.sqlite.specs.Held.{Held, state}
 use Rattle.sqlite.specs.State.{State, HasCleanDisk}
+use Rattle.sqlite.specs.Store.{Ghosts}
 use Rattle.sqlite.specs.Tree.{Trees}
 use Rattle.xa_records.specs.declared.refusal.ChangeError.{ChangeError}
 use Rattle.xa_records.specs.declared.refusal.ChangeError.TheVariants.{Failed, Refused}
@@ -26,9 +28,11 @@ IsPlanned change name rows (Ok steps) = Plans steps change name rows
 IsPlanned change name rows (Err (Refused e)) = change (state_of name (kept_of rows)) ≡ Err e
 IsPlanned change name rows (Err (Failed failure)) = Unit {0}
 
--- the change is planned by what our tables held
-abbrev pub PlansIn : Change → List ℕ → State → State → Result (List Step) ChangeError → Type 0
-PlansIn change name old new result = HasCleanDisk new → Ours old → IsPlanned change name (rows_now old) result
+module _ {S : Type 0} (g : Ghosts S) where
+  -- the change is planned by what our tables held
+  abbrev pub PlansIn : Change → List ℕ → Held S → Held S → Result (List Step) ChangeError → Type 0
+  PlansIn change name old new result =
+      HasCleanDisk (state g new) → Ours (state g old) → IsPlanned change name (rows_now (state g old)) result
 
 abbrev pub answer_of : Result (Unit {0}) Failure → Result (Unit {0}) ChangeError
 answer_of (Ok x) = Ok x

@@ -65,8 +65,7 @@ pub(crate) fn raising_steps(
 ) -> Result<Items<Step>, AllocError>
     ensures { IfOk result (λ steps. steps ≡ step ∷ SetEpoch revision.number revision.epoch ∷ []) }
 {
-    let mut steps = Items::new(alloc);
-    steps.push(step)?;
+    let steps = one_step(alloc, step)?;
     with_epoch(steps, revision)
 }
 
@@ -81,5 +80,5 @@ pub(crate) fn carry_out<S: Alter>(
     ensures keeps { IfErr planned (λ error. (conn.new ≡ conn.old) × (result ≡ Err error)) }
 {
     let steps = planned?;
-    Ok(run(conn, alloc, steps.as_slice())?)
+    Ok(run(alloc, conn, steps.as_slice())?)
 }

@@ -14,8 +14,8 @@ use std::alloc::AllocError;
 use xa_records::Failure;
 
 /// For a reading or a change: want of memory is `Memory`, and all else `Store`.
-pub(crate) fn failure_of(error: &Error) -> Failure
-    ensures { (result ≡ failures.Memory) ↔ (error.now ≡ SqliteFailure OutOfMemory) }
+pub(crate) fn failure_of(error: Error) -> Failure
+    ensures { (result ≡ failures.Memory) ↔ (error ≡ SqliteFailure OutOfMemory) }
 {
     match error {
         Error::SqliteFailure(ErrorCode::OutOfMemory) => Failure::Memory,
@@ -48,7 +48,7 @@ fn failed(failure: Failure) -> OpenError
 }
 
 /// For a change of the tables that failed, by the error of its statement.
-pub(crate) fn failed_by(error: &Error) -> OpenError
+pub(crate) fn failed_by(error: Error) -> OpenError
     ensures { IsFailure result }
 {
     failed(failure_of(error))

@@ -70,11 +70,6 @@ impl<S: Alter> SqlRecords<S> {
     pub fn into_connection(self) -> Connection<S>
         ensures { result ≡ self.conn }
     {
-        let SqlRecords {
-            conn,
-            ours: _,
-            health: _,
-        } = self;
-        conn
+        self.conn
     }
 }

@@ -98,8 +98,7 @@ fn load<S: Alter>(alloc: Global, conn: &mut Connection<S>) -> Result<bool, OpenE
     ensures busy { IsTrue (state S.Store conn.old).in_transaction
         → (result ≡ Err Store) × (conn.new ≡ conn.old) }
 {
-    let is_busy = !conn.is_autocommit();
-    if is_busy {
+    if !conn.is_autocommit() {
         return Err(OpenError::Store);
     }
     if has_room(conn.schema()) {

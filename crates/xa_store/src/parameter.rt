@@ -39,10 +39,11 @@ pub(crate) fn number_of_type(value: &Value) -> i64
 }
 
 /// The number of an activity.
+#[tactic(auto, using(crate::proofs::ColumnNumbers::bit_counted))]
 pub(crate) fn number_of_activity(active: bool) -> i64
     ensures { result ≡ bit active }
 {
-    if active { 1 } else { 0 }
+    i64::from(active)
 }
 
 /// The pattern's text, if there is a pattern.

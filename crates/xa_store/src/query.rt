@@ -4,12 +4,12 @@ ghost use Rattle.std.specs.Prelude.{IfErr, IfOk, IsErrOf};
 ghost use Rattle.sqlite.specs.Given.{IsPlain};
 ghost use Rattle.sqlite.specs.Held.{state};
 ghost use Rattle.sqlite.specs.Listing.{understood};
-ghost use Rattle.sqlite.specs.State.{FailsToQuery, HasCleanDisk, Shown};
+ghost use Rattle.sqlite.specs.State.{HasCleanDisk};
 ghost use Rattle.sqlite.specs.Values.{bound};
 ghost use Rattle.sqlite.specs.declared.error.Error.TheVariants.{SqliteFailure};
 ghost use Rattle.sqlite.specs.declared.error.ErrorCode.TheVariants.{OutOfMemory};
 ghost use Rattle.xa_records.specs.declared.refusal.Failure.TheVariants.{Memory};
-ghost use Rattle.xa_store.specs.Quiet.{OnlyReads};
+ghost use Rattle.xa_store.specs.Quiet.{FailsToQueryOver, OnlyReadsOver, ShownOver};
 ghost use Rattle.xa_store.specs.Tables.{our_schema};
 
 pub(crate) mod column;
@@ -38,12 +38,11 @@ fn ask<S: Alter>(
     given: &[ValueRef<'_>],
 ) -> Result<Vec<Row>, Error>
     requires { IsPlain (understood our_schema sql.now) }
-    ensures only_reads { OnlyReads (state S.Store conn.old) (state S.Store conn.new) result }
+    ensures only_reads { OnlyReadsOver S.Store conn.old conn.new result }
     ensures fails { HasCleanDisk (state S.Store conn.new)
-        → IfErr result
-        (FailsToQuery sql.now (bound given.now) (state S.Store conn.old) (state S.Store conn.new)) }
+        → IfErr result (FailsToQueryOver S.Store sql.now (bound given.now) conn.old conn.new) }
     ensures shows { HasCleanDisk (state S.Store conn.new) → IfOk result (λ rows.
-        Shown sql.now (bound given.now) (state S.Store conn.old) (state S.Store conn.new) rows.items) }
+        ShownOver S.Store sql.now (bound given.now) conn.old conn.new rows.items) }
 {
     conn.query_all(sql, given)
 }
@@ -56,15 +55,14 @@ pub(crate) fn query_rows<S: Alter>(
     given: &[ValueRef<'_>],
 ) -> Result<Vec<Row>, Failure>
     requires { IsPlain (understood our_schema sql.now) }
-    ensures only_reads { OnlyReads (state S.Store conn.old) (state S.Store conn.new) result }
+    ensures only_reads { OnlyReadsOver S.Store conn.old conn.new result }
     ensures wants { HasCleanDisk (state S.Store conn.new) → IsErrOf result Memory
-        → FailsToQuery sql.now (bound given.now) (state S.Store conn.old) (state S.Store conn.new)
-        (SqliteFailure OutOfMemory) }
+        → FailsToQueryOver S.Store sql.now (bound given.now) conn.old conn.new (SqliteFailure OutOfMemory) }
     ensures shows { HasCleanDisk (state S.Store conn.new) → IfOk result (λ rows.
-        Shown sql.now (bound given.now) (state S.Store conn.old) (state S.Store conn.new) rows.items) }
+        ShownOver S.Store sql.now (bound given.now) conn.old conn.new rows.items) }
 {
     match ask(conn, sql, given) {
         Ok(rows) => Ok(rows),
-        Err(error) => Err(failure_of(&error)),
+        Err(error) => Err(failure_of(error)),
     }
 }

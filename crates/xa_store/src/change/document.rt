@@ -8,10 +8,10 @@ ghost use Rattle.xa_records.specs.DomainState.{IsDocumentOf};
 ghost use Rattle.xa_records.specs.Kept.{state_of};
 ghost use Rattle.xa_store.specs.Lookup.{FindsDocument, IsDomain};
 ghost use Rattle.xa_store.specs.Plan.{IsUploadPlanned, PlansFound, PlansOver, number_key, upload_by};
-ghost use Rattle.xa_store.specs.Quiet.{OnlyReadsForChange};
+ghost use Rattle.xa_store.specs.Quiet.{OnlyReadsForChangeOver, OverRows};
 ghost use Rattle.xa_store.specs.Sound.{AreNumbered, Ours};
 ghost use Rattle.xa_store.specs.Turns.{PlansIn, Turns};
-ghost use Rattle.xa_store.specs.World.{Rows, rows_now, world_of};
+ghost use Rattle.xa_store.specs.World.{Rows, world_of};
 
 use crate::change::found::{document_to_change, domain_to_change};
 use crate::change::laws::key_reads_back;
@@ -61,11 +61,9 @@ fn plan_upload_new<S: Alter>(
     text: &[u8],
 ) -> Result<Items<Step>, ChangeError>
     requires { IsDocumentOf key text.now }
-    ensures only_reads { OnlyReadsForChange (state S.Store conn.old) (state S.Store conn.new) result }
-    ensures plans { HasCleanDisk (state S.Store conn.new) → Ours (state S.Store conn.old)
-        → (name : List ℕ) → IsDomain name (rows_now (state S.Store conn.old)) found
-        → FindsDocument found.number key (rows_now (state S.Store conn.old)) None
-        → IsUploadPlanned key text.now name (rows_now (state S.Store conn.old)) result }
+    ensures only_reads { OnlyReadsForChangeOver S.Store conn.old conn.new result }
+    ensures plans { OverRows S.Store conn.old conn.new (λ rows. (name : List ℕ) → IsDomain name rows found
+        → FindsDocument found.number key rows None → IsUploadPlanned key text.now name rows result) }
 {
     key_reads_back(&key);
     let count = document_count(conn, found.number)?;
@@ -110,10 +108,9 @@ fn plan_upload_in<S: Alter>(
     text: &[u8],
 ) -> Result<Items<Step>, ChangeError>
     requires { IsDocumentOf key text.now }
-    ensures only_reads { OnlyReadsForChange (state S.Store conn.old) (state S.Store conn.new) result }
-    ensures plans { HasCleanDisk (state S.Store conn.new) → Ours (state S.Store conn.old)
-        → (name : List ℕ) → IsDomain name (rows_now (state S.Store conn.old)) found
-        → IsUploadPlanned key text.now name (rows_now (state S.Store conn.old)) result }
+    ensures only_reads { OnlyReadsForChangeOver S.Store conn.old conn.new result }
+    ensures plans { OverRows S.Store conn.old conn.new (λ rows. (name : List ℕ) → IsDomain name rows found
+        → IsUploadPlanned key text.now name rows result) }
 {
     let there = document_of(alloc, conn, found.number, &key)?;
     match there {
@@ -131,9 +128,9 @@ fn plan_upload<S: Alter>(
     text: &[u8],
 ) -> Result<Items<Step>, ChangeError>
     requires { IsDocumentOf key text.now }
-    ensures only_reads { OnlyReadsForChange (state S.Store conn.old) (state S.Store conn.new) result }
-    ensures plans { HasCleanDisk (state S.Store conn.new) → Ours (state S.Store conn.old)
-        → IsUploadPlanned key text.now name.now (rows_now (state S.Store conn.old)) result }
+    ensures only_reads { OnlyReadsForChangeOver S.Store conn.old conn.new result }
+    ensures plans { OverRows S.Store conn.old conn.new
+        (λ rows. IsUploadPlanned key text.now name.now rows result) }
 {
     let found = domain_to_change(conn, name)?;
     plan_upload_in(alloc, conn, found, key, text)
@@ -167,7 +164,7 @@ pub(crate) fn upload_in<S: Alter>(
     let planned = plan_upload(alloc, conn, name, key, text)?;
     let steps = planned.as_slice();
     let upload = upload_by(steps);
-    run(conn, alloc, steps)?;
+    run(alloc, conn, steps)?;
     Ok(upload)
 }
 
@@ -204,9 +201,9 @@ fn plan_active_in<S: Alter>(
     key: &DocumentKey,
     active: bool,
 ) -> Result<Items<Step>, ChangeError>
-    ensures only_reads { OnlyReadsForChange (state S.Store conn.old) (state S.Store conn.new) result }
-    ensures plans { PlansFound (within (activity_set key.now active)) found
-        (state S.Store conn.old) (state S.Store conn.new) result }
+    ensures only_reads { OnlyReadsForChangeOver S.Store conn.old conn.new result }
+    ensures plans { PlansFound S.Store (within (activity_set key.now active)) found
+        conn.old conn.new result }
 {
     key_reads_back(key);
     let there = document_to_change(alloc, conn, found.number, key)?;
@@ -221,9 +218,9 @@ fn plan_active<S: Alter>(
     key: &DocumentKey,
     active: bool,
 ) -> Result<Items<Step>, ChangeError>
-    ensures only_reads { OnlyReadsForChange (state S.Store conn.old) (state S.Store conn.new) result }
-    ensures plans { PlansIn (within (activity_set key.now active)) name.now
-        (state S.Store conn.old) (state S.Store conn.new) result }
+    ensures only_reads { OnlyReadsForChangeOver S.Store conn.old conn.new result }
+    ensures plans { PlansIn S.Store (within (activity_set key.now active)) name.now
+        conn.old conn.new result }
 {
     let found = domain_to_change(conn, name)?;
     plan_active_in(alloc, conn, found, key, active)
@@ -274,9 +271,8 @@ fn plan_delete_in<S: Alter>(
     found: DomainFound,
     key: &DocumentKey,
 ) -> Result<Items<Step>, ChangeError>
-    ensures only_reads { OnlyReadsForChange (state S.Store conn.old) (state S.Store conn.new) result }
-    ensures plans { PlansFound (within (deleted key.now)) found
-        (state S.Store conn.old) (state S.Store conn.new) result }
+    ensures only_reads { OnlyReadsForChangeOver S.Store conn.old conn.new result }
+    ensures plans { PlansFound S.Store (within (deleted key.now)) found conn.old conn.new result }
 {
     key_reads_back(key);
     let there = document_to_change(alloc, conn, found.number, key)?;
@@ -290,9 +286,8 @@ fn plan_delete<S: Alter>(
     name: &Text,
     key: &DocumentKey,
 ) -> Result<Items<Step>, ChangeError>
-    ensures only_reads { OnlyReadsForChange (state S.Store conn.old) (state S.Store conn.new) result }
-    ensures plans { PlansIn (within (deleted key.now)) name.now
-        (state S.Store conn.old) (state S.Store conn.new) result }
+    ensures only_reads { OnlyReadsForChangeOver S.Store conn.old conn.new result }
+    ensures plans { PlansIn S.Store (within (deleted key.now)) name.now conn.old conn.new result }
 {
     let found = domain_to_change(conn, name)?;
     plan_delete_in(alloc, conn, found, key)

@@ -7,7 +7,7 @@ ghost use Rattle.xa_records.specs.Changes.{created, removed};
 ghost use Rattle.xa_records.specs.DomainName.{is_domain_name};
 ghost use Rattle.xa_store.specs.Lookup.{IsDomain, IsNext};
 ghost use Rattle.xa_store.specs.Plan.{create_steps, number_key};
-ghost use Rattle.xa_store.specs.Quiet.{OnlyReadsForChange};
+ghost use Rattle.xa_store.specs.Quiet.{OnlyReadsForChangeOver};
 ghost use Rattle.xa_store.specs.Sound.{AreNumbered, same_name};
 ghost use Rattle.xa_store.specs.Steps.{is_named};
 ghost use Rattle.xa_store.specs.Turns.{IsPlanned, PlansIn, Turns};
@@ -58,8 +58,8 @@ fn plan_create<S: Alter>(
     name: &Text,
 ) -> Result<Items<Step>, ChangeError>
     requires { IsTrue (is_domain_name name.now) }
-    ensures only_reads { OnlyReadsForChange (state S.Store conn.old) (state S.Store conn.new) result }
-    ensures plans { PlansIn created name.now (state S.Store conn.old) (state S.Store conn.new) result }
+    ensures only_reads { OnlyReadsForChangeOver S.Store conn.old conn.new result }
+    ensures plans { PlansIn S.Store created name.now conn.old conn.new result }
 {
     let found = domain_named(conn, name)?;
     if let Some(_) = found {
@@ -96,8 +96,8 @@ fn plan_remove<S: Alter>(
     conn: &mut Connection<S>,
     name: &Text,
 ) -> Result<Items<Step>, ChangeError>
-    ensures only_reads { OnlyReadsForChange (state S.Store conn.old) (state S.Store conn.new) result }
-    ensures plans { PlansIn removed name.now (state S.Store conn.old) (state S.Store conn.new) result }
+    ensures only_reads { OnlyReadsForChangeOver S.Store conn.old conn.new result }
+    ensures plans { PlansIn S.Store removed name.now conn.old conn.new result }
 {
     let found = domain_to_change(conn, name)?;
     plan_remove_in(alloc, found)

@@ -3,7 +3,7 @@ ghost use Rattle.std.specs.Prelude.{◌≡◌, IfOk};
 ghost use Rattle.sqlite.specs.Held.{state};
 ghost use Rattle.xa_records.specs.Changes.{root_set, within};
 ghost use Rattle.xa_store.specs.Plan.{PlansOver, root_steps};
-ghost use Rattle.xa_store.specs.Quiet.{OnlyReadsForChange};
+ghost use Rattle.xa_store.specs.Quiet.{OnlyReadsForChangeOver};
 ghost use Rattle.xa_store.specs.Turns.{PlansIn, Turns};
 ghost use Rattle.xa_store.specs.World.{root_at};
 
@@ -67,9 +67,8 @@ fn plan_root<S: Alter>(
     name: &Text,
     root: Option<Reference>,
 ) -> Result<Items<Step>, ChangeError>
-    ensures only_reads { OnlyReadsForChange (state S.Store conn.old) (state S.Store conn.new) result }
-    ensures plans { PlansIn (within (root_set root)) name.now
-        (state S.Store conn.old) (state S.Store conn.new) result }
+    ensures only_reads { OnlyReadsForChangeOver S.Store conn.old conn.new result }
+    ensures plans { PlansIn S.Store (within (root_set root)) name.now conn.old conn.new result }
 {
     let found = domain_to_change(conn, name)?;
     let there = root_of(alloc, conn, found.number)?;

@@ -4,7 +4,7 @@ ghost use Rattle.sqlite.specs.Held.{state};
 ghost use Rattle.xa_records.specs.Changes.{source_set, within};
 ghost use Rattle.xa_store.specs.Plan.{HaveTexts, PlansOver, RowsRead, SetsSource, row_steps, source_steps};
 ghost use Rattle.xa_store.specs.Opened.{holds_value};
-ghost use Rattle.xa_store.specs.Quiet.{OnlyReadsForChange};
+ghost use Rattle.xa_store.specs.Quiet.{OnlyReadsForChangeOver};
 ghost use Rattle.xa_store.specs.Rows.{type_number, value_text};
 ghost use Rattle.xa_store.specs.Sound.{AreSourceTexts};
 ghost use Rattle.xa_store.specs.Steps.{ReadsBack};
@@ -14,7 +14,7 @@ ghost use Rattle.xa_store.specs.World.{state_at};
 use crate::change::found::domain_to_change;
 use crate::change::laws::{bytes_are_utf8, bytes_are_utf8_if_any};
 use crate::change::number::next_revision;
-use crate::change::{Revision, carry_out};
+use crate::change::{Revision, carry_out, with_epoch};
 use crate::query::domain::DomainFound;
 use crate::query::source::source_of;
 use crate::step::Step;
@@ -93,10 +93,7 @@ fn source_steps(
 {
     let mut steps = Items::new(alloc);
     steps.push(Step::DropSource(revision.number))?;
-    steps.push(Step::SetEpoch {
-        number: revision.number,
-        epoch: revision.epoch,
-    })?;
+    let steps = with_epoch(steps, revision)?;
     row_steps(steps, revision.number, rows)
 }
 
@@ -129,9 +126,8 @@ fn plan_source<S: Alter>(
     name: &Text,
     rows: Items<SourceRow>,
 ) -> Result<Items<Step>, ChangeError>
-    ensures only_reads { OnlyReadsForChange (state S.Store conn.old) (state S.Store conn.new) result }
-    ensures plans { PlansIn (within (source_set rows)) name.now
-        (state S.Store conn.old) (state S.Store conn.new) result }
+    ensures only_reads { OnlyReadsForChangeOver S.Store conn.old conn.new result }
+    ensures plans { PlansIn S.Store (within (source_set rows)) name.now conn.old conn.new result }
 {
     let found = domain_to_change(conn, name)?;
     let there = source_of(alloc, conn, found.number)?;

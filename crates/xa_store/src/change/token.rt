@@ -1,14 +1,11 @@
 //! A token is put in, gets another role, or is taken out.
 ghost use Rattle.std.specs.Prelude.{◌≡◌, ℕ, nat_lt, List, None};
 ghost use Rattle.sqlite.specs.Held.{state};
-ghost use Rattle.sqlite.specs.State.{HasCleanDisk};
 ghost use Rattle.xa_records.specs.Changes.{token_dropped, token_put, within};
 ghost use Rattle.xa_store.specs.Lookup.{FindsRole, IsDomain};
 ghost use Rattle.xa_store.specs.Plan.{PlansFound};
-ghost use Rattle.xa_store.specs.Quiet.{OnlyReadsForChange};
-ghost use Rattle.xa_store.specs.Sound.{Ours};
+ghost use Rattle.xa_store.specs.Quiet.{OnlyReadsForChangeOver, OverRows};
 ghost use Rattle.xa_store.specs.Turns.{IsPlanned, PlansIn, Turns};
-ghost use Rattle.xa_store.specs.World.{rows_now};
 
 use crate::change::found::{domain_to_change, role_to_change};
 use crate::change::laws::has_all_bytes;
@@ -39,11 +36,10 @@ fn plan_put_new<S: Alter>(
     digest: Digest,
     role: Role,
 ) -> Result<Items<Step>, ChangeError>
-    ensures only_reads { OnlyReadsForChange (state S.Store conn.old) (state S.Store conn.new) result }
-    ensures plans { HasCleanDisk (state S.Store conn.new) → Ours (state S.Store conn.old)
-        → (name : List ℕ) → IsDomain name (rows_now (state S.Store conn.old)) found
-        → FindsRole found.number digest (rows_now (state S.Store conn.old)) None
-        → IsPlanned (within (token_put digest role)) name (rows_now (state S.Store conn.old)) result }
+    ensures only_reads { OnlyReadsForChangeOver S.Store conn.old conn.new result }
+    ensures plans { OverRows S.Store conn.old conn.new (λ rows. (name : List ℕ) → IsDomain name rows found
+        → FindsRole found.number digest rows None
+        → IsPlanned (within (token_put digest role)) name rows result) }
 {
     has_all_bytes(&digest);
     let count = token_count(conn, found.number)?;
@@ -66,9 +62,8 @@ fn plan_put_in<S: Alter>(
     digest: Digest,
     role: Role,
 ) -> Result<Items<Step>, ChangeError>
-    ensures only_reads { OnlyReadsForChange (state S.Store conn.old) (state S.Store conn.new) result }
-    ensures plans { PlansFound (within (token_put digest role)) found
-        (state S.Store conn.old) (state S.Store conn.new) result }
+    ensures only_reads { OnlyReadsForChangeOver S.Store conn.old conn.new result }
+    ensures plans { PlansFound S.Store (within (token_put digest role)) found conn.old conn.new result }
 {
     let there = role_of(alloc, conn, found.number, &digest)?;
     match there {
@@ -92,9 +87,8 @@ fn plan_put<S: Alter>(
     digest: Digest,
     role: Role,
 ) -> Result<Items<Step>, ChangeError>
-    ensures only_reads { OnlyReadsForChange (state S.Store conn.old) (state S.Store conn.new) result }
-    ensures plans { PlansIn (within (token_put digest role)) name.now
-        (state S.Store conn.old) (state S.Store conn.new) result }
+    ensures only_reads { OnlyReadsForChangeOver S.Store conn.old conn.new result }
+    ensures plans { PlansIn S.Store (within (token_put digest role)) name.now conn.old conn.new result }
 {
     let found = domain_to_change(conn, name)?;
     plan_put_in(alloc, conn, found, digest, role)
@@ -122,9 +116,8 @@ fn plan_drop_in<S: Alter>(
     found: DomainFound,
     digest: Digest,
 ) -> Result<Items<Step>, ChangeError>
-    ensures only_reads { OnlyReadsForChange (state S.Store conn.old) (state S.Store conn.new) result }
-    ensures plans { PlansFound (within (token_dropped digest)) found
-        (state S.Store conn.old) (state S.Store conn.new) result }
+    ensures only_reads { OnlyReadsForChangeOver S.Store conn.old conn.new result }
+    ensures plans { PlansFound S.Store (within (token_dropped digest)) found conn.old conn.new result }
 {
     role_to_change(alloc, conn, found.number, &digest)?;
     let step = Step::DropToken {
@@ -141,9 +134,8 @@ fn plan_drop<S: Alter>(
     name: &Text,
     digest: Digest,
 ) -> Result<Items<Step>, ChangeError>
-    ensures only_reads { OnlyReadsForChange (state S.Store conn.old) (state S.Store conn.new) result }
-    ensures plans { PlansIn (within (token_dropped digest)) name.now
-        (state S.Store conn.old) (state S.Store conn.new) result }
+    ensures only_reads { OnlyReadsForChangeOver S.Store conn.old conn.new result }
+    ensures plans { PlansIn S.Store (within (token_dropped digest)) name.now conn.old conn.new result }
 {
     let found = domain_to_change(conn, name)?;
     plan_drop_in(alloc, conn, found, digest)

@@ -89,10 +89,7 @@ pub(crate) fn holds_bit(row: &Row, at: usize) -> bool
 pub(crate) fn holds_number(row: &Row, at: usize, wanted: i64) -> bool
     ensures { result ≡ holds_int (int_eq wanted) (column row.now at) }
 {
-    match row.get_ref(at) {
-        Ok(ValueRef::Int(number)) => wanted == number,
-        _ => false,
-    }
+    matches!(row.get_ref(at), Ok(ValueRef::Int(number)) if wanted == number)
 }
 
 /// Whether the column holds the name of a domain.
@@ -124,20 +121,14 @@ pub(crate) fn holds_text_if_any(row: &Row, at: usize) -> bool
 pub(crate) fn holds_bytes(row: &Row, at: usize, wanted: &[u8]) -> bool
     ensures { result ≡ holds_text (bytes_eq wanted.now) (column row.now at) }
 {
-    match row.get_ref(at) {
-        Ok(ValueRef::Text(bytes)) => wanted == bytes,
-        _ => false,
-    }
+    matches!(row.get_ref(at), Ok(ValueRef::Text(bytes)) if wanted == bytes)
 }
 
 /// Whether the column holds the digest of a token.
 pub(crate) fn holds_digest(row: &Row, at: usize) -> bool
     ensures { result ≡ holds_blob is_digest (column row.now at) }
 {
-    match row.get_ref(at) {
-        Ok(ValueRef::Blob(bytes)) => bytes.len() == 32,
-        _ => false,
-    }
+    matches!(row.get_ref(at), Ok(ValueRef::Blob(bytes)) if bytes.len() == 32)
 }
 
 /// Whether the column holds a pattern of versions, or nothing.

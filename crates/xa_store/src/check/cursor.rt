@@ -1,10 +1,11 @@
 //! The rows of one table, one at a time, so that one body at a time is in memory.
-ghost use Rattle.std.specs.Prelude.{◌≡◌, ◌⊎◌, ℕ, List, [], IsTrue, OnOk};
+ghost use Rattle.std.specs.Prelude.{◌≡◌, ℕ, List, [], IsTrue, OnOk};
 ghost use Rattle.sqlite.specs.Given.{HasGiven, row_if};
 ghost use Rattle.sqlite.specs.Held.{state};
 ghost use Rattle.sqlite.specs.Order.{Row as SqlRow};
-ghost use Rattle.sqlite.specs.State.{HasCleanDisk, IsRolledBack, IsUnchanged, Survives};
-ghost use Rattle.xa_store.specs.Check.{Moves, TellsNext, TellsNumber, Walked, comes_after, has_kind};
+ghost use Rattle.sqlite.specs.State.{HasCleanDisk, IsUnchanged};
+ghost use Rattle.xa_store.specs.Check.{IsKeptOrUndone, Moves, SurvivesOver, TellsNext, TellsNumber, Walked};
+ghost use Rattle.xa_store.specs.Check.{comes_after, has_kind};
 
 use crate::check::row::{is_sound_row, row_number};
 use crate::error::OpenError;
@@ -68,12 +69,11 @@ fn next_number<S: Alter>(
     rows: &mut Rows<'_, S>,
 ) -> Result<Option<i64>, OpenError>
     ensures same_reference { rows.new.conn.ghost_name ≡ rows.old.conn.ghost_name }
-    ensures survives { Survives (state S.Store rows.old.conn.now) (state S.Store rows.new.conn.now) (λ _. ⊥) }
+    ensures survives { SurvivesOver S.Store rows.old.conn.now rows.new.conn.now }
     ensures same { HasCleanDisk (state S.Store rows.new.conn.now)
         → OnOk result (IsUnchanged (state S.Store rows.old.conn.now) (state S.Store rows.new.conn.now)) }
     ensures kept { HasCleanDisk (state S.Store rows.new.conn.now)
-        → IsUnchanged (state S.Store rows.old.conn.now) (state S.Store rows.new.conn.now)
-        ⊎ IsRolledBack (state S.Store rows.old.conn.now) (state S.Store rows.new.conn.now) }
+        → IsKeptOrUndone S.Store rows.old.conn.now rows.new.conn.now }
     ensures moves { HasCleanDisk (state S.Store rows.new.conn.now)
         → (sql : List ℕ) → (given : List SqlRow) → HasGiven S.Store sql [] rows.old.conn.now given
         → Moves S.Store kind next last rows.old.conn.now rows.new.conn.now sql given result }

@@ -5,7 +5,7 @@ ghost use Rattle.sqlite.specs.Held.{state};
 ghost use Rattle.sqlite.specs.Listing.{understood};
 ghost use Rattle.sqlite.specs.State.{HasCleanDisk, Shown};
 ghost use Rattle.xa_store.specs.declared.schema.version.SchemaVersion.{SchemaVersion as Version};
-ghost use Rattle.xa_store.specs.Check.{Asks};
+ghost use Rattle.xa_store.specs.Check.{AsksOver};
 ghost use Rattle.xa_store.specs.Opened.{schema_of};
 ghost use Rattle.xa_store.specs.Opening.{IsFailure};
 ghost use Rattle.xa_store.specs.Sound.{RestsIn};
@@ -16,7 +16,7 @@ use sqlite::{Alter, Connection, Row};
 /// All rows that a query shows, of tables of a schema of which it is a plain one.
 pub(crate) fn rows_of<S: Alter>(conn: &mut Connection<S>, sql: &str) -> Result<Vec<Row>, OpenError>
     ensures asks { (version : Version) → IsPlain (understood (schema_of version) sql.now)
-        → Asks version (state S.Store conn.old) (state S.Store conn.new) result }
+        → AsksOver S.Store version conn.old conn.new result }
     ensures shows { HasCleanDisk (state S.Store conn.new) → IfOk result (λ rows.
         Shown sql.now [] (state S.Store conn.old) (state S.Store conn.new) rows.items) }
     ensures fails { HasCleanDisk (state S.Store conn.new)

@@ -19,7 +19,7 @@ fn begin<S: Alter>(conn: &mut Connection<S>) -> Result<(), OpenError>
 {
     match conn.execute(sql::BEGIN, &[]) {
         Ok(_) => Ok(()),
-        Err(error) => Err(failed_by(&error)),
+        Err(error) => Err(failed_by(error)),
     }
 }
 
@@ -32,7 +32,7 @@ fn end<S: Alter>(conn: &mut Connection<S>) -> Result<(), OpenError>
     }
     match conn.execute(sql::ROLLBACK, &[]) {
         Ok(_) => Ok(()),
-        Err(error) => Err(failed_by(&error)),
+        Err(error) => Err(failed_by(error)),
     }
 }
 

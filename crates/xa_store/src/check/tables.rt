@@ -3,8 +3,8 @@ ghost use Rattle.std.specs.Prelude.{◌≡◌, ◌&&◌, map, IsTrue};
 ghost use Rattle.std.specs.List.{list_all};
 ghost use Rattle.sqlite.specs.Effect.{IsDatabase};
 ghost use Rattle.sqlite.specs.Held.{state};
-ghost use Rattle.xa_store.specs.Check.{AreSources, Asks, Checked, CheckedBy, FindsIn, FindsRest, GivesNext};
-ghost use Rattle.xa_store.specs.Check.{Orders, TellsSound, counts, has_kind, no_place};
+ghost use Rattle.xa_store.specs.Check.{AreSources, AsksOver, Checked, CheckedBy, FindsIn, FindsRest};
+ghost use Rattle.xa_store.specs.Check.{GivesNext, Orders, TellsSound, counts, has_kind, no_place};
 ghost use Rattle.xa_store.specs.Opened.{are_counted, is_left_empty, is_sound, is_sound_table, kinds_in};
 ghost use Rattle.xa_store.specs.Opened.{known_next, place_in, read_meta, sources_in, tree_of};
 ghost use Rattle.xa_store.specs.declared.schema.kind.Kind.TheVariants.{Documents, Domains, Roots, Tokens};
@@ -36,9 +36,9 @@ fn sound_or_damaged(sound: bool) -> Result<(), OpenError>
 /// Checks whether the table has its rows in the order of their numbers, of tables of a schema that has it.
 fn check_order<S: Alter>(conn: &mut Connection<S>, kind: Kind) -> Result<(), OpenError>
     ensures asks { (version : Version) → IsTrue (has_kind kind version)
-        → Asks version (state S.Store conn.old) (state S.Store conn.new) result }
+        → AsksOver S.Store version conn.old conn.new result }
     ensures finds { (version : Version) → IsTrue (has_kind kind version)
-        → FindsIn version (state S.Store conn.old) (state S.Store conn.new)
+        → FindsIn S.Store version conn.old conn.new
         (Orders kind (state S.Store conn.old).now.trees result) }
 {
     let rows = rows_of(conn, kind.order_query())?;
@@ -130,8 +130,8 @@ fn are_places(rows: &[Row]) -> bool
 
 /// Checks the places of the rows of sources.
 fn check_places<S: Alter>(conn: &mut Connection<S>, version: SchemaVersion) -> Result<(), OpenError>
-    ensures asks { Asks version (state S.Store conn.old) (state S.Store conn.new) result }
-    ensures finds { FindsIn version (state S.Store conn.old) (state S.Store conn.new)
+    ensures asks { AsksOver S.Store version conn.old conn.new result }
+    ensures finds { FindsIn S.Store version conn.old conn.new
         (AreSources version (state S.Store conn.old).now.trees → TellsSound
         (are_counted (map place_in ((state S.Store conn.old).now.trees (tree_of (sources_in version)))))
         result) }
@@ -151,7 +151,7 @@ fn check_attributes<S: Alter>(conn: &mut Connection<S>) -> Result<(), OpenError>
 
 /// Checks the places of the rows of sources in schema 2, and whether none of these stands in `attributes`.
 fn check_second_sources<S: Alter>(conn: &mut Connection<S>) -> Result<(), OpenError>
-    ensures asks { Asks Schema2 (state S.Store conn.old) (state S.Store conn.new) result }
+    ensures asks { AsksOver S.Store Schema2 conn.old conn.new result }
     ensures finds { FindsRest Schema2 (state S.Store conn.old) (state S.Store conn.new) result }
 {
     check_places(conn, SchemaVersion::Schema2)?;
@@ -163,7 +163,7 @@ fn check_sources<S: Alter>(
     conn: &mut Connection<S>,
     version: SchemaVersion,
 ) -> Result<(), OpenError>
-    ensures asks { Asks version (state S.Store conn.old) (state S.Store conn.new) result }
+    ensures asks { AsksOver S.Store version conn.old conn.new result }
     ensures finds { FindsRest version (state S.Store conn.old) (state S.Store conn.new) result }
 {
     match version {
@@ -178,8 +178,8 @@ fn check_all<S: Alter>(
     conn: &mut Connection<S>,
     checking: Checking,
 ) -> Result<(), OpenError>
-    ensures asks { Asks checking.version (state S.Store conn.old) (state S.Store conn.new) result }
-    ensures finds { FindsIn checking.version (state S.Store conn.old) (state S.Store conn.new)
+    ensures asks { AsksOver S.Store checking.version conn.old conn.new result }
+    ensures finds { FindsIn S.Store checking.version conn.old conn.new
         (IsDatabase (state S.Store conn.old).now
         → TellsSound (is_sound checking.version (state S.Store conn.old).now.trees checking.next) result) }
 {
@@ -193,8 +193,8 @@ fn check_all<S: Alter>(
 /// The number of the next domain, in the one row of the first table, which has to have the number of
 /// that schema.
 fn next_domain<S: Alter>(conn: &mut Connection<S>, version: SchemaVersion) -> Result<i64, OpenError>
-    ensures asks { Asks version (state S.Store conn.old) (state S.Store conn.new) result }
-    ensures finds { FindsIn version (state S.Store conn.old) (state S.Store conn.new)
+    ensures asks { AsksOver S.Store version conn.old conn.new result }
+    ensures finds { FindsIn S.Store version conn.old conn.new
         (GivesNext (known_next version (map read_meta ((state S.Store conn.old).now.trees 0))) result) }
 {
     let rows = rows_of(conn, sql::META_ROWS)?;

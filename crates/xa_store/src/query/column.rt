@@ -19,14 +19,14 @@ use xa_value::{DataType, Items, Text};
 pub(crate) fn number_in(row: &Row, at: usize) -> Result<i64, Failure>
     ensures { IfOk result (λ n. column row.now at ≡ Int n) }
 {
-    row.get::<i64>(at).map_err(|error| failure_of(&error))
+    row.get::<i64>(at).map_err(failure_of)
 }
 
 /// The text in a column.
 pub(crate) fn text_in(row: &Row, at: usize) -> Result<Text, Failure>
     ensures { IfOk result (λ text. text ≡ bytes_of (column row.now at)) }
 {
-    let text = row.get::<String>(at).map_err(|error| failure_of(&error))?;
+    let text = row.get::<String>(at).map_err(failure_of)?;
     Ok(Text::from_string(text))
 }
 
@@ -34,7 +34,7 @@ pub(crate) fn text_in(row: &Row, at: usize) -> Result<Text, Failure>
 pub(crate) fn bytes_in(row: &Row, at: usize) -> Result<Items<u8>, Failure>
     ensures { IfOk result (λ bytes. bytes ≡ bytes_of (column row.now at)) }
 {
-    let bytes = row.get::<Vec<u8>>(at).map_err(|error| failure_of(&error))?;
+    let bytes = row.get::<Vec<u8>>(at).map_err(failure_of)?;
     Ok(Items::from_vec(bytes))
 }
 
@@ -42,9 +42,7 @@ pub(crate) fn bytes_in(row: &Row, at: usize) -> Result<Items<u8>, Failure>
 pub(crate) fn text_if_any(row: &Row, at: usize) -> Result<Option<Text>, Failure>
     ensures { IfOk result (λ text. text ≡ unless_null bytes_of (column row.now at)) }
 {
-    let text = row
-        .get::<Option<String>>(at)
-        .map_err(|error| failure_of(&error))?;
+    let text = row.get::<Option<String>>(at).map_err(failure_of)?;
     let Some(text) = text else {
         return Ok(None);
     };

@@ -1,8 +1,7 @@
 //! How many tokens and documents a domain has.
 ghost use Rattle.std.specs.Prelude.{◌≡◌};
 ghost use Rattle.std.specs.FinMap.{len};
-ghost use Rattle.sqlite.specs.Held.{state};
-ghost use Rattle.xa_store.specs.Quiet.{OnlyReads, ReadsRows};
+ghost use Rattle.xa_store.specs.Quiet.{OnlyReadsOver, ReadsRows};
 ghost use Rattle.xa_store.specs.World.{state_at};
 
 use crate::query::query_rows;
@@ -14,8 +13,8 @@ use xa_records::Failure;
 /// How many tokens the domain of that number has: 32 at most. In time in proportion to that.
 #[tactic(auto, using(crate::proofs::TokenLemmas::tokens_plain))]
 pub(crate) fn token_count<S: Alter>(conn: &mut Connection<S>, number: i64) -> Result<usize, Failure>
-    ensures only_reads { OnlyReads (state S.Store conn.old) (state S.Store conn.new) result }
-    ensures reads { ReadsRows (state S.Store conn.old) (state S.Store conn.new) result
+    ensures only_reads { OnlyReadsOver S.Store conn.old conn.new result }
+    ensures reads { ReadsRows S.Store conn.old conn.new result
         (λ rows n. n ≡ len (state_at rows number).tokens) }
 {
     let rows = query_rows(conn, sql::TOKENS, &[ValueRef::Int(number)])?;
@@ -29,8 +28,8 @@ pub(crate) fn document_count<S: Alter>(
     conn: &mut Connection<S>,
     number: i64,
 ) -> Result<usize, Failure>
-    ensures only_reads { OnlyReads (state S.Store conn.old) (state S.Store conn.new) result }
-    ensures reads { ReadsRows (state S.Store conn.old) (state S.Store conn.new) result
+    ensures only_reads { OnlyReadsOver S.Store conn.old conn.new result }
+    ensures reads { ReadsRows S.Store conn.old conn.new result
         (λ rows n. n ≡ len (state_at rows number).documents) }
 {
     let rows = query_rows(conn, sql::DOCUMENTS, &[ValueRef::Int(number)])?;

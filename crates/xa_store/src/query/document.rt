@@ -3,14 +3,14 @@ ghost use Rattle.std.specs.Prelude.{◌≡◌, [], ◌∷◌, IfOk};
 ghost use Rattle.std.specs.List.Sorted.{IsPermutation, IsSorted};
 ghost use Rattle.std.specs.Ordering.{on};
 ghost use Rattle.sqlite.specs.Held.{state};
-ghost use Rattle.sqlite.specs.State.{HasCleanDisk, Shown};
+ghost use Rattle.sqlite.specs.State.{HasCleanDisk};
 ghost use Rattle.sqlite.specs.declared.types.Value.TheVariants.{Int, Text as SqlText};
 ghost use Rattle.xa_policy.specs.declared.document_key.DocumentKey.{DocumentKey as Key};
 ghost use Rattle.xa_policy.specs.DocumentKey.{compare_keys};
 ghost use Rattle.xa_policy.specs.Version.{version_text};
 ghost use Rattle.xa_records.specs.Readings.{active_texts, listing_of_state};
 ghost use Rattle.xa_store.specs.Lookup.{FindsDocument};
-ghost use Rattle.xa_store.specs.Quiet.{OnlyReads, ReadsRows};
+ghost use Rattle.xa_store.specs.Quiet.{OnlyReadsOver, ReadsRows, ShownOver};
 ghost use Rattle.xa_store.specs.Rows.{kind_number};
 ghost use Rattle.xa_store.specs.Texts.{document_shown};
 ghost use Rattle.xa_store.specs.World.{state_at};
@@ -72,11 +72,11 @@ fn document_rows<'k, S: Alter>(
     version: &'k Text,
 ) -> Result<Vec<Row>, Failure>
     requires version { version.now ≡ version_text key.now.version }
-    ensures only_reads { OnlyReads (state S.Store conn.old) (state S.Store conn.new) result }
+    ensures only_reads { OnlyReadsOver S.Store conn.old conn.new result }
     ensures shows { HasCleanDisk (state S.Store conn.new)
-        → IfOk result (λ rows. Shown document_shown (Int number ∷ Int (kind_number key.now.kind)
-        ∷ SqlText key.now.id ∷ SqlText (version_text key.now.version) ∷ [])
-        (state S.Store conn.old) (state S.Store conn.new) rows.items) }
+        → IfOk result (λ rows. ShownOver S.Store document_shown (Int number
+        ∷ Int (kind_number key.now.kind) ∷ SqlText key.now.id ∷ SqlText (version_text key.now.version) ∷ [])
+        conn.old conn.new rows.items) }
 {
     query_rows(
         conn,
@@ -98,9 +98,8 @@ pub(crate) fn document_of<S: Alter>(
     number: i64,
     key: &DocumentKey,
 ) -> Result<Option<DocumentFound>, Failure>
-    ensures only_reads { OnlyReads (state S.Store conn.old) (state S.Store conn.new) result }
-    ensures finds { ReadsRows (state S.Store conn.old) (state S.Store conn.new) result
-        (FindsDocument number key.now) }
+    ensures only_reads { OnlyReadsOver S.Store conn.old conn.new result }
+    ensures finds { ReadsRows S.Store conn.old conn.new result (FindsDocument number key.now) }
 {
     key.version.reads_back();
     let version = key.version.to_text(alloc)?;
@@ -116,8 +115,8 @@ pub(crate) fn documents_of<S: Alter>(
     conn: &mut Connection<S>,
     number: i64,
 ) -> Result<Items<Listed>, Failure>
-    ensures only_reads { OnlyReads (state S.Store conn.old) (state S.Store conn.new) result }
-    ensures reads { ReadsRows (state S.Store conn.old) (state S.Store conn.new) result
+    ensures only_reads { OnlyReadsOver S.Store conn.old conn.new result }
+    ensures reads { ReadsRows S.Store conn.old conn.new result
         (λ rows listed. listed ≡ listing_of_state (state_at rows number)) }
 {
     let rows = query_rows(conn, sql::DOCUMENTS, &[ValueRef::Int(number)])?;
@@ -134,8 +133,8 @@ pub(crate) fn active_texts_of<S: Alter>(
     conn: &mut Connection<S>,
     number: i64,
 ) -> Result<Items<ActiveText>, Failure>
-    ensures only_reads { OnlyReads (state S.Store conn.old) (state S.Store conn.new) result }
-    ensures reads { ReadsRows (state S.Store conn.old) (state S.Store conn.new) result
+    ensures only_reads { OnlyReadsOver S.Store conn.old conn.new result }
+    ensures reads { ReadsRows S.Store conn.old conn.new result
         (λ rows texts. texts ≡ active_texts (state_at rows number)) }
 {
     let rows = query_rows(conn, sql::ACTIVE_DOCUMENTS, &[ValueRef::Int(number)])?;

@@ -1,8 +1,7 @@
 //! The domain of a name: its number and its epoch.
 ghost use Rattle.std.specs.Prelude.{IfOk};
-ghost use Rattle.sqlite.specs.Held.{state};
 ghost use Rattle.xa_store.specs.Lookup.{FindsDomain, TellDomain};
-ghost use Rattle.xa_store.specs.Quiet.{OnlyReads, ReadsRows};
+ghost use Rattle.xa_store.specs.Quiet.{OnlyReadsOver, ReadsRows};
 
 use crate::query::column::number_in;
 use crate::query::columns::domain_found;
@@ -29,9 +28,8 @@ pub(crate) fn domain_named<S: Alter>(
     conn: &mut Connection<S>,
     name: &Text,
 ) -> Result<Option<DomainFound>, Failure>
-    ensures only_reads { OnlyReads (state S.Store conn.old) (state S.Store conn.new) result }
-    ensures finds { ReadsRows (state S.Store conn.old) (state S.Store conn.new) result
-        (FindsDomain name.now) }
+    ensures only_reads { OnlyReadsOver S.Store conn.old conn.new result }
+    ensures finds { ReadsRows S.Store conn.old conn.new result (FindsDomain name.now) }
 {
     let rows = query_rows(conn, sql::DOMAIN, &[ValueRef::Text(name.as_bytes())])?;
     read_domain(rows.as_slice())

@@ -1,8 +1,7 @@
 //! The names of all domains.
 ghost use Rattle.std.specs.Prelude.{◌≡◌};
-ghost use Rattle.sqlite.specs.Held.{state};
 ghost use Rattle.xa_records.specs.Kept.{names_of};
-ghost use Rattle.xa_store.specs.Quiet.{OnlyReads, ReadsRows};
+ghost use Rattle.xa_store.specs.Quiet.{OnlyReadsOver, ReadsRows};
 ghost use Rattle.xa_store.specs.Columns.{name_told};
 ghost use Rattle.xa_store.specs.World.{kept_of};
 
@@ -30,8 +29,8 @@ pub(crate) fn names_in<S: Alter>(
     alloc: Global,
     conn: &mut Connection<S>,
 ) -> Result<Items<Text>, Failure>
-    ensures only_reads { OnlyReads (state S.Store conn.old) (state S.Store conn.new) result }
-    ensures reads { ReadsRows (state S.Store conn.old) (state S.Store conn.new) result
+    ensures only_reads { OnlyReadsOver S.Store conn.old conn.new result }
+    ensures reads { ReadsRows S.Store conn.old conn.new result
         (λ rows names. names ≡ names_of (kept_of rows)) }
 {
     let rows = query_rows(conn, sql::DOMAIN_NAMES, &[])?;

@@ -1,8 +1,7 @@
 //! The number that the next domain gets.
 ghost use Rattle.std.specs.Prelude.{IfOk};
-ghost use Rattle.sqlite.specs.Held.{state};
 ghost use Rattle.xa_store.specs.Lookup.{IsNext, TellNext};
-ghost use Rattle.xa_store.specs.Quiet.{OnlyReads, ReadsRows};
+ghost use Rattle.xa_store.specs.Quiet.{OnlyReadsOver, ReadsRows};
 
 use crate::query::column::number_in;
 use crate::query::query_rows;
@@ -13,8 +12,8 @@ use xa_records::Failure;
 /// The number that the next domain gets. A point query.
 #[tactic(auto, using(crate::proofs::NextLemmas::next_plain))]
 pub(crate) fn next_number<S: Alter>(conn: &mut Connection<S>) -> Result<i64, Failure>
-    ensures only_reads { OnlyReads (state S.Store conn.old) (state S.Store conn.new) result }
-    ensures finds { ReadsRows (state S.Store conn.old) (state S.Store conn.new) result IsNext }
+    ensures only_reads { OnlyReadsOver S.Store conn.old conn.new result }
+    ensures finds { ReadsRows S.Store conn.old conn.new result IsNext }
 {
     let rows = query_rows(conn, sql::NEXT_NUMBER, &[])?;
     read_next(rows.as_slice())

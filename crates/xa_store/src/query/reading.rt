@@ -1,10 +1,9 @@
 //! The readings of a domain by its name: its gate, its view, a document's text, and its list of
 //! documents.
 ghost use Rattle.std.specs.Prelude.{◌≡◌, pos, Some, IfOk};
-ghost use Rattle.sqlite.specs.Held.{state};
 ghost use Rattle.xa_records.specs.Readings.{gate_of, listing_of, text_in, text_of, view_of, view_of_state};
 ghost use Rattle.xa_store.specs.Lookup.{TellsGate};
-ghost use Rattle.xa_store.specs.Quiet.{OnlyReads, ReadsRows};
+ghost use Rattle.xa_store.specs.Quiet.{OnlyReadsOver, ReadsRows};
 ghost use Rattle.xa_store.specs.World.{kept_of, state_at};
 
 use crate::query::document::{active_texts_of, document_of, documents_of};
@@ -44,8 +43,8 @@ pub(crate) fn gate_in<S: Alter>(
     conn: &mut Connection<S>,
     name: &Text,
 ) -> Result<Option<Gate>, Failure>
-    ensures only_reads { OnlyReads (state S.Store conn.old) (state S.Store conn.new) result }
-    ensures reads { ReadsRows (state S.Store conn.old) (state S.Store conn.new) result
+    ensures only_reads { OnlyReadsOver S.Store conn.old conn.new result }
+    ensures reads { ReadsRows S.Store conn.old conn.new result
         (λ rows gate. gate ≡ gate_of name.now (kept_of rows)) }
 {
     let found = domain_named(conn, name)?;
@@ -63,8 +62,8 @@ pub(crate) fn text_in<S: Alter>(
     name: &Text,
     key: &DocumentKey,
 ) -> Result<Option<Items<u8>>, Failure>
-    ensures only_reads { OnlyReads (state S.Store conn.old) (state S.Store conn.new) result }
-    ensures reads { ReadsRows (state S.Store conn.old) (state S.Store conn.new) result
+    ensures only_reads { OnlyReadsOver S.Store conn.old conn.new result }
+    ensures reads { ReadsRows S.Store conn.old conn.new result
         (λ rows text. text ≡ text_of name.now key.now (kept_of rows)) }
 {
     let found = domain_named(conn, name)?;
@@ -81,8 +80,8 @@ fn text_at<S: Alter>(
     number: i64,
     key: &DocumentKey,
 ) -> Result<Option<Items<u8>>, Failure>
-    ensures only_reads { OnlyReads (state S.Store conn.old) (state S.Store conn.new) result }
-    ensures reads { ReadsRows (state S.Store conn.old) (state S.Store conn.new) result
+    ensures only_reads { OnlyReadsOver S.Store conn.old conn.new result }
+    ensures reads { ReadsRows S.Store conn.old conn.new result
         (λ rows text. text ≡ text_in key.now (state_at rows number)) }
 {
     match document_of(alloc, conn, number, key)? {
@@ -97,8 +96,8 @@ pub(crate) fn listing_in<S: Alter>(
     conn: &mut Connection<S>,
     name: &Text,
 ) -> Result<Option<Items<Listed>>, Failure>
-    ensures only_reads { OnlyReads (state S.Store conn.old) (state S.Store conn.new) result }
-    ensures reads { ReadsRows (state S.Store conn.old) (state S.Store conn.new) result
+    ensures only_reads { OnlyReadsOver S.Store conn.old conn.new result }
+    ensures reads { ReadsRows S.Store conn.old conn.new result
         (λ rows listed. listed ≡ listing_of name.now (kept_of rows)) }
 {
     let found = domain_named(conn, name)?;
@@ -115,8 +114,8 @@ pub(crate) fn view_in<S: Alter>(
     conn: &mut Connection<S>,
     name: &Text,
 ) -> Result<Option<KeptView>, Failure>
-    ensures only_reads { OnlyReads (state S.Store conn.old) (state S.Store conn.new) result }
-    ensures reads { ReadsRows (state S.Store conn.old) (state S.Store conn.new) result
+    ensures only_reads { OnlyReadsOver S.Store conn.old conn.new result }
+    ensures reads { ReadsRows S.Store conn.old conn.new result
         (λ rows view. view ≡ view_of name.now (kept_of rows)) }
 {
     let found = domain_named(conn, name)?;
@@ -133,8 +132,8 @@ fn view_at<S: Alter>(
     conn: &mut Connection<S>,
     number: i64,
 ) -> Result<KeptView, Failure>
-    ensures only_reads { OnlyReads (state S.Store conn.old) (state S.Store conn.new) result }
-    ensures reads { ReadsRows (state S.Store conn.old) (state S.Store conn.new) result
+    ensures only_reads { OnlyReadsOver S.Store conn.old conn.new result }
+    ensures reads { ReadsRows S.Store conn.old conn.new result
         (λ rows view. view ≡ view_of_state (state_at rows number)) }
 {
     let texts = active_texts_of(alloc, conn, number)?;

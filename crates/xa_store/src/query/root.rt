@@ -1,7 +1,6 @@
 //! The root of a domain.
 ghost use Rattle.std.specs.Prelude.{◌≡◌};
-ghost use Rattle.sqlite.specs.Held.{state};
-ghost use Rattle.xa_store.specs.Quiet.{OnlyReads, ReadsRows};
+ghost use Rattle.xa_store.specs.Quiet.{OnlyReadsOver, ReadsRows};
 ghost use Rattle.xa_store.specs.Columns.{root_told};
 ghost use Rattle.xa_store.specs.World.{state_at};
 
@@ -43,8 +42,8 @@ pub(crate) fn root_of<S: Alter>(
     conn: &mut Connection<S>,
     number: i64,
 ) -> Result<Option<Reference>, Failure>
-    ensures only_reads { OnlyReads (state S.Store conn.old) (state S.Store conn.new) result }
-    ensures reads { ReadsRows (state S.Store conn.old) (state S.Store conn.new) result
+    ensures only_reads { OnlyReadsOver S.Store conn.old conn.new result }
+    ensures reads { ReadsRows S.Store conn.old conn.new result
         (λ rows root. root ≡ (state_at rows number).root) }
 {
     let rows = query_rows(conn, sql::ROOT, &[ValueRef::Int(number)])?;

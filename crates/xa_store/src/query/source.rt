@@ -1,9 +1,8 @@
 //! The source of attributes of a domain, row by row.
 ghost use Rattle.std.specs.Prelude.{◌≡◌, IfOk};
-ghost use Rattle.sqlite.specs.Held.{state};
 ghost use Rattle.sqlite.specs.Order.{column};
 ghost use Rattle.sqlite_typed.specs.Columns.{bytes_of, int_of};
-ghost use Rattle.xa_store.specs.Quiet.{OnlyReads, ReadsRows};
+ghost use Rattle.xa_store.specs.Quiet.{OnlyReadsOver, ReadsRows};
 ghost use Rattle.xa_store.specs.Rows.{value_in};
 ghost use Rattle.xa_store.specs.Columns.{source_told};
 ghost use Rattle.xa_store.specs.World.{state_at};
@@ -59,8 +58,8 @@ pub(crate) fn source_of<S: Alter>(
     conn: &mut Connection<S>,
     number: i64,
 ) -> Result<Items<SourceRow>, Failure>
-    ensures only_reads { OnlyReads (state S.Store conn.old) (state S.Store conn.new) result }
-    ensures reads { ReadsRows (state S.Store conn.old) (state S.Store conn.new) result
+    ensures only_reads { OnlyReadsOver S.Store conn.old conn.new result }
+    ensures reads { ReadsRows S.Store conn.old conn.new result
         (λ rows source. source ≡ (state_at rows number).source) }
 {
     let rows = query_rows(conn, sql::SOURCE, &[ValueRef::Int(number)])?;

@@ -1,12 +1,11 @@
 //! The tokens of a domain: the role of one, and all of them.
 ghost use Rattle.std.specs.Prelude.{◌≡◌, map, IfOk};
 ghost use Rattle.std.specs.FinMap.{entries};
-ghost use Rattle.sqlite.specs.Held.{state};
 ghost use Rattle.sqlite_typed.specs.Columns.{bytes_of};
 ghost use Rattle.sqlite.specs.Order.{column};
 ghost use Rattle.xa_records.specs.Readings.{token_of};
 ghost use Rattle.xa_store.specs.Lookup.{FindsRole};
-ghost use Rattle.xa_store.specs.Quiet.{OnlyReads, ReadsRows};
+ghost use Rattle.xa_store.specs.Quiet.{OnlyReadsOver, ReadsRows};
 ghost use Rattle.xa_store.specs.Columns.{role_told, token_told};
 ghost use Rattle.xa_store.specs.World.{state_at};
 
@@ -59,9 +58,8 @@ pub(crate) fn role_of<S: Alter>(
     number: i64,
     digest: &Digest,
 ) -> Result<Option<Role>, Failure>
-    ensures only_reads { OnlyReads (state S.Store conn.old) (state S.Store conn.new) result }
-    ensures finds { ReadsRows (state S.Store conn.old) (state S.Store conn.new) result
-        (FindsRole number digest.now) }
+    ensures only_reads { OnlyReadsOver S.Store conn.old conn.new result }
+    ensures finds { ReadsRows S.Store conn.old conn.new result (FindsRole number digest.now) }
 {
     let rows = query_rows(
         conn,
@@ -79,8 +77,8 @@ pub(crate) fn tokens_of<S: Alter>(
     conn: &mut Connection<S>,
     number: i64,
 ) -> Result<Items<Token>, Failure>
-    ensures only_reads { OnlyReads (state S.Store conn.old) (state S.Store conn.new) result }
-    ensures reads { ReadsRows (state S.Store conn.old) (state S.Store conn.new) result
+    ensures only_reads { OnlyReadsOver S.Store conn.old conn.new result }
+    ensures reads { ReadsRows S.Store conn.old conn.new result
         (λ rows tokens. tokens ≡ map token_of (entries (state_at rows number).tokens)) }
 {
     let rows = query_rows(conn, sql::TOKENS, &[ValueRef::Int(number)])?;

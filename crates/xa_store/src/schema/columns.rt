@@ -7,7 +7,14 @@ ghost use Rattle.xa_store.specs.Tables.{roots, sources, text_if_any, tokens};
 
 use sqlite_schema::schema::{Column, Kind};
 use sqlite_value::keys::Collation;
-use sqlite_value::value::Value;
+use sqlite_value::value::{Bytes, Value};
+
+/// Whether the bytes are this name.
+pub(crate) fn is_named(bytes: &Bytes, name: &str) -> bool
+    ensures { IsTrue result ↔ (bytes.now ≡ name.now) }
+{
+    bytes.as_slice() == name.as_bytes()
+}
 
 /// Whether the column has this name and takes values of this kind alone.
 fn is_column(column: &Column, name: &str, kind: Kind, not_null: bool) -> bool
@@ -20,7 +27,7 @@ fn is_column(column: &Column, name: &str, kind: Kind, not_null: bool) -> bool
       collation = Binary;
     }) }
 {
-    column.name.as_slice() == name.as_bytes()
+    is_named(&column.name, name)
         && column.kind == kind
         && column.is_strict
         && column.not_null == not_null

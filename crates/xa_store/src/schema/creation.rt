@@ -119,6 +119,6 @@ pub(crate) fn make<S: Alter>(conn: &mut Connection<S>) -> Result<(), OpenError>
     take_all(&mut tx)?;
     match tx.commit() {
         Ok(()) => Ok(()),
-        Err(error) => Err(failed_by(&error)),
+        Err(error) => Err(failed_by(error)),
     }
 }

@@ -82,6 +82,6 @@ pub(crate) fn migrate<S: Alter>(conn: &mut Connection<S>) -> Result<(), OpenErro
     take_all(&mut tx)?;
     match tx.commit() {
         Ok(()) => Ok(()),
-        Err(error) => Err(failed_by(&error)),
+        Err(error) => Err(failed_by(error)),
     }
 }

@@ -10,7 +10,7 @@ ghost use Rattle.xa_store.specs.Tables.{policies, rising, roots, sources, tokens
 
 use crate::schema::columns::{
     are_attribute_columns, are_domain_columns, are_meta_columns, are_policy_columns,
-    are_root_columns, are_source_columns, are_token_columns,
+    are_root_columns, are_source_columns, are_token_columns, is_named,
 };
 use crate::schema::version::SchemaVersion;
 use sqlite_items::Items;
@@ -28,13 +28,6 @@ fn is_place(places: &[usize], place: usize) -> bool
     }
 }
 
-/// Whether the bytes are this name.
-fn is_named(bytes: &Bytes, name: &str) -> bool
-    ensures { IsTrue result ↔ (bytes.now ≡ name.now) }
-{
-    bytes.as_slice() == name.as_bytes()
-}
-
 /// Whether it is this one name.
 fn is_name(names: &[Bytes], name: &str) -> bool
     ensures { IsTrue result ↔ (names.now ≡ name.now ∷ []) }
@@ -50,7 +43,7 @@ fn is_of_domain(reference: &Reference, column: usize) -> bool
     ensures { IsTrue result ↔ (reference.now ≡ record of_domain { columns = column ∷ [] }) }
 {
     is_place(reference.columns.as_slice(), column)
-        && reference.parent.as_slice() == "domains".as_bytes()
+        && is_named(&reference.parent, "domains")
         && is_name(reference.parent_columns.as_slice(), "number")
         && reference.on_delete == Action::Cascade
         && reference.on_update == Action::NoAction
@@ -279,7 +272,7 @@ fn are_our_tables(all: &[Table]) -> bool
 fn is_index(index: &Index, name: &str, tree: u32, table: u32, columns: &[usize]) -> bool
     ensures { IsTrue result ↔ (index.now ≡ index_of name.now tree table columns.now) }
 {
-    index.name.as_slice() == name.as_bytes()
+    is_named(&index.name, name)
         && index.tree == tree
         && index.table == table
         && index.columns.as_slice() == columns

@@ -3,7 +3,7 @@ ghost use Rattle.std.specs.Prelude.{◌≡◌};
 ghost use Rattle.sqlite.specs.Held.{state};
 ghost use Rattle.xa_store.specs.declared.step.Step.TheVariants.{AddDocument, DropDocument, SetActive};
 ghost use Rattle.xa_policy.specs.Version.{version_text};
-ghost use Rattle.xa_store.specs.Execution.{IsTakenBy, StaysInside, Takes};
+ghost use Rattle.xa_store.specs.Execution.{IsTakenBy, StaysInsideOver, Takes};
 
 use crate::parameter::{number_of_activity, number_of_kind};
 use crate::sql;
@@ -17,8 +17,8 @@ use xa_value::Text;
 
 /// Adds a document, which isn't active.
 pub(crate) fn add_document<S: Alter>(
-    tx: &mut Transaction<'_, S>,
     alloc: Global,
+    tx: &mut Transaction<'_, S>,
     number: i64,
     key: &DocumentKey,
     text: &[u8],
@@ -50,7 +50,7 @@ fn set_active_at<'a, S: Alter>(
     active: bool,
 ) -> Result<(), Failure>
     ensures same_reference { tx.new.conn.ghost_name ≡ tx.old.conn.ghost_name }
-    ensures stays { StaysInside (state S.Store tx.old.conn.now) (state S.Store tx.new.conn.now) result }
+    ensures stays { StaysInsideOver S.Store tx.old.conn.now tx.new.conn.now result }
     ensures takes { version.now ≡ version_text key.now.version
         → Takes (SetActive number key.now active)
         (state S.Store tx.old.conn.now) (state S.Store tx.new.conn.now) result }
@@ -70,8 +70,8 @@ fn set_active_at<'a, S: Alter>(
 
 /// Sets whether references may resolve to the document.
 pub(crate) fn set_active<S: Alter>(
-    tx: &mut Transaction<'_, S>,
     alloc: Global,
+    tx: &mut Transaction<'_, S>,
     number: i64,
     key: &DocumentKey,
     active: bool,
@@ -86,8 +86,8 @@ pub(crate) fn set_active<S: Alter>(
 
 /// Takes a document out.
 pub(crate) fn drop_document<S: Alter>(
-    tx: &mut Transaction<'_, S>,
     alloc: Global,
+    tx: &mut Transaction<'_, S>,
     number: i64,
     key: &DocumentKey,
 ) -> Result<(), Failure>

@@ -1,13 +1,13 @@
 //! The steps of a change, executed one after another in its transaction.
-ghost use Rattle.std.specs.Prelude.{◌≡◌, ℕ, Ok, Err, IsErrOf, IsTrue, OnOk};
+ghost use Rattle.std.specs.Prelude.{◌≡◌, Err, IsErrOf, IsTrue, OnOk};
 ghost use Rattle.sqlite.specs.Held.{state};
-ghost use Rattle.sqlite.specs.State.{HasCleanDisk, Executes, ExecutesInside};
+ghost use Rattle.sqlite.specs.State.{ExecutesInside, HasCleanDisk};
 ghost use Rattle.sqlite.specs.Values.{bound};
 ghost use Rattle.sqlite.specs.declared.error.Error.TheVariants.{SqliteFailure};
 ghost use Rattle.sqlite.specs.declared.error.ErrorCode.TheVariants.{OutOfMemory};
 ghost use Rattle.xa_records.specs.declared.refusal.Failure.TheVariants.{Memory};
 ghost use Rattle.xa_store.specs.Steps.{AllowsAll};
-ghost use Rattle.xa_store.specs.Execution.{IsInside, StaysInside, Takes, Took};
+ghost use Rattle.xa_store.specs.Execution.{IsInside, Ran, StaysInsideOver, Takes, Took};
 ghost use Rattle.xa_store.specs.World.{rows_of};
 
 use crate::failure::failure_of;
@@ -29,26 +29,25 @@ pub(crate) fn execute_in<S: Alter>(
     given: &[ValueRef<'_>],
 ) -> Result<(), Failure>
     ensures same_reference { tx.new.conn.ghost_name ≡ tx.old.conn.ghost_name }
-    ensures stays { StaysInside (state S.Store tx.old.conn.now) (state S.Store tx.new.conn.now) result }
+    ensures stays { StaysInsideOver S.Store tx.old.conn.now tx.new.conn.now result }
     ensures wants { HasCleanDisk (state S.Store tx.new.conn.now)
         → IsTrue (state S.Store tx.old.conn.now).in_transaction → IsErrOf result Memory
         → ExecutesInside 0 sql.now (bound given.now)
         (state S.Store tx.old.conn.now) (state S.Store tx.new.conn.now) (Err (SqliteFailure OutOfMemory)) }
     ensures runs { HasCleanDisk (state S.Store tx.new.conn.now)
         → IsTrue (state S.Store tx.old.conn.now).in_transaction
-        → OnOk result ((count : ℕ) × Executes sql.now (bound given.now)
-        (state S.Store tx.old.conn.now) (state S.Store tx.new.conn.now) (Ok count)) }
+        → OnOk result (Ran S.Store sql.now (bound given.now) tx.old.conn.now tx.new.conn.now) }
 {
     match tx.execute(sql, given) {
         Ok(_) => Ok(()),
-        Err(error) => Err(failure_of(&error)),
+        Err(error) => Err(failure_of(error)),
     }
 }
 
 /// Takes the step.
-fn take<S: Alter>(tx: &mut Transaction<'_, S>, alloc: Global, step: &Step) -> Result<(), Failure>
+fn take<S: Alter>(alloc: Global, tx: &mut Transaction<'_, S>, step: &Step) -> Result<(), Failure>
     ensures same_reference { tx.new.conn.ghost_name ≡ tx.old.conn.ghost_name }
-    ensures stays { StaysInside (state S.Store tx.old.conn.now) (state S.Store tx.new.conn.now) result }
+    ensures stays { StaysInsideOver S.Store tx.old.conn.now tx.new.conn.now result }
     ensures takes { Takes step.now (state S.Store tx.old.conn.now) (state S.Store tx.new.conn.now) result }
 {
     match step {
@@ -68,18 +67,18 @@ fn take<S: Alter>(tx: &mut Transaction<'_, S>, alloc: Global, step: &Step) -> Re
         } => set_role(tx, *number, digest, *role),
         Step::DropToken { number, digest } => drop_token(tx, *number, digest),
         Step::AddDocument { number, key, text } => {
-            add_document(tx, alloc, *number, key, text.as_slice())
+            add_document(alloc, tx, *number, key, text.as_slice())
         }
         Step::SetActive {
             number,
             key,
             active,
-        } => set_active(tx, alloc, *number, key, *active),
-        Step::DropDocument { number, key } => drop_document(tx, alloc, *number, key),
-        Step::AddRoot { number, root } => add_root(tx, alloc, *number, root),
+        } => set_active(alloc, tx, *number, key, *active),
+        Step::DropDocument { number, key } => drop_document(alloc, tx, *number, key),
+        Step::AddRoot { number, root } => add_root(alloc, tx, *number, root),
         Step::DropRoot(number) => drop_root(tx, *number),
         Step::AddSourceRow { number, place, row } => add_source_row(
-            tx, alloc, *number, *place, row,
+            alloc, tx, *number, *place, row,
         ),
         Step::DropSource(number) => drop_source(tx, *number),
     }
@@ -87,18 +86,18 @@ fn take<S: Alter>(tx: &mut Transaction<'_, S>, alloc: Global, step: &Step) -> Re
 
 /// Takes the steps, one after another.
 pub(crate) fn take_all<S: Alter>(
-    tx: &mut Transaction<'_, S>,
     alloc: Global,
+    tx: &mut Transaction<'_, S>,
     steps: &[Step],
 ) -> Result<(), Failure>
     ensures same_reference { tx.new.conn.ghost_name ≡ tx.old.conn.ghost_name }
-    ensures stays { StaysInside (state S.Store tx.old.conn.now) (state S.Store tx.new.conn.now) result }
+    ensures stays { StaysInsideOver S.Store tx.old.conn.now tx.new.conn.now result }
     ensures takes { HasCleanDisk (state S.Store tx.new.conn.now) → IsInside (state S.Store tx.old.conn.now)
         → AllowsAll steps.now (rows_of (state S.Store tx.old.conn.now).now.trees)
         → OnOk result (Took steps.now (state S.Store tx.old.conn.now) (state S.Store tx.new.conn.now)) }
 {
     for step in steps {
-        take(tx, alloc, step)?;
+        take(alloc, tx, step)?;
     }
     Ok(())
 }

@@ -14,8 +14,8 @@ use xa_records::Failure;
 
 /// Puts the root in.
 pub(crate) fn add_root<S: Alter>(
-    tx: &mut Transaction<'_, S>,
     alloc: Global,
+    tx: &mut Transaction<'_, S>,
     number: i64,
     root: &Reference,
 ) -> Result<(), Failure>

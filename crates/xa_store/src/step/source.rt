@@ -14,8 +14,8 @@ use xa_records::Failure;
 
 /// Adds a row of the source, at that place.
 pub(crate) fn add_source_row<S: Alter>(
-    tx: &mut Transaction<'_, S>,
     alloc: Global,
+    tx: &mut Transaction<'_, S>,
     number: i64,
     place: i64,
     row: &SourceRow,

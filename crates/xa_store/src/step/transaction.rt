@@ -2,12 +2,11 @@
 ghost use Rattle.std.specs.Prelude.{◌≡◌, false, IsErrOf, OnErr, OnOk};
 ghost use Rattle.sqlite.specs.Held.{state};
 ghost use Rattle.sqlite.specs.State.{HasCleanDisk, Survives};
-ghost use Rattle.sqlite.specs.Steps.{FailsToCommit};
 ghost use Rattle.sqlite.specs.declared.error.Error.{Error as SqliteError};
 ghost use Rattle.sqlite.specs.declared.error.Error.TheVariants.{SqliteFailure};
 ghost use Rattle.sqlite.specs.declared.error.ErrorCode.TheVariants.{OutOfMemory};
 ghost use Rattle.xa_records.specs.declared.refusal.Failure.TheVariants.{Memory};
-ghost use Rattle.xa_store.specs.Execution.{Committed, Runs};
+ghost use Rattle.xa_store.specs.Execution.{CommittedOver, FailsToCommitOver, Runs};
 
 use crate::failure::failure_of;
 use crate::step::Step;
@@ -20,26 +19,24 @@ use xa_records::Failure;
 fn commit<S: Alter>(tx: Transaction<'_, S>) -> Result<(), Failure>
     ensures ended { tx.exit.0.now.in_transaction ≡ false }
     ensures commits { HasCleanDisk (state S.Store tx.exit.0.now)
-        → OnOk result (Committed (state S.Store tx.entry.conn.now) (state S.Store tx.exit.0.now)) }
+        → OnOk result (CommittedOver S.Store tx.entry.conn.now tx.exit.0.now) }
     ensures fails { HasCleanDisk (state S.Store tx.exit.0.now)
-        → OnErr result ((e : SqliteError)
-        × FailsToCommit (state S.Store tx.entry.conn.now) (state S.Store tx.exit.0.now) e) }
+        → OnErr result ((e : SqliteError) × FailsToCommitOver S.Store tx.entry.conn.now tx.exit.0.now e) }
     ensures wants { HasCleanDisk (state S.Store tx.exit.0.now) → IsErrOf result Memory
-        → FailsToCommit (state S.Store tx.entry.conn.now) (state S.Store tx.exit.0.now)
-        (SqliteFailure OutOfMemory) }
+        → FailsToCommitOver S.Store tx.entry.conn.now tx.exit.0.now (SqliteFailure OutOfMemory) }
     ensures survives { Survives (state S.Store tx.entry.conn.now) (state S.Store tx.exit.0.now)
         (λ db. db ≡ (state S.Store tx.entry.conn.now).now.trees) }
 {
     match tx.commit() {
         Ok(()) => Ok(()),
-        Err(error) => Err(failure_of(&error)),
+        Err(error) => Err(failure_of(error)),
     }
 }
 
 /// Takes all the steps, or none of them, also over a crash.
 pub(crate) fn run<S: Alter>(
-    conn: &mut Connection<S>,
     alloc: Global,
+    conn: &mut Connection<S>,
     steps: &[Step],
 ) -> Result<(), Failure>
     ensures { Runs steps.now (state S.Store conn.old) (state S.Store conn.new) result }
@@ -51,6 +48,6 @@ pub(crate) fn run<S: Alter>(
         return Err(Failure::Store);
     }
     let mut tx = conn.transaction();
-    take_all(&mut tx, alloc, steps)?;
+    take_all(alloc, &mut tx, steps)?;
     commit(tx)
 }

@@ -4,8 +4,8 @@ use Rattle.xa_store.specs.Opening.{has_room}
 use Rattle.xa_store.proofs.OpenLemmas.{busy_loads}
 use Rattle.xa_store.proofs.opening.load.Goals as goal
 
-pub returns-then-is_busy-clause-loads : goal.returns-then-is_busy-clause-loads
-returns-then-is_busy-clause-loads g c = busy_loads (state g.S.Store c.args.conn.now)
+pub returns-then-not-is_autocommit-clause-loads : goal.returns-then-not-is_autocommit-clause-loads
+returns-then-not-is_autocommit-clause-loads g c = busy_loads (state g.S.Store c.args.conn.now)
 
 pub make_and_check-requires : goal.make_and_check-requires
 make_and_check-requires g c = ap has_room (sym c.schema.ensures.value) ∙ sym c.has_room.ensures ∙ c.if-has_room.true
