@@ -31,8 +31,9 @@ use Rattle.xa_server.specs.Machine.{response_to, told}
 use Rattle.xa_server.specs.Replies.{decision_reply}
 use Rattle.xa_server.specs.Tally.{Tally}
 use Rattle.xa_server.specs.ValidCache.{AreValid, response_body_at}
-use Rattle.xa_server.specs.View.{nothing_viewed, view_of}
-use Rattle.xa_server.specs.Work.{IsHeld, IsWorkedOut, body_held, response_of}
+use Rattle.xa_server.specs.View.{view_of}
+use Rattle.xa_server.specs.Viewing.{nothing_viewed}
+use Rattle.xa_server.specs.Work.{IsBodyHeld, IsWorkedOut, body_held, response_of}
 use Rattle.xa_server.proofs.GrowthLemmas.{stays}
 use Rattle.xa_server.proofs.ValidLemmas.{found_right}
 use Rattle.xa_server.proofs.WorkLemmas.{domain_of_revision}
@@ -161,7 +162,7 @@ noted key given body timeless old new is = subst (λ (g : Option Key). IsNoted g
   by_size : (small : Bool) → nat_le (length key.body) 16_384 ≡ small → IsNoted (cond small (Some key) None) body timeless old new → IsWorkedOut key (Some (body, timeless)) old new
   by_size true e work = work
   by_size false e (more, held, unkept) =
-      (more, subst (λ (b : Bool). IsHeld b key body old new) (sym (ap (λ (b : Bool). timeless && (b && nat_le (length body) 16_384)) e ∙ and_false timeless (nat_le (length body) 16_384))) (held, unkept))
+      (more, subst (λ (b : Bool). IsBodyHeld b key body old new) (sym (ap (λ (b : Bool). timeless && (b && nat_le (length body) 16_384)) e ∙ and_false timeless (nat_le (length body) 16_384))) (held, unkept))
 
 -- the key is the one that was given, and what is held under it is found
 pub key_is : (key small : Key) → Some small ≡ key_within key → small ≡ key

@@ -6,7 +6,7 @@ use Rattle.xa_records.specs.DomainState.{DomainState}
 use Rattle.xa_records.specs.Kept.{Becomes, Domain, IsChanged, IsNextEpoch, IsNextNumber, Kept, state_of}
 use Rattle.xa_records.proofs.FinMapLemmas.{different, here_or_elsewhere}
 use Rattle.xa_records.proofs.OrderLemmas.{bytes_exact, bytes_total}
-use Rattle.xa_server.specs.Growth.{GoesOn, Grows}
+use Rattle.xa_server.specs.Growth.{HasGoneOn, HasGrown}
 use Rattle.xa_server.specs.Handling.{Answers}
 use Rattle.xa_server.specs.Machine.{Answer}
 
@@ -16,23 +16,23 @@ nothing d e = cc
 one_value : (a b : Domain) → Some a ≡ Some b → a ≡ b
 one_value a b e = cc
 
-same_goes_on : (domain : Domain) → GoesOn domain domain
+same_goes_on : (domain : Domain) → HasGoneOn domain domain
 same_goes_on domain = record { number = refl; epoch = omega arith; alike = λ _. record { documents = refl; root = refl; source = refl } }
 
 goes : (before : Domain) (state : DomainState) (epoch : ℕ) → IsNextEpoch before.state state before.epoch epoch
-    → GoesOn before (record { number = before.number; epoch = epoch; state = state })
+    → HasGoneOn before (record { number = before.number; epoch = epoch; state = state })
 goes before state epoch (inl (alike, same)) = record { number = refl; epoch = omega arith; alike = λ _. alike }
 goes before state epoch (inr (differs, (up, fits))) = record { number = refl; epoch = omega arith; alike = λ same. absurd (omega arith) }
 
 -- a domain of the changed name is new, or has gone on
 went : (next after : ℕ) (old : Option Domain) (state : Option DomainState) (new : Option Domain) (d : Domain) → Becomes next old state new → new ≡ Some d
-    → (next ≤ d.number) ⊎ ((before : Domain) × (old ≡ Some before) × GoesOn before d)
+    → (next ≤ d.number) ⊎ ((before : Domain) × (old ≡ Some before) × HasGoneOn before d)
 went next after None None new d becomes there = absurd (nothing d (sym becomes ∙ there))
 went next after (Some before) None new d becomes there = absurd (nothing d (sym becomes ∙ there))
 went next after None (Some state) new d becomes there =
     let e : next ≡ d.number = ap (λ x. x.number) (one_value (record { number = next; epoch = 0; state = state }) d (sym becomes ∙ there)) in inl (omega arith)
 went next after (Some before) (Some state) new d (epoch, is, becomes) there =
-    inr (before, refl, subst (GoesOn before) (one_value (record { number = before.number; epoch = epoch; state = state }) d (sym becomes ∙ there)) (goes before state epoch is))
+    inr (before, refl, subst (HasGoneOn before) (one_value (record { number = before.number; epoch = epoch; state = state }) d (sym becomes ∙ there)) (goes before state epoch is))
 
 rises : (next : ℕ) (old : Option Domain) (state : Option DomainState) (after : ℕ) → IsNextNumber next old state after → next ≤ after
 rises next None None after is = omega arith
@@ -40,7 +40,7 @@ rises next None (Some state) after (up, fits) = omega arith
 rises next (Some domain) None after is = omega arith
 rises next (Some domain) (Some state) after is = omega arith
 
-pub grows : (old new : Kept) (name : List ℕ) (state : Option DomainState) → IsChanged old new name state → Grows old new
+pub grows : (old new : Kept) (name : List ℕ) (state : Option DomainState) → IsChanged old new name state → HasGrown old new
 grows old new name state changed = record {
   next = rises old.next (get old.domains name) state new.next changed.next;
   each = λ q d there. elim (here_or_elsewhere bytes_exact q name) [

@@ -13,7 +13,7 @@ use Rattle.xa_server.specs.Alone.{Event, is_owner, is_own, own_events, state_aft
 use Rattle.xa_server.specs.Crash.{IsStepMade}
 use Rattle.xa_server.specs.declared.replies.Reply.{Reply}
 use Rattle.xa_server.specs.declared.replies.Reply.TheVariants.{Sent, Refused}
-use Rattle.xa_server.specs.Interruption.{AreStatesAfter, GoesOn, IsInterrupted, KeepsAnswered, LeavesFirst, Serves, ServesAll}
+use Rattle.xa_server.specs.Interruption.{AreStatesAfter, IsInterrupted, KeepsAnswered, LeavesFirst, Serves, ServesAll, StaysSound}
 use Rattle.xa_server.specs.Isolation.{answered_events}
 use Rattle.xa_server.specs.Machine.{step}
 use Rattle.xa_server.specs.Owner.{owner}
@@ -98,7 +98,7 @@ module _ {R : Type 0} (custody : R → Custody) (settled : (s : R) → (custody 
   clean_before old new [] (reply ∷ replies) all clean = absurd all
   clean_before old new (event ∷ events) [] all clean = absurd all
 
-  goes_on : (old new : Serving R) (event : Event) (reply : Reply) → Serves custody old new event reply → GoesOn custody new reply → (custody new.records).clean → (custody old.records).sound
+  goes_on : (old new : Serving R) (event : Event) (reply : Reply) → Serves custody old new event reply → StaysSound custody new reply → (custody new.records).clean → (custody old.records).sound
       → (custody new.records).sound
   goes_on old new event (Sent bytes) serves on clean sound = serves.stays clean sound
   goes_on old new event (Refused failure) serves on clean sound = on

@@ -16,7 +16,8 @@ use Rattle.xa_records.specs.Keyed.{KeepsDocuments, key_if, key_in}
 use Rattle.xa_records.specs.Readings.{active_text, active_texts, view_of, view_of_state}
 use Rattle.xa_records.proofs.FinMapLemmas.{all_entries}
 use Rattle.xa_records.proofs.OrderLemmas.{keys_total}
-use Rattle.xa_server.specs.View.{AreKeyed, active_by_key, active_document, active_if}
+use Rattle.xa_server.specs.View.{active_document, active_if}
+use Rattle.xa_server.specs.Viewing.{AreKeyed, active_by_key}
 
 -- ---- what texts are
 

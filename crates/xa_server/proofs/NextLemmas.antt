@@ -10,6 +10,7 @@ use Rattle.xa_http.specs.Messages.{IsLook, IsNext}
 use Rattle.xa_http.specs.Stream.{Stream}
 use Rattle.xa_http.proofs.LawLemmas.{answers_messages}
 use Rattle.xa_records.specs.Keeper.{Custody}
+use Rattle.xa_server.specs.Answering.{AnswersIn, AnswersNext, IsFaultGiven, IsHandedOn}
 use Rattle.xa_server.specs.Crash.{IfSent}
 use Rattle.xa_server.specs.declared.event.Answer.{Answer}
 use Rattle.xa_server.specs.declared.front_error.FrontError.{FrontError}
@@ -17,7 +18,7 @@ use Rattle.xa_server.specs.declared.front_error.FrontError.TheVariants.{Memory, 
 use Rattle.xa_server.specs.declared.lines.Conn.{Conn}
 use Rattle.xa_server.specs.declared.replies.Reply.{Reply}
 use Rattle.xa_server.specs.Front.{FrontState, ServerState}
-use Rattle.xa_server.specs.Fronting.{Answers, AnswersIn, AnswersNext, CountsAnswer, IfAnswerSent, IsFaultGiven, IsHandedOn, TakesNext}
+use Rattle.xa_server.specs.Fronting.{AnswersLine, CountsAnswer, IfAnswerSent, TakesNext}
 use Rattle.xa_server.specs.Lines.{Lines, line_at, with_line}
 use Rattle.xa_server.specs.Served.{CountsReply}
 use Rattle.xa_server.specs.World.{World}
@@ -73,7 +74,7 @@ put_same conn old new line after at put same =
 -- what was answered to a line is what its connection is answered
 pub answered : (conn : Conn) (moment : ℤ) (old new : FrontState) (line after : Option Stream) (result : Result (Option Answer) FrontError)
     → line ≡ line_at conn old.lines → new.lines ≡ with_line conn after old.lines → AnswersIn moment old.server new.server line after result
-    → Answers conn moment old new result
+    → AnswersLine conn moment old new result
 answered conn moment old new line after (Ok answer) at put (stream, rest, there, (given, is, gives), left) =
     (Some given, (stream, rest, sym at ∙ there, is, gives, put ∙ ap (λ l. with_line conn l old.lines) left))
 answered conn moment old new line after (Err Memory) at put (stream, there, on, same, still) =

@@ -13,9 +13,9 @@ use Rattle.xa_shelf.proofs.EntryLemmas.{all_promoted, all_removed, all_taken, va
 use Rattle.xa_server.specs.declared.revision.Revision.{Revision}
 use Rattle.xa_server.specs.declared.ready.Ready.{Ready}
 use Rattle.xa_server.specs.Gates.{revision_by, revision_of}
-use Rattle.xa_server.specs.Growth.{Grows}
+use Rattle.xa_server.specs.Growth.{HasGrown}
 use Rattle.xa_server.specs.Asking.{view_told}
-use Rattle.xa_server.specs.Standing.{Stands}
+use Rattle.xa_server.specs.Standing.{StandsUnder}
 use Rattle.xa_server.specs.Stock.{AreReady, IsReady}
 use Rattle.xa_server.specs.View.{view_of}
 use Rattle.xa_server.specs.Views.{Room, added, bytes_of_tree, bytes_of_view, fitting, in_front, touched, view_ready, with_view, without}
@@ -31,7 +31,7 @@ alike_viewed : (view : Viewed) (a b : DomainState) → DecidesAlike a b → IsVi
 alike_viewed view a b alike is = let same : view_of b ≡ view_of a = rw (alike.documents, alike.root, alike.source) refl in same ∙ is
 
 -- as domains go on
-pub ready_grown : (old new : Kept) → Grows old new → (views : List (ℕ × Ready)) → AreReady old views → AreReady new views
+pub ready_grown : (old new : Kept) → HasGrown old new → (views : List (ℕ × Ready)) → AreReady old views → AreReady new views
 ready_grown old new grows views ready =
     all_implied (IsReady old) (IsReady new) (λ entry. stands_on (IsViewOf entry.1.view) (alike_viewed entry.1.view) old new grows entry.0 entry.1.revision.epoch) views ready
 
@@ -39,18 +39,18 @@ ready_grown old new grows views ready =
 
 -- it stands under its number, and is of its epoch
 found_entry : (kept : Kept) (views : List (ℕ × Ready)) (number epoch : ℕ) (view : Viewed) → AreReady kept views → view_ready number epoch views ≡ Some view
-    → Stands kept number epoch (IsViewOf view)
+    → StandsUnder kept number epoch (IsViewOf view)
 found_entry kept views number epoch view ready found = by_lookup (lookup (nat_eq number) views) refl where
   one_view : (a b : Viewed) → Some a ≡ Some b → a ≡ b
   one_view a b e = cc
 
-  by_epoch : (entry : Ready) (same : Bool) → nat_eq entry.revision.epoch epoch ≡ same → IsReady kept (number, entry) → cond same (Some entry.view) None ≡ Some view → Stands kept number epoch (IsViewOf view)
+  by_epoch : (entry : Ready) (same : Bool) → nat_eq entry.revision.epoch epoch ≡ same → IsReady kept (number, entry) → cond same (Some entry.view) None ≡ Some view → StandsUnder kept number epoch (IsViewOf view)
   by_epoch entry false e stands is = absurd cc
   by_epoch entry true e stands is =
-      subst (λ at. Stands kept number at (IsViewOf view)) (eqb-true entry.revision.epoch epoch e)
-      (subst (λ v. Stands kept number entry.revision.epoch (IsViewOf v)) (one_view entry.view view is) stands)
+      subst (λ at. StandsUnder kept number at (IsViewOf view)) (eqb-true entry.revision.epoch epoch e)
+      (subst (λ v. StandsUnder kept number entry.revision.epoch (IsViewOf v)) (one_view entry.view view is) stands)
 
-  by_lookup : (there : Option Ready) → lookup (nat_eq number) views ≡ there → Stands kept number epoch (IsViewOf view)
+  by_lookup : (there : Option Ready) → lookup (nat_eq number) views ≡ there → StandsUnder kept number epoch (IsViewOf view)
   by_lookup None e = let none : None ≡ Some view = rw e at found in absurd cc
   by_lookup (Some entry) e =
       let on = value_found (IsReady kept) (nat_eq number) views entry ready e in
@@ -79,8 +79,8 @@ made_ready kept name revision ready numbered opens told is = by_gate (domain_of_
       let holds = told_view d.state ready.view (rw there at told) in
       let stands = made_stands (IsViewOf ready.view) kept name d numbered there holds in
       let same : revision_by (gate_of_domain d) ≡ ready.revision = its ∙ sym is in
-      subst (λ n. Stands kept n ready.revision.epoch (IsViewOf ready.view)) (ap (λ o. o.number) same)
-      (subst (λ e. Stands kept d.number e (IsViewOf ready.view)) (ap (λ o. o.epoch) same) stands)
+      subst (λ n. StandsUnder kept n ready.revision.epoch (IsViewOf ready.view)) (ap (λ o. o.number) same)
+      (subst (λ e. StandsUnder kept d.number e (IsViewOf ready.view)) (ap (λ o. o.epoch) same) stands)
 
 -- ---- what is kept after a use, and after a view was kept
 

@@ -15,40 +15,40 @@ use Rattle.xa_server.specs.declared.lines.Conn.{Conn}
 use Rattle.xa_server.specs.declared.replies.Reply.{Reply}
 use Rattle.xa_server.specs.declared.replies.Reply.TheVariants.{Refused, Sent}
 use Rattle.xa_server.specs.Driven.{HaveSaid, goes_on_after, known}
-use Rattle.xa_server.specs.Driving.{AnswersOne, IsAnsweredAt, IsAsked, IsSentAs}
+use Rattle.xa_server.specs.Driving.{AnswersOne, IsAnsweredAt, IsAskedAfter, IsSentAs}
 use Rattle.xa_server.specs.Front.{FrontState, IsAnswered}
 use Rattle.xa_server.specs.Transfers.{Grows, WriteEnd}
 use Rattle.xa_server.proofs.TransferLemmas.{grows_none}
 
-pub asked_so : (goes_on shut : Bool) (said saying : Option (List Bool)) → Grows said saying (goes_on ∷ []) → shut ≡ not goes_on → IsAsked true (Refused Store) shut said saying
-asked_so true shut said saying grows same = subst (λ (b : Bool). IsAsked true (Refused Store) b said saying) (sym same) grows
-asked_so false shut said saying grows same = subst (λ (b : Bool). IsAsked true (Refused Store) b said saying) (sym same) grows
+pub asked_so : (goes_on shut : Bool) (said saying : Option (List Bool)) → Grows said saying (goes_on ∷ []) → shut ≡ not goes_on → IsAskedAfter true (Refused Store) shut said saying
+asked_so true shut said saying grows same = subst (λ (b : Bool). IsAskedAfter true (Refused Store) b said saying) (sym same) grows
+asked_so false shut said saying grows same = subst (λ (b : Bool). IsAskedAfter true (Refused Store) b said saying) (sym same) grows
 
 says_same : (said saying : Option (List Bool)) → saying ≡ said → Grows said saying []
 says_same said saying same = subst (λ (z : Option (List Bool)). Grows said z []) (sym same) (grows_none said)
 
 -- its keeper can go on
-pub asked_on : (reply : Reply) (said saying : Option (List Bool)) → IsAsked true reply false said saying → Grows said saying (goes_on_after (reply ∷ []))
+pub asked_on : (reply : Reply) (said saying : Option (List Bool)) → IsAskedAfter true reply false said saying → Grows said saying (goes_on_after (reply ∷ []))
 asked_on (Refused Store) said saying asked = asked
 asked_on (Refused Memory) said saying asked = says_same said saying asked.1
 asked_on (Sent bytes) said saying asked = says_same said saying asked.1
 
 -- or can't
-pub asked_shut : (reply : Reply) (said saying : Option (List Bool)) → IsAsked true reply true said saying → (reply ≡ Refused Store) × Grows said saying (false ∷ [])
+pub asked_shut : (reply : Reply) (said saying : Option (List Bool)) → IsAskedAfter true reply true said saying → (reply ≡ Refused Store) × Grows said saying (false ∷ [])
 asked_shut (Refused Store) said saying asked = (refl, asked)
 asked_shut (Refused Memory) said saying asked = absurd (false≢true (sym asked.0))
 asked_shut (Sent bytes) said saying asked = absurd (false≢true (sym asked.0))
 
 -- it isn't asked after a write that failed
-pub unasked : (reply : Reply) (shut : Bool) (said saying : Option (List Bool)) → IsAsked false reply shut said saying → Grows said saying []
+pub unasked : (reply : Reply) (shut : Bool) (said saying : Option (List Bool)) → IsAskedAfter false reply shut said saying → Grows said saying []
 unasked reply shut said saying asked = says_same said saying asked.1
 
 -- nor after a message that wasn't refused
-pub asked_none : (whole shut : Bool) (reply : Reply) (bytes : List ℕ) (said saying : Option (List Bool)) → reply ≡ Sent bytes → IsAsked whole reply shut said saying
+pub asked_none : (whole shut : Bool) (reply : Reply) (bytes : List ℕ) (said saying : Option (List Bool)) → reply ≡ Sent bytes → IsAskedAfter whole reply shut said saying
     → (shut ≡ false) × Grows said saying []
-asked_none whole shut reply bytes said saying same asked = by_write whole (subst (λ (r : Reply). IsAsked whole r shut said saying) same asked)
+asked_none whole shut reply bytes said saying same asked = by_write whole (subst (λ (r : Reply). IsAskedAfter whole r shut said saying) same asked)
   where
-    by_write : (w : Bool) → IsAsked w (Sent bytes) shut said saying → (shut ≡ false) × Grows said saying []
+    by_write : (w : Bool) → IsAskedAfter w (Sent bytes) shut said saying → (shut ≡ false) × Grows said saying []
     by_write true is = (is.0, says_same said saying is.1)
     by_write false is = (is.0, says_same said saying is.1)
 

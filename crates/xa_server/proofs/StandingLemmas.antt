@@ -5,8 +5,8 @@ use Rattle.std.specs.FinMap.{get}
 use Rattle.std.specs.List.{AllByRecursion}
 use Rattle.xa_records.specs.DomainState.{DomainState}
 use Rattle.xa_records.specs.Kept.{DecidesAlike, Domain, IsNumbered, Kept}
-use Rattle.xa_server.specs.Growth.{GoesOn, Grows}
-use Rattle.xa_server.specs.Standing.{Stands, StandsFor}
+use Rattle.xa_server.specs.Growth.{HasGoneOn, HasGrown}
+use Rattle.xa_server.specs.Standing.{StandsFor, StandsUnder}
 
 pub all_implied : {X : Type 0} (P Q : X → Type 0) → ((x : X) → P x → Q x) → (xs : List X) → AllByRecursion P xs → AllByRecursion Q xs
 all_implied P Q implies [] given = tt
@@ -17,7 +17,7 @@ one_value a b e = cc
 
 module _ (Holds : DomainState → Type 0) where
   module _ (alike : (a b : DomainState) → DecidesAlike a b → Holds a → Holds b) where
-    stands_for : (epoch : ℕ) (before after : Domain) → GoesOn before after → StandsFor epoch Holds before → StandsFor epoch Holds after
+    stands_for : (epoch : ℕ) (before after : Domain) → HasGoneOn before after → StandsFor epoch Holds before → StandsFor epoch Holds after
     stands_for epoch before after on stands =
         let e = on.epoch in let r = stands.0 in (
           omega arith,
@@ -25,7 +25,7 @@ module _ (Holds : DomainState → Type 0) where
         )
 
     -- what holds of states that decide alike stands once domains have gone on
-    pub stands_on : (old new : Kept) → Grows old new → (number epoch : ℕ) → Stands old number epoch Holds → Stands new number epoch Holds
+    pub stands_on : (old new : Kept) → HasGrown old new → (number epoch : ℕ) → StandsUnder old number epoch Holds → StandsUnder new number epoch Holds
     stands_on old new grows number epoch stands =
         let low = stands.0 in let next = grows.next in (
           omega arith,
@@ -36,11 +36,11 @@ module _ (Holds : DomainState → Type 0) where
         )
 
   -- what stands holds of the domain of that number and epoch
-  pub found_holds : (kept : Kept) (name : List ℕ) (domain : Domain) → get kept.domains name ≡ Some domain → Stands kept domain.number domain.epoch Holds → Holds domain.state
+  pub found_holds : (kept : Kept) (name : List ℕ) (domain : Domain) → get kept.domains name ≡ Some domain → StandsUnder kept domain.number domain.epoch Holds → Holds domain.state
   found_holds kept name domain there stands = (stands.1 name domain there refl).1 refl
 
   -- what holds of a domain stands by its number and epoch
-  pub made_stands : (kept : Kept) (name : List ℕ) (domain : Domain) → IsNumbered kept → get kept.domains name ≡ Some domain → Holds domain.state → Stands kept domain.number domain.epoch Holds
+  pub made_stands : (kept : Kept) (name : List ℕ) (domain : Domain) → IsNumbered kept → get kept.domains name ≡ Some domain → Holds domain.state → StandsUnder kept domain.number domain.epoch Holds
   made_stands kept name domain numbered there holds = (
     numbered.below name domain there,
     λ other d is same.

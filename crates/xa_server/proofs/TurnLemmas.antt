@@ -24,7 +24,7 @@ use Rattle.xa_server.specs.declared.front_error.FrontError.TheVariants as error
 use Rattle.xa_server.specs.declared.lines.Conn.{Conn}
 use Rattle.xa_server.specs.declared.replies.Reply.{Reply}
 use Rattle.xa_server.specs.Driven.{AreWritten, HadMemory, HasTold, goes_on_after, known}
-use Rattle.xa_server.specs.Driving.{IsAnsweredAt, IsAnsweredNow, IsAsked, IsSentAs, IsTurn, turn_after}
+use Rattle.xa_server.specs.Driving.{IsAnsweredAt, IsAnsweredNow, IsAskedAfter, IsSentAs, IsTurn, turn_after}
 use Rattle.xa_server.specs.ErrorCode.{code_of_session_fault, error_reply}
 use Rattle.xa_server.specs.Front.{FrontState, IsGiven}
 use Rattle.xa_server.specs.Lines.{IsLooked, IsOpen, with_line}
@@ -60,7 +60,7 @@ message_sent : (whole shut last : Bool) (turn : Turn) (conn : Conn) (old new : F
     (o p : Option (List Bool)) → IsFirst s message after → IsServed old.server.world new.server.world moment message reply
     → IsWork old.server.world.kept moment message reply old.server.tally new.server.tally → new.lines ≡ with_line conn (Some after) old.lines
     → IsOpen conn old.lines s → last ≡ after.ended → Grows f h (true ∷ true ∷ []) → Grows k j (Some moment ∷ [])
-    → IsWritten whole (bytes_of reply) c d w v → IsAsked whole reply shut o p → turn ≡ turn_after whole shut last
+    → IsWritten whole (bytes_of reply) c d w v → IsAskedAfter whole reply shut o p → turn ≡ turn_after whole shut last
     → IsTurn turn conn old new s (known f l r c w k o) (known h l r d v j p)
 message_sent false shut last turn conn old new s after moment message reply f h l r c d w v k j o p first served work lines opens ended finds tells sent asked same =
     subst (λ (t : Turn). IsTurn t conn old new s (known f l r c w k o) (known h l r d v j p)) (sym same)

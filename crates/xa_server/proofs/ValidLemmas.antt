@@ -15,12 +15,12 @@ use Rattle.xa_server.specs.declared.revision.Revision.{Revision}
 use Rattle.xa_server.specs.declared.unanswered.Unanswered.{Unanswered}
 use Rattle.xa_server.specs.declared.unanswered.Unanswered.TheVariants.{Code, Failed}
 use Rattle.xa_server.specs.Gates.{revision_by, revision_of}
-use Rattle.xa_server.specs.Growth.{Grows}
+use Rattle.xa_server.specs.Growth.{HasGrown}
 use Rattle.xa_server.specs.Asking.{IsFresh, IsLookedUp, key_of_revision, worked_in}
 use Rattle.xa_server.specs.Tally.{Tally}
 use Rattle.xa_server.specs.ValidCache.{AreValid, GivesBody, IsValid, response_body_at}
 use Rattle.xa_server.specs.View.{view_of}
-use Rattle.xa_server.specs.Work.{IsHeld, IsWorkedOut, key_in, response_of, worked_out}
+use Rattle.xa_server.specs.Work.{IsBodyHeld, IsWorkedOut, key_in, response_of, worked_out}
 use Rattle.xa_server.proofs.StandingLemmas.{all_implied, found_holds, made_stands, stands_on}
 use Rattle.xa_server.proofs.WorkLemmas.{domain_of_revision}
 
@@ -32,7 +32,7 @@ unfolding response_body_at
 alike_gives entry a b alike gives =
     λ moment. let same : response_body_at b entry.0.body moment ≡ response_body_at a entry.0.body moment = rw (alike.documents, alike.root, alike.source) refl in same ∙ gives moment
 
-pub valid_grown : (old new : Kept) → Grows old new → (held : List (Key × List ℕ)) → AreValid old held → AreValid new held
+pub valid_grown : (old new : Kept) → HasGrown old new → (held : List (Key × List ℕ)) → AreValid old held → AreValid new held
 valid_grown old new grows held valid =
     all_implied (IsValid old) (IsValid new) (λ entry. stands_on (GivesBody entry) (alike_gives entry) old new grows entry.0.number entry.0.epoch) held valid
 
@@ -77,7 +77,7 @@ worked_valid kept name domain body decided moment numbered there worked =
 
 module _ (kept' : Kept) (numbered : IsNumbered kept') (name : List ℕ) (domain' : Domain) (there : get kept'.domains name ≡ Some domain') (body : List ℕ) (moment : ℤ) where
   valid_held : (decided : List ℕ) (timeless holds : Bool) → (holds ≡ true → timeless ≡ true) → (old new : Tally) → worked_out domain'.state body moment ≡ Some (decided, timeless)
-      → IsHeld holds (key_in domain' body) decided old new → AreValid kept' old.held → AreValid kept' new.held
+      → IsBodyHeld holds (key_in domain' body) decided old new → AreValid kept' old.held → AreValid kept' new.held
   valid_held decided timeless false so old new worked (held, unkept) valid = subst (AreValid kept') (sym held) valid
   valid_held decided timeless true so old new worked (inr (held, unkept)) valid = subst (AreValid kept') (sym held) valid
   valid_held decided timeless true so old new worked (inl (held, unkept)) valid =

@@ -63,6 +63,12 @@ known found left reads contents writes told said =
       said = said;
     }
 
+-- the same, by what a front and a writer say of their calls and bytes, and with what is known of a reader and a clock
+abbrev pub known_by : {F W : Type 0} → (F → Option (List Bool)) → (F → Option (List Bool)) → (W → Option (List ℕ))
+    → (W → Option (List WriteEnd)) → F → W → Option (List ℕ) → Option (List ReadEnd) → Option (List (Option ℤ)) → Known
+known_by had_memory said contents writes front writer left reads told =
+    known (had_memory front) left reads (contents writer) (writes writer) told (said front)
+
 -- these calls came to what was known, and no others
 pub record AreMade (calls : Calls) (before now : Known) : Type 0 where
   pub memory : Grows before.memory now.memory calls.memory

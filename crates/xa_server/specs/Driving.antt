@@ -81,17 +81,17 @@ turn_after true false false = Answered
 
 -- what the front is asked after a reply that was written whole, and says: whether its keeper can go on, where the
 -- message was refused for want of storage
-abbrev pub IsAsked : Bool → Reply → Bool → Option (List Bool) → Option (List Bool) → Type 0
-IsAsked true (Refused Store) true said saying = Grows said saying (false ∷ [])
-IsAsked true (Refused Store) false said saying = Grows said saying (true ∷ [])
-IsAsked _ reply shut said saying = (shut ≡ false) × (saying ≡ said)
+abbrev pub IsAskedAfter : Bool → Reply → Bool → Option (List Bool) → Option (List Bool) → Type 0
+IsAskedAfter true (Refused Store) true said saying = Grows said saying (false ∷ [])
+IsAskedAfter true (Refused Store) false said saying = Grows said saying (true ∷ [])
+IsAskedAfter _ reply shut said saying = (shut ≡ false) × (saying ≡ said)
 
 -- an answer was written, or a part of it; without one there is no turn yet
 abbrev pub IsSentAs : Turn → Option Answer → Option (List ℕ) → Option (List ℕ) → Option (List WriteEnd)
     → Option (List WriteEnd) → Option (List Bool) → Option (List Bool) → Type 0
 IsSentAs turn (Some answer) before now written writing said saying =
     (whole : Bool) × (shut : Bool) × IsWritten whole (bytes_of answer.reply) before now written writing
-    × IsAsked whole answer.reply shut said saying
+    × IsAskedAfter whole answer.reply shut said saying
     × (turn ≡ turn_after whole shut answer.last)
 IsSentAs turn None before now written writing said saying =
     (turn ≡ Waits) × (now ≡ before) × (writing ≡ written) × (saying ≡ said)

@@ -1,12 +1,10 @@
 -- The next answer of one connection: words that contracts of a front's calls cite beside its definition.
 use Rattle.std.specs.Prelude.{◌≡◌, ◌⊎◌, ℕ, ℤ, true, false, List, [], ◌∷◌, Option, Some, None, Result, Ok, Err}
-use Rattle.xa_http.specs.declared.fault.SessionFault.{SessionFault}
 use Rattle.xa_http.specs.declared.message.Message.{Message}
 use Rattle.xa_http.specs.declared.session.Next.{Next}
 use Rattle.xa_http.specs.declared.session.Next.TheVariants as next
 use Rattle.xa_http.specs.Messages.{IsFirst, IsNext}
 use Rattle.xa_http.specs.Stream.{Stream}
-use Rattle.xa_records.specs.Keeper.{Custody}
 use Rattle.xa_records.specs.Kept.{Kept}
 use Rattle.xa_server.specs.Crash.{IfSent, IsStepMade}
 use Rattle.xa_server.specs.declared.event.Answer.{Answer}
@@ -19,33 +17,15 @@ use Rattle.xa_server.specs.declared.front_error.FrontError.TheVariants.{Memory, 
 use Rattle.xa_server.specs.declared.lines.Conn.{Conn}
 use Rattle.xa_server.specs.declared.replies.Reply.TheVariants.{Sent}
 use Rattle.xa_server.specs.ErrorCode.{code_of_session_fault, error_reply}
-use Rattle.xa_server.specs.Front.{Does, FrontState, IsAnswered, IsGiven, ServerState}
+use Rattle.xa_server.specs.Front.{Does, FrontState, IsAnswered}
 use Rattle.xa_server.specs.Lines.{IsClosed, IsHeld, IsOpen, IsOpened, Lines, line_at, with_line}
 use Rattle.xa_server.specs.Owner.{owner}
 use Rattle.xa_server.specs.Served.{CountsReply}
 use Rattle.xa_server.specs.World.{World}
 
 -- the next of a connection's stream was answered, or nothing was done
-abbrev pub Answers : Conn → ℤ → FrontState → FrontState → Result (Option Answer) FrontError → Type 0
-Answers conn moment old new result = (given : Option Next) × IsAnswered conn moment old given result new
-
--- the next of a stream was answered; without memory nothing was done
-abbrev pub AnswersNext : ℤ → ServerState → ServerState → Stream → Stream → Result (Option Answer) FrontError → Type 0
-AnswersNext moment old new stream after (Ok answer) =
-    (given : Next) × IsNext stream given after × IsGiven moment old given after answer new
-AnswersNext moment old new stream after (Err error) =
-    (error ≡ Memory) × (stream.ended ≡ false) × (after ≡ stream) × (new ≡ old)
-
--- the next of a stream that may not be there was answered, or nothing was done
-abbrev pub AnswersIn : ℤ → ServerState → ServerState → Option Stream → Option Stream → Result (Option Answer) FrontError
-    → Type 0
-AnswersIn moment old new line after (Ok answer) =
-    (stream rest : Stream) × (line ≡ Some stream) × AnswersNext moment old new stream rest (Ok answer)
-    × (after ≡ Some rest)
-AnswersIn moment old new line after (Err NoSuchConnection) = (line ≡ None) × (after ≡ line) × (new ≡ old)
-AnswersIn moment old new line after (Err Memory) =
-    (stream : Stream) × (line ≡ Some stream) × (stream.ended ≡ false) × (after ≡ line) × (new ≡ old)
-AnswersIn moment old new line after (Err _) = ⊥
+abbrev pub AnswersLine : Conn → ℤ → FrontState → FrontState → Result (Option Answer) FrontError → Type 0
+AnswersLine conn moment old new result = (given : Option Next) × IsAnswered conn moment old given result new
 
 -- what a session's next is answered, where the reply to a message may be any
 abbrev pub IsNextGiven : Next → Stream → Option Answer → Type 0
@@ -60,14 +40,6 @@ IsNextGiven _ after _ = ⊥
 abbrev pub TakesNext : Stream → Stream → Result (Option Answer) FrontError → Type 0
 TakesNext stream after (Ok answer) = (given : Next) × IsNext stream given after × IsNextGiven given after answer
 TakesNext stream after (Err error) = (error ≡ Memory) × (stream.ended ≡ false) × (after ≡ stream)
-
--- and of a stream that may not be there
-abbrev pub TakesIn : Option Stream → Option Stream → Result (Option Answer) FrontError → Type 0
-TakesIn old new (Ok answer) =
-    (stream after : Stream) × (old ≡ Some stream) × TakesNext stream after (Ok answer) × (new ≡ Some after)
-TakesIn old new (Err NoSuchConnection) = (old ≡ None) × (new ≡ old)
-TakesIn old new (Err Memory) = (stream : Stream) × (old ≡ Some stream) × (stream.ended ≡ false) × (new ≡ old)
-TakesIn old new (Err _) = ⊥
 
 -- and of the connections
 abbrev pub TakesLine : Conn → Lines → Lines → Result (Option Answer) FrontError → Type 0
@@ -97,14 +69,6 @@ PlaysLines (event ∷ events) (outcome ∷ outcomes) old new =
     (mid : Lines) × DoesLines event old outcome mid × PlaysLines events outcomes mid new
 PlaysLines _ _ old new = ⊥
 
--- the fault by which a stream ends was answered; without memory nothing was done
-abbrev pub IsFaultGiven : SessionFault → Stream → Stream → Result (Option Answer) FrontError → Type 0
-IsFaultGiven fault stream after (Ok (Some answer)) =
-    IsNext stream (next.Fault fault) after × (answer.reply ≡ Sent (error_reply (code_of_session_fault fault)))
-    × (answer.last ≡ true)
-IsFaultGiven fault stream after (Ok None) = ⊥
-IsFaultGiven fault stream after (Err error) = (error ≡ Memory) × (after ≡ stream)
-
 -- unless a message was refused
 abbrev pub IfAnswerSent : Result (Option Answer) FrontError → Type 0 → Type 0
 IfAnswerSent (Ok (Some answer)) claim = IfSent answer.reply claim
@@ -122,22 +86,10 @@ IsFirstOf (Some stream) message = (rest : Stream) × IsFirst stream message rest
 
 -- what a crash after an answer may leave: what it might have left before, or all with the step made that the first
 -- message of the stream makes
-abbrev pub LeavesAnswer : (Kept → Type 0) → (Kept → Type 0) → World → ℤ → Option Stream → Type 0
-LeavesAnswer before after old moment line =
+abbrev pub LeavesNext : (Kept → Type 0) → (Kept → Type 0) → World → ℤ → Option Stream → Type 0
+LeavesNext before after old moment line =
     (left : Kept) → after left
     → before left ⊎ ((message : Message) × IsFirstOf line message × IsStepMade old left moment message (owner message))
-
--- what is told of the keeper after the next of a stream that may not be there was answered: word of private functions
-pub record IsHandedOn (old new : Custody) (before : World) (moment : ℤ) (line : Option Stream)
-    (result : Result (Option Answer) FrontError) : Type 0 where
-  -- where it is sound it was, and where the disk has given back what was written it had before
-  pub sound : new.sound → old.sound
-  pub clean : new.clean → old.clean
-  -- and there it stays sound, unless a message was refused, and this a crash may leave
-  pub stays : new.clean → old.sound → IfAnswerSent result new.sound
-  pub crash : new.clean → old.sound → LeavesAnswer old.may_leave new.may_leave before moment line
-  -- its calls that failed for want of storage are counted
-  pub counts : CountsAnswer old.faults new.faults result
 
 -- unless an event cut off a message that was refused
 abbrev pub IfOutcomeSent : Outcome → Type 0 → Type 0

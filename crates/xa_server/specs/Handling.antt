@@ -78,6 +78,17 @@ AnswersMessage received old new None result =
 AnswersMessage received old new (Some name) result =
     Answers old new name result (answer received.operator (state_of name old) received.message.now received.moment)
 
+-- the same, where all that the server shares stood before and the keeper is sound after
+abbrev pub TellsRoute : Custody → Custody → Received → Stock → Option (List ℕ) → Route → Result (List ℕ) Unanswered
+    → Type 0
+TellsRoute old new received before name route result =
+    AllStand old.kept before → new.sound → AnswersRoute received old.kept new.kept name route result
+
+abbrev pub TellsMessage : Custody → Custody → Received → Stock → Result (List ℕ) Unanswered → Type 0
+TellsMessage old new received before result =
+    AllStand old.kept before → new.sound
+    → AnswersMessage received old.kept new.kept (owner received.message.now) result
+
 -- the keeper has counted one more failure for want of storage, where that is why, and else none
 abbrev pub Counts : {X : Type 0} → ℕ → ℕ → Result X Unanswered → Type 0
 Counts old new (Ok x) = new ≡ old

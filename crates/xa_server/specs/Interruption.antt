@@ -25,15 +25,15 @@ module _ {R : Type 0} (custody : R → Custody) where
         → LeavesStep (custody old.records).may_leave (custody new.records).may_leave (world custody old) event.0 event.1
 
   -- after a refusal the keeper is sound still; after another reply it is by itself
-  abbrev pub GoesOn : Serving R → Reply → Type 0
-  GoesOn new (Sent bytes) = Unit {0}
-  GoesOn new (Refused failure) = (custody new.records).sound
+  abbrev pub StaysSound : Serving R → Reply → Type 0
+  StaysSound new (Sent bytes) = Unit {0}
+  StaysSound new (Refused failure) = (custody new.records).sound
 
   -- these messages were served one after another, and each time it went on
   abbrev pub ServesAll : Serving R → List Event → List Reply → Serving R → Type 0
   ServesAll old [] [] new = new ≡ old
   ServesAll old (event ∷ events) (reply ∷ replies) new =
-      (mid : Serving R) × Serves old mid event reply × GoesOn mid reply × ServesAll mid events replies new
+      (mid : Serving R) × Serves old mid event reply × StaysSound mid reply × ServesAll mid events replies new
   ServesAll old [] (_ ∷ _) new = ⊥
   ServesAll old (_ ∷ _) [] new = ⊥
 

@@ -21,12 +21,14 @@ pub mod Gates
 pub mod Stock
 pub mod Growth
 pub mod Unanswered
+pub mod Viewing
 pub mod Handling
 pub mod Asking
 pub mod Connection
 pub mod Lines
 pub mod Front
 pub mod Fronting
+pub mod Answering
 pub mod FrontLaws
 pub mod Transfers
 pub mod Sending

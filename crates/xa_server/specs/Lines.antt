@@ -59,18 +59,6 @@ IsHeld conn piece old (Err Memory) new =
     (stream : Stream) × IsOpen conn old stream × (length stream.held + length piece ≤ 1_048_576) × (new ≡ old)
 IsHeld conn piece old (Err TooManyConnections) new = ⊥
 
--- a stream takes a piece, whole or not at all, where there is one; word of a private function
-abbrev pub IsFed : Option Stream → List ℕ → Result (Unit {0}) FrontError → Option Stream → Type 0
-IsFed old piece (Ok _) new =
-    (stream : Stream) × (old ≡ Some stream) × (length stream.held + length piece ≤ 1_048_576)
-    × (new ≡ Some (fed stream piece))
-IsFed old piece (Err NoSuchConnection) new = (old ≡ None) × (new ≡ old)
-IsFed old piece (Err Full) new =
-    (stream : Stream) × (old ≡ Some stream) × (1_048_576 < length stream.held + length piece) × (new ≡ old)
-IsFed old piece (Err Memory) new =
-    (stream : Stream) × (old ≡ Some stream) × (length stream.held + length piece ≤ 1_048_576) × (new ≡ old)
-IsFed old piece (Err TooManyConnections) new = ⊥
-
 -- a connection is closed, and its bytes are gone
 abbrev pub IsClosed : Conn → Lines → Result (Unit {0}) FrontError → Lines → Type 0
 IsClosed conn old (Ok _) new = (stream : Stream) × IsOpen conn old stream × (new ≡ with_line conn None old)

@@ -9,8 +9,8 @@ abbrev pub StandsFor : ℕ → (DomainState → Type 0) → Domain → Type 0
 StandsFor epoch Holds domain = (epoch ≤ domain.epoch) × (epoch ≡ domain.epoch → Holds domain.state)
 
 -- the number was given to a domain, and where that domain is still there, this stands for it
-abbrev pub Stands : Kept → ℕ → ℕ → (DomainState → Type 0) → Type 0
-Stands kept number epoch Holds =
+abbrev pub StandsUnder : Kept → ℕ → ℕ → (DomainState → Type 0) → Type 0
+StandsUnder kept number epoch Holds =
     (number < kept.next)
     × ((name : List ℕ) (domain : Domain) → get kept.domains name ≡ Some domain → domain.number ≡ number
     → StandsFor epoch Holds domain)

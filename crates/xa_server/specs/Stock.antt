@@ -7,7 +7,7 @@ use Rattle.xa_records.specs.Kept.{Kept}
 use Rattle.xa_records.specs.Readings.{gate_of}
 use Rattle.xa_server.specs.declared.ready.Ready.{Ready}
 use Rattle.xa_server.specs.Gates.{used, with_gate, without_gate}
-use Rattle.xa_server.specs.Standing.{Stands}
+use Rattle.xa_server.specs.Standing.{StandsUnder}
 use Rattle.xa_server.specs.Tally.{Tally, nothing_held}
 use Rattle.xa_server.specs.ValidCache.{AreValid}
 use Rattle.xa_server.specs.View.{view_of}
@@ -29,7 +29,7 @@ empty_stock = record {
 
 -- the view is that of the domain of that number, wherever it is still there and of the view's epoch
 abbrev pub IsReady : Kept → ℕ × Ready → Type 0
-IsReady kept entry = Stands kept entry.0 entry.1.revision.epoch (λ state. view_of state ≡ entry.1.view)
+IsReady kept entry = StandsUnder kept entry.0 entry.1.revision.epoch (λ state. view_of state ≡ entry.1.view)
 
 abbrev pub AreReady : Kept → List (ℕ × Ready) → Type 0
 AreReady kept views = AllByRecursion (IsReady kept) views

@@ -5,7 +5,7 @@ use Rattle.xa_cache.specs.declared.key.Key.{Key}
 use Rattle.xa_decide.specs.Decision as decision
 use Rattle.xa_records.specs.DomainState.{DomainState}
 use Rattle.xa_records.specs.Kept.{Kept}
-use Rattle.xa_server.specs.Standing.{Stands}
+use Rattle.xa_server.specs.Standing.{StandsUnder}
 use Rattle.xa_server.specs.View.{view_of}
 
 -- the body of the response that a domain in that state gives to the body of a request at a moment, where that is JSON
@@ -18,7 +18,7 @@ GivesBody entry state = (moment : ℤ) → response_body_at state entry.0.body m
 
 -- the domain of the key's number does so, wherever it is still there and of the key's epoch
 abbrev pub IsValid : Kept → Key × List ℕ → Type 0
-IsValid kept entry = Stands kept entry.0.number entry.0.epoch (GivesBody entry)
+IsValid kept entry = StandsUnder kept entry.0.number entry.0.epoch (GivesBody entry)
 
 abbrev pub AreValid : Kept → List (Key × List ℕ) → Type 0
 AreValid kept held = AllByRecursion (IsValid kept) held

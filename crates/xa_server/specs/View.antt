@@ -1,16 +1,14 @@
 -- What decides in a domain, by what is kept of it.
-use Rattle.std.specs.Prelude.{◌≡◌, ℕ, List, [], Option, Some, None, Result, Ok, Err}
-use Rattle.std.specs.List.{AllByRecursion, filter_map}
+use Rattle.std.specs.Prelude.{ℕ, List, Option, Some, None, Result, Ok, Err}
+use Rattle.std.specs.List.{filter_map}
 use Rattle.xa_notation.specs.declared.document.Parsed.{Parsed}
 use Rattle.xa_notation.specs.declared.notation_error.NotationError.{NotationError}
 use Rattle.xa_notation.specs.Document.{document_of}
 use Rattle.xa_link.specs.declared.active.Active.{Active}
 use Rattle.xa_decide.specs.Decision.{Viewed, view_by}
-use Rattle.xa_decide.specs.Reading.{reading_for}
 use Rattle.xa_records.specs.declared.active_text.ActiveText.{ActiveText}
 use Rattle.xa_records.specs.declared.kept_view.KeptView.{KeptView}
 use Rattle.xa_records.specs.DomainState.{DomainState}
-use Rattle.xa_records.specs.Keyed.{key_in}
 use Rattle.xa_records.specs.Readings.{view_of_state}
 
 -- a document as references may resolve to it, with its text
@@ -29,24 +27,6 @@ active_of texts = filter_map (λ one. active_if one.text (document_of one.text))
 abbrev pub viewed : KeptView → Viewed
 viewed kept = view_by (active_of kept.texts) kept.root kept.source
 
--- how many bytes of the texts are read for that
-abbrev pub read_for : KeptView → ℕ
-read_for kept = reading_for (active_of kept.texts) kept.root
-
 -- what decides in a domain of that state
 abbrev pub view_of : DomainState → Viewed
 view_of domain = viewed (view_of_state domain)
-
--- what decides where nothing is kept
-abbrev pub nothing_viewed : Viewed
-nothing_viewed = view_by [] None []
-
--- ---- words that only private functions cite
-
--- a document as references may resolve to it, by the key under which it is kept
-abbrev pub active_by_key : ActiveText → Active
-active_by_key one = record { kind = one.key.kind; id = one.key.id; version = one.key.version; text = one.text }
-
--- each text is a document of its key
-abbrev pub AreKeyed : List ActiveText → Type 0
-AreKeyed texts = AllByRecursion (λ one. key_in one.text ≡ Some one.key) texts

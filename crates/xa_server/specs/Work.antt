@@ -71,18 +71,18 @@ abbrev pub looked_up : Key → Tally → Tally
 looked_up key tally = record tally { held = looked key tally.held }
 
 -- a body that is to be held is held, or is counted as not held
-abbrev pub IsHeld : Bool → Key → List ℕ → Tally → Tally → Type 0
-IsHeld true key body old new =
+abbrev pub IsBodyHeld : Bool → Key → List ℕ → Tally → Tally → Type 0
+IsBodyHeld true key body old new =
     ((new.held ≡ kept key body old.held) × (new.unkept ≡ old.unkept))
     ⊎ ((new.held ≡ old.held) × IsOneMore old.unkept new.unkept)
-IsHeld false key body old new = (new.held ≡ old.held) × (new.unkept ≡ old.unkept)
+IsBodyHeld false key body old new = (new.held ≡ old.held) × (new.unkept ≡ old.unkept)
 
 -- a decision was worked out: it is counted, and held where it is the same at every moment and neither body is too
 -- large. Of no JSON nothing is worked out
 abbrev pub IsWorkedOut : Key → Option (List ℕ × Bool) → Tally → Tally → Type 0
 IsWorkedOut key None old new = new ≡ old
 IsWorkedOut key (Some (body, timeless)) old new =
-    IsOneMore old.evaluations new.evaluations × IsHeld (timeless && fits key body) key body old new
+    IsOneMore old.evaluations new.evaluations × IsBodyHeld (timeless && fits key body) key body old new
 
 -- an ask by a body that is held, or isn't. One that is refused may have done as much, or nothing
 abbrev pub IsAskWork : Key → Option (List ℕ) → Option (List ℕ × Bool) → Reply → Tally → Tally → Type 0

@@ -15,7 +15,7 @@ ghost use Rattle.xa_server.specs.Asking.{reply_asked, response_asked, worked_ask
 ghost use Rattle.xa_server.specs.Handling.{Answers, OnlyReads, Tells};
 ghost use Rattle.xa_server.specs.Machine.{response_to, told};
 ghost use Rattle.xa_server.specs.Stock.{AllStand};
-ghost use Rattle.xa_server.specs.View.{AreKeyed, nothing_viewed};
+ghost use Rattle.xa_server.specs.Viewing.{AreKeyed, nothing_viewed};
 ghost use Rattle.xa_server.specs.Views.{added, bytes_of_tree, bytes_of_view};
 ghost use Rattle.xa_server.specs.Work.{body_held, response_of};
 

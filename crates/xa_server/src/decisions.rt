@@ -3,7 +3,7 @@ ghost use Rattle.std.specs.Prelude.{◌≡◌, true, option_map, IfOk};
 ghost use Rattle.xa_cache.specs.Bodies.{found};
 ghost use Rattle.xa_server.specs.Asking.{IsLookedUp, IsNoted, key_of_revision, key_within};
 ghost use Rattle.xa_server.specs.Tally.{nothing_held};
-ghost use Rattle.xa_server.specs.Work.{IsHeld};
+ghost use Rattle.xa_server.specs.Work.{IsBodyHeld};
 ghost use Rattle.xa_server.specs.Replies.{decision_reply};
 
 use crate::replies::decision_reply;
@@ -90,7 +90,7 @@ impl Decisions {
 
     /// Caches a decision, or counts that it couldn't.
     fn hold(&mut self, key: Key, body: Items<u8>)
-        ensures held { IsHeld true key body self.old self.new }
+        ensures held { IsBodyHeld true key body self.old self.new }
         ensures evaluations { self.new.evaluations ≡ self.old.evaluations }
     {
         if !self.cache.keep(key, body) {

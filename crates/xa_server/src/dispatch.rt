@@ -4,11 +4,10 @@ ghost use Rattle.std.specs.Prelude.{IsTrue};
 ghost use Rattle.xa_http.specs.declared.route.Route.TheVariants as to;
 ghost use Rattle.xa_records.specs.DomainName.{is_domain_name};
 ghost use Rattle.xa_server.specs.Asking.{SharesMessage, SharesRoute};
-ghost use Rattle.xa_server.specs.Handling.{AnswersMessage, AnswersRoute, ChangesRoute, HandlesChange};
-ghost use Rattle.xa_server.specs.Handling.{KeepsMessage, KeepsRoute, OnlyForgets, OnlyReads, domain_named};
+ghost use Rattle.xa_server.specs.Handling.{ChangesRoute, HandlesChange, KeepsMessage, KeepsRoute};
+ghost use Rattle.xa_server.specs.Handling.{OnlyForgets, OnlyReads, TellsMessage, TellsRoute, domain_named};
 ghost use Rattle.xa_server.specs.Machine.{by_document_command, by_domain_command, by_operator_command};
-ghost use Rattle.xa_server.specs.Owner.{name_if, owner};
-ghost use Rattle.xa_server.specs.Stock.{AllStand};
+ghost use Rattle.xa_server.specs.Owner.{name_if};
 
 use crate::admission::{admit, admit_ask, admit_operator};
 use crate::asks::{Ask, reply_to_ask};
@@ -117,9 +116,8 @@ fn decision_route<R: Records>(
     received: &Received<'_>,
     domain: Items<u8>,
 ) -> Result<Items<u8>, Unanswered>
-    ensures answers { AllStand (R.custody records.old).kept resources.old → (R.custody records.new).sound
-        → AnswersRoute received.now (R.custody records.old).kept (R.custody records.new).kept (name_if domain)
-        (to.Decide domain) result }
+    ensures answers { TellsRoute (R.custody records.old) (R.custody records.new) received.now
+        resources.old (name_if domain) (to.Decide domain) result }
     ensures shared { SharesRoute (R.custody records.old) (R.custody records.new) received.now
         (to.Decide domain) resources.old resources.new result }
     ensures keeper { OnlyReads (R.custody records.old) (R.custody records.new) result }
@@ -186,9 +184,8 @@ fn reply_to_route<R: Records>(
     received: &Received<'_>,
     route: Route,
 ) -> Result<Items<u8>, Unanswered>
-    ensures answers { AllStand (R.custody records.old).kept resources.old → (R.custody records.new).sound
-        → AnswersRoute received.now (R.custody records.old).kept (R.custody records.new).kept
-        (domain_named route) route result }
+    ensures answers { TellsRoute (R.custody records.old) (R.custody records.new) received.now
+        resources.old (domain_named route) route result }
     ensures shared { SharesRoute (R.custody records.old) (R.custody records.new) received.now route
         resources.old resources.new result }
     ensures keeper { KeepsRoute (R.custody records.old) (R.custody records.new) received.now route result }
@@ -221,9 +218,8 @@ pub(crate) fn reply_to_message<R: Records>(
     records: &mut R,
     received: &Received<'_>,
 ) -> Result<Items<u8>, Unanswered>
-    ensures answers { AllStand (R.custody records.old).kept resources.old → (R.custody records.new).sound
-        → AnswersMessage received.now (R.custody records.old).kept (R.custody records.new).kept
-        (owner received.now.message.now) result }
+    ensures answers { TellsMessage (R.custody records.old) (R.custody records.new) received.now
+        resources.old result }
     ensures shared { SharesMessage (R.custody records.old) (R.custody records.new) received.now
         resources.old resources.new result }
     ensures keeper { KeepsMessage (R.custody records.old) (R.custody records.new) received.now result }

@@ -1,7 +1,7 @@
 //! A connection, from its first byte to its end.
 ghost use Rattle.std.specs.Prelude.{◌≡◌, ◌≤◌, false, List, Option, Some};
 ghost use Rattle.xa_http.specs.Stream.{Stream};
-ghost use Rattle.xa_server.specs.Driven.{IsConnection, KeepsOpen, known};
+ghost use Rattle.xa_server.specs.Driven.{IsConnection, KeepsOpen, known_by};
 ghost use Rattle.xa_server.specs.declared.driven.Driven.TheVariants as driven;
 ghost use Rattle.xa_server.specs.Driving.{FeedsOne, IsRead, IsWaiting, piece_of};
 ghost use Rattle.xa_server.specs.Lines.{IsOpen, line_at};
@@ -58,13 +58,12 @@ fn read_on<F: Multiplexer, I: Reader, W: Writer, C: Clock>(
     clock: &mut C,
     piece: &mut [u8; PIECE_BYTES],
 ) -> Option<Driven>
-    ensures read { F.is_sound front.new → (stream : Stream) → IsOpen conn (F.state front.old).lines stream
+    ensures read { let seen = known_by F.had_memory F.said W.contents W.writes in
+        F.is_sound front.new → (stream : Stream) → IsOpen conn (F.state front.old).lines stream
         → IsWaiting stream
         → IsRead result conn (F.state front.old) (F.state front.new) stream
-        (known (F.had_memory front.old) (I.remaining reader.old) (I.reads reader.old) (W.contents writer.old)
-        (W.writes writer.old) (C.told clock.old) (F.said front.old))
-        (known (F.had_memory front.new) (I.remaining reader.new) (I.reads reader.new) (W.contents writer.new)
-        (W.writes writer.new) (C.told clock.new) (F.said front.new)) }
+        (seen front.old writer.old (I.remaining reader.old) (I.reads reader.old) (C.told clock.old))
+        (seen front.new writer.new (I.remaining reader.new) (I.reads reader.new) (C.told clock.new)) }
     ensures stays_open { KeepsOpen conn (F.state front.old).lines (F.state front.new).lines }
     ensures shut { result ≡ Some driven.Shut → F.goes_on front.new ≡ false }
     ensures sound { F.is_sound front.new → F.is_sound front.old }
@@ -94,13 +93,12 @@ pub fn drive<F: Multiplexer, I: Reader, W: Writer, C: Clock>(
     writer: &mut W,
     clock: &mut C,
 ) -> Driven
-    ensures connection { F.is_sound front.new
+    ensures connection { let seen = known_by F.had_memory F.said W.contents W.writes in
+        F.is_sound front.new
         → IsConnection result (line_at conn (F.state front.old).lines) conn
         (F.state front.old) (F.state front.new)
-        (known (F.had_memory front.old) (I.remaining reader.old) (I.reads reader.old) (W.contents writer.old)
-        (W.writes writer.old) (C.told clock.old) (F.said front.old))
-        (known (F.had_memory front.new) (I.remaining reader.new) (I.reads reader.new) (W.contents writer.new)
-        (W.writes writer.new) (C.told clock.new) (F.said front.new)) }
+        (seen front.old writer.old (I.remaining reader.old) (I.reads reader.old) (C.told clock.old))
+        (seen front.new writer.new (I.remaining reader.new) (I.reads reader.new) (C.told clock.new)) }
     ensures stays_open { KeepsOpen conn (F.state front.old).lines (F.state front.new).lines }
     ensures shut { result ≡ driven.Shut → F.goes_on front.new ≡ false }
     ensures sound { F.is_sound front.new → F.is_sound front.old }

@@ -2,13 +2,12 @@
 ghost use Rattle.std.specs.Prelude.{◌≡◌, IfOk, OnErr, MatchResult, Some};
 ghost use Rattle.xa_http.specs.declared.session.Look.TheVariants as look;
 ghost use Rattle.xa_http.specs.Messages.{IsLook};
+ghost use Rattle.xa_server.specs.Answering.{AnswersIn, AnswersNext, HandsOn, IsFaultGiven, TakesIn};
 ghost use Rattle.xa_server.specs.Front.{IsPlayed, front_state, server_state};
 ghost use Rattle.xa_server.specs.FrontLaws.{LinesAreStreams};
-ghost use Rattle.xa_server.specs.Fronting.{Answers, AnswersIn, AnswersNext, CountsAnswer};
-ghost use Rattle.xa_server.specs.Fronting.{CountsOutcome, CountsOutcomes, DoesEvent, DoesLines};
-ghost use Rattle.xa_server.specs.Fronting.{IfAllSent, IfAnswerSent, IfOutcomeSent, IsFaultGiven};
-ghost use Rattle.xa_server.specs.Fronting.{IsHandedOn, LeavesAnswer, PlaysLines};
-ghost use Rattle.xa_server.specs.Fronting.{TakesIn, TakesLine, TakesNext};
+ghost use Rattle.xa_server.specs.Fronting.{AnswersLine, CountsAnswer, CountsOutcome, CountsOutcomes};
+ghost use Rattle.xa_server.specs.Fronting.{DoesEvent, DoesLines, IfAllSent, IfAnswerSent, IfOutcomeSent};
+ghost use Rattle.xa_server.specs.Fronting.{LeavesNext, PlaysLines, TakesLine, TakesNext};
 ghost use Rattle.xa_server.specs.Lines.{IsClosed, IsHeld, IsLooked, IsOpened, held_at, line_at, none_open};
 ghost use Rattle.xa_server.specs.World.{world};
 
@@ -94,7 +93,8 @@ impl<R: Records> Front<R> {
     /// the same at every moment.
     pub fn answer(&mut self, conn: Conn, moment: Moment) -> Result<Option<Answer>, FrontError>
         ensures answered { (R.custody self.new.server.records).sound
-            → Answers conn moment (front_state R.custody self.old) (front_state R.custody self.new) result }
+            → AnswersLine conn moment
+            (front_state R.custody self.old) (front_state R.custody self.new) result }
         ensures line { TakesLine conn self.old.lines self.new.lines result }
         ensures err { OnErr result (self.new ≡ self.old) }
         ensures sound { (R.custody self.new.server.records).sound
@@ -104,7 +104,7 @@ impl<R: Records> Front<R> {
         ensures stays { (R.custody self.new.server.records).clean → (R.custody self.old.server.records).sound
             → IfAnswerSent result (R.custody self.new.server.records).sound }
         ensures crash { (R.custody self.new.server.records).clean → (R.custody self.old.server.records).sound
-            → LeavesAnswer
+            → LeavesNext
             (R.custody self.old.server.records).may_leave (R.custody self.new.server.records).may_leave
             (world R.custody self.old.server) moment (line_at conn self.old.lines) }
         ensures counts { CountsAnswer
@@ -211,8 +211,7 @@ fn answer_line<R: Records>(
         (server_state R.custody server.old) (server_state R.custody server.new) line.old line.new result }
     ensures line { TakesIn line.old line.new result }
     ensures err { OnErr result ((server.new ≡ server.old) × (line.new ≡ line.old)) }
-    ensures handed { IsHandedOn (R.custody server.old.records) (R.custody server.new.records)
-        (world R.custody server.old) moment line.old result }
+    ensures handed { HandsOn R.custody server.old server.new moment line.old result }
 {
     match line {
         Some(session) => answer_next(alloc, server, session, moment),
@@ -233,8 +232,7 @@ fn answer_next<R: Records>(
         session.old session.new result }
     ensures stream { TakesNext session.old session.new result }
     ensures err { OnErr result ((server.new ≡ server.old) × (session.new ≡ session.old)) }
-    ensures handed { IsHandedOn (R.custody server.old.records) (R.custody server.new.records)
-        (world R.custody server.old) moment (Some session.old) result }
+    ensures handed { HandsOn R.custody server.old server.new moment (Some session.old) result }
 {
     match session.look()? {
         Look::Message => answer_message(server, session, moment),
@@ -256,8 +254,7 @@ fn answer_message<R: Records>(
         session.old session.new result }
     ensures stream { TakesNext session.old session.new result }
     ensures err { OnErr result ((server.new ≡ server.old) × (session.new ≡ session.old)) }
-    ensures handed { IsHandedOn (R.custody server.old.records) (R.custody server.new.records)
-        (world R.custody server.old) moment (Some session.old) result }
+    ensures handed { HandsOn R.custody server.old server.new moment (Some session.old) result }
 {
     let Next::Message(message) = session.next()? else {
         unreachable!()

@@ -1,6 +1,7 @@
 //! The connections of a front, each with its stream.
 ghost use Rattle.std.specs.Prelude.{◌≡◌, IfOk};
-ghost use Rattle.xa_server.specs.Lines.{IsClosed, IsFed, IsHeld, IsLooked, IsLookedIn, IsOpened};
+ghost use Rattle.xa_server.specs.Answering.{IsFed};
+ghost use Rattle.xa_server.specs.Lines.{IsClosed, IsHeld, IsLooked, IsLookedIn, IsOpened};
 ghost use Rattle.xa_server.specs.Lines.{first_free, held_at, line_at, none_open, with_line};
 
 use crate::front_error::FrontError;

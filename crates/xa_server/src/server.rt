@@ -131,8 +131,8 @@ impl<R: Records> Server<R> {
         ensures err { OnErr result (self.new ≡ self.old) }
     {
         let mut replies = Vec::with_capacity(self.alloc, events.len())?;
-        for event in events {
-            let reply = self.serve(event.0, &event.1);
+        for (moment, message) in events {
+            let reply = self.serve(*moment, message);
             replies.push(reply).unwrap();
         }
         Ok(replies)

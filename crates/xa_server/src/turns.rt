@@ -1,10 +1,10 @@
 //! The turns of a connection: in each the next message that it holds is answered, and the reply is sent.
 ghost use Rattle.std.specs.Prelude.{◌≡◌, ℕ, false, true, IsTrue, List, MatchResult, None, Option, Some, pos};
 ghost use Rattle.xa_http.specs.Stream.{Stream};
-ghost use Rattle.xa_server.specs.Driven.{KeepsOpen, known};
+ghost use Rattle.xa_server.specs.Driven.{KeepsOpen, known_by};
 ghost use Rattle.xa_server.specs.declared.turns.Turn.TheVariants as turn;
 ghost use Rattle.xa_server.specs.declared.driven.Driven.TheVariants as driven;
-ghost use Rattle.xa_server.specs.Driving.{AnswersOne, IsAnsweredAt, IsAnsweredNow, IsAsked};
+ghost use Rattle.xa_server.specs.Driving.{AnswersOne, IsAnsweredAt, IsAnsweredNow, IsAskedAfter};
 ghost use Rattle.xa_server.specs.Driving.{IsHeldAnswered, IsSentAs, IsTurn, PlaysOne, answer_of};
 ghost use Rattle.xa_server.specs.Fronting.{DoesLines};
 ghost use Rattle.xa_server.specs.Lines.{IsOpen, line_at};
@@ -88,7 +88,7 @@ fn play_answer<F: Multiplexer>(
 /// of storage.
 #[tactic(auto, using(crate::proofs::SaidLemmas::asked_so))]
 fn is_shut<F: Multiplexer>(front: &mut F, reply: &Reply) -> bool
-    ensures asked { IsAsked true reply.now result (F.said front.old) (F.said front.new) }
+    ensures asked { IsAskedAfter true reply.now result (F.said front.old) (F.said front.new) }
     ensures shut { IsTrue result → F.goes_on front.new ≡ false }
     ensures same { F.state front.new ≡ F.state front.old }
     ensures memory { F.had_memory front.new ≡ F.had_memory front.old }
@@ -130,12 +130,10 @@ fn turn_at<F: Multiplexer, W: Writer>(
     moment: Moment,
     writer: &mut W,
 ) -> Turn
-    ensures answered { F.is_sound front.new
+    ensures answered { let seen = known_by F.had_memory F.said W.contents W.writes in
+        F.is_sound front.new
         → IsAnsweredAt result conn moment (F.state front.old) (F.state front.new)
-        (known (F.had_memory front.old) None None (W.contents writer.old) (W.writes writer.old)
-        None (F.said front.old))
-        (known (F.had_memory front.new) None None (W.contents writer.new) (W.writes writer.new)
-        None (F.said front.new)) }
+        (seen front.old writer.old None None None) (seen front.new writer.new None None None) }
     ensures stays_open { KeepsOpen conn (F.state front.old).lines (F.state front.new).lines }
     ensures shut { result ≡ turn.Ends driven.Shut → F.goes_on front.new ≡ false }
     ensures sound { F.is_sound front.new → F.is_sound front.old }
@@ -155,12 +153,11 @@ fn message_turn<F: Multiplexer, W: Writer, C: Clock>(
     writer: &mut W,
     clock: &mut C,
 ) -> Turn
-    ensures answered { F.is_sound front.new
+    ensures answered { let seen = known_by F.had_memory F.said W.contents W.writes in
+        F.is_sound front.new
         → IsAnsweredNow result conn (F.state front.old) (F.state front.new)
-        (known (F.had_memory front.old) None None (W.contents writer.old) (W.writes writer.old)
-        (C.told clock.old) (F.said front.old))
-        (known (F.had_memory front.new) None None (W.contents writer.new) (W.writes writer.new)
-        (C.told clock.new) (F.said front.new)) }
+        (seen front.old writer.old None None (C.told clock.old))
+        (seen front.new writer.new None None (C.told clock.new)) }
     ensures stays_open { KeepsOpen conn (F.state front.old).lines (F.state front.new).lines }
     ensures shut { result ≡ turn.Ends driven.Shut → F.goes_on front.new ≡ false }
     ensures sound { F.is_sound front.new → F.is_sound front.old }
@@ -173,12 +170,10 @@ fn message_turn<F: Multiplexer, W: Writer, C: Clock>(
 
 /// Answers the fault by which the stream of a connection ends, and sends the reply. No moment is in it.
 fn fault_turn<F: Multiplexer, W: Writer>(front: &mut F, conn: Conn, writer: &mut W) -> Turn
-    ensures answered { F.is_sound front.new
+    ensures answered { let seen = known_by F.had_memory F.said W.contents W.writes in
+        F.is_sound front.new
         → IsAnsweredAt result conn (pos 0) (F.state front.old) (F.state front.new)
-        (known (F.had_memory front.old) None None (W.contents writer.old) (W.writes writer.old)
-        None (F.said front.old))
-        (known (F.had_memory front.new) None None (W.contents writer.new) (W.writes writer.new)
-        None (F.said front.new)) }
+        (seen front.old writer.old None None None) (seen front.new writer.new None None None) }
     ensures stays_open { KeepsOpen conn (F.state front.old).lines (F.state front.new).lines }
     ensures shut { result ≡ turn.Ends driven.Shut → F.goes_on front.new ≡ false }
     ensures sound { F.is_sound front.new → F.is_sound front.old }
@@ -198,14 +193,13 @@ fn next_turn<F: Multiplexer, W: Writer, C: Clock>(
     writer: &mut W,
     clock: &mut C,
 ) -> Turn
-    ensures turn { F.is_sound front.new
+    ensures turn { let seen = known_by F.had_memory F.said W.contents W.writes in
+        F.is_sound front.new
         → (stream : Stream) (left : Option (List ℕ)) (reads : Option (List ReadEnd))
         → IsOpen conn (F.state front.old).lines stream
         → IsTurn result conn (F.state front.old) (F.state front.new) stream
-        (known (F.had_memory front.old) left reads (W.contents writer.old) (W.writes writer.old)
-        (C.told clock.old) (F.said front.old))
-        (known (F.had_memory front.new) left reads (W.contents writer.new) (W.writes writer.new)
-        (C.told clock.new) (F.said front.new)) }
+        (seen front.old writer.old left reads (C.told clock.old))
+        (seen front.new writer.new left reads (C.told clock.new)) }
     ensures stays_open { KeepsOpen conn (F.state front.old).lines (F.state front.new).lines }
     ensures shut { result ≡ turn.Ends driven.Shut → F.goes_on front.new ≡ false }
     ensures sound { F.is_sound front.new → F.is_sound front.old }
@@ -228,13 +222,12 @@ pub(crate) fn answer_held<F: Multiplexer, W: Writer, C: Clock>(
     writer: &mut W,
     clock: &mut C,
 ) -> Option<Driven>
-    ensures held { F.is_sound front.new → (left : Option (List ℕ)) (reads : Option (List ReadEnd))
+    ensures held { let seen = known_by F.had_memory F.said W.contents W.writes in
+        F.is_sound front.new → (left : Option (List ℕ)) (reads : Option (List ReadEnd))
         → IsHeldAnswered result (line_at conn (F.state front.old).lines) conn
         (F.state front.old) (F.state front.new)
-        (known (F.had_memory front.old) left reads (W.contents writer.old) (W.writes writer.old)
-        (C.told clock.old) (F.said front.old))
-        (known (F.had_memory front.new) left reads (W.contents writer.new) (W.writes writer.new)
-        (C.told clock.new) (F.said front.new)) }
+        (seen front.old writer.old left reads (C.told clock.old))
+        (seen front.new writer.new left reads (C.told clock.new)) }
     ensures stays_open { KeepsOpen conn (F.state front.old).lines (F.state front.new).lines }
     ensures shut { result ≡ Some driven.Shut → F.goes_on front.new ≡ false }
     ensures sound { F.is_sound front.new → F.is_sound front.old }

@@ -1,7 +1,8 @@
 //! The view of a domain, made of what the keeper has for it.
 ghost use Rattle.std.specs.Prelude.{◌≡◌, ◌+◌, ◌<◌, false, map, true, IfOk};
 ghost use Rattle.xa_decide.specs.Reading.{IsNotTooLarge};
-ghost use Rattle.xa_server.specs.View.{AreKeyed, active_by_key, read_for, viewed};
+ghost use Rattle.xa_server.specs.View.{viewed};
+ghost use Rattle.xa_server.specs.Viewing.{AreKeyed, active_by_key, read_for};
 
 use std::alloc::{AllocError, Global};
 use xa_decide::View;

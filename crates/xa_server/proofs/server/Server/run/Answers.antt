@@ -8,25 +8,25 @@ use Rattle.xa_server.proofs.ServedLemmas.{run_more}
 use Rattle.xa_server.proofs.WorkLemmas.{run_more as worked_more}
 use Rattle.xa_server.proofs.server.Server.run.Goals as goal
 
-pub loop-event-preserved : goal.loop-event-preserved
-loop-event-preserved g c =
-    let more : take (c.loop-event.event-index + 1) c.args.events.now ≡ take c.loop-event.event-index c.args.events.now ++ c.event-item.result ∷ [] =
-    take_more c.args.events.now c.loop-event.event-index c.event-item.result c.loop-event-test.true ∙ ap (λ e. take c.loop-event.event-index c.args.events.now ++ e ∷ []) (sym c.event-item.is) in
-    let pushed : c.push.new.self.items ≡ c.loop-event.replies.items ++ c.serve-reply.result ∷ [] = search rules in
+pub loop-moment-preserved : goal.loop-moment-preserved
+loop-moment-preserved g c =
+    let more : take (c.loop-moment.moment-index + 1) c.args.events.now ≡ take c.loop-moment.moment-index c.args.events.now ++ c.loop-moment-item.result ∷ [] =
+    take_more c.args.events.now c.loop-moment.moment-index c.loop-moment-item.result c.loop-moment-test.true ∙ ap (λ e. take c.loop-moment.moment-index c.args.events.now ++ e ∷ []) (sym c.loop-moment-item.is) in
+    let pushed : c.push.new.self.items ≡ c.loop-moment.replies.items ++ c.serve-reply.result ∷ [] = search rules in
     record {
-      run = λ sound. rw (more, pushed) (run_more _ _ _ _ _ _ _ (c.loop-event.invariant.run (c.serve-reply.ensures.sound sound)) (c.serve-reply.ensures.served sound));
-      work = λ sound. rw (more, pushed) (worked_more _ _ _ _ _ _ _ _ _ _ (c.loop-event.invariant.work (c.serve-reply.ensures.sound sound)) (c.serve-reply.ensures.served sound) (c.serve-reply.ensures.work sound));
-      sound = λ sound. c.loop-event.invariant.sound (c.serve-reply.ensures.sound sound);
+      run = λ sound. rw (more, pushed) (run_more _ _ _ _ _ _ _ (c.loop-moment.invariant.run (c.serve-reply.ensures.sound sound)) (c.serve-reply.ensures.served sound));
+      work = λ sound. rw (more, pushed) (worked_more _ _ _ _ _ _ _ _ _ _ (c.loop-moment.invariant.work (c.serve-reply.ensures.sound sound)) (c.serve-reply.ensures.served sound) (c.serve-reply.ensures.work sound));
+      sound = λ sound. c.loop-moment.invariant.sound (c.serve-reply.ensures.sound sound);
       told = search rules;
       room = search rules;
     }
 
 pub returns-clause-headline : goal.returns-clause-headline
 returns-clause-headline g c =
-    λ sound. let run : IsRun (world g.R.Records.custody c.args.self.now) c.args.events.now c.loop-event.replies.items (world g.R.Records.custody c.loop-event.self) =
-    search (rules, common_steps, c.loop-event.invariant.run sound) in headline _ _ _ _ run
+    λ sound. let run : IsRun (world g.R.Records.custody c.args.self.now) c.args.events.now c.loop-moment.replies.items (world g.R.Records.custody c.loop-moment.self) =
+    search (rules, common_steps, c.loop-moment.invariant.run sound) in headline _ _ _ _ run
 
 pub returns-clause-beside_refusals : goal.returns-clause-beside_refusals
 returns-clause-beside_refusals g c =
-    λ sound. let run : IsRun (world g.R.Records.custody c.args.self.now) c.args.events.now c.loop-event.replies.items (world g.R.Records.custody c.loop-event.self) =
-    search (rules, common_steps, c.loop-event.invariant.run sound) in λ domain. isolated domain _ _ _ _ run
+    λ sound. let run : IsRun (world g.R.Records.custody c.args.self.now) c.args.events.now c.loop-moment.replies.items (world g.R.Records.custody c.loop-moment.self) =
+    search (rules, common_steps, c.loop-moment.invariant.run sound) in λ domain. isolated domain _ _ _ _ run

@@ -5,11 +5,11 @@ use Rattle.xa_server.specs.World.{world}
 use Rattle.xa_server.proofs.server.Server.run.Given as goal
 
 -- the run so far, and room for the replies that are left
-abbrev pub invariant-loop-event : goal.invariant-loop-event
-invariant-loop-event g l = record {
-  run : (g.R.Records.custody l.self.records).sound → IsRun (world g.R.Records.custody l.fn.self) (take l.event-index l.events) l.replies.items (world g.R.Records.custody l.self);
-  work : (g.R.Records.custody l.self.records).sound → IsWorkOfRun (world g.R.Records.custody l.fn.self) l.fn.self.tally (take l.event-index l.events) l.replies.items (world g.R.Records.custody l.self) l.self.tally;
+abbrev pub invariant-loop-moment : goal.invariant-loop-moment
+invariant-loop-moment g l = record {
+  run : (g.R.Records.custody l.self.records).sound → IsRun (world g.R.Records.custody l.fn.self) (take l.moment-index l.events) l.replies.items (world g.R.Records.custody l.self);
+  work : (g.R.Records.custody l.self.records).sound → IsWorkOfRun (world g.R.Records.custody l.fn.self) l.fn.self.tally (take l.moment-index l.events) l.replies.items (world g.R.Records.custody l.self) l.self.tally;
   sound : (g.R.Records.custody l.self.records).sound → (g.R.Records.custody l.fn.self.records).sound;
-  told : vec_len l.replies ≡ l.event-index;
+  told : vec_len l.replies ≡ l.moment-index;
   room : length l.events ≤ vec_capacity l.replies;
 }

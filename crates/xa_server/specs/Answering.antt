@@ -1,0 +1,81 @@
+-- How the code feeds a connection and answers its next: words that only contracts of private functions cite.
+use Rattle.std.specs.Prelude.{◌≡◌, ◌+◌, ◌<◌, ◌≤◌, ℕ, ℤ, true, false, List, length, Option, Some, None, Result, Ok, Err}
+use Rattle.xa_http.specs.declared.fault.SessionFault.{SessionFault}
+use Rattle.xa_http.specs.declared.session.Next.{Next}
+use Rattle.xa_http.specs.declared.session.Next.TheVariants as next
+use Rattle.xa_http.specs.Messages.{IsNext}
+use Rattle.xa_http.specs.Stream.{Stream, fed}
+use Rattle.xa_records.specs.Keeper.{Custody}
+use Rattle.xa_server.specs.declared.event.Answer.{Answer}
+use Rattle.xa_server.specs.declared.front_error.FrontError.{FrontError}
+use Rattle.xa_server.specs.declared.front_error.FrontError.TheVariants.{Memory, NoSuchConnection, TooManyConnections}
+use Rattle.xa_server.specs.declared.front_error.FrontError.TheVariants.{Full}
+use Rattle.xa_server.specs.declared.replies.Reply.TheVariants.{Sent}
+use Rattle.xa_server.specs.ErrorCode.{code_of_session_fault, error_reply}
+use Rattle.xa_server.specs.Front.{IsGiven, ServerState}
+use Rattle.xa_server.specs.Fronting.{CountsAnswer, IfAnswerSent, LeavesNext, TakesNext}
+use Rattle.xa_server.specs.World.{Serving, World, world}
+
+-- a stream takes a piece, whole or not at all, where there is one
+abbrev pub IsFed : Option Stream → List ℕ → Result (Unit {0}) FrontError → Option Stream → Type 0
+IsFed old piece (Ok _) new =
+    (stream : Stream) × (old ≡ Some stream) × (length stream.held + length piece ≤ 1_048_576)
+    × (new ≡ Some (fed stream piece))
+IsFed old piece (Err NoSuchConnection) new = (old ≡ None) × (new ≡ old)
+IsFed old piece (Err Full) new =
+    (stream : Stream) × (old ≡ Some stream) × (1_048_576 < length stream.held + length piece) × (new ≡ old)
+IsFed old piece (Err Memory) new =
+    (stream : Stream) × (old ≡ Some stream) × (length stream.held + length piece ≤ 1_048_576) × (new ≡ old)
+IsFed old piece (Err TooManyConnections) new = ⊥
+
+-- the next of a stream was answered; without memory nothing was done
+abbrev pub AnswersNext : ℤ → ServerState → ServerState → Stream → Stream → Result (Option Answer) FrontError → Type 0
+AnswersNext moment old new stream after (Ok answer) =
+    (given : Next) × IsNext stream given after × IsGiven moment old given after answer new
+AnswersNext moment old new stream after (Err error) =
+    (error ≡ Memory) × (stream.ended ≡ false) × (after ≡ stream) × (new ≡ old)
+
+-- the next of a stream that may not be there was answered, or nothing was done
+abbrev pub AnswersIn : ℤ → ServerState → ServerState → Option Stream → Option Stream → Result (Option Answer) FrontError
+    → Type 0
+AnswersIn moment old new line after (Ok answer) =
+    (stream rest : Stream) × (line ≡ Some stream) × AnswersNext moment old new stream rest (Ok answer)
+    × (after ≡ Some rest)
+AnswersIn moment old new line after (Err NoSuchConnection) = (line ≡ None) × (after ≡ line) × (new ≡ old)
+AnswersIn moment old new line after (Err Memory) =
+    (stream : Stream) × (line ≡ Some stream) × (stream.ended ≡ false) × (after ≡ line) × (new ≡ old)
+AnswersIn moment old new line after (Err _) = ⊥
+
+-- what becomes of a stream that may not be there by an answer, whatever the server does
+abbrev pub TakesIn : Option Stream → Option Stream → Result (Option Answer) FrontError → Type 0
+TakesIn old new (Ok answer) =
+    (stream after : Stream) × (old ≡ Some stream) × TakesNext stream after (Ok answer) × (new ≡ Some after)
+TakesIn old new (Err NoSuchConnection) = (old ≡ None) × (new ≡ old)
+TakesIn old new (Err Memory) = (stream : Stream) × (old ≡ Some stream) × (stream.ended ≡ false) × (new ≡ old)
+TakesIn old new (Err _) = ⊥
+
+-- the fault by which a stream ends was answered; without memory nothing was done
+abbrev pub IsFaultGiven : SessionFault → Stream → Stream → Result (Option Answer) FrontError → Type 0
+IsFaultGiven fault stream after (Ok (Some answer)) =
+    IsNext stream (next.Fault fault) after × (answer.reply ≡ Sent (error_reply (code_of_session_fault fault)))
+    × (answer.last ≡ true)
+IsFaultGiven fault stream after (Ok None) = ⊥
+IsFaultGiven fault stream after (Err error) = (error ≡ Memory) × (after ≡ stream)
+
+-- what is told of the keeper after the next of a stream that may not be there was answered
+pub record IsHandedOn (old new : Custody) (before : World) (moment : ℤ) (line : Option Stream)
+    (result : Result (Option Answer) FrontError) : Type 0 where
+  -- where it is sound it was, and where the disk has given back what was written it had before
+  pub sound : new.sound → old.sound
+  pub clean : new.clean → old.clean
+  -- and there it stays sound, unless a message was refused, and this a crash may leave
+  pub stays : new.clean → old.sound → IfAnswerSent result new.sound
+  pub crash : new.clean → old.sound → LeavesNext old.may_leave new.may_leave before moment line
+  -- its calls that failed for want of storage are counted
+  pub counts : CountsAnswer old.faults new.faults result
+
+-- the same of the keeper of a server
+abbrev pub HandsOn : {R : Type 0} → (R → Custody) → Serving R → Serving R → ℤ → Option Stream
+    → Result (Option Answer) FrontError → Type 0
+HandsOn custody old new moment line result =
+    IsHandedOn (custody old.records) (custody new.records) (world custody old) moment line result
