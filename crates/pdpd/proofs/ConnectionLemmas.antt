@@ -1,20 +1,15 @@
 -- The connections of a transcript: those of a front, by their numbers.
 use Rattle.std.proofs.Common.{◌≡◌, ◌≢◌, ℕ, zero, suc, ◌+◌, ◌-◌, ◌<◌, ◌≤◌, Bool, true, false, List, [], ◌∷◌, ◌++◌, length, replicate, slice_index_or, slice_set, Option, Some, None, Ok, Err, refl, sym, ap, subst, ◌∙◌, append-nil, arith}
 use Rattle.std.specs.Prelude.{Result, option_map, slice_get}
-use Rattle.xa_http.specs.declared.session.Next.{Next}
 use Rattle.xa_http.specs.Stream.{Stream}
-use Rattle.xa_server.specs.declared.event.Event.{Event}
-use Rattle.xa_server.specs.declared.event.Event.TheVariants as event
-use Rattle.xa_server.specs.declared.event.Outcome.{Outcome}
-use Rattle.xa_server.specs.declared.event.Outcome.TheVariants as outcome
+use Rattle.xa_records.specs.Keeper.{Custody}
 use Rattle.xa_server.specs.declared.lines.Conn.{Conn}
 use Rattle.xa_server.specs.declared.front_error.FrontError.{FrontError}
 use Rattle.xa_server.specs.declared.front_error.FrontError.TheVariants.{Memory, NoSuchConnection, TooManyConnections, Full}
-use Rattle.xa_server.specs.Front.{Does, FrontState, IsPlayed, Plays}
-use Rattle.xa_server.specs.Fronting.{DoesEvent, DoesLines, PlaysLines}
-use Rattle.xa_server.specs.Lines.{IsOpen, Lines, empty_stream, first_free, line_at, none_open, with_line}
-use Rattle.xa_server.proofs.OpenLemmas.{lines_of_one}
-use Rattle.pdpd.specs.declared.transcript_connection.TranscriptConnection.{TranscriptConnection}
+use Rattle.xa_server.specs.Front.{Fronted, server_state}
+use Rattle.xa_server.specs.Lines.{IsClosed, IsOpen, IsOpened, Lines, empty_stream, first_free, line_at, none_open, with_line}
+use Rattle.xa_server.specs.World.{Serving}
+use Rattle.pdpd.specs.declared.replay.transcript_connection.TranscriptConnection.{TranscriptConnection}
 use Rattle.pdpd.specs.Replay.{all_open}
 use Rattle.pdpd.specs.Replaying.{AreOf, HasFree, IsBegun, IsLine, IsOneOpen, connections_from}
 
@@ -23,98 +18,35 @@ none_some X x same = cc
 
 -- ---- one call
 
--- what was played of one event is what that does
-one_played : (event : Event) (outcomes : List Outcome) (outcome : Outcome) (nexts : List (Option Next)) (old new : FrontState)
-    → Plays (event ∷ []) outcomes nexts old new → outcomes ≡ outcome ∷ [] → DoesEvent event old outcome new
-one_played event outcomes outcome nexts old new plays one =
-    first nexts (subst (λ (os : List Outcome). Plays (event ∷ []) os nexts old new) one plays)
-  where
-    first : (gs : List (Option Next)) → Plays (event ∷ []) (outcome ∷ []) gs old new → DoesEvent event old outcome new
-    first [] none = absurd none
-    first (given ∷ []) (mid, does, same) = (given, subst (λ (s : FrontState). Does event old given outcome s) (sym same) does)
-    first (given ∷ other ∷ more) (mid, does, none) = absurd none
-
--- of one event there is one outcome
-only_one : (event : Event) (front : List Outcome) (outcome : Outcome) (nexts : List (Option Next)) (old new : FrontState)
-    → Plays (event ∷ []) (front ++ outcome ∷ []) nexts old new → front ++ outcome ∷ [] ≡ outcome ∷ []
-only_one event [] outcome nexts old new plays = refl
-only_one event (one ∷ []) outcome [] old new none = absurd none
-only_one event (one ∷ []) outcome (given ∷ []) old new (mid, does, none) = absurd none
-only_one event (one ∷ []) outcome (given ∷ other ∷ more) old new (mid, does, none) = absurd none
-only_one event (one ∷ two ∷ others) outcome [] old new none = absurd none
-only_one event (one ∷ two ∷ others) outcome (given ∷ []) old new (mid, does, none) = absurd none
-only_one event (one ∷ two ∷ others) outcome (given ∷ other ∷ more) old new (mid, does, none) = absurd none
-
-pub one_outcome : (event : Event) (outcomes front : List Outcome) (outcome : Outcome) (old new : FrontState)
-    → IsPlayed old new (event ∷ []) outcomes → outcomes ≡ front ++ outcome ∷ [] → DoesEvent event old outcome new
-one_outcome event outcomes front outcome old new played last =
-    let plays : Plays (event ∷ []) (front ++ outcome ∷ []) played.nexts old new
-    = subst (λ (os : List Outcome). Plays (event ∷ []) os played.nexts old new) last played.plays in
-    one_played event outcomes outcome played.nexts old new played.plays
-    (last ∙ only_one event front outcome played.nexts old new plays)
-
-pub one_line : (event : Event) (outcomes front : List Outcome) (outcome : Outcome) (old new : Lines)
-    → PlaysLines (event ∷ []) outcomes old new → outcomes ≡ front ++ outcome ∷ [] → DoesLines event old outcome new
-one_line event outcomes front outcome old new plays last = lines_of_one event outcomes front outcome old new last plays
-
 -- a connection is opened, where one is free
-pub begins : (o : Outcome) (old new : Lines) → HasFree old → DoesLines event.Begin old o new → (conn : Conn) × (o ≡ outcome.Begun (Ok conn))
+pub begins : (result : Result Conn FrontError) (old new : Lines) → HasFree old → IsOpened old result new → (conn : Conn) × (result ≡ Ok conn)
 unfolding HasFree
-begins (outcome.Begun (Ok conn)) old new free does = (conn, refl)
-begins (outcome.Begun (Err TooManyConnections)) old new (number, free) (none, same) = absurd (none_some ℕ number (sym none ∙ free))
-begins (outcome.Begun (Err Memory)) old new free none = absurd none
-begins (outcome.Begun (Err NoSuchConnection)) old new free none = absurd none
-begins (outcome.Begun (Err Full)) old new free none = absurd none
-begins (outcome.Held result) old new free none = absurd none
-begins (outcome.Answered result) old new free none = absurd none
-begins (outcome.Finished result) old new free none = absurd none
+begins (Ok conn) old new free is = (conn, refl)
+begins (Err TooManyConnections) old new (number, free) (none, same) = absurd (none_some ℕ number (sym none ∙ free))
+begins (Err Memory) old new free none = absurd none
+begins (Err NoSuchConnection) old new free none = absurd none
+begins (Err Full) old new free none = absurd none
 
-begun_as : (o : Outcome) (conn : Conn) (result : Result Conn FrontError) → o ≡ outcome.Begun (Ok conn) → o ≡ outcome.Begun result → result ≡ Ok conn
-begun_as o conn result is other = cc
-
--- so that isn't refused
-pub begins_unrefused : (o : Outcome) (result : Result Conn FrontError) (old new : Lines) → HasFree old → DoesLines event.Begin old o new → o ≡ outcome.Begun result
-    → (conn : Conn) × (result ≡ Ok conn)
-begins_unrefused o result old new free does is =
-    let found = begins o old new free does in (found.0, begun_as o found.0 result found.1 is)
-
-pub begun : (connection : TranscriptConnection) (conn : Conn) (old new : Lines) → DoesLines event.Begin old (outcome.Begun (Ok conn)) new
-    → connection ≡ record { conn = conn; has_ended = false } → IsBegun connection old new
-begun connection conn old new does same =
-    subst (λ (c : TranscriptConnection). IsBegun c old new) (sym same) (record { least = does.0; lines = does.1; goes_on = refl })
-
-pub begun_server : (result : Result Conn FrontError) (old new : FrontState) → DoesEvent event.Begin old (outcome.Begun result) new → new.server ≡ old.server
-begun_server result old new (None, does) = does.1
-begun_server result old new (Some given, none) = absurd none
+pub begun : (conn : Conn) (old new : Lines) → IsOpened old (Ok conn) new → IsBegun (record { conn = conn; has_ended = false }) old new
+begun conn old new is = record { least = is.0; lines = is.1; goes_on = refl }
 
 -- an open one is closed
-pub finishes : (conn : Conn) (o : Outcome) (old new : Lines) → IsOneOpen conn old → DoesLines (event.Finish conn) old o new
-    → (done : Unit {0}) × (o ≡ outcome.Finished (Ok done))
+pub finishes : (conn : Conn) (result : Result (Unit {0}) FrontError) (old new : Lines) → IsOneOpen conn old → IsClosed conn old result new
+    → (done : Unit {0}) × (result ≡ Ok done)
 unfolding IsOneOpen
-finishes conn (outcome.Finished (Ok done)) old new open_before does = (done, refl)
-finishes conn (outcome.Finished (Err NoSuchConnection)) old new (stream, line) (none, same) = absurd (none_some Stream stream (sym none ∙ line))
-finishes conn (outcome.Finished (Err Memory)) old new open_before none = absurd none
-finishes conn (outcome.Finished (Err TooManyConnections)) old new open_before none = absurd none
-finishes conn (outcome.Finished (Err Full)) old new open_before none = absurd none
-finishes conn (outcome.Begun result) old new open_before none = absurd none
-finishes conn (outcome.Held result) old new open_before none = absurd none
-finishes conn (outcome.Answered result) old new open_before none = absurd none
+finishes conn (Ok done) old new open_before is = (done, refl)
+finishes conn (Err NoSuchConnection) old new (stream, line) (none, same) = absurd (none_some Stream stream (sym none ∙ line))
+finishes conn (Err Memory) old new open_before none = absurd none
+finishes conn (Err TooManyConnections) old new open_before none = absurd none
+finishes conn (Err Full) old new open_before none = absurd none
 
-finished_as : (o : Outcome) (done : Unit {0}) (result : Result (Unit {0}) FrontError) → o ≡ outcome.Finished (Ok done) → o ≡ outcome.Finished result → result ≡ Ok done
-finished_as o done result is other = cc
+pub finished : (conn : Conn) (done : Unit {0}) (old new : Lines) → IsClosed conn old (Ok done) new → new ≡ with_line conn None old
+finished conn done old new is = is.2
 
-pub finishes_unrefused : (conn : Conn) (o : Outcome) (result : Result (Unit {0}) FrontError) (old new : Lines) → IsOneOpen conn old → DoesLines (event.Finish conn) old o new
-    → o ≡ outcome.Finished result → (done : Unit {0}) × (result ≡ Ok done)
-finishes_unrefused conn o result old new open_before does is =
-    let found = finishes conn o old new open_before does in (found.0, finished_as o found.0 result found.1 is)
-
-pub finished : (conn : Conn) (done : Unit {0}) (old new : Lines) → DoesLines (event.Finish conn) old (outcome.Finished (Ok done)) new → new ≡ with_line conn None old
-finished conn done old new does = does.2
-
-pub finished_server : (conn : Conn) (result : Result (Unit {0}) FrontError) (old new : FrontState) → DoesEvent (event.Finish conn) old (outcome.Finished result) new
-    → new.server ≡ old.server
-finished_server conn result old new (None, does) = does.1
-finished_server conn result old new (Some given, none) = absurd none
+-- a server that is the same is in the same state
+pub same_state : {R : Type 0} (custody : R → Custody) (old new : Fronted R) → new.server ≡ old.server
+    → server_state custody new.server ≡ server_state custody old.server
+same_state {R = R} custody old new same = ap (λ (s : Serving R). server_state custody s) same
 
 -- ---- all of them
 

@@ -6,9 +6,9 @@ use Rattle.std.specs.Str.Parse.{digits_value}
 use Rattle.std.proofs.lemmas.Bool.{leb-true}
 use Rattle.xa_value.specs.Digits.{is_number, number_up_to}
 use Rattle.xa_value.specs.Gives.{◌>>=◌}
-use Rattle.pdpd.specs.declared.heading.Heading.{Heading}
-use Rattle.pdpd.specs.declared.heading.HeadingFault.{HeadingFault}
-use Rattle.pdpd.specs.declared.heading.HeadingFault.TheVariants.{Parts, BadConnection, BadMoment, BadCount}
+use Rattle.pdpd.specs.declared.replay.heading.Heading.{Heading}
+use Rattle.pdpd.specs.declared.replay.heading.HeadingFault.{HeadingFault}
+use Rattle.pdpd.specs.declared.replay.heading.HeadingFault.TheVariants.{Parts, BadConnection, BadMoment, BadCount}
 use Rattle.pdpd.specs.Heading.{heading_of, heading_of_parts, heading_of_three, moment_of, parts_of}
 use Rattle.pdpd.specs.Transcript.{TakesEntry}
 

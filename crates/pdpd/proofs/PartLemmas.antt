@@ -7,7 +7,7 @@ use Rattle.std.proofs.lemmas.Bool.Decides.{Decides-eqb, nat_tests}
 use Rattle.std.proofs.lemmas.List.{take_all}
 use Rattle.std.proofs.lemmas.List.Elements.{All-more}
 use Rattle.std.proofs.lemmas.List.Splits.{length-slice_split, slice_split_at, slice_split_none}
-use Rattle.pdpd.specs.declared.heading.HeadingFault.TheVariants.{Parts}
+use Rattle.pdpd.specs.declared.replay.heading.HeadingFault.TheVariants.{Parts}
 use Rattle.pdpd.specs.Heading.{heading_of, parts_of, heading_of_parts}
 
 -- none of them is a space

@@ -21,9 +21,9 @@ use Rattle.xa_server.specs.Lines.{IsHeld, IsOpen, Lines, with_line}
 use Rattle.xa_server.specs.World.{World}
 use Rattle.xa_server.proofs.ConnectionLemmas.{appends_none, appends_trans}
 use Rattle.pdpd.specs.declared.exit.Exit.{Exit}
-use Rattle.pdpd.specs.declared.heading.Heading.{Heading}
-use Rattle.pdpd.specs.declared.telling.Progress.{Progress}
-use Rattle.pdpd.specs.declared.telling.Progress.TheVariants as progress
+use Rattle.pdpd.specs.declared.replay.heading.Heading.{Heading}
+use Rattle.pdpd.specs.declared.replay.telling.Progress.{Progress}
+use Rattle.pdpd.specs.declared.replay.telling.Progress.TheVariants as progress
 use Rattle.pdpd.specs.Entry.{IsStreamAnswered, events_at, reply_entries}
 use Rattle.pdpd.specs.Replay.{IsKept, StreamTakes}
 use Rattle.pdpd.specs.Replaying.{HasStreamTaken, TakesOpen, Writes}

@@ -6,11 +6,11 @@ use Rattle.std.proofs.Math.Seq.{drop-nil}
 use Rattle.std.specs.Prelude.{◌==◌}
 use Rattle.std.specs.Io.KnownBytes.{Consumes, IsAtEnd, Keeps, prepend_known}
 use Rattle.xa_server.proofs.ConnectionLemmas.{consumes_trans}
-use Rattle.pdpd.specs.declared.heading.Heading.{Heading}
-use Rattle.pdpd.specs.declared.transcript.ReadFault.{ReadFault}
-use Rattle.pdpd.specs.declared.transcript.ReadFault.TheVariants.{Malformed, Failed, Memory}
-use Rattle.pdpd.specs.declared.transcript_fault.TranscriptFault.{TranscriptFault}
-use Rattle.pdpd.specs.declared.transcript_fault.TranscriptFault.TheVariants.{NoLineFeed}
+use Rattle.pdpd.specs.declared.replay.heading.Heading.{Heading}
+use Rattle.pdpd.specs.declared.replay.transcript.ReadFault.{ReadFault}
+use Rattle.pdpd.specs.declared.replay.transcript.ReadFault.TheVariants.{Malformed, Failed, Memory}
+use Rattle.pdpd.specs.declared.replay.transcript_fault.TranscriptFault.{TranscriptFault}
+use Rattle.pdpd.specs.declared.replay.transcript_fault.TranscriptFault.TheVariants.{NoLineFeed}
 use Rattle.pdpd.specs.Reading.{Adds, TakesBody, TakesByte, TakesBytes, TakesHeading}
 use Rattle.pdpd.specs.Transcript.{IsNoBody, IsNoEntry, Rejects, TakesEntry, TakesOrRejects}
 
@@ -34,24 +34,24 @@ advanced xs a e n =
 
 -- ---- what is left of the transcript
 
--- a front of the piece is taken
-pub taken : (left a : Option (List ℕ)) (piece front rest : List ℕ) → Keeps left (prepend_known piece a) → piece ≡ front ++ rest → Consumes left (prepend_known rest a) front
-taken None a piece front rest p e = tt
-taken (Some xs) None piece front rest p e = absurd p
-taken (Some xs) (Some ys) piece front rest p e = sym p ∙ ap (λ (zs : List ℕ). zs ++ ys) e ∙ append_assoc front rest ys
+-- a front of the buffer is taken
+pub taken : (left a : Option (List ℕ)) (buffer front rest : List ℕ) → Keeps left (prepend_known buffer a) → buffer ≡ front ++ rest → Consumes left (prepend_known rest a) front
+taken None a buffer front rest p e = tt
+taken (Some xs) None buffer front rest p e = absurd p
+taken (Some xs) (Some ys) buffer front rest p e = sym p ∙ ap (λ (zs : List ℕ). zs ++ ys) e ∙ append_assoc front rest ys
 
 -- all is taken, and no more is left
-none_taken : (left a : Option (List ℕ)) (piece rest : List ℕ) → Keeps left (prepend_known piece a) → (piece ≡ [] → IsAtEnd (prepend_known piece a)) → piece ≡ [] → rest ≡ []
+none_taken : (left a : Option (List ℕ)) (buffer rest : List ℕ) → Keeps left (prepend_known buffer a) → (buffer ≡ [] → IsAtEnd (prepend_known buffer a)) → buffer ≡ [] → rest ≡ []
     → Consumes left (prepend_known rest a) [] × IsAtEnd (prepend_known rest a)
-none_taken left a piece rest keeps end none same =
-    let is : piece ≡ rest = none ∙ sym same in (
-      taken left a piece [] rest keeps is,
+none_taken left a buffer rest keeps end none same =
+    let is : buffer ≡ rest = none ∙ sym same in (
+      taken left a buffer [] rest keeps is,
       subst (λ (p : List ℕ). IsAtEnd (prepend_known p a)) is (end none),
     )
 
 -- as many bytes as are wanted and held are moved
-pub adds : (most : ℕ) (left a : Option (List ℕ)) (piece rest old new : List ℕ) → Keeps left (prepend_known piece a) → (piece ≡ [] → IsAtEnd (prepend_known piece a))
-    → new ≡ old ++ take most piece → rest ≡ drop most piece → Adds most left (prepend_known rest a) old new (not (length piece == 0))
+pub adds : (most : ℕ) (left a : Option (List ℕ)) (buffer rest old new : List ℕ) → Keeps left (prepend_known buffer a) → (buffer ≡ [] → IsAtEnd (prepend_known buffer a))
+    → new ≡ old ++ take most buffer → rest ≡ drop most buffer → Adds most left (prepend_known rest a) old new (not (length buffer == 0))
 adds most left a [] rest old new keeps end moved same =
     let empty : List ℕ = [] in
     let none = none_taken left a [] rest keeps end refl (same ∙ drop-nil most) in
@@ -61,15 +61,15 @@ adds most left a [] rest old new keeps end moved same =
     length_none [] e = refl
     length_none (x ∷ xs) e = absurd (omega (arith, e))
 adds most left a (byte ∷ bytes) rest old new keeps end moved same =
-    let piece : List ℕ = byte ∷ bytes in
-    let front = take most piece in
-    let some : (length piece == 0) ≡ false = grind (arith, nat_tests) in
+    let buffer : List ℕ = byte ∷ bytes in
+    let front = take most buffer in
+    let some : (length buffer == 0) ≡ false = grind (arith, nat_tests) in
     let all : Adds most left (prepend_known rest a) old new true = (
       front,
-      taken left a piece front rest keeps (sym (take-append-drop most piece) ∙ ap (λ (bs : List ℕ). front ++ bs) (sym same)),
+      taken left a buffer front rest keeps (sym (take-append-drop most buffer) ∙ ap (λ (bs : List ℕ). front ++ bs) (sym same)),
       moved,
-      omega (arith, length-take most piece),
-      λ (wanted : 0 < most). omega (arith, length-take most piece),
+      omega (arith, length-take most buffer),
+      λ (wanted : 0 < most). omega (arith, length-take most buffer),
     ) in
     subst (λ (none : Bool). Adds most left (prepend_known rest a) old new (not none)) (sym some) all
 

@@ -7,7 +7,7 @@ use Rattle.std.proofs.lemmas.List.Elements.{All-head, All-replicate, All-set, Al
 use Rattle.xa_http.specs.Stream.{Stream}
 use Rattle.xa_server.specs.declared.lines.Conn.{Conn}
 use Rattle.xa_server.specs.Lines.{IsOpen, Lines, empty_stream, first_free, with_line}
-use Rattle.pdpd.specs.declared.transcript_connection.TranscriptConnection.{TranscriptConnection}
+use Rattle.pdpd.specs.declared.replay.transcript_connection.TranscriptConnection.{TranscriptConnection}
 use Rattle.pdpd.specs.Replay.{all_open}
 use Rattle.pdpd.specs.Replaying.{AreOf, AreReady, HasFree, IsBegun, IsOneOpen, IsReady, StaysReady, connections_from}
 use Rattle.pdpd.specs.Telling.{HasRoom, LeavesAt, TakesPieces, progress_at}

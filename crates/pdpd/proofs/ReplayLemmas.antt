@@ -13,12 +13,12 @@ use Rattle.xa_server.specs.Tally.{nothing_held}
 use Rattle.xa_server.specs.World.{World}
 use Rattle.xa_server.proofs.ConnectionLemmas.{appends_none, appends_trans, consumes_none, consumes_trans, run_trans}
 use Rattle.xa_server.proofs.IsolationLemmas.{isolated}
-use Rattle.pdpd.specs.declared.transcript_connection.TranscriptConnection.{TranscriptConnection}
+use Rattle.pdpd.specs.declared.replay.transcript_connection.TranscriptConnection.{TranscriptConnection}
 use Rattle.pdpd.specs.declared.exit.Exit.{Exit}
 use Rattle.pdpd.specs.declared.exit.Exit.TheVariants as exit
-use Rattle.pdpd.specs.declared.heading.Heading.{Heading}
-use Rattle.pdpd.specs.declared.transcript.ReadFault.{ReadFault}
-use Rattle.pdpd.specs.declared.transcript.ReadFault.TheVariants as read
+use Rattle.pdpd.specs.declared.replay.heading.Heading.{Heading}
+use Rattle.pdpd.specs.declared.replay.transcript.ReadFault.{ReadFault}
+use Rattle.pdpd.specs.declared.replay.transcript.ReadFault.TheVariants as read
 use Rattle.pdpd.specs.Exit.{breaks_off, exit_of_read, tells_of_entries}
 use Rattle.pdpd.specs.Replay.{AreEntries, AreReplied, ConnectionTakes, Entry, Exchange, Gave, IsEntryReplied, IsReplayed, IsTranscriptRead, OpenTakes, Replays, StreamTakes, all_open, beginning, followed, no_exchange}
 use Rattle.pdpd.specs.Replaying.{AreOf, AreReady, TakesAsHeld, Writes}

@@ -26,8 +26,8 @@ use Rattle.pdpd.specs.Connections.{AreIsolated, IsConnectionServed}
 use Rattle.pdpd.specs.declared.fault.Fault.{Fault}
 use Rattle.pdpd.specs.declared.fault.Fault.TheVariants as variant
 use Rattle.pdpd.specs.declared.fault.Fault.TheVariants.{Address, TokenUnread, TokenBad, Store, Shut, Socket, Connection, Clock, Output, Memory}
-use Rattle.pdpd.specs.declared.setting.Setting.{Setting}
-use Rattle.pdpd.specs.declared.setting.Setting.TheVariants as set
+use Rattle.pdpd.specs.declared.serve.setting.Setting.{Setting}
+use Rattle.pdpd.specs.declared.serve.setting.Setting.TheVariants as set
 use Rattle.pdpd.specs.Fault.{IsNoAddress, IsOfConnections, IsOfFiles, IsOfServing, IsOfSetting, IsOfStore, IsOfToken, fault_of_end}
 use Rattle.pdpd.specs.Serving.{IsOfSettings, Serves, ServesOne}
 use Rattle.pdpd.specs.Token.{IsOperator}

@@ -1,13 +1,12 @@
 -- What a connection takes of an entry.
-use Rattle.std.proofs.Common.{◌≡◌, ◌≢◌, ℕ, Bool, true, false, List, [], ◌∷◌, Option, Some, None, Ok, Err, refl, sym, ap, subst, ◌∙◌, set-set}
-use Rattle.std.specs.Prelude.{IfOk, OnOk, Result, slice_get, slice_set}
+use Rattle.std.proofs.Common.{◌≡◌, ◌≢◌, ℕ, Bool, true, false, List, [], ◌∷◌, Option, Some, None, refl, sym, ap, subst, ◌∙◌, set-set}
+use Rattle.std.specs.Prelude.{slice_get, slice_set}
 use Rattle.xa_server.specs.declared.lines.Conn.{Conn}
 use Rattle.xa_server.specs.Front.{FrontState}
 use Rattle.xa_server.specs.Lines.{IsOpen, Lines, empty_stream, first_free, with_line}
 use Rattle.xa_server.proofs.ConnectionLemmas.{appends_none}
-use Rattle.pdpd.specs.declared.transcript_connection.TranscriptConnection.{TranscriptConnection}
-use Rattle.pdpd.specs.declared.exit.Exit.{Exit}
-use Rattle.pdpd.specs.declared.heading.Heading.{Heading}
+use Rattle.pdpd.specs.declared.replay.transcript_connection.TranscriptConnection.{TranscriptConnection}
+use Rattle.pdpd.specs.declared.replay.heading.Heading.{Heading}
 use Rattle.pdpd.specs.Replay.{ConnectionTakes, OpenTakes, no_exchange}
 use Rattle.pdpd.specs.Replaying.{IsBegun, Takes, TakesAsHeld, TakesOpen, connections_from}
 use Rattle.pdpd.proofs.ConnectionLemmas.{line_found, line_put, some_number}
@@ -41,12 +40,11 @@ closed heading bytes was is old mid new before none finished first begun later =
       ended = begun.goes_on;
     }
 
-pub closed_as : (sound : Type 0) (heading : Heading) (bytes : List ℕ) (was : TranscriptConnection) (old mid new : FrontState) (before : Option (List ℕ)) (result : Result TranscriptConnection Exit) → bytes ≡ []
-    → mid.lines ≡ with_line was.conn None old.lines → (sound → mid.server ≡ old.server) → IfOk result (λ is. IsBegun is mid.lines new.lines)
-    → OnOk result (sound → new.server ≡ mid.server) → IfOk result (λ is. sound → Takes heading bytes was is old new before before)
-closed_as sound heading bytes was old mid new before (Ok is) none finished first begun later = λ kept.
+pub closed_as : (sound : Type 0) (heading : Heading) (bytes : List ℕ) (was is : TranscriptConnection) (old mid new : FrontState) (before : Option (List ℕ)) → bytes ≡ []
+    → mid.lines ≡ with_line was.conn None old.lines → (sound → mid.server ≡ old.server) → IsBegun is mid.lines new.lines
+    → (sound → new.server ≡ mid.server) → sound → Takes heading bytes was is old new before before
+closed_as sound heading bytes was is old mid new before none finished first begun later = λ kept.
     closed heading bytes was is old mid new before none finished (first kept) begun (later kept)
-closed_as sound heading bytes was old mid new before (Err exit) none finished first begun later = tt
 
 -- bytes are passed over where its session has ended
 pub passed_over : (heading : Heading) (bytes : List ℕ) (was : TranscriptConnection) (front : FrontState) (before : Option (List ℕ)) → bytes ≢ [] → was.has_ended ≡ true

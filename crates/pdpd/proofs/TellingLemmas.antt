@@ -30,9 +30,9 @@ use Rattle.xa_server.specs.Replies.{bytes_of}
 use Rattle.xa_server.specs.Served.{IsRun, IsServed}
 use Rattle.xa_server.specs.World.{World}
 use Rattle.xa_server.proofs.ConnectionLemmas.{appends_none, appends_trans, cuts_trans, run_trans}
-use Rattle.pdpd.specs.declared.heading.Heading.{Heading}
-use Rattle.pdpd.specs.declared.telling.Progress.{Progress}
-use Rattle.pdpd.specs.declared.telling.Progress.TheVariants as progress
+use Rattle.pdpd.specs.declared.replay.heading.Heading.{Heading}
+use Rattle.pdpd.specs.declared.replay.telling.Progress.{Progress}
+use Rattle.pdpd.specs.declared.replay.telling.Progress.TheVariants as progress
 use Rattle.pdpd.specs.Entry.{events_at, reply_entries, reply_entry}
 use Rattle.pdpd.specs.Replay.{IsKept, StreamTakes}
 use Rattle.pdpd.specs.Replaying.{HasStreamTaken, TakesOpen, Writes}

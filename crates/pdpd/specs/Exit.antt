@@ -4,8 +4,8 @@ use Rattle.std.specs.declared.io.ErrorKind.{ErrorKind}
 use Rattle.std.specs.declared.io.ErrorKind.TheVariants.{OutOfMemory}
 use Rattle.pdpd.specs.declared.exit.Exit.{Exit}
 use Rattle.pdpd.specs.declared.exit.Exit.TheVariants.{Done, Failed, Usage, Malformed, Store, Socket, Memory}
-use Rattle.pdpd.specs.declared.transcript.ReadFault.{ReadFault}
-use Rattle.pdpd.specs.declared.transcript.ReadFault.TheVariants as read
+use Rattle.pdpd.specs.declared.replay.transcript.ReadFault.{ReadFault}
+use Rattle.pdpd.specs.declared.replay.transcript.ReadFault.TheVariants as read
 
 -- the status with which it ends
 abbrev pub status_of : Exit → ℕ

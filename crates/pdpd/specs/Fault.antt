@@ -13,7 +13,7 @@ use Rattle.pdpd.specs.declared.fault.Fault.{Fault}
 use Rattle.pdpd.specs.declared.fault.Fault.TheVariants as variant
 use Rattle.pdpd.specs.declared.fault.Fault.TheVariants.{Address, TokenUnread, TokenBad, Store, Shut}
 use Rattle.pdpd.specs.declared.fault.Fault.TheVariants.{Socket, Connection, Clock, Output, Memory}
-use Rattle.pdpd.specs.declared.setting.Setting.{Setting}
+use Rattle.pdpd.specs.declared.serve.setting.Setting.{Setting}
 
 -- how the program ends
 abbrev pub exit_of_fault : Fault → Exit

@@ -1,7 +1,7 @@
 -- Which half of a store isn't there: its file, or the log beside it.
 use Rattle.std.specs.Prelude.{ℕ, Bool, true, false, nat_eq, nat_le, ◌&&◌, if◌then◌else◌, Option, Some, None}
-use Rattle.pdpd.specs.declared.halves.Halves.{Halves}
-use Rattle.pdpd.specs.declared.halves.Halves.TheVariants.{FileAlone, LogAlone, NoLog, Whole}
+use Rattle.pdpd.specs.declared.store.halves.Halves.{Halves}
+use Rattle.pdpd.specs.declared.store.halves.Halves.TheVariants.{FileAlone, LogAlone, NoLog, Whole}
 
 -- By the length of the file, 0 where it isn't there; by the length of the log, if it is there; and by whether the
 -- file has its commits in a log first. A log of fewer than 56 bytes has no room for a commit, and a file of up to

@@ -5,9 +5,9 @@ use Rattle.std.specs.List.{slice_split}
 use Rattle.std.specs.Option.{ok_or}
 use Rattle.xa_value.specs.Digits.{number_up_to}
 use Rattle.xa_value.specs.Gives.{◌>>=◌}
-use Rattle.pdpd.specs.declared.heading.Heading.{Heading}
-use Rattle.pdpd.specs.declared.heading.HeadingFault.{HeadingFault}
-use Rattle.pdpd.specs.declared.heading.HeadingFault.TheVariants.{Parts, BadConnection, BadMoment, BadCount}
+use Rattle.pdpd.specs.declared.replay.heading.Heading.{Heading}
+use Rattle.pdpd.specs.declared.replay.heading.HeadingFault.{HeadingFault}
+use Rattle.pdpd.specs.declared.replay.heading.HeadingFault.TheVariants.{Parts, BadConnection, BadMoment, BadCount}
 
 -- the moment that plain digits write in seconds since 1970, after a `-` in seconds before: in the years 0001 to 9999
 unfoldable pub moment_of : List ℕ → Option ℤ

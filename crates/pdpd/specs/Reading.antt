@@ -2,15 +2,15 @@
 use Rattle.std.specs.Prelude.{◌≡◌, ◌≤◌, ◌<◌, ⊤, ℕ, Bool, true, false, List}
 use Rattle.std.specs.Prelude.{[], ◌∷◌, ◌++◌, length, codes, Option, Some, None}
 use Rattle.std.specs.Io.KnownBytes.{Consumes, IsAtEnd, prepend_known}
-use Rattle.pdpd.specs.declared.heading.Heading.{Heading}
-use Rattle.pdpd.specs.declared.transcript.ReadFault.{ReadFault}
-use Rattle.pdpd.specs.declared.transcript.ReadFault.TheVariants.{Malformed}
-use Rattle.pdpd.specs.declared.transcript.Transcript.{Transcript}
+use Rattle.pdpd.specs.declared.replay.heading.Heading.{Heading}
+use Rattle.pdpd.specs.declared.replay.transcript.ReadFault.{ReadFault}
+use Rattle.pdpd.specs.declared.replay.transcript.ReadFault.TheVariants.{Malformed}
+use Rattle.pdpd.specs.declared.replay.transcript.Transcript.{Transcript}
 use Rattle.pdpd.specs.Transcript.{IsBody, IsHeading, IsLine}
 
--- what is left of a transcript: the piece that is read, and then what its reader has left, where that is known
+-- what is left of a transcript: what its buffer holds, and then what its reader has left, where that is known
 abbrev pub remaining_of : {R : Type 0} → (R → Option (List ℕ)) → Transcript R → Option (List ℕ)
-remaining_of remaining transcript = prepend_known transcript.piece (remaining transcript.reader)
+remaining_of remaining transcript = prepend_known transcript.buffer (remaining transcript.reader)
 
 -- a fault of the reader: of none of the bytes
 abbrev pub IsOfReader : ReadFault → Type 0

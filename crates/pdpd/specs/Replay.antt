@@ -14,7 +14,7 @@ use Rattle.xa_server.specs.Tally.{nothing_held}
 use Rattle.xa_server.specs.World.{World}
 use Rattle.pdpd.specs.declared.exit.Exit.{Exit}
 use Rattle.pdpd.specs.declared.exit.Exit.TheVariants.{Done, Malformed}
-use Rattle.pdpd.specs.declared.heading.Heading.{Heading}
+use Rattle.pdpd.specs.declared.replay.heading.Heading.{Heading}
 use Rattle.pdpd.specs.Entry.{IsStreamAnswered, events_at, reply_entries}
 use Rattle.pdpd.specs.Transcript.{IsEntry, IsNoEntry}
 

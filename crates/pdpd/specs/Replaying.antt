@@ -7,10 +7,10 @@ use Rattle.xa_http.specs.Stream.{Stream}
 use Rattle.xa_server.specs.Front.{FrontState}
 use Rattle.xa_server.specs.declared.lines.Conn.{Conn}
 use Rattle.xa_server.specs.Lines.{IsOpen, Lines, empty_stream, first_free, none_open, with_line}
-use Rattle.pdpd.specs.declared.transcript_connection.TranscriptConnection.{TranscriptConnection}
+use Rattle.pdpd.specs.declared.replay.transcript_connection.TranscriptConnection.{TranscriptConnection}
 use Rattle.pdpd.specs.declared.exit.Exit.{Exit}
 use Rattle.pdpd.specs.declared.exit.Exit.TheVariants.{Done}
-use Rattle.pdpd.specs.declared.heading.Heading.{Heading}
+use Rattle.pdpd.specs.declared.replay.heading.Heading.{Heading}
 use Rattle.pdpd.specs.Replay.{ConnectionTakes, Exchange, IsEntryReplied, StreamTakes, all_open}
 use Rattle.pdpd.specs.Telling.{HasRoom}
 

@@ -4,7 +4,7 @@ use Rattle.xa_records.specs.Keeper.{Custody}
 use Rattle.xa_server.specs.Driven.{Known}
 use Rattle.xa_server.specs.Front.{FrontState, Fronted}
 use Rattle.pdpd.specs.declared.fault.Fault.{Fault}
-use Rattle.pdpd.specs.declared.setting.Setting.TheVariants.{Work, Reply, Reading, Views, Idle}
+use Rattle.pdpd.specs.declared.serve.setting.Setting.TheVariants.{Work, Reply, Reading, Views, Idle}
 use Rattle.pdpd.specs.Connections.{AreIsolated, IsConnectionServed}
 use Rattle.pdpd.specs.Fault.{IsOfSetting}
 

@@ -2,8 +2,8 @@
 -- PDPD_IDLE.
 use Rattle.std.specs.Prelude.{ℕ, List, Option, Some, None}
 use Rattle.xa_value.specs.Digits.{number_up_to}
-use Rattle.pdpd.specs.declared.setting.Setting.{Setting}
-use Rattle.pdpd.specs.declared.setting.Setting.TheVariants.{Work, Reply, Reading, Views, Idle}
+use Rattle.pdpd.specs.declared.serve.setting.Setting.{Setting}
+use Rattle.pdpd.specs.declared.serve.setting.Setting.TheVariants.{Work, Reply, Reading, Views, Idle}
 
 -- what each is where its variable isn't set: the limit of work for one message, 0 for none; how many bytes the body of
 -- a response may have, and how many bytes of policies may be read for one message, 0 for any number; how many bytes of

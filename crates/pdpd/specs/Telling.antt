@@ -19,9 +19,9 @@ use Rattle.xa_server.specs.Lines.{IsOpen, Lines, line_at, with_line}
 use Rattle.xa_server.specs.Replies.{bytes_of}
 use Rattle.xa_server.specs.Served.{IsRun}
 use Rattle.xa_server.specs.World.{World}
-use Rattle.pdpd.specs.declared.heading.Heading.{Heading}
-use Rattle.pdpd.specs.declared.telling.Progress.{Progress}
-use Rattle.pdpd.specs.declared.telling.Progress.TheVariants as progress
+use Rattle.pdpd.specs.declared.replay.heading.Heading.{Heading}
+use Rattle.pdpd.specs.declared.replay.telling.Progress.{Progress}
+use Rattle.pdpd.specs.declared.replay.telling.Progress.TheVariants as progress
 use Rattle.pdpd.specs.Entry.{events_at, reply_entries}
 
 -- ---- one outcome after another

@@ -3,11 +3,11 @@ use Rattle.std.specs.Prelude.{◌≡◌, ◌≢◌, ◌<◌, ◌≤◌, ◌⊎�
 use Rattle.std.specs.Prelude.{length, codes, Option, Some, None, Result, Ok, Err}
 use Rattle.std.specs.Io.KnownBytes.{Consumes, IsAtEnd}
 use Rattle.std.specs.List.{All}
-use Rattle.pdpd.specs.declared.heading.Heading.{Heading}
-use Rattle.pdpd.specs.declared.transcript.ReadFault.{ReadFault}
-use Rattle.pdpd.specs.declared.transcript.ReadFault.TheVariants.{Malformed}
-use Rattle.pdpd.specs.declared.transcript_fault.TranscriptFault.{TranscriptFault}
-use Rattle.pdpd.specs.declared.transcript_fault.TranscriptFault.TheVariants as fault
+use Rattle.pdpd.specs.declared.replay.heading.Heading.{Heading}
+use Rattle.pdpd.specs.declared.replay.transcript.ReadFault.{ReadFault}
+use Rattle.pdpd.specs.declared.replay.transcript.ReadFault.TheVariants.{Malformed}
+use Rattle.pdpd.specs.declared.replay.transcript_fault.TranscriptFault.{TranscriptFault}
+use Rattle.pdpd.specs.declared.replay.transcript_fault.TranscriptFault.TheVariants as fault
 use Rattle.pdpd.specs.Heading.{heading_of}
 
 -- none of them is a line feed

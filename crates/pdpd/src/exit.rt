@@ -3,7 +3,7 @@ ghost use Rattle.std.specs.Prelude.{◌≡◌};
 ghost use Rattle.std.specs.Process.{exit_status};
 ghost use Rattle.pdpd.specs.Exit.{status_of};
 
-use crate::transcript_fault::TranscriptFault;
+use crate::replay::transcript_fault::TranscriptFault;
 use std::alloc::{AllocError, AllocFailed};
 use std::fmt;
 use std::io::{self, ErrorKind};

@@ -5,7 +5,7 @@ ghost use Rattle.pdpd.specs.Fault.{exit_of_fault};
 
 use crate::command_line::Serving;
 use crate::exit::Exit;
-use crate::setting::Setting;
+use crate::serve::setting::Setting;
 use std::alloc::{AllocError, AllocFailed};
 use std::fmt;
 

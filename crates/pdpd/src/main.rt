@@ -11,29 +11,20 @@ ghost use Rattle.pdpd.specs.Ending.{MayEnd};
 ghost use Rattle.pdpd.specs.Exit.{ends_serving};
 ghost use Rattle.pdpd.specs.Fault.{IsNoAddress};
 
+// What is asked for, and how the program ends.
 mod command_line;
 mod exit;
 mod fault;
-mod halves;
-mod heading;
 mod help;
-mod listening;
-mod mode;
-mod piece;
+
+// What it does.
 mod replay;
-mod replayer;
 mod serve;
-mod setting;
-mod settings;
+
+// The store, and what else it asks of the system.
+mod mode;
 mod stack;
 mod store;
-mod telling;
-mod token;
-mod transcript;
-mod transcript_connection;
-mod transcript_fault;
-mod wall_clock;
-mod writing;
 
 use command_line::{Command, Serving, command_of};
 use exit::Exit;

@@ -17,10 +17,19 @@ ghost use Rattle.pdpd.specs.Replaying.{AreOf, AreReady, end_of};
 ghost use Rattle.pdpd.specs.Serving.{WasSound};
 ghost use Rattle.pdpd.specs.declared.exit.Exit.TheVariants.{Usage};
 
+pub(crate) mod heading;
+pub(crate) mod read_buffer;
+pub(crate) mod replayer;
+pub(crate) mod telling;
+pub(crate) mod transcript;
+pub(crate) mod transcript_connection;
+pub(crate) mod transcript_fault;
+pub(crate) mod writing;
+
 use crate::exit::Exit;
-use crate::replayer::Replayer;
+use crate::replay::replayer::Replayer;
+use crate::replay::transcript::Transcript;
 use crate::store::{MemoryRecords, records_in_memory};
-use crate::transcript::Transcript;
 use std::alloc::Global;
 use std::io::{Read, Write};
 use xa_notation::is_token;
@@ -68,14 +77,14 @@ fn answer_entries<I: Read, R: Records + Drop, W: Write + Drop>(
 {
     let mut bytes = Vec::new(replayer.alloc);
     for number in 1..u64::MAX {
-        let next = match transcript.entry(&mut bytes) {
+        let next = match transcript.next_entry(&mut bytes) {
             Ok(next) => next,
             Err(fault) => return Err(fault.exit(number)),
         };
         let Some(heading) = next else {
             return Ok(());
         };
-        replayer.entry(&heading, &bytes)?;
+        replayer.answer_entry(&heading, &bytes)?;
     }
     // No reader gives this many.
     Err(Exit::Failed)

@@ -14,13 +14,19 @@ ghost use Rattle.pdpd.specs.Fault.{IsNoAddress, IsOfConnections, IsOfFiles, IsOf
 ghost use Rattle.pdpd.specs.Serving.{Serves, ServesOne, WasSound};
 ghost use Rattle.pdpd.specs.Token.{IsOperator};
 
+pub(crate) mod listening;
+pub(crate) mod setting;
+pub(crate) mod settings;
+pub(crate) mod token;
+pub(crate) mod wall_clock;
+
 use crate::command_line::Serving;
 use crate::fault::Fault;
-use crate::listening::Listening;
-use crate::settings::{Settings, front_of_tables};
+use crate::serve::listening::Listening;
+use crate::serve::settings::{Settings, front_of_tables};
+use crate::serve::token::operator_of_file;
+use crate::serve::wall_clock::WallClock;
 use crate::store::{FileRecords, records_in_file};
-use crate::token::operator_of_file;
-use crate::wall_clock::WallClock;
 use std::net::{SocketAddr, TcpListener};
 use std::rt::HostRuntime;
 use xa_records::Records;

@@ -11,10 +11,12 @@ ghost use Rattle.pdpd.specs.declared.fault.Fault.TheVariants as fault;
 ghost use Rattle.pdpd.specs.declared.fault.StoreFault.TheVariants.{Unclosed};
 ghost use Rattle.pdpd.specs.Fault.{IsOfStore};
 
+pub(crate) mod halves;
+
 use crate::exit::Exit;
 use crate::fault::{Fault, OneLine, StoreFault};
-use crate::halves::{Halves, halves_at};
 use crate::mode::lets_others_read;
+use crate::store::halves::{Halves, halves_at};
 use sqlite::{Connection, Error, ErrorCode, File, FileStore, MemStore};
 use std::alloc::Global;
 use std::fs::{self, OpenOptions};
@@ -67,17 +69,17 @@ fn fault_of_tables(error: OpenError) -> Fault
     }
 }
 
-/// Tells, by a line on standard error, of a file in which more stands than the program's tables, or
+/// Warns, by a line on standard error, of a file in which more stands than the program's tables, or
 /// other tables: it is served, but nothing is proved of what is kept there.
-fn tell_of_other_tables(rt: &HostRuntime, path: &str) {
+fn warn_of_other_tables(rt: &HostRuntime, path: &str) {
     let _ = eprintln!(rt;
         "pdpd serve: {}: other tables, indexes or views stand beside the program's, or its own were made otherwise; it is served, but nothing is proved of what is kept there",
         OneLine { text: path }
     );
 }
 
-/// Tells, by a line on standard error, of a file beside which its log isn't.
-fn tell_of_log(rt: &HostRuntime, path: &str) {
+/// Warns, by a line on standard error, of a file beside which its log isn't.
+fn warn_of_log(rt: &HostRuntime, path: &str) {
     let _ = eprintln!(rt;
         "pdpd serve: {}: its log isn't there (-wal); where the file wasn't closed, by `pdpd` or by SQLite, the last changes are missing",
         OneLine { text: path }
@@ -94,14 +96,14 @@ fn look_at_halves(rt: &HostRuntime, path: &str) -> Result<(), Fault>
         Halves::LogAlone => Err(Fault::Store(StoreFault::LogAlone)),
         Halves::FileAlone => Err(Fault::Store(StoreFault::FileAlone)),
         Halves::NoLog => {
-            tell_of_log(rt, path);
+            warn_of_log(rt, path);
             Ok(())
         }
     }
 }
 
-/// Tells, by a line on standard error, of a file that others can read.
-fn tell_of_readers(rt: &HostRuntime, path: &str) {
+/// Warns, by a line on standard error, of a file that others can read.
+fn warn_of_readers(rt: &HostRuntime, path: &str) {
     if matches!(fs::metadata(rt, path), Ok(found) if lets_others_read(found.permissions().mode())) {
         let _ = eprintln!(rt;
             "pdpd serve: {}: others than its owner can read what is kept; chmod 600, and its log too (-wal)",
@@ -130,7 +132,7 @@ pub type FileRecords = SqlRecords<FileStore<File>>;
 /// What keeps domains in memory.
 pub type MemoryRecords = SqlRecords<MemStore>;
 
-/// The keeper over the file, which is made where it isn't there. A line on standard error tells
+/// The keeper over the file, which is made where it isn't there. A line on standard error warns
 /// of tables of which nothing is proved, of a log that isn't there, and of a file that others
 /// can read.
 pub fn records_in_file(rt: &HostRuntime, path: &str) -> Result<FileRecords, Fault>
@@ -140,7 +142,7 @@ pub fn records_in_file(rt: &HostRuntime, path: &str) -> Result<FileRecords, Faul
 {
     look_at_halves(rt, path)?;
     make_file(rt, path);
-    tell_of_readers(rt, path);
+    warn_of_readers(rt, path);
     let conn = match Connection::open(rt, path) {
         Ok(conn) => conn,
         Err(error) => return Err(fault_at(rt, path, fault_of_file(error))),
@@ -148,7 +150,7 @@ pub fn records_in_file(rt: &HostRuntime, path: &str) -> Result<FileRecords, Faul
     match SqlRecords::open(rt.alloc(), conn) {
         Ok(records) => {
             if !records.is_ours() {
-                tell_of_other_tables(rt, path);
+                warn_of_other_tables(rt, path);
             }
             Ok(records)
         }

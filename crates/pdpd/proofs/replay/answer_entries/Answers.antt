@@ -17,20 +17,20 @@ returns-in-Err-clause-replayed g c = λ sound known.
     let new = front_state g.R.Records.custody c.loop-number.replayer.front in
     let left = remaining_of g.I.Read.remaining c.args.transcript.now in
     let mid = remaining_of g.I.Read.remaining c.loop-number.transcript in
-    let rest = remaining_of g.I.Read.remaining c.entry.new.self in
+    let rest = remaining_of g.I.Read.remaining c.next_entry.new.self in
     let before = writer_contents g.W.Write.contents c.args.replayer.now.writer in
     let now = writer_contents g.W.Write.contents c.loop-number.replayer.writer in
     subst (λ (e : Exit). IsTranscriptRead (Replays old new before now) left rest e) (sym c.exit.ensures.exit)
     (answered_badly c.args.replayer.now.connections.items c.loop-number.replayer.connections.items old new left mid rest before now c.loop-number.number
-    (TakesEntry mid rest c.entry.new.bytes.items) c.in-Err.fault (c.loop-number.invariant.answered sound) c.in-Err.ensures known)
+    (TakesEntry mid rest c.next_entry.new.bytes.items) c.in-Err.fault (c.loop-number.invariant.answered sound) c.in-Err.ensures known)
 
 pub returns-in-Err-clause-read : goal.returns-in-Err-clause-read
 returns-in-Err-clause-read g c =
     let left = remaining_of g.I.Read.remaining c.args.transcript.now in
     let mid = remaining_of g.I.Read.remaining c.loop-number.transcript in
-    let rest = remaining_of g.I.Read.remaining c.entry.new.self in
+    let rest = remaining_of g.I.Read.remaining c.next_entry.new.self in
     subst (λ (e : Exit). IsTranscriptRead (λ _. ⊤) left rest e) (sym c.exit.ensures.exit)
-    (given_badly left mid rest c.loop-number.number (TakesEntry mid rest c.entry.new.bytes.items) c.in-Err.fault c.loop-number.invariant.read c.in-Err.ensures)
+    (given_badly left mid rest c.loop-number.number (TakesEntry mid rest c.next_entry.new.bytes.items) c.in-Err.fault c.loop-number.invariant.read c.in-Err.ensures)
 
 pub returns-in_default-clause-replayed : goal.returns-in_default-clause-replayed
 returns-in_default-clause-replayed g c = λ sound known.
@@ -38,50 +38,50 @@ returns-in_default-clause-replayed g c = λ sound known.
     let new = front_state g.R.Records.custody c.loop-number.replayer.front in
     let left = remaining_of g.I.Read.remaining c.args.transcript.now in
     let mid = remaining_of g.I.Read.remaining c.loop-number.transcript in
-    let rest = remaining_of g.I.Read.remaining c.entry.new.self in
+    let rest = remaining_of g.I.Read.remaining c.next_entry.new.self in
     let before = writer_contents g.W.Write.contents c.args.replayer.now.writer in
     let now = writer_contents g.W.Write.contents c.loop-number.replayer.writer in
-    let none : TakesEntry mid rest c.entry.new.bytes.items None = rw c.in_default.is at c.in-Ok.ensures in
+    let none : TakesEntry mid rest c.next_entry.new.bytes.items None = rw c.in_default.is at c.in-Ok.ensures in
     answered_all c.args.replayer.now.connections.items c.loop-number.replayer.connections.items old new left mid rest before now c.loop-number.number
-    c.entry.new.bytes.items (c.loop-number.invariant.answered sound) none known
+    c.next_entry.new.bytes.items (c.loop-number.invariant.answered sound) none known
 
 pub returns-in_default-clause-read : goal.returns-in_default-clause-read
 returns-in_default-clause-read g c =
     let left = remaining_of g.I.Read.remaining c.args.transcript.now in
     let mid = remaining_of g.I.Read.remaining c.loop-number.transcript in
-    let rest = remaining_of g.I.Read.remaining c.entry.new.self in
-    let none : TakesEntry mid rest c.entry.new.bytes.items None = rw c.in_default.is at c.in-Ok.ensures in
-    given_all left mid rest c.loop-number.number c.entry.new.bytes.items c.loop-number.invariant.read none
+    let rest = remaining_of g.I.Read.remaining c.next_entry.new.self in
+    let none : TakesEntry mid rest c.next_entry.new.bytes.items None = rw c.in_default.is at c.in-Ok.ensures in
+    given_all left mid rest c.loop-number.number c.next_entry.new.bytes.items c.loop-number.invariant.read none
 
 pub loop-number-preserved : goal.loop-number-preserved
 loop-number-preserved g c =
     let old = front_state g.R.Records.custody c.args.replayer.now.front in
     let mid = front_state g.R.Records.custody c.loop-number.replayer.front in
-    let new = front_state g.R.Records.custody c.entry-in-loop-number.new.self.front in
+    let new = front_state g.R.Records.custody c.answer_entry.new.self.front in
     let left = remaining_of g.I.Read.remaining c.args.transcript.now in
     let between = remaining_of g.I.Read.remaining c.loop-number.transcript in
-    let rest = remaining_of g.I.Read.remaining c.entry.new.self in
+    let rest = remaining_of g.I.Read.remaining c.next_entry.new.self in
     let before = writer_contents g.W.Write.contents c.args.replayer.now.writer in
     let written = writer_contents g.W.Write.contents c.loop-number.replayer.writer in
-    let now = writer_contents g.W.Write.contents c.entry-in-loop-number.new.self.writer in
-    let bytes = c.entry.new.bytes.items in
+    let now = writer_contents g.W.Write.contents c.answer_entry.new.self.writer in
+    let bytes = c.next_entry.new.bytes.items in
     let held = c.args.replayer.now.connections.items in
     let were = c.loop-number.replayer.connections.items in
-    let are = c.entry-in-loop-number.new.self.connections.items in
+    let are = c.answer_entry.new.self.connections.items in
     let takes : TakesEntry between rest bytes (Some c.in-Some.heading) = rw c.in-Some.is at c.in-Ok.ensures in
     record {
-      sound = λ sound. c.loop-number.invariant.sound (c.in_ok-entry.ensures.sound sound);
-      ready = c.in_ok-entry.ensures.ready;
+      sound = λ sound. c.loop-number.invariant.sound (c.in_ok-answer_entry.ensures.sound sound);
+      ready = c.in_ok-answer_entry.ensures.ready;
       read = given_more left between rest c.loop-number.number c.in-Some.heading bytes c.loop-number.invariant.read takes;
       answered = λ sound.
           answered_more held were are old mid new left between rest before written now c.loop-number.number c.in-Some.heading bytes
-          (c.loop-number.invariant.answered (c.in_ok-entry.ensures.sound sound)) takes
-          (subst (λ (bs : List ℕ). TakesAsHeld c.in-Some.heading bs were are mid new written now) c.deref.ensures.value (c.in_ok-entry.ensures.replied sound));
+          (c.loop-number.invariant.answered (c.in_ok-answer_entry.ensures.sound sound)) takes
+          (subst (λ (bs : List ℕ). TakesAsHeld c.in-Some.heading bs were are mid new written now) c.deref.ensures.value (c.in_ok-answer_entry.ensures.replied sound));
     }
 
-pub entry-requires-in-loop-number-clause-within : goal.entry-requires-in-loop-number-clause-within
-entry-requires-in-loop-number-clause-within g c =
+pub answer_entry-requires-clause-within : goal.answer_entry-requires-clause-within
+answer_entry-requires-clause-within g c =
     let between = remaining_of g.I.Read.remaining c.loop-number.transcript in
-    let rest = remaining_of g.I.Read.remaining c.entry.new.self in
-    let takes : TakesEntry between rest c.entry.new.bytes.items (Some c.in-Some.heading) = rw c.in-Some.is at c.in-Ok.ensures in
-    entry_within between rest c.entry.new.bytes.items c.in-Some.heading takes
+    let rest = remaining_of g.I.Read.remaining c.next_entry.new.self in
+    let takes : TakesEntry between rest c.next_entry.new.bytes.items (Some c.in-Some.heading) = rw c.in-Some.is at c.in-Ok.ensures in
+    entry_within between rest c.next_entry.new.bytes.items c.in-Some.heading takes

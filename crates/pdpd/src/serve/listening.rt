@@ -1,0 +1,154 @@
+//! Taking connections: one that fails is passed over, unless the listener failed.
+ghost use Rattle.std.specs.Prelude.{◌≡◌, IfErr, IsFalse, IsTrue, MatchResult};
+ghost use Rattle.pdpd.specs.declared.fault.Fault.TheVariants.{Connection};
+ghost use Rattle.pdpd.specs.Fault.{goes_on_after, is_of_network, is_passing, is_want_of_room};
+
+use crate::fault::Fault;
+use std::io::{self, ErrorKind};
+use std::net::{TcpListener, TcpStream};
+use std::rt::HostRuntime;
+use std::thread;
+use std::time::Duration;
+
+/// How often in a row a connection may fail as it is taken: a peer that closed it first doesn't end
+/// the program.
+const MAX_FAILURES: u32 = 1_000;
+
+/// How many milliseconds pass before a connection for which there was no room is taken again: 1,000
+/// of them are ten seconds.
+const PAUSE_MILLISECONDS: u64 = 10;
+
+// The system's numbers of failures at which the next connection may still be taken, as Linux has them.
+
+/// The kernel has no memory for it.
+const ENOMEM: u32 = 12;
+
+/// Too many files are open in the whole system.
+const ENFILE: u32 = 23;
+
+/// Too many files are open in this program.
+const EMFILE: u32 = 24;
+
+/// The machine is on no network.
+const ENONET: u32 = 64;
+
+/// The protocol failed.
+const EPROTO: u32 = 71;
+
+/// The protocol isn't available.
+const ENOPROTOOPT: u32 = 92;
+
+/// The kind of socket has no such operation.
+const EOPNOTSUPP: u32 = 95;
+
+/// The kernel has no room for the socket's buffers.
+const ENOBUFS: u32 = 105;
+
+/// The peer's host is down.
+const EHOSTDOWN: u32 = 112;
+
+/// Whether the next connection may be taken after a failure of that kind: it was the peer's or the
+/// network's, not the listener's.
+fn is_passing(kind: ErrorKind) -> bool
+    ensures { result ≡ is_passing kind }
+{
+    matches!(
+        kind,
+        ErrorKind::ConnectionAborted
+            | ErrorKind::ConnectionReset
+            | ErrorKind::HostUnreachable
+            | ErrorKind::NetworkUnreachable
+            | ErrorKind::NetworkDown
+            | ErrorKind::TimedOut
+            | ErrorKind::Interrupted
+    )
+}
+
+/// Whether a failure of that number, which has no kind of its own, was the network's.
+fn is_of_network(number: u32) -> bool
+    ensures { result ≡ is_of_network number }
+{
+    matches!(
+        number,
+        EPROTO | ENOPROTOOPT | EHOSTDOWN | ENONET | EOPNOTSUPP
+    )
+}
+
+/// Whether by a failure of that number there was no room for a connection.
+fn is_want_of_room(number: u32) -> bool
+    ensures { result ≡ is_want_of_room number }
+{
+    matches!(number, EMFILE | ENFILE | ENOMEM | ENOBUFS)
+}
+
+/// The system's number of a failure; 0 where it has none.
+fn number_of(error: &io::Error) -> u32 {
+    error.raw_os_error().unwrap_or(0).unsigned_abs()
+}
+
+/// Passes over that failure, after a pause if there was no room; or it is a fault.
+fn pass_over(rt: &HostRuntime, kind: ErrorKind, number: u32) -> Result<(), Fault>
+    ensures { MatchResult result (λ _. IsTrue (goes_on_after kind number))
+        (λ fault. (fault ≡ Connection) × IsFalse (goes_on_after kind number)) }
+{
+    if is_want_of_room(number) {
+        thread::sleep(rt, Duration::from_millis(PAUSE_MILLISECONDS));
+        return Ok(());
+    }
+    if is_passing(kind) || is_of_network(number) {
+        return Ok(());
+    }
+    Err(Fault::Connection)
+}
+
+/// Lets replies go out at once, and sets how long a connection may give nothing, or take nothing,
+/// in seconds; 0 for ever. Such a read or write fails.
+fn prepare(stream: &TcpStream, idle: usize) {
+    // A reply that waits for the peer's acknowledgement comes later, and is no other.
+    let _ = stream.set_nodelay(true);
+    if idle == 0 {
+        return;
+    }
+    let wait = Duration::from_secs(idle as u64);
+    // These fail only at a wait of no time, or of a stream that is gone, where the next read fails.
+    let _ = stream.set_read_timeout(Some(wait));
+    let _ = stream.set_write_timeout(Some(wait));
+}
+
+/// Where connections are taken.
+#[derive(Drop)]
+pub struct Listening {
+    /// The runtime, which waits where there is no room for a connection.
+    rt: HostRuntime,
+    /// The socket at which connections come.
+    listener: TcpListener,
+    /// For how many seconds each may give nothing, or take nothing; 0 for ever.
+    idle: usize,
+}
+
+impl Listening {
+    /// Where that listener takes connections, each of which may be idle for so many seconds; 0 for ever.
+    pub fn new(rt: &HostRuntime, listener: TcpListener, idle: usize) -> Listening {
+        Listening {
+            rt: *rt,
+            listener,
+            idle,
+        }
+    }
+
+    /// The next connection, prepared.
+    pub fn next_connection(&self) -> Result<TcpStream, Fault>
+        ensures { IfErr result (λ fault. fault ≡ Connection) }
+    {
+        for _ in 0..MAX_FAILURES {
+            match self.listener.accept() {
+                Ok((stream, _peer)) => {
+                    prepare(&stream, self.idle);
+                    return Ok(stream);
+                }
+                Err(error) => pass_over(&self.rt, error.kind(), number_of(&error))?,
+            }
+        }
+        Err(Fault::Connection)
+    }
+}

@@ -1,0 +1,93 @@
+//! What an operator has set of a server, and the front of one that is so.
+
+ghost use Rattle.std.specs.Prelude.{◌≡◌, IfErr, IfOk};
+ghost use Rattle.xa_server.specs.Lines.{none_open};
+ghost use Rattle.xa_server.specs.Tally.{nothing_held};
+ghost use Rattle.pdpd.specs.declared.fault.Fault.TheVariants.{Memory};
+ghost use Rattle.pdpd.specs.Serving.{IsOfSettings};
+
+use crate::fault::Fault;
+use crate::serve::setting::Setting;
+use sqlite::Alter;
+use std::alloc::Global;
+use xa_records::{Digest, Records};
+use xa_server::{Front, Server};
+use xa_store::SqlRecords;
+
+/// What an operator has set of the limits of a message, each 0 for none, of the room for views, and of how
+/// long a connection is waited for.
+#[derive(Clone, Copy)]
+pub struct Settings {
+    /// The units of work of a decision.
+    pub work: usize,
+    /// The bytes of a response.
+    pub reply: usize,
+    /// The bytes of policies that may be read.
+    pub reading: usize,
+    /// The bytes of memory that the domains' ready views may take; by 0 none is kept.
+    pub views: usize,
+    /// For how many seconds a connection may give nothing, or take nothing; 0 for ever.
+    pub idle: usize,
+}
+
+impl Settings {
+    /// What the environment sets, or the fault of the first variable that is set to no number.
+    pub fn read(rt: &HostRuntime) -> Result<Settings, Fault>
+        ensures { IfErr result IsOfSettings }
+    {
+        Ok(Settings {
+            work: Setting::Work.value(rt)?,
+            reply: Setting::Reply.value(rt)?,
+            reading: Setting::Reading.value(rt)?,
+            views: Setting::Views.value(rt)?,
+            idle: Setting::Idle.value(rt)?,
+        })
+    }
+}
+
+/// The limit that an operator has set: 0 is none.
+fn limit_of(set: usize) -> u64 {
+    match set {
+        0 => u64::MAX,
+        _ => set as u64,
+    }
+}
+
+/// A server over the keeper, for that operator and by these settings, and its connections, none of
+/// which is open.
+fn front_over<R: Records + Drop>(
+    alloc: Global,
+    records: R,
+    operator: Digest,
+    settings: Settings,
+) -> Result<Front<R>, Fault>
+    ensures operator { IfOk result (λ front. front.server.operator ≡ operator) }
+    ensures records { IfOk result (λ front. front.server.records ≡ records) }
+    ensures tally { IfOk result (λ front. front.server.tally ≡ nothing_held) }
+    ensures closed { IfOk result (λ front. front.lines ≡ none_open) }
+    ensures err { IfErr result (λ fault. fault ≡ Memory) }
+{
+    let server = Server::new(alloc, records, operator)?;
+    let server = server
+        .with_limit(limit_of(settings.work))
+        .with_reply_limit(limit_of(settings.reply))
+        .with_reading(limit_of(settings.reading))
+        .with_room(settings.views);
+    Ok(Front::new(alloc, server)?)
+}
+
+/// The same over a keeper of tables in any store. That such a keeper is what a server asks for is proved
+/// here once: where the store is known, that proof is long.
+pub fn front_of_tables<S: Alter + Drop>(
+    alloc: Global,
+    records: SqlRecords<S>,
+    operator: Digest,
+    settings: Settings,
+) -> Result<Front<SqlRecords<S>>, Fault>
+    ensures operator { IfOk result (λ front. front.server.operator ≡ operator) }
+    ensures tally { IfOk result (λ front. front.server.tally ≡ nothing_held) }
+    ensures closed { IfOk result (λ front. front.lines ≡ none_open) }
+    ensures err { IfErr result (λ fault. fault ≡ Memory) }
+{
+    front_over(alloc, records, operator, settings)
+}
