@@ -8,8 +8,11 @@ use xa_value::{OrMemory, Value};
 /// else comes as if it had found it.
 #[derive(Drop)]
 pub struct Answer {
+    /// Where memory comes from.
     alloc: Global,
+    /// The fields that are added, with a tab between.
     line: String,
+    /// Whether it found no memory.
     is_cut: bool,
 }
 
@@ -36,10 +39,10 @@ impl Answer {
         self.line.as_str()
     }
 
-    /// Adds the other keeper's answer, if it is another.
+    /// Adds the other answer to the same row, where it differs.
     pub fn compare(&mut self, other: &Answer) {
         if self.line() != other.line() {
-            self.field("!Differs ", other.line().as_bytes());
+            self.push_field("!Differs ", other.line().as_bytes());
         }
     }
 
@@ -49,7 +52,7 @@ impl Answer {
     }
 
     /// Adds a field that is a word of the program.
-    pub fn word(&mut self, word: &str) {
+    pub fn push_word(&mut self, word: &str) {
         let tab = if self.line.is_empty() { "" } else { "\t" };
         if write!(self.line, "{tab}{word}").is_err() {
             self.cut();
@@ -57,8 +60,8 @@ impl Answer {
     }
 
     /// Adds a field: a word of the program, and bytes.
-    pub fn field(&mut self, word: &str, bytes: &[u8]) {
-        self.word(word);
+    pub fn push_field(&mut self, word: &str, bytes: &[u8]) {
+        self.push_word(word);
         self.append_bytes(bytes);
     }
 
@@ -70,39 +73,39 @@ impl Answer {
     }
 
     /// Adds a word to the last field, and something by its name in the code.
-    pub fn append(&mut self, word: &str, shown: &impl Debug) {
+    pub fn append_shown(&mut self, word: &str, shown: &impl Debug) {
         if write!(self.line, "{word}{shown:?}").is_err() {
             self.cut();
         }
     }
 
     /// Adds a field: a word of the program, and something by its name in the code.
-    pub fn name(&mut self, word: &str, shown: &impl Debug) {
-        self.word("");
-        self.append(word, shown);
+    pub fn push_shown(&mut self, word: &str, shown: &impl Debug) {
+        self.push_word("");
+        self.append_shown(word, shown);
     }
 
     /// Adds a field: a word of the program, and the value's text.
-    pub fn text(&mut self, word: &str, value: &Value) {
+    pub fn push_text(&mut self, word: &str, value: &Value) {
         match value.to_text(self.alloc) {
-            Ok(text) => self.field(word, text.as_bytes()),
+            Ok(text) => self.push_field(word, text.as_bytes()),
             Err(_) => self.cut(),
         }
     }
 
     /// Adds a field `TYPE:TEXT`.
-    pub fn value(&mut self, value: &Value) {
+    pub fn push_value(&mut self, value: &Value) {
         match format!(in self.alloc; "{}:", value.data_type().name()) {
-            Ok(word) => self.text(word.as_str(), value),
+            Ok(word) => self.push_text(word.as_str(), value),
             Err(_) => self.cut(),
         }
     }
 
     /// Adds a field that shows something by its name in the code, or that there is nothing.
-    pub fn name_or_none<T: Debug + Drop>(&mut self, shown: Option<T>) {
+    pub fn push_shown_or_none<T: Debug + Drop>(&mut self, shown: Option<T>) {
         match shown {
-            Some(shown) => self.name("", &shown),
-            None => self.word("!None"),
+            Some(shown) => self.push_shown("", &shown),
+            None => self.push_word("!None"),
         }
     }
 
@@ -114,7 +117,7 @@ impl Answer {
         match given {
             Ok(given) => Some(given),
             Err(OrMemory::Error(error)) => {
-                self.name("!", &error);
+                self.push_shown("!", &error);
                 None
             }
             Err(OrMemory::Memory) => {

@@ -8,27 +8,21 @@ use xa_value::{DataType, Value};
 
 /// The type of that name.
 pub fn type_named(name: &str) -> Result<DataType, NoAnswer> {
-    match DataType::from_uri(name) {
-        Some(data_type) => Ok(data_type),
-        None => Err(NoAnswer::Malformed),
-    }
+    DataType::from_uri(name).ok_or(NoAnswer::Malformed)
 }
 
 /// The value that the field's text stands for.
 pub fn value_of(alloc: Global, data_type: DataType, field: &str) -> Result<Value, NoAnswer> {
     let text = text_of(alloc, field)?;
-    match Value::read(alloc, data_type, text.as_str()) {
-        Ok(value) => Ok(value),
-        Err(_) => Err(NoAnswer::Malformed),
-    }
+    Value::read(alloc, data_type, text.as_str())
+        .ok()
+        .ok_or(NoAnswer::Malformed)
 }
 
 /// The value of a field.
 pub fn value(alloc: Global, field: &str) -> Result<Value, NoAnswer> {
-    match field.split_once(':') {
-        Some((name, text)) => value_of(alloc, type_named(name)?, text),
-        None => Err(NoAnswer::Malformed),
-    }
+    let (name, text) = field.split_once(':').ok_or(NoAnswer::Malformed)?;
+    value_of(alloc, type_named(name)?, text)
 }
 
 /// Puts a value into the bag that the last argument is.
@@ -61,7 +55,7 @@ pub fn arguments(alloc: Global, fields: &[&str]) -> Result<Vec<ValueOrBag>, NoAn
     Ok(arguments)
 }
 
-/// The values of the fields; None where one is a bag.
+/// The values that the arguments are; None where one is a bag.
 pub fn values(alloc: Global, arguments: Vec<ValueOrBag>) -> Result<Option<Vec<Value>>, NoAnswer> {
     let mut values = Vec::new(alloc);
     for argument in arguments {

@@ -14,8 +14,8 @@ pub fn new_token(answer: &mut Answer, body: &str) -> Result<(), NoAnswer> {
     let body = bytes_of(answer.alloc(), body)?;
     let read = read_new_token(answer.alloc(), &body);
     if let Some(new) = answer.success(read) {
-        answer.name("", &new.role);
-        answer.field("", new.token.as_bytes());
+        answer.push_shown("", &new.role);
+        answer.push_field("", new.token.as_bytes());
     }
     Ok(())
 }
@@ -25,7 +25,7 @@ pub fn old_token(answer: &mut Answer, body: &str) -> Result<(), NoAnswer> {
     let body = bytes_of(answer.alloc(), body)?;
     let read = read_old_token(answer.alloc(), &body);
     if let Some(token) = answer.success(read) {
-        answer.field("", token.as_bytes());
+        answer.push_field("", token.as_bytes());
     }
     Ok(())
 }
@@ -48,7 +48,7 @@ pub fn push_root(
 ) -> Result<(), NoAnswer> {
     match root {
         Some(reference) => push_reference(answer, word, reference)?,
-        None => answer.field(word, "!None".as_bytes()),
+        None => answer.push_field(word, b"!None"),
     }
     Ok(())
 }
@@ -66,14 +66,13 @@ pub fn rows(answer: &mut Answer, body: &str) -> Result<(), NoAnswer> {
 /// Adds a field of the word and the body that lists the rows.
 pub fn push_rows(answer: &mut Answer, word: &str, rows: &[SourceRow]) -> Result<(), NoAnswer> {
     let body = write_rows(answer.alloc(), rows)?;
-    answer.field(word, &body);
+    answer.push_field(word, &body);
     Ok(())
 }
 
 /// The rows of the field, a body that has them.
 pub fn rows_of(alloc: Global, field: &str) -> Result<Items<SourceRow>, NoAnswer> {
-    match read_rows(alloc, &bytes_of(alloc, field)?) {
-        Ok(rows) => Ok(rows),
-        Err(_) => Err(NoAnswer::Malformed),
-    }
+    read_rows(alloc, &bytes_of(alloc, field)?)
+        .ok()
+        .ok_or(NoAnswer::Malformed)
 }

@@ -1,4 +1,6 @@
-//! The clock of rows.
+//! The clock of rows, and their moments.
+use crate::field::number_of;
+use crate::no_answer::NoAnswer;
 use xa_server::Clock;
 use xa_value::Moment;
 
@@ -19,4 +21,9 @@ impl Clock for StandingClock {
         self.left -= 1;
         Some(self.moment)
     }
+}
+
+/// The moment of this many seconds.
+pub fn moment_of(seconds: &str) -> Result<Moment, NoAnswer> {
+    Moment::new(number_of(seconds)?).ok_or(NoAnswer::Malformed)
 }

@@ -58,6 +58,6 @@ pub fn combination(answer: &mut Answer, algorithm: &str, fields: &[&str]) -> Res
     for field in fields {
         children.push(child_of(field)?)?;
     }
-    answer.name("", &combine(algorithm, &children));
+    answer.push_shown("", &combine(algorithm, &children));
     Ok(())
 }

@@ -1,12 +1,15 @@
 //! A front with all its connections, and what an event does to it: the calls of a front, and what
 //! comes to many of them.
+pub(crate) mod lines;
+
 use crate::answer::Answer;
-use crate::decisions::moment_of;
+use crate::clock::moment_of;
+use crate::connections::lines::{Line, Output, answer_all, lines_of, turn};
 use crate::field::{bytes_of, number_of};
-use crate::lines::{Line, Output, answer_all, lines_of, turn};
+use crate::front_calls::{answer_next, close, feed, open};
 use crate::no_answer::NoAnswer;
-use crate::runs::{Runs, push_last};
-use crate::server::server_made;
+use crate::runs::{Runs, push_answer, push_last};
+use crate::server::{is_of_setup, server_made};
 use std::alloc::Global;
 use xa_records::Records;
 use xa_server::{Conn, Front};
@@ -14,7 +17,7 @@ use xa_value::Moment;
 
 /// A front at a moment, with all its connections.
 #[derive(Drop)]
-pub struct Fronted<R: Records + Drop> {
+pub struct FrontTrial<R: Records + Drop> {
     /// Where memory comes from.
     pub alloc: Global,
     /// The front.
@@ -25,13 +28,17 @@ pub struct Fronted<R: Records + Drop> {
     pub moment: Moment,
 }
 
-impl<R: Records + Drop> Fronted<R> {
+impl<R: Records + Drop> FrontTrial<R> {
     /// A front over a server over the keeper, at moment 0.
-    pub fn new(answer: &mut Answer, records: R, events: &[&str]) -> Result<Fronted<R>, NoAnswer> {
+    pub fn new(
+        answer: &mut Answer,
+        records: R,
+        events: &[&str],
+    ) -> Result<FrontTrial<R>, NoAnswer> {
         let alloc = answer.alloc();
         let mut front = Front::new(alloc, server_made(answer, records, events)?)?;
         let lines = lines_of(alloc, &mut front)?;
-        Ok(Fronted {
+        Ok(FrontTrial {
             alloc,
             front,
             lines,
@@ -42,50 +49,41 @@ impl<R: Records + Drop> Fronted<R> {
     /// The connection of that number.
     pub fn conn(&self, text: &str) -> Result<Conn, NoAnswer> {
         let number: usize = number_of(text)?;
-        match self.lines.get(number) {
-            Some(line) => Ok(line.conn),
-            None => Err(NoAnswer::Malformed),
-        }
+        let line = self.lines.get(number).ok_or(NoAnswer::Malformed)?;
+        Ok(line.conn)
     }
 
     /// Adds the number of the connection, which was opened.
     pub fn push_begun(&self, answer: &mut Answer, conn: Conn) {
         for (number, line) in self.lines.iter().enumerate() {
             if line.conn == conn {
-                answer.name("begun ", &number);
+                answer.push_shown("begun ", &number);
             }
         }
     }
 
     /// Opens a connection.
     fn begin(&mut self, answer: &mut Answer) -> Result<(), NoAnswer> {
-        let conn = self.front.open()?;
+        let conn = open(&mut self.front)?;
         self.push_begun(answer, conn);
         Ok(())
     }
 
     /// Hands over bytes.
     fn piece(&mut self, answer: &mut Answer, text: &str) -> Result<(), NoAnswer> {
-        let Some((number, field)) = text.split_once(':') else {
-            return Err(NoAnswer::Malformed);
-        };
+        let (number, field) = text.split_once(':').ok_or(NoAnswer::Malformed)?;
         let bytes = bytes_of(self.alloc, field)?;
         let conn = self.conn(number)?;
-        self.front.piece(conn, &bytes)?;
-        answer.word("held");
+        feed(&mut self.front, conn, &bytes)?;
+        answer.push_word("held");
         Ok(())
     }
 
     /// Asks for the next answer.
     fn answer(&mut self, answer: &mut Answer, text: &str) -> Result<(), NoAnswer> {
         let conn = self.conn(text)?;
-        match self.front.answer(conn, self.moment)? {
-            Some(given) => {
-                answer.field("", given.reply.bytes());
-                push_last(answer, given.last);
-            }
-            None => answer.word("!None"),
-        }
+        let given = answer_next(&mut self.front, conn, self.moment)?;
+        push_answer(answer, given.as_ref());
         Ok(())
     }
 
@@ -93,37 +91,35 @@ impl<R: Records + Drop> Fronted<R> {
     fn answers(&mut self, answer: &mut Answer, text: &str) -> Result<(), NoAnswer> {
         let conn = self.conn(text)?;
         let mut runs = Runs::new(self.alloc);
-        let mut is_first = true;
+        let mut is_none = true;
         let mut is_last = false;
         for _ in 0..u64::MAX {
-            let Some(given) = self.front.answer(conn, self.moment)? else {
+            let Some(given) = answer_next(&mut self.front, conn, self.moment)? else {
                 break;
             };
             runs.push(answer, given.reply.bytes(), false)?;
-            is_first = false;
+            is_none = false;
             is_last = given.last;
         }
         runs.end(answer);
-        push_last(answer, is_last);
-        if is_first {
-            answer.word("!None");
+        if is_none {
+            answer.push_word("!None");
         }
+        push_last(answer, is_last);
         Ok(())
     }
 
     /// Closes a connection.
     fn finish(&mut self, answer: &mut Answer, text: &str) -> Result<(), NoAnswer> {
         let conn = self.conn(text)?;
-        self.front.close(conn)?;
-        answer.word("finished");
+        close(&mut self.front, conn)?;
+        answer.push_word("finished");
         Ok(())
     }
 
     /// Has bytes wait for some connections.
     fn wait(&mut self, text: &str) -> Result<(), NoAnswer> {
-        let Some((numbers, field)) = text.split_once(':') else {
-            return Err(NoAnswer::Malformed);
-        };
+        let (numbers, field) = text.split_once(':').ok_or(NoAnswer::Malformed)?;
         let (first, last) = numbers.split_once('-').unwrap_or((numbers, numbers));
         let (first, last): (usize, usize) = (number_of(first)?, number_of(last)?);
         let bytes = bytes_of(self.alloc, field)?;
@@ -172,13 +168,13 @@ impl<R: Records + Drop> Fronted<R> {
     /// to the first piece, and what was answered in all.
     fn cut(&mut self, bytes: &[u8], place: usize) -> Result<(usize, Output), NoAnswer> {
         let mut output = Output::new(self.alloc);
-        let conn = self.front.open()?;
-        self.front.piece(conn, bytes.get(..place).unwrap_or(&[]))?;
+        let conn = open(&mut self.front)?;
+        feed(&mut self.front, conn, bytes.get(..place).unwrap_or(&[]))?;
         answer_all(&mut self.front, conn, self.moment, &mut output)?;
         let before = output.count;
-        self.front.piece(conn, bytes.get(place..).unwrap_or(&[]))?;
+        feed(&mut self.front, conn, bytes.get(place..).unwrap_or(&[]))?;
         answer_all(&mut self.front, conn, self.moment, &mut output)?;
-        self.front.close(conn)?;
+        close(&mut self.front, conn)?;
         Ok((before, output))
     }
 
@@ -202,23 +198,7 @@ impl<R: Records + Drop> Fronted<R> {
         Ok(())
     }
 
-    /// Lets an event happen that isn't a call of the front.
-    fn step(&mut self, answer: &mut Answer, word: &str, text: &str) -> Result<(), NoAnswer> {
-        match word {
-            "moment" => {
-                self.moment = moment_of(text)?;
-                Ok(())
-            }
-            "waits" => self.wait(text),
-            "turns" => self.turns(answer, text),
-            "cuts" => self.cuts(answer, text),
-            "made" | "views" | "limit" => Ok(()),
-            _ => Err(NoAnswer::Malformed),
-        }
-    }
-
-    /// Makes the call of the front that the word and the text behind it say, or lets happen what
-    /// else they say.
+    /// Runs the event of the word and the text behind it. A refusal is given back.
     fn call(&mut self, answer: &mut Answer, word: &str, text: &str) -> Result<(), NoAnswer> {
         match word {
             "begin" => self.begin(answer),
@@ -226,15 +206,28 @@ impl<R: Records + Drop> Fronted<R> {
             "answer" => self.answer(answer, text),
             "answers" => self.answers(answer, text),
             "finish" => self.finish(answer, text),
-            _ => self.step(answer, word, text),
+            "moment" => {
+                self.moment = moment_of(text)?;
+                Ok(())
+            }
+            "waits" => self.wait(text),
+            "turns" => self.turns(answer, text),
+            "cuts" => self.cuts(answer, text),
+            _ if is_of_setup(word) => Ok(()),
+            _ => Err(NoAnswer::Malformed),
         }
     }
 
-    /// Lets happen what the word and the text behind it say. A refusal is answered by its name.
-    pub fn happen(&mut self, answer: &mut Answer, word: &str, text: &str) -> Result<(), NoAnswer> {
+    /// Runs the event of the word and the text behind it. A refusal is answered by its name.
+    pub fn run_event(
+        &mut self,
+        answer: &mut Answer,
+        word: &str,
+        text: &str,
+    ) -> Result<(), NoAnswer> {
         match self.call(answer, word, text) {
             Err(NoAnswer::Refused(error)) => {
-                answer.name("!", &error);
+                answer.push_shown("!", &error);
                 Ok(())
             }
             done => done,

@@ -2,8 +2,9 @@
 //! at a moment.
 use crate::answer::Answer;
 use crate::bodies::rows_of;
+use crate::clock::moment_of;
 use crate::documents::active_of;
-use crate::field::{bytes_of, number_of};
+use crate::field::{bytes_of, word_and_text};
 use crate::no_answer::NoAnswer;
 use crate::references::root_of;
 use std::alloc::Global;
@@ -16,24 +17,20 @@ use xa_value::{Items, Moment};
 /// What decides on a row's request, and when.
 #[derive(Drop)]
 struct Case {
+    /// The active documents.
     active: Items<Active>,
+    /// The root, if one is set.
     root: Option<Reference>,
+    /// The rows of the source of attributes.
     source: Items<SourceRow>,
+    /// The moment of the decision.
     moment: Moment,
-}
-
-/// The moment of this many seconds.
-pub fn moment_of(seconds: &str) -> Result<Moment, NoAnswer> {
-    match Moment::new(number_of(seconds)?) {
-        Some(moment) => Ok(moment),
-        None => Err(NoAnswer::Malformed),
-    }
 }
 
 impl Case {
     /// Takes in what the field describes.
     fn take(&mut self, alloc: Global, field: &str) -> Result<(), NoAnswer> {
-        let (word, text) = field.split_once(':').unwrap_or((field, ""));
+        let (word, text) = word_and_text(field);
         match word {
             "active" => self.active.push(active_of(alloc, text)?)?,
             "root" => self.root = root_of(alloc, text)?,
@@ -75,8 +72,8 @@ pub fn decision(answer: &mut Answer, fields: &[&str]) -> Result<(), NoAnswer> {
     let mut reader = TextReader::new(&mut shelf, u64::MAX);
     let view = View::new(alloc, &mut reader, active.as_slice(), &root, source)?;
     match xa_decide::answer(alloc, &view, &bytes_of(alloc, body)?, moment)? {
-        Some(body) => answer.field("", &body),
-        None => answer.word("!NotJson"),
+        Some(body) => answer.push_field("", &body),
+        None => answer.push_word("!NotJson"),
     }
     Ok(())
 }

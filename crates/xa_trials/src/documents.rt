@@ -13,28 +13,27 @@ pub fn document(answer: &mut Answer, field: &str) -> Result<(), NoAnswer> {
     let text = bytes_of(answer.alloc(), field)?;
     let read = Parsed::read(answer.alloc(), &text);
     match answer.success(read) {
-        Some(parsed) => show(answer, &parsed),
+        Some(parsed) => push_document(answer, &parsed),
         None => Ok(()),
     }
 }
 
-fn show(answer: &mut Answer, parsed: &Parsed) -> Result<(), NoAnswer> {
+/// Adds the document's kind, its id and its version.
+fn push_document(answer: &mut Answer, parsed: &Parsed) -> Result<(), NoAnswer> {
     match parsed.kind() {
-        DocumentKind::Policy => answer.word("policy"),
-        DocumentKind::PolicySet => answer.word("set"),
+        DocumentKind::Policy => answer.push_word("policy"),
+        DocumentKind::PolicySet => answer.push_word("set"),
     }
-    answer.field("", parsed.id().as_bytes());
+    answer.push_field("", parsed.id().as_bytes());
     let version = parsed.version().to_text(answer.alloc())?;
-    answer.word(version.as_str());
+    answer.push_word(version.as_str());
     Ok(())
 }
 
 /// The active document of the field.
 pub fn active_of(alloc: Global, field: &str) -> Result<Active, NoAnswer> {
     let text = bytes_of(alloc, field)?;
-    let Ok(parsed) = Parsed::read(alloc, &text) else {
-        return Err(NoAnswer::Malformed);
-    };
+    let parsed = Parsed::read(alloc, &text).ok().ok_or(NoAnswer::Malformed)?;
     Ok(Active {
         kind: parsed.kind(),
         id: parsed.id().clone()?,

@@ -4,23 +4,27 @@
 //! with all that, and begins with another peer.
 use crate::answer::Answer;
 use crate::clock::StandingClock;
-use crate::connections::Fronted;
-use crate::field::{bytes_of, number_of};
-use crate::keepers::tables;
+use crate::connections::FrontTrial;
+use crate::field::{bytes_of, number_of, word_and_text};
+use crate::keepers::{KeeperRow, Reopen, run_over_both};
 use crate::no_answer::NoAnswer;
 use crate::peer::{Receiver, Sender};
-use crate::server::answered;
 use std::alloc::Global;
-use xa_records::{PlainRecords, Records};
+use xa_records::Records;
 use xa_server::drive;
 
 /// A front, the peer of the connection that is driven next, and how many moments the clock tells.
 #[derive(Drop)]
 struct Driving<R: Records + Drop> {
+    /// Where memory comes from.
     alloc: Global,
-    fronted: Fronted<R>,
+    /// The front with its connections.
+    trial: FrontTrial<R>,
+    /// What the peer sends.
     sender: Sender,
+    /// What the peer gets.
     receiver: Receiver,
+    /// How many moments the clock tells.
     moments: u64,
 }
 
@@ -29,18 +33,18 @@ impl<R: Records + Drop> Driving<R> {
     /// what it sent was left.
     fn drive(&mut self, answer: &mut Answer, text: &str) -> Result<(), NoAnswer> {
         let mut clock = StandingClock {
-            moment: self.fronted.moment,
+            moment: self.trial.moment,
             left: self.moments,
         };
-        let conn = self.fronted.conn(text)?;
+        let conn = self.trial.conn(text)?;
         let driven = drive(
-            &mut self.fronted.front,
+            &mut self.trial.front,
             conn,
             &mut self.sender,
             &mut self.receiver,
             &mut clock,
         );
-        answer.name("", &driven);
+        answer.push_shown("", &driven);
         self.receiver.push_got(answer)?;
         self.sender.push_unread(answer);
         self.sender = Sender::new(self.alloc);
@@ -49,7 +53,7 @@ impl<R: Records + Drop> Driving<R> {
         Ok(())
     }
 
-    /// Lets happen what the word and the text behind it say.
+    /// Runs the event of the word and the text behind it.
     fn step(&mut self, answer: &mut Answer, word: &str, text: &str) -> Result<(), NoAnswer> {
         match word {
             "comes" => {
@@ -65,13 +69,13 @@ impl<R: Records + Drop> Driving<R> {
                 Ok(())
             }
             "drive" => self.drive(answer, text),
-            _ => self.fronted.happen(answer, word, text),
+            _ => self.trial.run_event(answer, word, text),
         }
     }
 }
 
-/// Lets the events happen to a front over the keeper.
-pub fn happenings<R: Records + Drop>(
+/// Runs the events on a front over the keeper.
+pub fn run_driven_events<R: Records + Drop>(
     answer: &mut Answer,
     records: R,
     events: &[&str],
@@ -79,25 +83,30 @@ pub fn happenings<R: Records + Drop>(
     let alloc = answer.alloc();
     let mut driving = Driving {
         alloc,
-        fronted: Fronted::new(answer, records, events)?,
+        trial: FrontTrial::new(answer, records, events)?,
         sender: Sender::new(alloc),
         receiver: Receiver::new(alloc),
         moments: u64::MAX,
     };
     for event in events {
-        let (word, text) = event.split_once(':').unwrap_or((event, ""));
+        let (word, text) = word_and_text(event);
         driving.step(answer, word, text)?;
     }
     Ok(())
 }
 
+/// A row of connections that are driven, by its events.
+#[derive(Drop)]
+struct DrivenRow<'a>(&'a [&'a str]);
+
+impl KeeperRow for DrivenRow<'_> {
+    fn run<R: Reopen + Drop>(&self, answer: &mut Answer, records: R) -> Result<(), NoAnswer> {
+        run_driven_events(answer, records, self.0)
+    }
+}
+
 /// What becomes of driven connections: over a keeper in memory, and over tables, which have to
 /// answer the same.
 pub fn driven(answer: &mut Answer, events: &[&str]) -> Result<(), NoAnswer> {
-    let alloc = answer.alloc();
-    answered(happenings(answer, PlainRecords::new(alloc), events))?;
-    let mut other = Answer::new(alloc);
-    answered(happenings(&mut other, tables(alloc)?, events))?;
-    answer.compare(&other);
-    Ok(())
+    run_over_both(answer, &DrivenRow(events))
 }

@@ -3,13 +3,22 @@ use crate::no_answer::NoAnswer;
 use sqlite::{Connection, FileStore, Files, Options};
 use sqlite_disk::{Crash, Disk, Fuse, Memory};
 use std::alloc::Global;
-use xa_store::SqlRecords;
+use xa_store::{OpenError, SqlRecords};
 
 /// A file in memory, which passes on so many calls, and then is frozen.
 pub type File = Fuse<Memory>;
 
 /// A store over two of them.
 pub type Store = FileStore<File>;
+
+/// One of the two files.
+#[derive(Clone, Copy)]
+pub enum FileName {
+    /// The log.
+    Log,
+    /// The database's file.
+    Database,
+}
 
 /// So few pages that both files are written and read again and again.
 const OPTIONS: Options = Options {
@@ -19,11 +28,11 @@ const OPTIONS: Options = Options {
     seed: 1,
 };
 
-/// An empty log and an empty file, of which each passes on so many calls.
-pub fn new_files(alloc: Global, log: u64, db: u64) -> Files<File> {
+/// An empty log and an empty file, of which each passes on more calls than any row makes.
+pub fn new_files(alloc: Global) -> Files<File> {
     Files {
-        log: Fuse::new(Memory::new(alloc), log),
-        db: Fuse::new(Memory::new(alloc), db),
+        log: Fuse::new(Memory::new(alloc), u64::MAX),
+        db: Fuse::new(Memory::new(alloc), u64::MAX),
     }
 }
 
@@ -43,9 +52,17 @@ pub fn files_under(conn: Connection<Store>) -> Files<File> {
     conn.into_store().close()
 }
 
+/// The keeper of the store; why it isn't opened, and its connection.
+pub fn opened_keeper(
+    alloc: Global,
+    conn: Connection<Store>,
+) -> Result<SqlRecords<Store>, (OpenError, Connection<Store>)> {
+    SqlRecords::open(alloc, conn)
+}
+
 /// A keeper of the store in the files; the files, where it can't be opened.
 pub fn keeper_of(alloc: Global, files: Files<File>) -> Result<SqlRecords<Store>, Files<File>> {
-    match SqlRecords::open(alloc, connection_to(alloc, files)?) {
+    match opened_keeper(alloc, connection_to(alloc, files)?) {
         Ok(records) => Ok(records),
         Err((_, conn)) => Err(files_under(conn)),
     }
@@ -60,7 +77,7 @@ fn copy_of(alloc: Global, file: &File, calls: u64) -> Result<File, NoAnswer> {
 }
 
 /// Files with all that was written to these, of which each passes on so many calls.
-pub fn copies_of(
+fn copies_of(
     alloc: Global,
     files: &Files<File>,
     log: u64,
@@ -72,17 +89,25 @@ pub fn copies_of(
     })
 }
 
-/// Files that hold what these do, of which the one that the word names passes on so many calls.
+/// The file of that name.
+pub fn file_named(word: &str) -> Result<FileName, NoAnswer> {
+    match word {
+        "log" => Ok(FileName::Log),
+        "db" => Ok(FileName::Database),
+        _ => Err(NoAnswer::Malformed),
+    }
+}
+
+/// Files that hold what these do, of which that one passes on so many calls.
 pub fn files_of(
     alloc: Global,
     held: &Files<File>,
-    word: &str,
+    name: FileName,
     calls: u64,
 ) -> Result<Files<File>, NoAnswer> {
-    match word {
-        "log" => copies_of(alloc, held, calls, u64::MAX),
-        "db" => copies_of(alloc, held, u64::MAX, calls),
-        _ => Err(NoAnswer::Malformed),
+    match name {
+        FileName::Log => copies_of(alloc, held, calls, u64::MAX),
+        FileName::Database => copies_of(alloc, held, u64::MAX, calls),
     }
 }
 

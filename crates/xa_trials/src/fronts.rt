@@ -4,33 +4,28 @@
 //! follow. `waits:N-M:BYTES` has bytes wait for some connections, `turns:SIZE` hands over what
 //! waits, so many bytes of each in turn, and `cuts:BYTES` hands over bytes cut behind each of them.
 use crate::answer::Answer;
-use crate::connections::Fronted;
-use crate::keepers::tables;
+use crate::connections::FrontTrial;
+use crate::field::word_and_text;
+use crate::keepers::{KeeperRow, Reopen, run_over_both};
 use crate::no_answer::NoAnswer;
-use crate::server::answered;
-use xa_records::{PlainRecords, Records};
 
-/// Lets the events happen to a front over the keeper.
-fn happenings<R: Records + Drop>(
-    answer: &mut Answer,
-    records: R,
-    events: &[&str],
-) -> Result<(), NoAnswer> {
-    let mut fronted = Fronted::new(answer, records, events)?;
-    for event in events {
-        let (word, text) = event.split_once(':').unwrap_or((event, ""));
-        fronted.happen(answer, word, text)?;
+/// A row of connections, by its events.
+#[derive(Drop)]
+struct FrontRow<'a>(&'a [&'a str]);
+
+impl KeeperRow for FrontRow<'_> {
+    fn run<R: Reopen + Drop>(&self, answer: &mut Answer, records: R) -> Result<(), NoAnswer> {
+        let mut trial = FrontTrial::new(answer, records, self.0)?;
+        for event in self.0 {
+            let (word, text) = word_and_text(event);
+            trial.run_event(answer, word, text)?;
+        }
+        Ok(())
     }
-    Ok(())
 }
 
 /// What a front answers to the events: over a keeper in memory, and over tables, which have to
 /// answer the same.
 pub fn front(answer: &mut Answer, events: &[&str]) -> Result<(), NoAnswer> {
-    let alloc = answer.alloc();
-    answered(happenings(answer, PlainRecords::new(alloc), events))?;
-    let mut other = Answer::new(alloc);
-    answered(happenings(&mut other, tables(alloc)?, events))?;
-    answer.compare(&other);
-    Ok(())
+    run_over_both(answer, &FrontRow(events))
 }

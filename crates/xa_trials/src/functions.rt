@@ -13,48 +13,51 @@ pub fn function(answer: &mut Answer, field: &str) -> Result<(), NoAnswer> {
     let name = text_of(answer.alloc(), field)?;
     match FuncId::from_uri(name.as_str()) {
         Some(function) => {
-            answer.name("", &function);
-            answer.name("", &function.signature());
+            answer.push_shown("", &function);
+            answer.push_shown("", &function.signature());
         }
-        None => answer.word("!None"),
+        None => answer.push_word("!None"),
     }
     Ok(())
 }
 
 /// Adds a fault, with its status.
-pub fn fault(answer: &mut Answer, fault: &impl Debug, status: Status) {
-    answer.name("!", fault);
-    answer.word(status.uri());
+fn push_fault(answer: &mut Answer, fault: &impl Debug, status: Status) {
+    answer.push_shown("!", fault);
+    answer.push_word(status.uri());
 }
 
 /// Adds the value or the bag.
-pub fn value_or_bag(answer: &mut Answer, given: &ValueOrBag) {
+fn push_value_or_bag(answer: &mut Answer, given: &ValueOrBag) {
     match given {
-        ValueOrBag::Value(value) => answer.value(value),
+        ValueOrBag::Value(value) => answer.push_value(value),
         ValueOrBag::Bag(bag) => {
-            answer.field("bag:", bag.data_type().name().as_bytes());
+            answer.push_field("bag:", bag.data_type().name().as_bytes());
             for value in bag.values() {
-                answer.text("+", value);
+                answer.push_text("+", value);
             }
         }
     }
 }
 
 /// Adds what a function of values gave.
-fn outcome(answer: &mut Answer, outcome: Result<Value, OrMemory<FuncFault>>) {
+fn push_outcome(answer: &mut Answer, outcome: Result<Value, OrMemory<FuncFault>>) {
     match outcome {
-        Ok(value) => answer.value(&value),
-        Err(OrMemory::Error(found)) => fault(answer, &found, found.status()),
+        Ok(value) => answer.push_value(&value),
+        Err(OrMemory::Error(found)) => push_fault(answer, &found, found.status()),
         Err(OrMemory::Memory) => answer.cut(),
     }
 }
 
 /// Adds what a function of bags or of a function gave.
-fn bag_outcome(answer: &mut Answer, outcome: Result<ValueOrBag, OrMemory<BagFault<FuncFault>>>) {
+fn push_bag_outcome(
+    answer: &mut Answer,
+    outcome: Result<ValueOrBag, OrMemory<BagFault<FuncFault>>>,
+) {
     match outcome {
-        Ok(found) => value_or_bag(answer, &found),
-        Err(OrMemory::Error(BagFault::Inner(found))) => fault(answer, &found, found.status()),
-        Err(OrMemory::Error(found)) => fault(answer, &found, found.status()),
+        Ok(found) => push_value_or_bag(answer, &found),
+        Err(OrMemory::Error(BagFault::Inner(found))) => push_fault(answer, &found, found.status()),
+        Err(OrMemory::Error(found)) => push_fault(answer, &found, found.status()),
         Err(OrMemory::Memory) => answer.cut(),
     }
 }
@@ -67,9 +70,9 @@ fn apply_to_values(
 ) -> Result<(), NoAnswer> {
     match values(answer.alloc(), arguments)? {
         Some(values) if function.takes(values.as_slice()) => {
-            outcome(answer, function.apply(answer.alloc(), values.as_slice()));
+            push_outcome(answer, function.apply(answer.alloc(), values.as_slice()));
         }
-        _ => answer.word("!NotTaken"),
+        _ => answer.push_word("!NotTaken"),
     }
     Ok(())
 }
@@ -84,12 +87,12 @@ fn apply_to_bags(
     let alloc = answer.alloc();
     let signature = FuncId::Bag(function, data_type).signature();
     if signature.accepts(arguments) {
-        bag_outcome(
+        push_bag_outcome(
             answer,
             apply_bag_function(alloc, function, data_type, arguments),
         );
     } else {
-        answer.word("!NotTaken");
+        answer.push_word("!NotTaken");
     }
 }
 
@@ -101,7 +104,7 @@ pub fn apply(answer: &mut Answer, name: &str, fields: &[&str]) -> Result<(), NoA
             apply_to_bags(answer, function, data_type, arguments.as_slice());
         }
         Some(function) => apply_to_values(answer, function, arguments)?,
-        None => answer.word("!NotTaken"),
+        None => answer.push_word("!NotTaken"),
     }
     Ok(())
 }
@@ -110,12 +113,12 @@ pub fn apply(answer: &mut Answer, name: &str, fields: &[&str]) -> Result<(), NoA
 fn apply_each(answer: &mut Answer, function: HigherOrder, inner: FuncId, arguments: &[ValueOrBag]) {
     let alloc = answer.alloc();
     if inner.takes_each(arguments) {
-        bag_outcome(
+        push_bag_outcome(
             answer,
             apply_higher_order(alloc, function, &inner, arguments),
         );
     } else {
-        answer.word("!NotTaken");
+        answer.push_word("!NotTaken");
     }
 }
 
@@ -129,7 +132,7 @@ pub fn higher(answer: &mut Answer, name: &str, fields: &[&str]) -> Result<(), No
         (Some(FuncId::HigherOrder(function)), Some(inner)) => {
             apply_each(answer, function, inner, arguments.as_slice());
         }
-        _ => answer.word("!NotTaken"),
+        _ => answer.push_word("!NotTaken"),
     }
     Ok(())
 }

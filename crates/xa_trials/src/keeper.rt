@@ -2,24 +2,35 @@
 //! call is a field of its word, the domain's name and a text, with a space between: `create a`,
 //! `put a ask TOKEN`, `upload a DOCUMENT`. The key of a document is written as a document that
 //! has it.
+pub(crate) mod changes;
+pub(crate) mod readings;
+
 use crate::answer::Answer;
 use crate::field::{kept_text, number_of};
-use crate::keeper_changes::{change_document, change_domain, change_held, put_token, upload};
-use crate::keeper_readings::{document, domains, gate, list, view};
-use crate::keepers::{tables, tables_with};
+use crate::keeper::changes::{
+    create, delete, drop_token, put_token, remove, set_active, set_root, set_source, upload,
+};
+use crate::keeper::readings::{document, domains, gate, list, view};
+use crate::keepers::{KeeperRow, Reopen, run_over_both, tables_with};
 use crate::no_answer::NoAnswer;
 use xa_records::{PlainRecords, Records};
 use xa_value::Text;
 
+/// A call of a keeper: a word, the domain's name, and the text behind it.
+#[derive(Drop)]
+pub struct KeeperCall<'a> {
+    /// The word of the call.
+    word: &'a str,
+    /// The domain's name.
+    pub name: Text,
+    /// The text behind the name.
+    pub text: &'a str,
+}
+
 /// What a keeper answers to the calls, of which the first finds no domain: one in memory, and one
 /// over tables, which has to answer the same.
 pub fn keeper(answer: &mut Answer, calls: &[&str]) -> Result<(), NoAnswer> {
-    let alloc = answer.alloc();
-    keeper_in_memory(answer, calls)?;
-    let mut other = Answer::new(alloc);
-    make_all(&mut other, tables(alloc)?, calls)?;
-    answer.compare(&other);
-    Ok(())
+    run_over_both(answer, &CallsRow(calls))
 }
 
 /// The same, by the keeper in memory alone.
@@ -35,14 +46,22 @@ pub fn keeper_with(answer: &mut Answer, text: &str, calls: &[&str]) -> Result<()
     let (name, numbers) = first_word_and_rest(text);
     let (number, epoch) = first_word_and_rest(numbers);
     let (number, epoch) = (number_of(number)?, number_of(epoch)?);
-    let Ok(plain) = PlainRecords::with_domain(alloc, kept_text(alloc, name)?, number, epoch) else {
-        return Err(NoAnswer::Malformed);
-    };
-    make_all(answer, plain, calls)?;
+    let plain = PlainRecords::with_domain(alloc, kept_text(alloc, name)?, number, epoch);
+    make_all(answer, plain.ok().ok_or(NoAnswer::Malformed)?, calls)?;
     let mut other = Answer::new(alloc);
     make_all(&mut other, tables_with(alloc, name, number, epoch)?, calls)?;
     answer.compare(&other);
     Ok(())
+}
+
+/// A row of calls of a keeper.
+#[derive(Drop)]
+struct CallsRow<'a>(&'a [&'a str]);
+
+impl KeeperRow for CallsRow<'_> {
+    fn run<R: Reopen + Drop>(&self, answer: &mut Answer, records: R) -> Result<(), NoAnswer> {
+        make_all(answer, records, self.0)
+    }
 }
 
 /// Makes the calls, one after another.
@@ -55,54 +74,52 @@ fn make_all<R: Records + Drop>(
         let (word, rest) = first_word_and_rest(call);
         let (name, text) = first_word_and_rest(rest);
         let name = kept_text(answer.alloc(), name)?;
-        change(answer, &mut records, word, &name, text)?;
+        make_call(answer, &mut records, &KeeperCall { word, name, text })?;
     }
     Ok(())
 }
 
 /// The text before the first space, and the one behind it.
 pub fn first_word_and_rest(text: &str) -> (&str, &str) {
-    match text.split_once(' ') {
-        Some(parts) => parts,
-        None => (text, ""),
-    }
+    text.split_once(' ').unwrap_or((text, ""))
 }
 
-/// Makes the change that the word says.
-fn change<R: Records>(
+/// Makes the call that the word says: a change, else a reading.
+fn make_call<R: Records>(
     answer: &mut Answer,
     records: &mut R,
-    word: &str,
-    name: &Text,
-    text: &str,
+    call: &KeeperCall<'_>,
 ) -> Result<(), NoAnswer> {
-    match word {
-        "create" => change_domain(answer, records, name, true),
-        "remove" => change_domain(answer, records, name, false),
-        "put" => put_token(answer, records, name, text),
-        "upload" => upload(answer, records, name, text),
-        "activate" | "deactivate" | "delete" => change_document(answer, records, word, name, text),
-        "drop" | "root" | "source" => change_held(answer, records, word, name, text),
-        _ => read(answer, records, word, name, text),
+    match call.word {
+        "create" => create(answer, records, call)?,
+        "remove" => remove(answer, records, call),
+        "put" => put_token(answer, records, call)?,
+        "drop" => drop_token(answer, records, call)?,
+        "upload" => upload(answer, records, call)?,
+        "activate" => set_active(answer, records, call, true)?,
+        "deactivate" => set_active(answer, records, call, false)?,
+        "delete" => delete(answer, records, call)?,
+        "root" => set_root(answer, records, call)?,
+        "source" => set_source(answer, records, call)?,
+        _ => read(answer, records, call)?,
     }
+    Ok(())
 }
 
 /// Makes the reading that the word says.
 fn read<R: Records>(
     answer: &mut Answer,
     records: &mut R,
-    word: &str,
-    name: &Text,
-    text: &str,
+    call: &KeeperCall<'_>,
 ) -> Result<(), NoAnswer> {
-    match word {
-        "faults" => answer.name("", &records.faults()),
-        "open" => answer.name("", &records.is_open()),
+    match call.word {
+        "faults" => answer.push_shown("", &records.faults()),
+        "open" => answer.push_shown("", &records.is_open()),
         "domains" => domains(answer, records),
-        "gate" | "role" => return gate(answer, records, name, text),
-        "view" => return view(answer, records, name),
-        "document" => return document(answer, records, name, text),
-        "list" => return list(answer, records, name),
+        "gate" | "role" => gate(answer, records, call)?,
+        "view" => view(answer, records, call)?,
+        "document" => document(answer, records, call)?,
+        "list" => list(answer, records, call)?,
         _ => return Err(NoAnswer::Malformed),
     }
     Ok(())

@@ -1,6 +1,8 @@
 //! The keepers over which rows are answered.
-use crate::no_answer::NoAnswer;
-use sqlite::{Connection, MemStore};
+use crate::answer::Answer;
+use crate::field::kept_text;
+use crate::no_answer::{NoAnswer, answered};
+use sqlite::{Alter, Connection, MemStore};
 use std::alloc::Global;
 use xa_records::{PlainRecords, Records};
 use xa_store::SqlRecords;
@@ -23,12 +25,37 @@ impl Reopen for SqlRecords<MemStore> {
     }
 }
 
+/// A row that is answered over a keeper, whichever that is.
+pub trait KeeperRow {
+    /// Adds what is answered over the keeper.
+    fn run<R: Reopen + Drop>(&self, answer: &mut Answer, records: R) -> Result<(), NoAnswer>;
+}
+
+/// Answers the row over a keeper in memory, and over tables, which have to answer the same.
+pub fn run_over_both<T: KeeperRow>(answer: &mut Answer, row: &T) -> Result<(), NoAnswer> {
+    let alloc = answer.alloc();
+    answered(row.run(answer, PlainRecords::new(alloc)))?;
+    let mut other = Answer::new(alloc);
+    answered(row.run(&mut other, tables(alloc)?))?;
+    answer.compare(&other);
+    Ok(())
+}
+
+/// Runs the statements of a field in the store.
+pub fn run_statements<S: Alter>(
+    alloc: Global,
+    conn: &mut Connection<S>,
+    field: &str,
+) -> Result<(), NoAnswer> {
+    let sql = kept_text(alloc, field)?;
+    conn.execute_batch(sql.as_str())
+        .ok()
+        .ok_or(NoAnswer::Malformed)
+}
+
 /// A connection to a store in memory, without tables.
 pub fn connection(alloc: Global) -> Result<Connection<MemStore>, NoAnswer> {
-    match Connection::open_in_memory(alloc) {
-        Ok(conn) => Ok(conn),
-        Err(_) => Err(NoAnswer::Memory),
-    }
+    Ok(Connection::open_in_memory(alloc)?)
 }
 
 /// The keeper over the store.
@@ -36,10 +63,7 @@ fn keeper_over(
     alloc: Global,
     conn: Connection<MemStore>,
 ) -> Result<SqlRecords<MemStore>, NoAnswer> {
-    match SqlRecords::open(alloc, conn) {
-        Ok(records) => Ok(records),
-        Err(_) => Err(NoAnswer::Memory),
-    }
+    SqlRecords::open(alloc, conn).ok().ok_or(NoAnswer::Memory)
 }
 
 /// A keeper over tables in memory, without domains.
@@ -60,8 +84,8 @@ pub fn tables_with(
         "UPDATE meta SET next_number = {next}; INSERT INTO domains VALUES ({number}, '{name}', {epoch})"
     )?;
     let mut conn = tables(alloc)?.into_connection();
-    if conn.execute_batch(sql.as_str()).is_err() {
-        return Err(NoAnswer::Malformed);
-    }
+    conn.execute_batch(sql.as_str())
+        .ok()
+        .ok_or(NoAnswer::Malformed)?;
     keeper_over(alloc, conn)
 }

@@ -14,7 +14,7 @@ pub fn tree(answer: &mut Answer, root: &str, texts: &[&str]) -> Result<(), NoAns
     let mut shelf = Shelf::new(alloc)?;
     let mut reader = TextReader::new(&mut shelf, u64::MAX);
     if let Some(tree) = answer.success(link(alloc, &mut reader, &documents, &root)) {
-        show(answer, &tree);
+        push_tree(answer, &tree);
     }
     Ok(())
 }
@@ -22,22 +22,22 @@ pub fn tree(answer: &mut Answer, root: &str, texts: &[&str]) -> Result<(), NoAns
 /// Adds the tree: `?` for a reference that leads to nothing, else the name of the algorithm, of a
 /// set with its children.
 #[cycle(shown)]
-fn show(answer: &mut Answer, tree: &Linked) {
+fn push_tree(answer: &mut Answer, tree: &Linked) {
     match tree {
-        Linked::Unresolved => answer.word("?"),
-        Linked::Policy(policy) => answer.name("", &policy.get().algorithm()),
+        Linked::Unresolved => answer.push_word("?"),
+        Linked::Policy(policy) => answer.push_shown("", &policy.get().algorithm()),
         Linked::PolicySet(set, children) => {
-            answer.name("(", &set.get().algorithm());
-            show_children(answer, children.get().as_slice());
+            answer.push_shown("(", &set.get().algorithm());
+            push_children(answer, children.get().as_slice());
         }
     }
 }
 
 /// Adds the trees of a set's children, and its end.
 #[cycle(shown)]
-fn show_children(answer: &mut Answer, children: &[Linked]) {
+fn push_children(answer: &mut Answer, children: &[Linked]) {
     for child in children {
-        show(answer, child);
+        push_tree(answer, child);
     }
-    answer.word(")");
+    answer.push_word(")");
 }

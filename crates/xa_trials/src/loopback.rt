@@ -5,37 +5,47 @@
 //! client connects, writes, and ends its writing side; then the server takes the connection,
 //! answers it and closes it; then the client reads.
 use crate::answer::Answer;
-use crate::clock::StandingClock;
-use crate::decisions::moment_of;
-use crate::field::bytes_of;
+use crate::clock::{StandingClock, moment_of};
+use crate::field::{bytes_of, word_and_text};
+use crate::front_calls::{close, open};
 use crate::keepers::tables;
-use crate::no_answer::NoAnswer;
-use crate::server::{answered, server_made};
+use crate::no_answer::{NoAnswer, answered};
+use crate::server::{is_of_setup, server_made};
 use std::io::{Read, Write};
 use std::net::{Ipv4Addr, Shutdown, TcpListener, TcpStream};
 use std::rt::HostRuntime;
 use xa_records::Records;
-use xa_server::{Front, drive};
+use xa_server::{Driven, Front, drive};
 
 /// A front, where it takes connections, and what the client of the next one writes.
 #[derive(Drop)]
 struct Sockets<R: Records + Drop> {
+    /// The runtime, by which clients connect.
     rt: HostRuntime,
+    /// The front.
     front: Front<R>,
+    /// Where it takes connections.
     listener: TcpListener,
+    /// The server's clock.
     clock: StandingClock,
+    /// What the client of the next connection writes.
     written: Vec<u8>,
 }
 
 impl<R: Records + Drop> Sockets<R> {
-    /// Has a client connect and write, and the server take the connection, answer it and close it.
-    /// Adds how that has ended for the server and what the client has received.
-    fn connection(&mut self, answer: &mut Answer) -> Result<(), NoAnswer> {
+    /// A client that has connected, and has written all that it writes.
+    fn client(&mut self) -> Result<TcpStream, NoAnswer> {
         let mut client = TcpStream::connect(&self.rt, self.listener.local_addr()?)?;
         client.write_all(&self.written)?;
         client.shutdown(Shutdown::Write)?;
+        self.written.clear();
+        Ok(client)
+    }
+
+    /// Has the server take the next connection, answer it and close it. How that has ended.
+    fn serve_next(&mut self) -> Result<Driven, NoAnswer> {
         let (stream, _peer) = self.listener.accept()?;
-        let conn = self.front.open()?;
+        let conn = open(&mut self.front)?;
         let driven = drive(
             &mut self.front,
             conn,
@@ -43,21 +53,26 @@ impl<R: Records + Drop> Sockets<R> {
             &mut &stream,
             &mut self.clock,
         );
-        self.front.close(conn)?;
-        drop(stream);
-        self.written.clear();
-        client.read_to_end(&mut self.written)?;
-        answer.name("", &driven);
-        if !self.written.is_empty() {
-            answer.field("", &self.written);
+        close(&mut self.front, conn)?;
+        Ok(driven)
+    }
+
+    /// Adds how a connection of the next client has ended for the server, and what the client has received.
+    fn connection(&mut self, answer: &mut Answer) -> Result<(), NoAnswer> {
+        let mut client = self.client()?;
+        let driven = self.serve_next()?;
+        let mut received = Vec::new(answer.alloc());
+        client.read_to_end(&mut received)?;
+        answer.push_shown("", &driven);
+        if !received.is_empty() {
+            answer.push_field("", &received);
         }
-        self.written.clear();
         Ok(())
     }
 
-    /// Lets happen what the field says.
+    /// Runs the event of the field.
     fn step(&mut self, answer: &mut Answer, field: &str) -> Result<(), NoAnswer> {
-        let (word, text) = field.split_once(':').unwrap_or((field, ""));
+        let (word, text) = word_and_text(field);
         match word {
             "piece" => {
                 let bytes = bytes_of(answer.alloc(), text)?;
@@ -65,14 +80,14 @@ impl<R: Records + Drop> Sockets<R> {
             }
             "close" => self.connection(answer)?,
             "moment" => self.clock.moment = moment_of(text)?,
-            "made" | "views" | "limit" => {}
+            _ if is_of_setup(word) => {}
             _ => return Err(NoAnswer::Malformed),
         }
         Ok(())
     }
 }
 
-/// Lets the events happen over sockets of a server over a keeper of tables.
+/// Runs the events over sockets of a server over a keeper of tables.
 fn connections(answer: &mut Answer, rt: &HostRuntime, events: &[&str]) -> Result<(), NoAnswer> {
     let alloc = answer.alloc();
     let server = server_made(answer, tables(alloc)?, events)?;

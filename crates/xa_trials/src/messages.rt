@@ -20,39 +20,34 @@ pub fn stream(answer: &mut Answer, pieces: &[&str]) -> Result<(), NoAnswer> {
     Ok(())
 }
 
+/// Takes the whole messages off the stream and adds each, and then why no message follows.
 fn take_all(answer: &mut Answer, session: &mut Session) -> Result<(), NoAnswer> {
     for _ in 0..u64::MAX {
         match session.next()? {
-            Next::Message(message) => push_message(answer, &message),
-            next => {
-                push_end(answer, next);
-                return Ok(());
+            Next::Message(message) => {
+                push_message(answer, &message);
+                continue;
             }
+            Next::More => answer.push_word("More"),
+            Next::Fault(fault) => answer.push_shown("!", &fault),
+            Next::Ended => answer.push_word("!Ended"),
         }
+        return Ok(());
     }
     Ok(())
 }
 
-/// Adds why no message follows.
-fn push_end(answer: &mut Answer, next: Next) {
-    match next {
-        Next::More => answer.word("More"),
-        Next::Fault(fault) => answer.name("!", &fault),
-        Next::Ended | Next::Message(_) => answer.word("!Ended"),
-    }
-}
-
 /// Adds a message: its method, its target, its field lines and its body, and whether it closes the stream.
 fn push_message(answer: &mut Answer, message: &Message) {
-    answer.field("method:", message.method.as_slice());
-    answer.field("target:", message.target.as_slice());
+    answer.push_field("method:", message.method.as_slice());
+    answer.push_field("target:", message.target.as_slice());
     for field in message.fields.as_slice() {
-        answer.field("name:", field.name.as_slice());
-        answer.field("value:", field.value.as_slice());
+        answer.push_field("name:", field.name.as_slice());
+        answer.push_field("value:", field.value.as_slice());
     }
-    answer.field("body:", message.body.as_slice());
+    answer.push_field("body:", message.body.as_slice());
     if message.close {
-        answer.word("close");
+        answer.push_word("close");
     }
 }
 
@@ -70,29 +65,29 @@ fn message_of(alloc: Global, method: &str, target: &str) -> Result<Message, NoAn
 /// Adds what is asked for and the domain, and of a document the parts of its key.
 fn push_route(answer: &mut Answer, route: &Route) {
     match route {
-        Route::Domains => answer.word("domains"),
+        Route::Domains => answer.push_word("domains"),
         Route::Operator { domain, command } => {
-            answer.name("", command);
-            answer.field("", domain.as_slice());
+            answer.push_shown("", command);
+            answer.push_field("", domain.as_slice());
         }
         Route::Decide { domain } => {
-            answer.word("Decide");
-            answer.field("", domain.as_slice());
+            answer.push_word("Decide");
+            answer.push_field("", domain.as_slice());
         }
         Route::Domain { domain, command } => {
-            answer.name("", command);
-            answer.field("", domain.as_slice());
+            answer.push_shown("", command);
+            answer.push_field("", domain.as_slice());
         }
         Route::Document {
             domain,
             parts,
             command,
         } => {
-            answer.name("", command);
-            answer.field("", domain.as_slice());
-            answer.field("", parts.kind.as_slice());
-            answer.field("", parts.id.as_slice());
-            answer.field("", parts.version.as_slice());
+            answer.push_shown("", command);
+            answer.push_field("", domain.as_slice());
+            answer.push_field("", parts.kind.as_slice());
+            answer.push_field("", parts.id.as_slice());
+            answer.push_field("", parts.version.as_slice());
         }
     }
 }
@@ -103,22 +98,24 @@ pub fn route(answer: &mut Answer, method: &str, target: &str) -> Result<(), NoAn
     let routes = Routes::new(answer.alloc())?;
     match routes.route(answer.alloc(), &message) {
         Ok(route) => push_route(answer, &route),
-        Err(OrMemory::Error(RouteFault::BadMethod(_))) => answer.word("!BadMethod"),
-        Err(OrMemory::Error(fault)) => answer.name("!", &fault),
+        Err(OrMemory::Error(RouteFault::BadMethod(_))) => answer.push_word("!BadMethod"),
+        Err(OrMemory::Error(fault)) => answer.push_shown("!", &fault),
         Err(OrMemory::Memory) => answer.cut(),
     }
     Ok(())
 }
 
-/// Whether the text has the shape of a token, or of a domain's name.
-pub fn shape(answer: &mut Answer, kind: &str, field: &str) -> Result<(), NoAnswer> {
+/// Whether the text has the shape of a token.
+pub fn token(answer: &mut Answer, field: &str) -> Result<(), NoAnswer> {
     let text = bytes_of(answer.alloc(), field)?;
-    let is_one = if kind == "token" {
-        is_token(&text)
-    } else {
-        is_domain_name(&text)
-    };
-    answer.name("", &is_one);
+    answer.push_shown("", &is_token(&text));
+    Ok(())
+}
+
+/// Whether the text has the shape of a domain's name.
+pub fn domain(answer: &mut Answer, field: &str) -> Result<(), NoAnswer> {
+    let text = bytes_of(answer.alloc(), field)?;
+    answer.push_shown("", &is_domain_name(&text));
     Ok(())
 }
 
@@ -126,9 +123,9 @@ pub fn shape(answer: &mut Answer, kind: &str, field: &str) -> Result<(), NoAnswe
 pub fn digest(answer: &mut Answer, text: &str, field: &str) -> Result<(), NoAnswer> {
     let text = bytes_of(answer.alloc(), text)?;
     let bytes = bytes_of(answer.alloc(), field)?;
-    match <[u8; 32]>::try_from(bytes.as_slice()) {
-        Ok(bytes) => answer.name("", &(Digest::of(&text) == Digest::from_bytes(bytes))),
-        Err(_) => return Err(NoAnswer::Malformed),
-    }
+    let bytes = <[u8; 32]>::try_from(bytes.as_slice())
+        .ok()
+        .ok_or(NoAnswer::Malformed)?;
+    answer.push_shown("", &(Digest::of(&text) == Digest::from_bytes(bytes)));
     Ok(())
 }

@@ -20,6 +20,14 @@ pub enum NoAnswer {
     Refused(FrontError),
 }
 
+/// What comes of a row: that its answer is there already is no failure.
+pub fn answered(done: Result<(), NoAnswer>) -> Result<(), NoAnswer> {
+    match done {
+        Err(NoAnswer::Answered) => Ok(()),
+        done => done,
+    }
+}
+
 impl From<AllocError> for NoAnswer {
     fn from(_error: AllocError) -> NoAnswer {
         NoAnswer::Memory

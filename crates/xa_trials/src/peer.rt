@@ -8,21 +8,26 @@ use std::alloc::Global;
 use std::io::{self, ErrorKind, Read, Write};
 use std::mem;
 
-/// Calls of one kind: how many bytes each gives or takes at most, which one fails, and which are
-/// interrupted. They are counted from 1 on.
+/// How calls of one kind go: how many bytes each gives or takes at most, which one fails, and which
+/// are interrupted. They are counted from 1 on.
 #[derive(Clone, Copy, Drop)]
-pub struct Calls {
+pub struct CallPlan {
+    /// How many bytes each gives or takes at most.
     size: usize,
+    /// The number of the one that fails; 0 if none does.
     fails: u64,
+    /// The number of the first that is interrupted.
     first: u64,
+    /// The number of the last that is interrupted.
     last: u64,
+    /// How many were made.
     count: u64,
 }
 
-impl Calls {
+impl CallPlan {
     /// Calls of which none fails.
-    fn new() -> Calls {
-        Calls {
+    fn new() -> CallPlan {
+        CallPlan {
             size: usize::MAX,
             fails: 0,
             first: 1,
@@ -33,9 +38,7 @@ impl Calls {
 
     /// Sets what the text says: `size N`, `fails N`, or `interrupted N-M`.
     pub fn set(&mut self, text: &str) -> Result<(), NoAnswer> {
-        let Some((word, number)) = text.split_once(' ') else {
-            return Err(NoAnswer::Malformed);
-        };
+        let (word, number) = text.split_once(' ').ok_or(NoAnswer::Malformed)?;
         match word {
             "size" => self.size = number_of(number)?,
             "fails" => self.fails = number_of(number)?,
@@ -66,9 +69,10 @@ impl Calls {
 #[derive(Drop)]
 pub struct Sender {
     /// How it is read.
-    pub reads: Calls,
+    pub reads: CallPlan,
     /// The bytes, of which some are read already.
     pub bytes: Vec<u8>,
+    /// How many of them are read.
     at: usize,
 }
 
@@ -76,7 +80,7 @@ impl Sender {
     /// Nothing is sent.
     pub fn new(alloc: Global) -> Sender {
         Sender {
-            reads: Calls::new(),
+            reads: CallPlan::new(),
             bytes: Vec::new(alloc),
             at: 0,
         }
@@ -86,7 +90,7 @@ impl Sender {
     pub fn push_unread(&self, answer: &mut Answer) {
         let unread = self.bytes.len().saturating_sub(self.at);
         if unread > 0 {
-            answer.name("unread ", &unread);
+            answer.push_shown("unread ", &unread);
         }
     }
 }
@@ -105,11 +109,12 @@ impl Read for Sender {
 /// What the peer gets.
 #[derive(Drop)]
 pub struct Receiver {
+    /// Where memory comes from.
     alloc: Global,
     /// How it is written to.
-    pub writes: Calls,
+    pub writes: CallPlan,
     /// How it is flushed.
-    pub flushes: Calls,
+    pub flushes: CallPlan,
     /// What was written since it was last flushed.
     kept: Vec<u8>,
     /// What it has got, at each flush.
@@ -121,8 +126,8 @@ impl Receiver {
     pub fn new(alloc: Global) -> Receiver {
         Receiver {
             alloc,
-            writes: Calls::new(),
-            flushes: Calls::new(),
+            writes: CallPlan::new(),
+            flushes: CallPlan::new(),
             kept: Vec::new(alloc),
             got: Vec::new(alloc),
         }
@@ -136,7 +141,7 @@ impl Receiver {
         }
         runs.end(answer);
         if !self.kept.is_empty() {
-            answer.field("unflushed:", &self.kept);
+            answer.push_field("unflushed:", &self.kept);
         }
         Ok(())
     }

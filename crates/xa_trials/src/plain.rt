@@ -9,36 +9,35 @@ use xa_value::{DataType, Plain, Text, TextRef, Value};
 /// field `text:TEXT`, `boolean:true`, `boolean:false` or `integer:DIGITS`.
 pub fn plain(answer: &mut Answer, name: &str, member: &str) -> Result<(), NoAnswer> {
     let data_type = type_named(name)?;
-    let Some((kind, field)) = member.split_once(':') else {
-        return Err(NoAnswer::Malformed);
-    };
+    let (kind, field) = member.split_once(':').ok_or(NoAnswer::Malformed)?;
     let text = text_of(answer.alloc(), field)?;
     match kind {
-        "text" => both(answer, data_type, &Plain::Text(TextRef::new(text.as_str()))),
-        "boolean" => both(answer, data_type, &Plain::Boolean(number_of(field)?)),
-        "integer" => both(answer, data_type, &Plain::Integer(number_of(field)?)),
+        "text" => push_both(answer, data_type, &Plain::Text(TextRef::new(text.as_str()))),
+        "boolean" => push_both(answer, data_type, &Plain::Boolean(number_of(field)?)),
+        "integer" => push_both(answer, data_type, &Plain::Integer(number_of(field)?)),
         _ => Err(NoAnswer::Malformed),
     }
 }
 
 /// Adds the value, and the member as which it is written.
-fn both(
+fn push_both(
     answer: &mut Answer,
     data_type: DataType,
     plain: &Plain<TextRef<'_>>,
 ) -> Result<(), NoAnswer> {
     let read = Value::from_plain(answer.alloc(), data_type, plain);
     if let Some(value) = answer.success(read) {
-        answer.value(&value);
+        answer.push_value(&value);
         push_member(answer, &value.to_plain(answer.alloc())?);
     }
     Ok(())
 }
 
+/// Adds a field of the member's kind and its value.
 fn push_member(answer: &mut Answer, member: &Plain<Text>) {
     match member {
-        Plain::Text(text) => answer.field("plain:text:", text.as_bytes()),
-        Plain::Boolean(value) => answer.name("plain:boolean:", value),
-        Plain::Integer(value) => answer.name("plain:integer:", value),
+        Plain::Text(text) => answer.push_field("plain:text:", text.as_bytes()),
+        Plain::Boolean(value) => answer.push_shown("plain:boolean:", value),
+        Plain::Integer(value) => answer.push_shown("plain:integer:", value),
     }
 }

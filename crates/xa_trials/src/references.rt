@@ -16,24 +16,20 @@ use xa_value::Text;
 pub fn resolution(answer: &mut Answer, reference: &str, texts: &[&str]) -> Result<(), NoAnswer> {
     let reference = reference_of(answer.alloc(), reference)?;
     let documents = documents_of(answer.alloc(), texts)?;
-    answer.name_or_none(resolve(&documents, &reference));
+    answer.push_shown_or_none(resolve(&documents, &reference));
     Ok(())
 }
 
 /// The root that the body of the field sets, if any.
 pub fn root_of(alloc: Global, field: &str) -> Result<Option<Reference>, NoAnswer> {
-    match read_root(alloc, &bytes_of(alloc, field)?) {
-        Ok(root) => Ok(root),
-        Err(_) => Err(NoAnswer::Malformed),
-    }
+    read_root(alloc, &bytes_of(alloc, field)?)
+        .ok()
+        .ok_or(NoAnswer::Malformed)
 }
 
 /// The reference to which the body of the field sets the root.
 pub fn reference_of(alloc: Global, field: &str) -> Result<Reference, NoAnswer> {
-    match root_of(alloc, field)? {
-        Some(reference) => Ok(reference),
-        None => Err(NoAnswer::Malformed),
-    }
+    root_of(alloc, field)?.ok_or(NoAnswer::Malformed)
 }
 
 /// The active documents of these texts.
@@ -62,17 +58,18 @@ pub fn key_in(alloc: Global, field: &str) -> Result<DocumentKey, NoAnswer> {
 
 /// Adds a field of the word and KIND|ID|.
 fn push_kind(answer: &mut Answer, word: &str, kind: DocumentKind, id: &Text) {
-    answer.word(word);
+    answer.push_word(word);
     match kind {
-        DocumentKind::Policy => answer.append_bytes("policy|".as_bytes()),
-        DocumentKind::PolicySet => answer.append_bytes("set|".as_bytes()),
+        DocumentKind::Policy => answer.append_bytes(b"policy|"),
+        DocumentKind::PolicySet => answer.append_bytes(b"set|"),
     }
     answer.append_bytes(id.as_bytes());
-    answer.append_bytes("|".as_bytes());
+    answer.append_bytes(b"|");
 }
 
+/// Adds |VERSION to the last field; a version that the reference doesn't say is empty.
 fn push_version(answer: &mut Answer, version: &Option<Version>) -> Result<(), NoAnswer> {
-    answer.append_bytes("|".as_bytes());
+    answer.append_bytes(b"|");
     if let Some(version) = version {
         answer.append_bytes(version.to_text(answer.alloc())?.as_bytes());
     }

@@ -9,7 +9,7 @@ pub fn request(answer: &mut Answer, body: &str) -> Result<(), NoAnswer> {
     let body = bytes_of(answer.alloc(), body)?;
     let read = Request::read(answer.alloc(), &body);
     if let Some(request) = answer.success(read) {
-        show_request(answer, &request);
+        push_request(answer, &request);
     }
     Ok(())
 }
@@ -17,63 +17,67 @@ pub fn request(answer: &mut Answer, body: &str) -> Result<(), NoAnswer> {
 /// The individual requests that the body makes: to each the places of its objects.
 pub fn individuals(answer: &mut Answer, body: &str) -> Result<(), NoAnswer> {
     let body = bytes_of(answer.alloc(), body)?;
-    let Ok(request) = Request::read(answer.alloc(), &body) else {
-        return Err(NoAnswer::Malformed);
-    };
+    let request = Request::read(answer.alloc(), &body)
+        .ok()
+        .ok_or(NoAnswer::Malformed)?;
     let individuals = request.individuals(answer.alloc());
     if let Some(individuals) = answer.success(individuals) {
         for individual in individuals.as_slice() {
-            show_individual(answer, individual);
+            push_individual(answer, individual);
         }
     }
     Ok(())
 }
 
-fn show_request(answer: &mut Answer, request: &Request) {
+/// Adds the request: its flags, its objects, and its end.
+fn push_request(answer: &mut Answer, request: &Request) {
     if request.combined_decision {
-        answer.word("combined");
+        answer.push_word("combined");
     }
     if request.return_policy_id_list {
-        answer.word("identified");
+        answer.push_word("identified");
     }
     for object in request.objects.as_slice() {
-        show_object(answer, object);
+        push_object(answer, object);
     }
-    answer.word(".");
+    answer.push_word(".");
 }
 
-fn show_object(answer: &mut Answer, object: &CategoryObject) {
-    answer.field("object:", object.category.as_bytes());
+/// Adds the object: its category, its id where it has one, and its attributes.
+fn push_object(answer: &mut Answer, object: &CategoryObject) {
+    answer.push_field("object:", object.category.as_bytes());
     if let Some(id) = &object.id {
-        answer.field("id:", id.as_bytes());
+        answer.push_field("id:", id.as_bytes());
     }
     for attribute in object.attributes.as_slice() {
-        show_attribute(answer, attribute);
+        push_attribute(answer, attribute);
     }
 }
 
-fn show_attribute(answer: &mut Answer, attribute: &Attribute) {
-    answer.field("attribute:", attribute.id.as_bytes());
+/// Adds the attribute: its id, its issuer where it has one, whether it is included in the result, and its
+/// type and values.
+fn push_attribute(answer: &mut Answer, attribute: &Attribute) {
+    answer.push_field("attribute:", attribute.id.as_bytes());
     if let Some(issuer) = &attribute.issuer {
-        answer.field("issuer:", issuer.as_bytes());
+        answer.push_field("issuer:", issuer.as_bytes());
     }
     if attribute.include_in_result {
-        answer.word("included");
+        answer.push_word("included");
     }
-    answer.field("of:", attribute.values.data_type().name().as_bytes());
+    answer.push_field("of:", attribute.values.data_type().name().as_bytes());
     for value in attribute.values.values() {
-        answer.value(value);
+        answer.push_value(value);
     }
 }
 
 /// Adds the places of the individual request, with a comma before each.
-fn show_individual(answer: &mut Answer, individual: &Individual) {
+fn push_individual(answer: &mut Answer, individual: &Individual) {
     match individual {
-        Individual::BadReference => answer.name("!", individual),
+        Individual::BadReference => answer.push_shown("!", individual),
         Individual::Places(places) => {
-            answer.word("at");
+            answer.push_word("at");
             for place in places.as_slice() {
-                answer.append(",", place);
+                answer.append_shown(",", place);
             }
         }
     }

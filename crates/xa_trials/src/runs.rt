@@ -7,8 +7,11 @@ use std::alloc::Global;
 /// are, as `*COUNT`.
 #[derive(Drop)]
 pub struct Runs {
+    /// The bytes of the last field.
     before: Vec<u8>,
+    /// Whether a connection has ended with them.
     is_last: bool,
+    /// How many equal fields there are so far; 0 before the first.
     count: usize,
 }
 
@@ -34,7 +37,7 @@ impl Runs {
             return Ok(());
         }
         self.end(answer);
-        answer.field("", bytes);
+        answer.push_field("", bytes);
         push_last(answer, is_last);
         self.before.clear();
         self.before.extend_from_slice(bytes)?;
@@ -46,7 +49,7 @@ impl Runs {
     /// Adds how many the last ones are, if they are several.
     pub fn end(&mut self, answer: &mut Answer) {
         if self.count > 1 {
-            answer.name("*", &self.count);
+            answer.push_shown("*", &self.count);
         }
         self.count = 0;
     }
@@ -55,6 +58,17 @@ impl Runs {
 /// Adds that a connection has ended, if it has.
 pub fn push_last(answer: &mut Answer, is_last: bool) {
     if is_last {
-        answer.word("last");
+        answer.push_word("last");
+    }
+}
+
+/// Adds the next answer of a front, and that its connection has ended with it; or that there is none.
+pub fn push_answer(answer: &mut Answer, given: Option<&xa_server::Answer>) {
+    match given {
+        Some(given) => {
+            answer.push_field("", given.reply.bytes());
+            push_last(answer, given.last);
+        }
+        None => answer.push_word("!None"),
     }
 }

@@ -9,92 +9,102 @@
 //! the keeper that the one before gave back. `readings:`, `evaluations:` and `unkept:` ask how often the
 //! server has done that; after them the stream is another.
 use crate::answer::Answer;
-use crate::decisions::moment_of;
-use crate::field::{bytes_of, number_of};
-use crate::keepers::{Reopen, tables};
-use crate::no_answer::NoAnswer;
+use crate::clock::moment_of;
+use crate::field::{bytes_of, number_of, word_and_text};
+use crate::front_calls::{answer_next, close, feed, open};
+use crate::keepers::{KeeperRow, Reopen, run_over_both};
+use crate::no_answer::{NoAnswer, answered};
 use crate::runs::Runs;
-use std::alloc::{AllocFailed, Global};
-use xa_http::{Message, Next, Session};
-use xa_records::{Digest, PlainRecords, Records};
+use crate::scripts::{messages_of, server_over};
+use std::alloc::Global;
+use xa_records::{PlainRecords, Records};
 use xa_server::{Conn, Front, Server};
 use xa_value::Moment;
-
-/// The token of the operator.
-const OPERATOR_TOKEN: &str = "operator-token-1";
 
 /// How many bytes are handed over at once.
 const PIECE_BYTES: usize = 65_536;
 
 /// A server at a moment, with the connection whose messages it answers.
 #[derive(Drop)]
-struct Trial<R: Reopen + Drop> {
+struct ServerTrial<R: Reopen + Drop> {
+    /// Where memory comes from.
     alloc: Global,
+    /// The front, over the server.
     front: Front<R>,
+    /// The connection.
     conn: Conn,
     /// Whether the connection has ended.
     has_ended: bool,
+    /// The moment of what follows.
     moment: Moment,
-}
-
-/// A server over the keeper.
-pub fn server_over<R: Records + Drop>(
-    alloc: Global,
-    records: R,
-) -> Result<Server<R>, AllocFailed<R>> {
-    Server::new(alloc, records, Digest::of(OPERATOR_TOKEN.as_bytes()))
-}
-
-/// Takes the whole messages off the stream, each with the moment. What the stream answers next.
-pub fn take_messages(
-    session: &mut Session,
-    moment: Moment,
-    messages: &mut Vec<(Moment, Message)>,
-) -> Result<Next, NoAnswer> {
-    for _ in 0..u64::MAX {
-        match session.next()? {
-            Next::Message(message) => messages.push((moment, message))?,
-            next => return Ok(next),
-        }
-    }
-    Ok(Next::More)
 }
 
 /// Whether the bytes are a reply of a success.
 fn is_success(reply: &[u8]) -> bool {
-    reply.starts_with("HTTP/1.1 200 ".as_bytes()) || reply.starts_with("HTTP/1.1 201 ".as_bytes())
+    reply.starts_with(b"HTTP/1.1 200 ") || reply.starts_with(b"HTTP/1.1 201 ")
 }
 
-/// Sends the messages of the field at moment 0. The first reply that is no success is the row's whole answer.
+/// Sends the messages of the event at moment 0. The first reply that is no success is the row's whole answer.
 fn make<R: Records + Drop>(
     answer: &mut Answer,
     server: &mut Server<R>,
-    field: &str,
+    event: &str,
 ) -> Result<(), NoAnswer> {
-    let alloc = answer.alloc();
-    let mut session = Session::new(alloc);
-    session.feed(&bytes_of(alloc, field)?)?;
-    let mut messages = Vec::new(alloc);
-    let next = take_messages(&mut session, moment_of("0")?, &mut messages)?;
+    let messages = messages_of(answer.alloc(), &[event])?;
     let replies = server.run(&messages)?;
     for reply in &replies {
         if !is_success(reply.bytes()) {
-            answer.field("", reply.bytes());
+            answer.push_field("", reply.bytes());
             return Err(NoAnswer::Answered);
         }
     }
-    match next {
-        Next::More => Ok(()),
-        _ => Err(NoAnswer::Malformed),
-    }
+    Ok(())
 }
 
 /// Whether what the word says is done before the first event.
-fn is_of_setup(word: &str) -> bool {
+pub fn is_of_setup(word: &str) -> bool {
     matches!(
         word,
         "views" | "made" | "limit" | "reply" | "reading" | "room"
     )
+}
+
+/// What is set of a server.
+#[derive(Clone, Copy)]
+enum Setting {
+    /// For how many views it has room.
+    Views(usize),
+    /// How many bytes the views that are kept may take.
+    Room(usize),
+    /// The limit of work for each message, in units.
+    Limit(u64),
+    /// The limit of each response's body, in bytes.
+    Reply(u64),
+    /// The limit of the texts that are read for each message, in bytes.
+    Reading(u64),
+}
+
+/// The setting of that word, if it is one's.
+fn setting_of(word: &str, text: &str) -> Result<Option<Setting>, NoAnswer> {
+    Ok(Some(match word {
+        "views" => Setting::Views(number_of(text)?),
+        "room" => Setting::Room(number_of(text)?),
+        "limit" => Setting::Limit(number_of(text)?),
+        "reply" => Setting::Reply(number_of(text)?),
+        "reading" => Setting::Reading(number_of(text)?),
+        _ => return Ok(None),
+    }))
+}
+
+/// The server with that setting.
+fn with_setting<R: Records + Drop>(server: Server<R>, setting: Setting) -> Server<R> {
+    match setting {
+        Setting::Views(most) => server.with_views(most),
+        Setting::Room(bytes) => server.with_room(bytes),
+        Setting::Limit(units) => server.with_limit(units),
+        Setting::Reply(bytes) => server.with_reply_limit(bytes),
+        Setting::Reading(bytes) => server.with_reading(bytes),
+    }
 }
 
 /// A server over the keeper, as the fields before the first event make it.
@@ -105,26 +115,25 @@ pub fn server_made<R: Records + Drop>(
 ) -> Result<Server<R>, NoAnswer> {
     let mut server = server_over(answer.alloc(), records)?;
     for event in events {
-        let (word, text) = event.split_once(':').unwrap_or((event, ""));
-        match word {
-            "views" => server = server.with_views(number_of(text)?),
-            "limit" => server = server.with_limit(number_of(text)?),
-            "reply" => server = server.with_reply_limit(number_of(text)?),
-            "reading" => server = server.with_reading(number_of(text)?),
-            "room" => server = server.with_room(number_of(text)?),
-            "made" => make(answer, &mut server, text)?,
-            _ => return Ok(server),
+        let (word, text) = word_and_text(event);
+        if word == "made" {
+            make(answer, &mut server, event)?;
+            continue;
+        }
+        match setting_of(word, text)? {
+            Some(setting) => server = with_setting(server, setting),
+            None => return Ok(server),
         }
     }
     Ok(server)
 }
 
-impl<R: Reopen + Drop> Trial<R> {
+impl<R: Reopen + Drop> ServerTrial<R> {
     /// The server at that moment, with one connection.
-    fn new(alloc: Global, server: Server<R>, moment: Moment) -> Result<Trial<R>, NoAnswer> {
+    fn new(alloc: Global, server: Server<R>, moment: Moment) -> Result<ServerTrial<R>, NoAnswer> {
         let mut front = Front::new(alloc, server)?;
-        let conn = front.open()?;
-        Ok(Trial {
+        let conn = open(&mut front)?;
+        Ok(ServerTrial {
             alloc,
             front,
             conn,
@@ -144,10 +153,10 @@ impl<R: Reopen + Drop> Trial<R> {
         if self.has_ended {
             return Ok(false);
         }
-        self.front.piece(self.conn, bytes)?;
+        feed(&mut self.front, self.conn, bytes)?;
         let mut is_answered = false;
         for _ in 0..u64::MAX {
-            let Some(given) = self.front.answer(self.conn, self.moment)? else {
+            let Some(given) = answer_next(&mut self.front, self.conn, self.moment)? else {
                 break;
             };
             runs.push(answer, given.reply.bytes(), false)?;
@@ -169,36 +178,54 @@ impl<R: Reopen + Drop> Trial<R> {
         }
         runs.end(answer);
         if self.has_ended {
-            answer.word("!Ended");
+            answer.push_word("!Ended");
         } else if !is_answered {
-            answer.word("More");
+            answer.push_word("More");
         }
         Ok(())
     }
 
     /// Goes on with another stream.
     fn close(&mut self) -> Result<(), NoAnswer> {
-        self.front.close(self.conn)?;
-        self.conn = self.front.open()?;
+        close(&mut self.front, self.conn)?;
+        self.conn = open(&mut self.front)?;
         self.has_ended = false;
         Ok(())
     }
 
-    /// Lets happen what the word and the text behind it say.
+    /// Runs the event of the word and the text behind it.
     fn step(&mut self, answer: &mut Answer, word: &str, text: &str) -> Result<(), NoAnswer> {
         match word {
             "piece" => self.piece(answer, text)?,
             "moment" => self.moment = moment_of(text)?,
             "close" => self.close()?,
+            _ if is_of_setup(word) => {}
             _ => return Err(NoAnswer::Malformed),
         }
         Ok(())
     }
 
-    /// Goes on with another stream; after a restart with another server over the same keeper, and
-    /// else after what the server has counted is added.
-    fn trial_after(self, answer: &mut Answer, word: &str) -> Result<Trial<R>, NoAnswer> {
-        let Trial {
+    /// Goes on with another server over the same keeper, and another stream.
+    fn trial_after_restart(self) -> Result<ServerTrial<R>, NoAnswer> {
+        let ServerTrial {
+            alloc,
+            front,
+            conn: _,
+            has_ended: _,
+            moment,
+        } = self;
+        let records = front.into_server().into_records();
+        let server = server_over(alloc, records.keeper_after_stop(alloc)?)?;
+        ServerTrial::new(alloc, server, moment)
+    }
+
+    /// Adds how often the server has done what the word says, and goes on with another stream.
+    fn trial_after_count(
+        self,
+        answer: &mut Answer,
+        word: &str,
+    ) -> Result<ServerTrial<R>, NoAnswer> {
+        let ServerTrial {
             alloc,
             front,
             conn: _,
@@ -207,66 +234,54 @@ impl<R: Reopen + Drop> Trial<R> {
         } = self;
         let server = front.into_server();
         match word {
-            "readings" => answer.name("readings ", &server.readings()),
-            "evaluations" => answer.name("evaluations ", &server.evaluations()),
-            "unkept" => answer.name("unkept ", &server.unkept()),
-            _ => {
-                let records = server.into_records().keeper_after_stop(alloc)?;
-                return Trial::new(alloc, server_over(alloc, records)?, moment);
-            }
+            "readings" => answer.push_shown("readings ", &server.readings()),
+            "evaluations" => answer.push_shown("evaluations ", &server.evaluations()),
+            "unkept" => answer.push_shown("unkept ", &server.unkept()),
+            _ => return Err(NoAnswer::Malformed),
         }
-        Trial::new(alloc, server, moment)
+        ServerTrial::new(alloc, server, moment)
+    }
+}
+
+/// A row of messages, by its events.
+#[derive(Drop)]
+struct ServerRow<'a>(&'a [&'a str]);
+
+impl KeeperRow for ServerRow<'_> {
+    fn run<R: Reopen + Drop>(&self, answer: &mut Answer, records: R) -> Result<(), NoAnswer> {
+        run_server_events(answer, records, self.0)
     }
 }
 
 /// What the server answers to the events: over a keeper in memory, and over tables, which have to
 /// answer the same.
 pub fn server(answer: &mut Answer, events: &[&str]) -> Result<(), NoAnswer> {
-    let alloc = answer.alloc();
-    server_in_memory(answer, events)?;
-    let mut other = Answer::new(alloc);
-    answered(stream(&mut other, tables(alloc)?, events))?;
-    answer.compare(&other);
-    Ok(())
+    run_over_both(answer, &ServerRow(events))
 }
 
 /// The same, over the keeper in memory alone.
 pub fn server_in_memory(answer: &mut Answer, events: &[&str]) -> Result<(), NoAnswer> {
     let alloc = answer.alloc();
-    answered(stream(answer, PlainRecords::new(alloc), events))
+    answered(run_server_events(answer, PlainRecords::new(alloc), events))
 }
 
-/// Why there is no answer, where there is none.
-pub fn answered(done: Result<(), NoAnswer>) -> Result<(), NoAnswer> {
-    match done {
-        Err(NoAnswer::Answered) => Ok(()),
-        done => done,
-    }
-}
-
-/// Whether what the word says is asked of the server, or makes it another one.
-fn is_of_server(word: &str) -> bool {
-    word == "readings" || word == "evaluations" || word == "unkept" || word == "restart"
-}
-
-/// Lets the events happen to a server over the keeper.
-pub fn stream<R: Reopen + Drop>(
+/// Runs the events on a server over the keeper.
+pub fn run_server_events<R: Reopen + Drop>(
     answer: &mut Answer,
     records: R,
     events: &[&str],
 ) -> Result<(), NoAnswer> {
     let alloc = answer.alloc();
     let server = server_made(answer, records, events)?;
-    let mut trial = Trial::new(alloc, server, moment_of("0")?)?;
+    let mut trial = ServerTrial::new(alloc, server, moment_of("0")?)?;
     for event in events {
-        let (word, text) = event.split_once(':').unwrap_or((event, ""));
-        if is_of_setup(word) {
-            continue;
-        }
-        if is_of_server(word) {
-            trial = trial.trial_after(answer, word)?;
-        } else {
-            trial.step(answer, word, text)?;
+        let (word, text) = word_and_text(event);
+        match word {
+            "restart" => trial = trial.trial_after_restart()?,
+            "readings" | "evaluations" | "unkept" => {
+                trial = trial.trial_after_count(answer, word)?;
+            }
+            _ => trial.step(answer, word, text)?,
         }
     }
     Ok(())

@@ -2,35 +2,27 @@
 //! in each run. A run ends with the first message that is refused, the one that the stop has struck. Then
 //! a crash is taken, the files are opened again, and the rest of the script is answered from what was
 //! left.
+pub(crate) mod resumption;
+pub(crate) mod run;
+pub(crate) mod script;
+pub(crate) mod sweep;
+
 use crate::answer::Answer;
-use crate::files::{File, after_crash, files_of};
+use crate::files::{File, FileName, after_crash, file_named, files_of};
 use crate::no_answer::NoAnswer;
-use crate::resumption::is_resumed;
-use crate::script::{Script, script_of};
-use crate::stopped_run::{Run, run_of};
-use crate::sweep::Sweep;
+use crate::stops::resumption::is_resumed;
+use crate::stops::run::{Run, run_of};
+use crate::stops::script::{Script, script_of};
+use crate::stops::sweep::Sweep;
 use sqlite::Files;
 
 /// A stop: behind how many calls it came, and which message it has struck.
 #[derive(Clone, Copy)]
 struct Stop {
+    /// Behind how many calls it came.
     calls: u64,
+    /// The number of the message that it has struck.
     struck: usize,
-}
-
-/// Takes the files up behind the stop. That the rest of the script isn't answered as it has to be is the
-/// row's whole answer.
-fn resume(
-    answer: &mut Answer,
-    files: Files<File>,
-    script: &Script,
-    stop: Stop,
-) -> Result<(), NoAnswer> {
-    if is_resumed(answer.alloc(), files, script, stop.struck)? {
-        return Ok(());
-    }
-    answer.name("!Differs ", &stop.calls);
-    Err(NoAnswer::Answered)
 }
 
 /// Adds the bytes of a file, behind their number.
@@ -47,62 +39,75 @@ fn push_files(all: &mut Vec<u8>, files: &Files<File>) -> Result<(), NoAnswer> {
     push_file(all, &files.db)
 }
 
-/// Takes a crash of the files, and takes up what it leaves at both of its ends. What a crash has left the
-/// last time isn't asked again.
-fn resume_after_crash(
-    answer: &mut Answer,
-    files: Files<File>,
-    script: &Script,
-    stop: Stop,
-    sweep: &mut Sweep,
-) -> Result<(), NoAnswer> {
-    let alloc = answer.alloc();
-    let (synced, written) = after_crash(alloc, files)?;
-    let mut left = Vec::new(alloc);
-    push_files(&mut left, &synced)?;
-    push_files(&mut left, &written)?;
-    if sweep.has_left(stop.struck, left.as_slice()) {
-        return Ok(());
-    }
-    sweep.note(stop.struck, left);
-    resume(answer, synced, script, stop)?;
-    resume(answer, written, script, stop)
+/// A script that is run again and again, and what its stops have struck.
+#[derive(Drop)]
+struct Stopping {
+    /// The script.
+    script: Script,
+    /// The file that is frozen.
+    frozen: FileName,
+    /// What its stops have struck.
+    sweep: Sweep,
 }
 
-/// Freezes the file that the word names behind so many calls. Whether a stop has come.
-fn is_stopped(
-    answer: &mut Answer,
-    word: &str,
-    calls: u64,
-    script: &Script,
-    sweep: &mut Sweep,
-) -> Result<bool, NoAnswer> {
-    let alloc = answer.alloc();
-    let files = files_of(alloc, &script.files, word, calls)?;
-    match run_of(alloc, files, &script.messages)? {
-        Run::Stopped(struck, files) => {
-            sweep.count(struck);
-            let stop = Stop { calls, struck };
-            resume_after_crash(answer, files, script, stop, sweep)?;
-            Ok(true)
-        }
-        Run::Ended => Ok(false),
-    }
-}
-
-/// Freezes the file that the word names at each of its calls in turn, until a run meets no stop.
-fn each_in_turn(
-    answer: &mut Answer,
-    word: &str,
-    script: &Script,
-    sweep: &mut Sweep,
-) -> Result<(), NoAnswer> {
-    for calls in 0..u64::MAX {
-        if !is_stopped(answer, word, calls, script, sweep)? {
+impl Stopping {
+    /// Takes the files up behind the stop. That the rest of the script isn't answered as it has to be is
+    /// the row's whole answer.
+    fn resume(&self, answer: &mut Answer, files: Files<File>, stop: Stop) -> Result<(), NoAnswer> {
+        if is_resumed(answer.alloc(), files, &self.script, stop.struck)? {
             return Ok(());
         }
+        answer.push_shown("!Differs ", &stop.calls);
+        Err(NoAnswer::Answered)
     }
-    Ok(())
+
+    /// Takes a crash of the files, and takes up what it leaves at both of its ends. What a crash has left
+    /// the last time isn't asked again.
+    fn resume_after_crash(
+        &mut self,
+        answer: &mut Answer,
+        files: Files<File>,
+        stop: Stop,
+    ) -> Result<(), NoAnswer> {
+        let alloc = answer.alloc();
+        let (synced, written) = after_crash(alloc, files)?;
+        let mut left = Vec::new(alloc);
+        push_files(&mut left, &synced)?;
+        push_files(&mut left, &written)?;
+        if self.sweep.has_left(stop.struck, left.as_slice()) {
+            return Ok(());
+        }
+        self.sweep.note(stop.struck, left);
+        self.resume(answer, synced, stop)?;
+        self.resume(answer, written, stop)
+    }
+
+    /// Runs the script with the file frozen behind so many calls, and goes on after the stop. Whether one
+    /// has come.
+    fn stop_behind(&mut self, answer: &mut Answer, calls: u64) -> Result<bool, NoAnswer> {
+        let alloc = answer.alloc();
+        let files = files_of(alloc, &self.script.files, self.frozen, calls)?;
+        let run = run_of(alloc, files, &self.script.messages)?;
+        match run {
+            Run::Stopped(struck, files) => {
+                self.sweep.count(struck);
+                let stop = Stop { calls, struck };
+                self.resume_after_crash(answer, files, stop)?;
+                Ok(true)
+            }
+            Run::Ended => Ok(false),
+        }
+    }
+
+    /// Freezes the file at each of its calls in turn, until a run meets no stop.
+    fn stop_at_each(&mut self, answer: &mut Answer) -> Result<(), NoAnswer> {
+        for calls in 0..u64::MAX {
+            if !self.stop_behind(answer, calls)? {
+                return Ok(());
+            }
+        }
+        Ok(())
+    }
 }
 
 /// How many stops come where the file that the word names is frozen at each of its calls in turn, and
@@ -111,13 +116,18 @@ fn each_in_turn(
 pub fn stops(answer: &mut Answer, word: &str, events: &[&str]) -> Result<(), NoAnswer> {
     let alloc = answer.alloc();
     let script = script_of(alloc, events)?;
-    let mut sweep = Sweep::new(alloc, script.messages.len())?;
-    each_in_turn(answer, word, &script, &mut sweep)?;
-    sweep.push(answer);
-    let files = files_of(alloc, &script.files, word, u64::MAX)?;
+    let sweep = Sweep::new(alloc, script.messages.len())?;
+    let mut stopping = Stopping {
+        script,
+        frozen: file_named(word)?,
+        sweep,
+    };
+    stopping.stop_at_each(answer)?;
+    stopping.sweep.push(answer);
+    let files = files_of(alloc, &stopping.script.files, stopping.frozen, u64::MAX)?;
     let stop = Stop {
         calls: u64::MAX,
         struck: 0,
     };
-    resume(answer, files, &script, stop)
+    stopping.resume(answer, files, stop)
 }

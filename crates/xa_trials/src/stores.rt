@@ -5,58 +5,57 @@
 //! is opened and the store has a keeper's tables and no others, and of a store that is refused
 //! whether it holds something else than before.
 use crate::answer::Answer;
-use crate::field::kept_text;
-use crate::files::{File, Store, after_crash, connection_to, files_under, keeper_of, new_files};
+use crate::files::{
+    File, Store, after_crash, connection_to, files_under, keeper_of, new_files, opened_keeper,
+};
+use crate::keepers::run_statements;
 use crate::no_answer::NoAnswer;
 use sqlite::{Connection, Files, Row};
 use std::alloc::Global;
-use xa_store::{OpenError, SqlRecords};
+use xa_store::OpenError;
 
 /// A connection to the store in the files.
 fn opened(alloc: Global, files: Files<File>) -> Result<Connection<Store>, NoAnswer> {
-    match connection_to(alloc, files) {
-        Ok(conn) => Ok(conn),
-        Err(_) => Err(NoAnswer::Memory),
-    }
+    connection_to(alloc, files).ok().ok_or(NoAnswer::Memory)
 }
 
-/// A store in files that begins so.
+/// A store in files, without tables.
+pub fn empty_store(alloc: Global) -> Result<Connection<Store>, NoAnswer> {
+    opened(alloc, new_files(alloc))
+}
+
+/// A store in files, with the tables of a keeper without domains.
+fn store_of_keeper(alloc: Global) -> Result<Connection<Store>, NoAnswer> {
+    let records = keeper_of(alloc, new_files(alloc))
+        .ok()
+        .ok_or(NoAnswer::Memory)?;
+    Ok(records.into_connection())
+}
+
+/// A store in files that begins as the word says.
 fn new_store(alloc: Global, word: &str) -> Result<Connection<Store>, NoAnswer> {
-    let files = new_files(alloc, u64::MAX, u64::MAX);
     match word {
-        "empty" => opened(alloc, files),
-        "keeper" => match keeper_of(alloc, files) {
-            Ok(records) => Ok(records.into_connection()),
-            Err(_) => Err(NoAnswer::Memory),
-        },
+        "empty" => empty_store(alloc),
+        "keeper" => store_of_keeper(alloc),
         _ => Err(NoAnswer::Malformed),
     }
 }
 
-/// The store, in which the statements were run.
-pub fn store_after_statements(
+/// Runs the statements of each field in the store.
+pub fn run_all(
     alloc: Global,
-    word: &str,
-    statements: &[&str],
-) -> Result<Connection<Store>, NoAnswer> {
-    let mut conn = new_store(alloc, word)?;
-    for field in statements {
-        if conn
-            .execute_batch(kept_text(alloc, field)?.as_str())
-            .is_err()
-        {
-            return Err(NoAnswer::Malformed);
-        }
+    conn: &mut Connection<Store>,
+    fields: &[&str],
+) -> Result<(), NoAnswer> {
+    for field in fields {
+        run_statements(alloc, conn, field)?;
     }
-    Ok(conn)
+    Ok(())
 }
 
 /// The rows that the query shows.
 fn rows_of(conn: &mut Connection<Store>, sql: &str) -> Result<Vec<Row>, NoAnswer> {
-    match conn.query_all(sql, &[]) {
-        Ok(rows) => Ok(rows),
-        Err(_) => Err(NoAnswer::Malformed),
-    }
+    conn.query_all(sql, &[]).ok().ok_or(NoAnswer::Malformed)
 }
 
 /// What the store holds: each table by the statement that made it, and its rows.
@@ -67,9 +66,7 @@ fn contents(alloc: Global, conn: &mut Connection<Store>) -> Result<String, NoAns
     )?;
     let mut held = format!(in alloc; "{made:?}")?;
     for table in made {
-        let Ok(name) = table.get::<String>(0) else {
-            return Err(NoAnswer::Memory);
-        };
+        let name = table.get::<String>(0).ok().ok_or(NoAnswer::Memory)?;
         let rows = rows_of(conn, &format!(in alloc; "SELECT * FROM {name}")?)?;
         write!(held, "{rows:?}")?;
     }
@@ -82,7 +79,7 @@ fn judgement_of(
     alloc: Global,
     conn: Connection<Store>,
 ) -> (Result<bool, OpenError>, Connection<Store>) {
-    match SqlRecords::open(alloc, conn) {
+    match opened_keeper(alloc, conn) {
         Ok(keeper) => {
             let is_ours = keeper.is_ours();
             (Ok(is_ours), keeper.into_connection())
@@ -93,9 +90,9 @@ fn judgement_of(
 
 /// Adds that the store is opened, and whether it has a keeper's tables and no others.
 fn push_opened(answer: &mut Answer, is_ours: bool) {
-    answer.word("opened");
+    answer.push_word("opened");
     if is_ours {
-        answer.word("ours");
+        answer.push_word("ours");
     }
 }
 
@@ -109,9 +106,9 @@ fn judge(answer: &mut Answer, files: Files<File>) -> Result<(), NoAnswer> {
     match judgement {
         Ok(is_ours) => push_opened(answer, is_ours),
         Err(error) => {
-            answer.name("!", &error);
+            answer.push_shown("!", &error);
             if contents(alloc, &mut conn)?.as_str() != before.as_str() {
-                answer.word("changed");
+                answer.push_word("changed");
             }
         }
     }
@@ -122,7 +119,8 @@ fn judge(answer: &mut Answer, files: Files<File>) -> Result<(), NoAnswer> {
 /// that leaves all that was written, which has to be answered the same.
 pub fn opening(answer: &mut Answer, word: &str, statements: &[&str]) -> Result<(), NoAnswer> {
     let alloc = answer.alloc();
-    let conn = store_after_statements(alloc, word, statements)?;
+    let mut conn = new_store(alloc, word)?;
+    run_all(alloc, &mut conn, statements)?;
     let (synced, written) = after_crash(alloc, files_under(conn))?;
     judge(answer, synced)?;
     let mut other = Answer::new(alloc);

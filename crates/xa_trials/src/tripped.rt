@@ -2,21 +2,23 @@
 //! call, and a server's row over a keeper that fails at one.
 use crate::answer::Answer;
 use crate::calls::{CALLS, Call};
-use crate::decisions::moment_of;
-use crate::field::{bytes_of, number_of};
-use crate::keepers::tables;
+use crate::failing_records::FailingRecords;
+use crate::field::number_of;
+use crate::front_calls::serve;
+use crate::keepers::{KeeperRow, Reopen, run_over_both, tables};
 use crate::no_answer::NoAnswer;
-use crate::server::{answered, server_over, stream, take_messages};
-use crate::tripping::Tripping;
+use crate::scripts::{messages_of, server_over};
+use crate::server::run_server_events;
 use sqlite::MemStore;
 use std::alloc::Global;
-use xa_http::{Message, Next, Session};
+use xa_http::Message;
 use xa_records::{PlainRecords, Records};
 use xa_server::Server;
 use xa_store::SqlRecords;
 use xa_value::Moment;
 
-/// The reply to a message that is refused.
+/// The reply to a message that is refused. It is written out here on purpose: so it is the bytes that are
+/// checked, and not the name that the server gives to its reply.
 const UNAVAILABLE: &str =
     "HTTP/1.1 503 Service Unavailable\r\nContent-Type: application/json\r\nContent-Length: 23\r\n\r\n{\"Error\":\"Unavailable\"}";
 
@@ -38,34 +40,14 @@ impl Begin for SqlRecords<MemStore> {
     }
 }
 
-/// What came of a run of the script.
-enum Run {
+/// What a run of the script has shown.
+enum Verdict {
     /// This call failed.
     Failed(Call),
     /// No call failed.
     AllMade,
     /// A reply is another than it is to be, or the failures aren't counted.
     Differs,
-}
-
-/// The messages of the script, each with its moment.
-pub fn messages_of(alloc: Global, events: &[&str]) -> Result<Vec<(Moment, Message)>, NoAnswer> {
-    let mut session = Session::new(alloc);
-    let mut moment = moment_of("0")?;
-    let mut messages = Vec::new(alloc);
-    for event in events {
-        let (word, text) = event.split_once(':').unwrap_or((event, ""));
-        match word {
-            "moment" => moment = moment_of(text)?,
-            "made" | "piece" => session.feed(&bytes_of(alloc, text)?)?,
-            _ => return Err(NoAnswer::Malformed),
-        }
-        match take_messages(&mut session, moment, &mut messages)? {
-            Next::More => {}
-            _ => return Err(NoAnswer::Malformed),
-        }
-    }
-    Ok(messages)
 }
 
 /// How many of the messages are refused by the server; nothing, where another reply isn't the one
@@ -76,11 +58,11 @@ fn refusals<R: Records, S: Records>(
     messages: &[(Moment, Message)],
 ) -> Option<u64> {
     let mut count = 0u64;
-    for event in messages {
-        let reply = server.serve(event.0, &event.1);
+    for (moment, message) in messages {
+        let reply = serve(server, *moment, message);
         if reply.bytes() == UNAVAILABLE.as_bytes() {
             count = count.saturating_add(1);
-        } else if spared.serve(event.0, &event.1).bytes() != reply.bytes() {
+        } else if serve(spared, *moment, message).bytes() != reply.bytes() {
             return None;
         }
     }
@@ -93,17 +75,17 @@ fn run_once<R: Begin + Drop>(
     alloc: Global,
     messages: &[(Moment, Message)],
     left: u64,
-) -> Result<Run, NoAnswer> {
-    let mut server = server_over(alloc, Tripping::new(R::begin(alloc)?, left))?;
+) -> Result<Verdict, NoAnswer> {
+    let mut server = server_over(alloc, FailingRecords::new(R::begin(alloc)?, left))?;
     let mut spared = server_over(alloc, R::begin(alloc)?)?;
     let count = refusals(&mut server, &mut spared, messages);
     let records = server.into_records();
     if count != Some(records.faults()) {
-        return Ok(Run::Differs);
+        return Ok(Verdict::Differs);
     }
     match records.failed() {
-        Some(call) => Ok(Run::Failed(call)),
-        None => Ok(Run::AllMade),
+        Some(call) => Ok(Verdict::Failed(call)),
+        None => Ok(Verdict::AllMade),
     }
 }
 
@@ -120,10 +102,10 @@ fn count_of(calls: &[Call], call: Call) -> usize {
 
 /// Adds how many calls failed in turn, and how many of each kind.
 fn push_calls(answer: &mut Answer, failed: &[Call]) {
-    answer.name("calls ", &failed.len());
+    answer.push_shown("calls ", &failed.len());
     for call in &CALLS {
-        answer.name("", call);
-        answer.append(" ", &count_of(failed, *call));
+        answer.push_shown("", call);
+        answer.append_shown(" ", &count_of(failed, *call));
     }
 }
 
@@ -136,13 +118,13 @@ fn each_in_turn<R: Begin + Drop>(
     let mut failed = Vec::new(alloc);
     for left in 0..u64::MAX {
         match run_once::<R>(alloc, messages, left)? {
-            Run::Failed(call) => failed.push(call)?,
-            Run::AllMade => {
+            Verdict::Failed(call) => failed.push(call)?,
+            Verdict::AllMade => {
                 push_calls(answer, &failed);
                 return Ok(());
             }
-            Run::Differs => {
-                answer.name("!Differs ", &left);
+            Verdict::Differs => {
+                answer.push_shown("!Differs ", &left);
                 return Ok(());
             }
         }
@@ -162,15 +144,24 @@ pub fn tripped(answer: &mut Answer, events: &[&str]) -> Result<(), NoAnswer> {
     Ok(())
 }
 
+/// A row of messages over a keeper of which one call fails.
+#[derive(Drop)]
+struct TrippedRow<'a> {
+    /// How many calls are made before the one that fails.
+    left: u64,
+    /// The events.
+    events: &'a [&'a str],
+}
+
+impl KeeperRow for TrippedRow<'_> {
+    fn run<R: Reopen + Drop>(&self, answer: &mut Answer, records: R) -> Result<(), NoAnswer> {
+        run_server_events(answer, FailingRecords::new(records, self.left), self.events)
+    }
+}
+
 /// What a server answers over a keeper whose call after so many others fails: one in memory, and
 /// one over tables, which has to answer the same.
 pub fn tripped_after(answer: &mut Answer, left: &str, events: &[&str]) -> Result<(), NoAnswer> {
-    let alloc = answer.alloc();
     let left = number_of(left)?;
-    let records = Tripping::new(PlainRecords::new(alloc), left);
-    answered(stream(answer, records, events))?;
-    let mut other = Answer::new(alloc);
-    answered(stream(&mut other, Tripping::new(tables(alloc)?, left), events))?;
-    answer.compare(&other);
-    Ok(())
+    run_over_both(answer, &TrippedRow { left, events })
 }

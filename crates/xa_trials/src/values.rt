@@ -12,11 +12,11 @@ pub fn data_type(answer: &mut Answer, field: &str) -> Result<(), NoAnswer> {
     let name = text_of(answer.alloc(), field)?;
     match DataType::from_uri(name.as_str()) {
         Some(data_type) => {
-            answer.word(data_type.name());
-            answer.word(data_type.uri());
-            answer.name("", &data_type.number());
+            answer.push_word(data_type.name());
+            answer.push_word(data_type.uri());
+            answer.push_shown("", &data_type.number());
         }
-        None => answer.word("!None"),
+        None => answer.push_word("!None"),
     }
     Ok(())
 }
@@ -24,17 +24,17 @@ pub fn data_type(answer: &mut Answer, field: &str) -> Result<(), NoAnswer> {
 /// The type of that number.
 pub fn data_type_of_number(answer: &mut Answer, number: &str) -> Result<(), NoAnswer> {
     match DataType::from_number(number_of(number)?) {
-        Some(data_type) => answer.word(data_type.name()),
-        None => answer.word("!None"),
+        Some(data_type) => answer.push_word(data_type.name()),
+        None => answer.push_word("!None"),
     }
     Ok(())
 }
 
 /// The URI for which the name of a category stands, and whether its shorthand is a subject category's.
 pub fn category(answer: &mut Answer, name: &str) -> Result<(), NoAnswer> {
-    answer.word(category_uri(name));
+    answer.push_word(category_uri(name));
     if let Some(category) = Category::from_shorthand(name) {
-        answer.name("", &category.is_subject());
+        answer.push_shown("", &category.is_subject());
     }
     Ok(())
 }
@@ -45,44 +45,52 @@ pub fn read(answer: &mut Answer, name: &str, field: &str) -> Result<(), NoAnswer
     let text = text_of(answer.alloc(), field)?;
     let read = Value::read(answer.alloc(), data_type, text.as_str());
     if let Some(value) = answer.success(read) {
-        answer.value(&value);
+        answer.push_value(&value);
     }
     Ok(())
 }
 
-/// The order of two values, or whether they are the same.
-pub fn comparison(
-    answer: &mut Answer,
-    kind: &str,
-    left: &str,
-    right: &str,
-) -> Result<(), NoAnswer> {
+/// Whether two values are the same.
+pub fn same(answer: &mut Answer, left: &str, right: &str) -> Result<(), NoAnswer> {
     let left = value(answer.alloc(), left)?;
     let right = value(answer.alloc(), right)?;
-    if kind == "same" {
-        answer.name("", &left.same(&right));
-    } else {
-        answer.name_or_none(left.order(&right));
-    }
+    answer.push_shown("", &left.same(&right));
     Ok(())
 }
 
-/// The duration of this many months, or nanoseconds.
-pub fn duration(answer: &mut Answer, kind: &str, number: &str) -> Result<(), NoAnswer> {
-    let duration = match kind {
-        "months" => YearMonthDuration::new(number_of(number)?).map(Value::YearMonthDuration),
-        _ => DayTimeDuration::new(number_of(number)?).map(Value::DayTimeDuration),
-    };
+/// The order of two values.
+pub fn order(answer: &mut Answer, left: &str, right: &str) -> Result<(), NoAnswer> {
+    let left = value(answer.alloc(), left)?;
+    let right = value(answer.alloc(), right)?;
+    answer.push_shown_or_none(left.order(&right));
+    Ok(())
+}
+
+/// Adds a field of the duration, `!None` where there is none.
+fn push_duration(answer: &mut Answer, duration: Option<Value>) {
     match duration {
-        Some(duration) => answer.value(&duration),
-        None => answer.word("!None"),
+        Some(duration) => answer.push_value(&duration),
+        None => answer.push_word("!None"),
     }
+}
+
+/// The duration of this many months.
+pub fn months(answer: &mut Answer, number: &str) -> Result<(), NoAnswer> {
+    let duration = YearMonthDuration::new(number_of(number)?).map(Value::YearMonthDuration);
+    push_duration(answer, duration);
+    Ok(())
+}
+
+/// The duration of this many nanoseconds.
+pub fn nanoseconds(answer: &mut Answer, number: &str) -> Result<(), NoAnswer> {
+    let duration = DayTimeDuration::new(number_of(number)?).map(Value::DayTimeDuration);
+    push_duration(answer, duration);
     Ok(())
 }
 
 /// The number that the digits write, if it is at most `most`.
 pub fn number(answer: &mut Answer, most: &str, field: &str) -> Result<(), NoAnswer> {
     let digits = bytes_of(answer.alloc(), field)?;
-    answer.name_or_none(number_up_to(number_of(most)?, &digits));
+    answer.push_shown_or_none(number_up_to(number_of(most)?, &digits));
     Ok(())
 }

@@ -8,8 +8,8 @@ use xa_policy::{Pattern, Version};
 pub fn version(answer: &mut Answer, field: &str) -> Result<(), NoAnswer> {
     let text = text_of(answer.alloc(), field)?;
     match Version::read(text.as_str()) {
-        Ok(version) => answer.word(version.to_text(answer.alloc())?.as_str()),
-        Err(error) => answer.name("!", &error),
+        Ok(version) => answer.push_word(version.to_text(answer.alloc())?.as_str()),
+        Err(error) => answer.push_shown("!", &error),
     }
     Ok(())
 }
@@ -18,8 +18,8 @@ pub fn version(answer: &mut Answer, field: &str) -> Result<(), NoAnswer> {
 pub fn pattern(answer: &mut Answer, field: &str) -> Result<(), NoAnswer> {
     let text = text_of(answer.alloc(), field)?;
     match Pattern::read(text.as_str()) {
-        Ok(pattern) => answer.word(pattern.to_text(answer.alloc())?.as_str()),
-        Err(error) => answer.name("!", &error),
+        Ok(pattern) => answer.push_word(pattern.to_text(answer.alloc())?.as_str()),
+        Err(error) => answer.push_shown("!", &error),
     }
     Ok(())
 }

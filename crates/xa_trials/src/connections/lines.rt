@@ -1,4 +1,5 @@
 //! The connections of a front: what waits for each, and what it was answered.
+use crate::front_calls::{answer_next, close, feed, open};
 use crate::no_answer::NoAnswer;
 use std::alloc::Global;
 use xa_records::Records;
@@ -51,14 +52,14 @@ pub fn lines_of<R: Records + Drop>(
     let mut lines = Vec::new(alloc);
     for _ in 0..CONNECTIONS {
         lines.push(Line {
-            conn: front.open()?,
+            conn: open(front)?,
             waiting: Vec::new(alloc),
             at: 0,
             output: Output::new(alloc),
         })?;
     }
     for line in &lines {
-        front.close(line.conn)?;
+        close(front, line.conn)?;
     }
     Ok(lines)
 }
@@ -71,7 +72,7 @@ pub fn answer_all<R: Records + Drop>(
     output: &mut Output,
 ) -> Result<(), NoAnswer> {
     for _ in 0..u64::MAX {
-        let Some(given) = front.answer(conn, moment)? else {
+        let Some(given) = answer_next(front, conn, moment)? else {
             return Ok(());
         };
         output.bytes.extend_from_slice(given.reply.bytes())?;
@@ -95,7 +96,7 @@ pub fn turn<R: Records + Drop>(
     if count == 0 {
         return Ok(false);
     }
-    front.piece(line.conn, piece)?;
+    feed(front, line.conn, piece)?;
     line.at = line.at.saturating_add(count);
     answer_all(front, line.conn, moment, &mut line.output)?;
     Ok(true)

@@ -1,8 +1,9 @@
 //! Whether the rest of a script is answered as it has to be by a server over what a stop has left.
 use crate::files::{File, keeper_of};
+use crate::front_calls::serve;
 use crate::no_answer::NoAnswer;
-use crate::script::Script;
-use crate::server::server_over;
+use crate::scripts::server_over;
+use crate::stops::script::Script;
 use sqlite::{Alter, Files};
 use std::alloc::Global;
 use xa_http::Message;
@@ -13,8 +14,8 @@ use xa_value::Moment;
 
 /// Has the messages answered.
 fn serve_all(server: &mut Server<PlainRecords>, messages: &[(Moment, Message)], count: usize) {
-    for event in messages.iter().take(count) {
-        server.serve(event.0, &event.1);
+    for (moment, message) in messages.iter().take(count) {
+        serve(server, *moment, message);
     }
 }
 
@@ -30,6 +31,26 @@ fn server_after(
     Ok(server)
 }
 
+/// Whether the server answers the messages as one of the two others does.
+fn is_as_one_of<R: Records>(
+    server: &mut Server<R>,
+    first: &mut Server<PlainRecords>,
+    second: &mut Server<PlainRecords>,
+    messages: &[(Moment, Message)],
+) -> bool {
+    let (mut is_first, mut is_second) = (true, true);
+    for (moment, message) in messages {
+        let reply = serve(server, *moment, message);
+        if serve(first, *moment, message).bytes() != reply.bytes() {
+            is_first = false;
+        }
+        if serve(second, *moment, message).bytes() != reply.bytes() {
+            is_second = false;
+        }
+    }
+    is_first || is_second
+}
+
 /// Whether the server answers the messages behind that one as if it had never come, or as if it had been
 /// answered.
 fn goes_on<R: Records>(
@@ -40,17 +61,8 @@ fn goes_on<R: Records>(
 ) -> Result<bool, NoAnswer> {
     let mut without = server_after(alloc, script, struck.saturating_sub(1))?;
     let mut with = server_after(alloc, script, struck)?;
-    let (mut is_without, mut is_with) = (true, true);
-    for event in script.messages.iter().skip(struck) {
-        let reply = server.serve(event.0, &event.1);
-        if without.serve(event.0, &event.1).bytes() != reply.bytes() {
-            is_without = false;
-        }
-        if with.serve(event.0, &event.1).bytes() != reply.bytes() {
-            is_with = false;
-        }
-    }
-    Ok(is_without || is_with)
+    let messages = script.messages.get(struck..).unwrap_or(&[]);
+    Ok(is_as_one_of(server, &mut without, &mut with, messages))
 }
 
 /// Whether a server over the keeper goes on behind that message.

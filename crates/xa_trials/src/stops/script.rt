@@ -1,10 +1,11 @@
 //! Scripts of stops: what the store holds before the first message, and the messages. Fields `sql:SQL`
 //! are statements, which are run in an empty store before a keeper is opened over it; fields
 //! `made:BYTES` are messages by which a keeper comes to hold the same.
+use crate::field::word_and_text;
 use crate::files::{File, files_under, new_files};
 use crate::no_answer::NoAnswer;
-use crate::stores::store_after_statements;
-use crate::tripped::messages_of;
+use crate::scripts::messages_of;
+use crate::stores::{empty_store, run_all};
 use sqlite::Files;
 use std::alloc::Global;
 use xa_http::Message;
@@ -24,9 +25,10 @@ pub struct Script {
 /// The files of a store in which the statements were run; empty ones, where there are none.
 fn files_after(alloc: Global, statements: &[&str]) -> Result<Files<File>, NoAnswer> {
     if statements.is_empty() {
-        return Ok(new_files(alloc, u64::MAX, u64::MAX));
+        return Ok(new_files(alloc));
     }
-    let conn = store_after_statements(alloc, "empty", statements)?;
+    let mut conn = empty_store(alloc)?;
+    run_all(alloc, &mut conn, statements)?;
     Ok(files_under(conn))
 }
 
@@ -36,7 +38,7 @@ pub fn script_of(alloc: Global, fields: &[&str]) -> Result<Script, NoAnswer> {
     let mut made = Vec::new(alloc);
     let mut events = Vec::new(alloc);
     for field in fields {
-        let (word, text) = field.split_once(':').unwrap_or((field, ""));
+        let (word, text) = word_and_text(field);
         match word {
             "sql" => statements.push(text)?,
             "made" => made.push(*field)?,

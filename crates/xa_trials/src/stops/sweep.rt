@@ -46,20 +46,18 @@ impl Sweep {
 
     /// How many stops there were.
     fn stops(&self) -> u64 {
-        let mut stops = 0u64;
-        for count in &self.counts {
-            stops = stops.saturating_add(*count);
-        }
-        stops
+        self.counts
+            .iter()
+            .fold(0u64, |stops, count| stops.saturating_add(*count))
     }
 
     /// Adds how many stops there were, and how many have struck each message, as `NUMBER COUNT`; 0 is
     /// before the first.
     pub fn push(&self, answer: &mut Answer) {
-        answer.name("stops ", &self.stops());
+        answer.push_shown("stops ", &self.stops());
         for (number, count) in self.counts.iter().enumerate() {
-            answer.name("", &number);
-            answer.append(" ", count);
+            answer.push_shown("", &number);
+            answer.append_shown(" ", count);
         }
     }
 }

@@ -1,5 +1,7 @@
 //! A keeper around another, one of whose calls fails.
-ghost use Rattle.std.specs.Prelude.{◌≡◌};
+ghost use Rattle.std.specs.Prelude.{◌≡◌, IfErr, IfOk};
+ghost use Rattle.xa_records.specs.declared.refusal.ChangeError.TheVariants.{Failed};
+ghost use Rattle.xa_records.specs.declared.refusal.Failure.TheVariants.{Store};
 ghost use Rattle.xa_records.specs.Keeper.{Custody, CountsReading, IsOneMore};
 
 use crate::calls::Call;
@@ -16,50 +18,79 @@ use xa_value::{Items, Text};
 
 /// Which call fails: the one that comes after so many others.
 #[derive(Drop)]
-struct Trip {
+struct FailurePlan {
+    /// How many calls are still made before it.
     left: u64,
+    /// It, once it has come.
     failed: Option<Call>,
 }
 
-impl Trip {
-    /// Whether this call, which comes next, is the one that fails.
-    fn is_at(&mut self, call: Call) -> bool {
+impl FailurePlan {
+    /// Fails, if this call, which comes next, is the one that does; its failure is counted then.
+    fn check(&mut self, call: Call, faults: &mut u64) -> Result<(), CallFailed>
+        ensures left { IfOk result (λ _. faults.new ≡ faults.old) }
+        ensures counted { IfErr result (λ _. IsOneMore faults.old faults.new) }
+    {
         if self.left > 0 {
             self.left -= 1;
-            return false;
+            return Ok(());
         }
         if self.failed.is_some() {
-            return false;
+            return Ok(());
         }
         self.failed = Some(call);
-        true
+        count_one(faults);
+        Err(CallFailed)
+    }
+}
+
+/// That a call isn't made, but fails with `Store`.
+#[derive(Clone, Copy)]
+struct CallFailed;
+
+impl From<CallFailed> for Failure {
+    ghost from_gives = { λ _ e. e ≡ Store };
+
+    fn from(_failed: CallFailed) -> Failure {
+        Failure::Store
+    }
+}
+
+impl From<CallFailed> for ChangeError {
+    ghost from_gives = { λ _ e. e ≡ Failed Store };
+
+    fn from(_failed: CallFailed) -> ChangeError {
+        ChangeError::Failed(Failure::Store)
     }
 }
 
 /// A keeper around another, of whose calls the one after so many others isn't made, but fails with
 /// `Store`; what comes after it is made. `faults` isn't counted as a call.
 #[derive(Drop)]
-pub struct Tripping<R: Records> {
+pub struct FailingRecords<R: Records> {
+    /// The keeper that makes the calls.
     inner: R,
-    trip: Trip,
+    /// Which call fails.
+    plan: FailurePlan,
+    /// How many failures of the storage there were.
     faults: u64,
 }
 
-impl<R: Records> Tripping<R> {
+impl<R: Records> FailingRecords<R> {
     /// The keeper around that one.
-    pub fn new(inner: R, left: u64) -> Tripping<R> {
-        let trip = Trip { left, failed: None };
+    pub fn new(inner: R, left: u64) -> FailingRecords<R> {
+        let plan = FailurePlan { left, failed: None };
         let faults = 0;
-        Tripping {
+        FailingRecords {
             inner,
-            trip,
+            plan,
             faults,
         }
     }
 
     /// The call that has failed, if it has come.
     pub fn failed(&self) -> Option<Call> {
-        self.trip.failed
+        self.plan.failed
     }
 }
 
@@ -81,7 +112,7 @@ fn count_reading<X>(faults: &mut u64, done: &Result<X, Failure>)
     }
 }
 
-impl<R: Records> Records for Tripping<R> {
+impl<R: Records> Records for FailingRecords<R> {
     ghost custody = { λ t. record {
       kept = (R.custody t.inner).kept;
       sound = (R.custody t.inner).sound;
@@ -100,20 +131,14 @@ impl<R: Records> Records for Tripping<R> {
     }
 
     fn gate(&mut self, alloc: Global, name: &Text) -> Result<Option<Gate>, Failure> {
-        if self.trip.is_at(Call::Gate) {
-            count_one(&mut self.faults);
-            return Err(Failure::Store);
-        }
+        self.plan.check(Call::Gate, &mut self.faults)?;
         let done = self.inner.gate(alloc, name);
         count_reading(&mut self.faults, &done);
         done
     }
 
     fn view(&mut self, alloc: Global, name: &Text) -> Result<Option<KeptView>, Failure> {
-        if self.trip.is_at(Call::View) {
-            count_one(&mut self.faults);
-            return Err(Failure::Store);
-        }
+        self.plan.check(Call::View, &mut self.faults)?;
         let done = self.inner.view(alloc, name);
         count_reading(&mut self.faults, &done);
         done
@@ -125,50 +150,35 @@ impl<R: Records> Records for Tripping<R> {
         name: &Text,
         key: &DocumentKey,
     ) -> Result<Option<Items<u8>>, Failure> {
-        if self.trip.is_at(Call::Document) {
-            count_one(&mut self.faults);
-            return Err(Failure::Store);
-        }
+        self.plan.check(Call::Document, &mut self.faults)?;
         let done = self.inner.document(alloc, name, key);
         count_reading(&mut self.faults, &done);
         done
     }
 
     fn list(&mut self, alloc: Global, name: &Text) -> Result<Option<Items<Listed>>, Failure> {
-        if self.trip.is_at(Call::List) {
-            count_one(&mut self.faults);
-            return Err(Failure::Store);
-        }
+        self.plan.check(Call::List, &mut self.faults)?;
         let done = self.inner.list(alloc, name);
         count_reading(&mut self.faults, &done);
         done
     }
 
     fn domains(&mut self, alloc: Global) -> Result<Items<Text>, Failure> {
-        if self.trip.is_at(Call::Domains) {
-            count_one(&mut self.faults);
-            return Err(Failure::Store);
-        }
+        self.plan.check(Call::Domains, &mut self.faults)?;
         let done = self.inner.domains(alloc);
         count_reading(&mut self.faults, &done);
         done
     }
 
     fn create(&mut self, alloc: Global, name: &Text) -> Result<(), ChangeError> {
-        if self.trip.is_at(Call::Create) {
-            count_one(&mut self.faults);
-            return Err(ChangeError::Failed(Failure::Store));
-        }
+        self.plan.check(Call::Create, &mut self.faults)?;
         let done = self.inner.create(alloc, name);
         count_failure(&mut self.faults, &done);
         done
     }
 
     fn remove(&mut self, alloc: Global, name: &Text) -> Result<(), ChangeError> {
-        if self.trip.is_at(Call::Remove) {
-            count_one(&mut self.faults);
-            return Err(ChangeError::Failed(Failure::Store));
-        }
+        self.plan.check(Call::Remove, &mut self.faults)?;
         let done = self.inner.remove(alloc, name);
         count_failure(&mut self.faults, &done);
         done
@@ -181,10 +191,7 @@ impl<R: Records> Records for Tripping<R> {
         digest: Digest,
         role: Role,
     ) -> Result<(), ChangeError> {
-        if self.trip.is_at(Call::PutToken) {
-            count_one(&mut self.faults);
-            return Err(ChangeError::Failed(Failure::Store));
-        }
+        self.plan.check(Call::PutToken, &mut self.faults)?;
         let done = self.inner.put_token(alloc, name, digest, role);
         count_failure(&mut self.faults, &done);
         done
@@ -196,10 +203,7 @@ impl<R: Records> Records for Tripping<R> {
         name: &Text,
         digest: Digest,
     ) -> Result<(), ChangeError> {
-        if self.trip.is_at(Call::DropToken) {
-            count_one(&mut self.faults);
-            return Err(ChangeError::Failed(Failure::Store));
-        }
+        self.plan.check(Call::DropToken, &mut self.faults)?;
         let done = self.inner.drop_token(alloc, name, digest);
         count_failure(&mut self.faults, &done);
         done
@@ -212,10 +216,7 @@ impl<R: Records> Records for Tripping<R> {
         key: DocumentKey,
         text: &[u8],
     ) -> Result<Upload, ChangeError> {
-        if self.trip.is_at(Call::Upload) {
-            count_one(&mut self.faults);
-            return Err(ChangeError::Failed(Failure::Store));
-        }
+        self.plan.check(Call::Upload, &mut self.faults)?;
         let done = self.inner.upload(alloc, name, key, text);
         count_failure(&mut self.faults, &done);
         done
@@ -228,20 +229,14 @@ impl<R: Records> Records for Tripping<R> {
         key: &DocumentKey,
         active: bool,
     ) -> Result<(), ChangeError> {
-        if self.trip.is_at(Call::SetActive) {
-            count_one(&mut self.faults);
-            return Err(ChangeError::Failed(Failure::Store));
-        }
+        self.plan.check(Call::SetActive, &mut self.faults)?;
         let done = self.inner.set_active(alloc, name, key, active);
         count_failure(&mut self.faults, &done);
         done
     }
 
     fn delete(&mut self, alloc: Global, name: &Text, key: &DocumentKey) -> Result<(), ChangeError> {
-        if self.trip.is_at(Call::Delete) {
-            count_one(&mut self.faults);
-            return Err(ChangeError::Failed(Failure::Store));
-        }
+        self.plan.check(Call::Delete, &mut self.faults)?;
         let done = self.inner.delete(alloc, name, key);
         count_failure(&mut self.faults, &done);
         done
@@ -253,10 +248,7 @@ impl<R: Records> Records for Tripping<R> {
         name: &Text,
         root: Option<Reference>,
     ) -> Result<(), ChangeError> {
-        if self.trip.is_at(Call::SetRoot) {
-            count_one(&mut self.faults);
-            return Err(ChangeError::Failed(Failure::Store));
-        }
+        self.plan.check(Call::SetRoot, &mut self.faults)?;
         let done = self.inner.set_root(alloc, name, root);
         count_failure(&mut self.faults, &done);
         done
@@ -268,10 +260,7 @@ impl<R: Records> Records for Tripping<R> {
         name: &Text,
         rows: Items<SourceRow>,
     ) -> Result<(), ChangeError> {
-        if self.trip.is_at(Call::SetSource) {
-            count_one(&mut self.faults);
-            return Err(ChangeError::Failed(Failure::Store));
-        }
+        self.plan.check(Call::SetSource, &mut self.faults)?;
         let done = self.inner.set_source(alloc, name, rows);
         count_failure(&mut self.faults, &done);
         done
@@ -286,17 +275,17 @@ impl<R: Records> Records for Tripping<R> {
     ghost settled = { λ t. R.settled t.inner };
 }
 
-impl<R: Reopen> Reopen for Tripping<R> {
-    fn keeper_after_stop(self, alloc: Global) -> Result<Tripping<R>, NoAnswer> {
-        let Tripping {
+impl<R: Reopen> Reopen for FailingRecords<R> {
+    fn keeper_after_stop(self, alloc: Global) -> Result<FailingRecords<R>, NoAnswer> {
+        let FailingRecords {
             inner,
-            trip,
+            plan,
             faults,
         } = self;
         let inner = inner.keeper_after_stop(alloc)?;
-        Ok(Tripping {
+        Ok(FailingRecords {
             inner,
-            trip,
+            plan,
             faults,
         })
     }

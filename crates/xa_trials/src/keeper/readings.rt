@@ -3,18 +3,18 @@
 use crate::answer::Answer;
 use crate::bodies::{push_root, push_rows};
 use crate::field::bytes_of;
+use crate::keeper::KeeperCall;
 use crate::no_answer::NoAnswer;
 use crate::references::{key_in, push_key};
 use xa_notation::Role;
 use xa_records::{Digest, Failure, Records, Token};
-use xa_value::Text;
 
 /// What a reading found; its failure, or that there is nothing, is answered.
 fn finding_of<T: Drop>(answer: &mut Answer, read: Result<Option<T>, Failure>) -> Option<T> {
     match read {
         Ok(Some(found)) => return Some(found),
-        Ok(None) => answer.word("!None"),
-        Err(Failure::Store) => answer.word("!Store"),
+        Ok(None) => answer.push_word("!None"),
+        Err(Failure::Store) => answer.push_word("!Store"),
         Err(Failure::Memory) => answer.cut(),
     }
     None
@@ -25,9 +25,9 @@ pub fn domains<R: Records>(answer: &mut Answer, records: &mut R) {
     let read = records.domains(answer.alloc());
     if let Some(names) = finding_of(answer, read.map(Some)) {
         for name in names.as_slice() {
-            answer.field("", name.as_bytes());
+            answer.push_field("", name.as_bytes());
         }
-        answer.word(".");
+        answer.push_word(".");
     }
 }
 
@@ -45,33 +45,36 @@ fn role_of(tokens: &[Token], digest: Digest) -> Option<Role> {
 pub fn gate<R: Records>(
     answer: &mut Answer,
     records: &mut R,
-    name: &Text,
-    token: &str,
+    call: &KeeperCall<'_>,
 ) -> Result<(), NoAnswer> {
-    let digest = Digest::of(&bytes_of(answer.alloc(), token)?);
-    let read = records.gate(answer.alloc(), name);
+    let digest = Digest::of(&bytes_of(answer.alloc(), call.text)?);
+    let read = records.gate(answer.alloc(), &call.name);
     let Some(gate) = finding_of(answer, read) else {
         return Ok(());
     };
-    if token.is_empty() {
-        answer.name("number ", &gate.number);
-        answer.append(" epoch ", &gate.epoch);
-        answer.append(" tokens ", &gate.tokens.as_slice().len());
+    if call.text.is_empty() {
+        answer.push_shown("number ", &gate.number);
+        answer.append_shown(" epoch ", &gate.epoch);
+        answer.append_shown(" tokens ", &gate.tokens.as_slice().len());
     } else {
-        answer.name_or_none(role_of(gate.tokens.as_slice(), digest));
+        answer.push_shown_or_none(role_of(gate.tokens.as_slice(), digest));
     }
     Ok(())
 }
 
 /// What decides in the domain: the texts of its active documents, its root, and the rows of its
 /// source of attributes.
-pub fn view<R: Records>(answer: &mut Answer, records: &mut R, name: &Text) -> Result<(), NoAnswer> {
-    let read = records.view(answer.alloc(), name);
+pub fn view<R: Records>(
+    answer: &mut Answer,
+    records: &mut R,
+    call: &KeeperCall<'_>,
+) -> Result<(), NoAnswer> {
+    let read = records.view(answer.alloc(), &call.name);
     let Some(view) = finding_of(answer, read) else {
         return Ok(());
     };
     for active in view.texts.as_slice() {
-        answer.field("active:", active.text.as_slice());
+        answer.push_field("active:", active.text.as_slice());
     }
     push_root(answer, "root:", &view.root)?;
     push_rows(answer, "source:", view.source.as_slice())
@@ -81,20 +84,23 @@ pub fn view<R: Records>(answer: &mut Answer, records: &mut R, name: &Text) -> Re
 pub fn document<R: Records>(
     answer: &mut Answer,
     records: &mut R,
-    name: &Text,
-    key: &str,
+    call: &KeeperCall<'_>,
 ) -> Result<(), NoAnswer> {
-    let key = key_in(answer.alloc(), key)?;
-    let read = records.document(answer.alloc(), name, &key);
+    let key = key_in(answer.alloc(), call.text)?;
+    let read = records.document(answer.alloc(), &call.name, &key);
     if let Some(text) = finding_of(answer, read) {
-        answer.field("", text.as_slice());
+        answer.push_field("", text.as_slice());
     }
     Ok(())
 }
 
 /// The keys of the domain's documents, and of each whether it is active.
-pub fn list<R: Records>(answer: &mut Answer, records: &mut R, name: &Text) -> Result<(), NoAnswer> {
-    let read = records.list(answer.alloc(), name);
+pub fn list<R: Records>(
+    answer: &mut Answer,
+    records: &mut R,
+    call: &KeeperCall<'_>,
+) -> Result<(), NoAnswer> {
+    let read = records.list(answer.alloc(), &call.name);
     let Some(documents) = finding_of(answer, read) else {
         return Ok(());
     };
@@ -106,6 +112,6 @@ pub fn list<R: Records>(answer: &mut Answer, records: &mut R, name: &Text) -> Re
         };
         push_key(answer, word, &listed.key)?;
     }
-    answer.word(".");
+    answer.push_word(".");
     Ok(())
 }

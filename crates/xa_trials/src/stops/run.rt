@@ -1,8 +1,9 @@
 //! A run of a script over files of which one may be frozen: it ends with the first message that is
 //! refused, the one that the stop has struck.
 use crate::files::{File, files_under, keeper_of};
+use crate::front_calls::serve;
 use crate::no_answer::NoAnswer;
-use crate::server::server_over;
+use crate::scripts::server_over;
 use sqlite::{Alter, Files};
 use sqlite_disk::Disk;
 use std::alloc::Global;
@@ -25,9 +26,9 @@ pub enum Run {
 /// The number of the first message that is refused, from 1; 0 if none is.
 fn first_refused<R: Records>(server: &mut Server<R>, messages: &[(Moment, Message)]) -> usize {
     let mut number = 0usize;
-    for event in messages {
+    for (moment, message) in messages {
         number = number.saturating_add(1);
-        if let Reply::Refused(_) = server.serve(event.0, &event.1) {
+        if let Reply::Refused(_) = serve(server, *moment, message) {
             return number;
         }
     }
