@@ -25,6 +25,7 @@ import sys
 import tempfile
 import threading
 import time
+from concurrent.futures import ThreadPoolExecutor
 
 TESTS = pathlib.Path(__file__).resolve().parent
 TOP = TESTS.parent
@@ -39,9 +40,11 @@ COPIED = ("src", "specs", "proofs", "args", "status")
 ROOM_WANTED = 10
 # How long the judge waits for the forerunner to begin, and how often memory is looked at, in seconds.
 BEGINS_WITHIN, LOOKED_EVERY = 180, 5
-# The forerunner's runs, one after another, each of a crate with those below it. In a run by all names `pdpd`
-# would be proved beside `xa_trials`, each with one job.
-STAGES = ("xa_link", "xa_trials")
+# The forerunner's stages, one after another: crates that are proved side by side, each in a run of its own with
+# those below it. In one run by both names each of two crates that become ready together would get one job.
+STAGES = (("xa_link",), ("xa_server", "xa_store"), ("xa_trials", "pdpd"))
+# What is proved with one job: with two, `pdpd` and `xa_trials` would hold too much memory between them.
+WITH_ONE_JOB = ("pdpd",)
 # How much the judge and its wrong bodies stand back behind the forerunner.
 NICE = 10
 # Bytes of memory that have to be free for the judge to try wrong bodies without asking for more: `rt ci` counts
@@ -161,27 +164,27 @@ class Run:
         self.process.wait()
 
 
-class Stage(Run):
+class Ahead(Run):
     """A run of the forerunner, of the crate of this name and those below it."""
 
     def __init__(self, forerunner, copied, name):
         # (`CI` refuses a run by names, which is no gate)
         surroundings = {name: value for name, value in os.environ.items() if name != "CI"}
         surroundings["TMPDIR"] = str(forerunner.folder / "tmp")
+        if name in WITH_ONE_JOB:
+            surroundings["RT_JOBS"] = "1"
         super().__init__(copied, forerunner.watch, forerunner.log, [name], env=surroundings)
         self.forerunner, self.name = forerunner, name
 
     def has_seen(self, number):
-        # else the judge were first at the crate that the next stage begins with
-        if self.name in self.seen and self.name != STAGES[-1]:
-            self.forerunner.send_to_judge(signal.SIGSTOP)
+        self.forerunner.has_proved(self.name in self.seen)
 
 
 class Forerunner:
-    """The runs that go ahead, one after another, over a copy in a folder of its own."""
+    """The runs that go ahead, stage by stage, over a copy in a folder of its own."""
 
     def __init__(self, watch):
-        self.watch, self.run, self.folder, self.log, self.judge = watch, None, None, None, None
+        self.watch, self.runs, self.folder, self.log, self.judge = watch, [], None, None, None
         self.turn, self.is_stopped = threading.Lock(), False
 
     def why_not(self):
@@ -220,28 +223,43 @@ class Forerunner:
         for name in ("crates.txt", "HANDLES"):
             shutil.copyfile(TOP / name, copied / name)
         self.log = open(self.folder / "log", "w")
-        self.run = Stage(self, copied, STAGES[0])
-        reader = threading.Thread(target=self.goes_on, args=(copied,), daemon=True)
-        reader.start()
-        # (a stage whose crates are all kept ends without a proof)
-        wait_for(lambda: self.run.has_begun() or not reader.is_alive())
+        self.runs = [Ahead(self, copied, name) for name in STAGES[0]]
+        threading.Thread(target=self.goes_on, args=(copied,), daemon=True).start()
+        wait_for(self.has_begun)
 
     def goes_on(self, copied):
-        """Reads the first run to its end, and goes on with the others, as long as none fails."""
-        status = self.run.read()
-        for name in STAGES[1:]:
+        """Reads the runs of the first stage to their ends, and goes on with the others, as long as none fails."""
+        failed = self.have_failed()
+        for names in STAGES[1:]:
             with self.turn:
-                if status or self.is_stopped:
+                if failed or self.is_stopped:
                     break
-                self.run = Stage(self, copied, name)
-            threading.Thread(target=self.begins, args=(self.run,), daemon=True).start()
-            status = self.run.read()
+                self.runs = [Ahead(self, copied, name) for name in names]
+            threading.Thread(target=self.lets_judge_go_on, daemon=True).start()
+            failed = self.have_failed()
         self.send_to_judge(signal.SIGCONT)
 
-    def begins(self, stage):
-        """Lets the judge go on once a stage is at its first crate."""
-        wait_for(lambda: stage.has_begun() or stage.has_ended())
+    def have_failed(self):
+        """Reads the stage's runs to their ends. Whether one fails."""
+        with ThreadPoolExecutor(len(self.runs)) as pool:
+            return any(pool.map(Ahead.read, self.runs))
+
+    def has_begun(self):
+        """Whether each of the stage's runs is at its first crate, or has ended: where all is kept, it ends
+        without a proof."""
+        return all(run.has_begun() or run.has_ended() for run in self.runs)
+
+    def lets_judge_go_on(self):
+        """Lets the judge go on once the stage has begun."""
+        wait_for(self.has_begun)
         self.send_to_judge(signal.SIGCONT)
+
+    def has_proved(self, is_of_stage):
+        """Stops the judge where that was the last crate of a stage and another stage follows: else the judge
+        were first at the crates with which that one begins."""
+        is_done = is_of_stage and all(run.name in run.seen for run in self.runs)
+        if is_done and tuple(run.name for run in self.runs) != STAGES[-1]:
+            self.send_to_judge(signal.SIGSTOP)
 
     def send_to_judge(self, number):
         if self.judge:
@@ -256,8 +274,8 @@ class Forerunner:
     def stop(self):
         with self.turn:
             self.is_stopped = True
-            if self.run:
-                self.run.stop()
+            for run in self.runs:
+                run.stop()
 
     def remove(self):
         if self.folder:
@@ -269,7 +287,7 @@ class Judge(Run):
 
     def __init__(self, watch, forerunner):
         self.forerunner = forerunner
-        behind = NICE if forerunner.run else 0
+        behind = NICE if forerunner.runs else 0
         super().__init__(TOP, watch, sys.stdout, behind=behind, env={**os.environ, **self.lanes()})
         forerunner.judge = self
 
@@ -277,7 +295,7 @@ class Judge(Run):
         """How many tasks it has at once, where a forerunner proves for it: one waits for a crate, and half the
         processors have wrong bodies."""
         memory = re.search(r"^MemAvailable:\s+(\d+)", pathlib.Path("/proc/meminfo").read_text(), re.M)
-        if not self.forerunner.run or not memory or 1024 * int(memory[1]) < FREE_WANTED:
+        if not self.forerunner.runs or not memory or 1024 * int(memory[1]) < FREE_WANTED:
             return {}
         return {"RT_JOBS": str(len(os.sched_getaffinity(0)) // 2 + 1)}
 
