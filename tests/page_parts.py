@@ -278,20 +278,20 @@ def anchor_of(heading):
     return re.sub(r"[^\w\- ]", "", heading.lower()).replace(" ", "-")
 
 def decided(room):
-    """The decisions of a room: the heading of each, its date, and its state, which isn't written where it stands."""
+    """The decisions of a room: the heading of each, its date, and what is said behind the date."""
     text = (DECISIONS / f"{room}.md").read_text(encoding="utf-8")
     for heading, behind in re.findall(r"^## (.*)\n\n(.*)", text, re.M):
-        found = re.match(r"\*(\d{4}-\d\d-\d\d)(?:, ([^*]+))?\.\*", behind)
-        yield heading, *(found.groups("stands") if found else ("no date", "no date"))
+        found = re.match(r"\*(\d{4}-\d\d-\d\d)((?:, [^*]+)?)\.\*", behind)
+        yield heading, *(found.groups() if found else ("no date", ""))
 
 
 def decisions(rooms):
     text = ""
     for room in rooms.split(","):
         title = (DECISIONS / f"{room}.md").read_text(encoding="utf-8").partition("\n")[0].removeprefix("# ")
-        text += f"\n## {title}\n\n| Decision | Date | State |\n|---|---|---|\n"
-        for heading, date, state in decided(room):
-            text += f"| [{cell(heading)}](design/decisions/{room}.md#{anchor_of(heading)}) | {date} | {state} |\n"
+        text += f"\n## {title}\n\n| Decision | Date |\n|---|---|\n"
+        for heading, date, more in decided(room):
+            text += f"| [{cell(heading)}](design/decisions/{room}.md#{anchor_of(heading)}) | {date}{more} |\n"
     return text.lstrip("\n")
 
 
