@@ -5,14 +5,20 @@ from documents import Document, DocumentFault, document_of
 from names import word
 from policies import LEAF, Tree
 from rows import decoded
-from versions import numbered, reference_of, resolved
+from versions import looked_at_in_vain, numbered, reference_of, resolved
 
 MOST_ON_A_PATH, MOST_IN_A_TREE = 17, 1000
+# above how many children documents are looked for in order, and how many may be looked at in vain then
+FEW, MOST_LOOKS = 24, 4_096_000
 Active = collections.namedtuple("Active", "kind id version document")
 
 
 class TooLarge(Exception):
     """The tree has too many policies and sets."""
+
+
+class TooManyLooks(Exception):
+    """References look at too many documents for which they don't stand."""
 
 
 def active_in(held):
@@ -32,14 +38,37 @@ class Linking:
 
     def __init__(self, active):
         self.active, self.keys, self.size, self.read = active, [held[:3] for held in active], 0, {}
+        self.children, self.looks, self.found = 0, 0, {}
 
     def referred(self, reference, path):
         """The tree for which the reference stands, under the documents of the path."""
-        place = resolved(reference, self.keys)
+        place, _ = self.found_for(reference)
         if place is None or place in path or len(path) == MOST_ON_A_PATH:
             return LEAF
-        self.read.setdefault(place)
+        if place not in self.read:
+            self.read[place] = None
+            self.look(self.active[place].document)
         return self.tree(self.active[place].document, [*path, place])
+
+    def found_for(self, reference):
+        """The place of the document for which the reference stands, and how many are looked at in vain before it."""
+        told = str(reference)
+        if told not in self.found:
+            self.found[told] = resolved(reference, self.keys), looked_at_in_vain(reference, self.keys)
+        return self.found[told]
+
+    def look(self, document):
+        """Counts what the references in a document look at in vain, when it is read."""
+        if document.form != "PolicySet":
+            return
+        self.children += len(document.children)
+        for child in document.children:
+            if isinstance(child, Document):
+                self.look(child)
+            elif self.children > FEW:
+                self.looks += self.found_for(child)[1]
+        if self.looks > MOST_LOOKS:
+            raise TooManyLooks
 
     def tree(self, document, path):
         self.size += 1
@@ -85,3 +114,5 @@ def link(root, *texts):
         return tree_shown(linked(active, reference_of(root)))
     except TooLarge:
         return ["!TooLarge"]
+    except TooManyLooks:
+        return ["!Memory"]

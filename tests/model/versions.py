@@ -53,6 +53,25 @@ def resolved(reference, documents):
     return -max(found)[1] if found else None
 
 
+def may_fit(reference, version):
+    """Whether a version is one of those among which the reference is looked for: it begins as the pattern does before its first `*` or `+`, or is all of a pattern
+    that has none, and lies within the bounds."""
+    wanted = reference.pattern or ["+"]
+    first = [int(part) for part in wanted[:next((at for at, part in enumerate(wanted) if not part.isdigit()), len(wanted))]]
+    return ((version[:len(first)] == first if len(first) < len(wanted) else version == first)
+            and (reference.earliest is None or reference.earliest <= version) and (reference.latest is None or version <= reference.latest))
+
+
+def looked_at_in_vain(reference, documents):
+    """How many documents are looked at, the latest first, before the one for which the reference stands, or if it stands for none."""
+    found = sorted((version, -place) for place, (kind, name, version) in enumerate(documents)
+                   if (kind, name) == (reference.kind, reference.id) and may_fit(reference, version))
+    for count, (version, _) in enumerate(reversed(found)):
+        if is_for(reference, reference.kind, reference.id, version):
+            return count
+    return len(found)
+
+
 def reference_of(field):
     """The reference of a field `KIND|ID|PATTERN|EARLIEST|LATEST`."""
     kind, name, pattern, earliest, latest = field.split("|")

@@ -26,7 +26,7 @@ placed_step place_of (Document-F.Reference reference) = part.Reference (place_of
 abbrev pub placed : (Reference → Option ℕ) → Document → Placed
 placed place_of = fold-Document Placed (placed_step place_of)
 
--- the active document at a place
+-- the active document at a place, with places for its references
 abbrev pub placed_at : List Active → ℕ → Option Placed
 placed_at active place =
     option_map (λ (parsed : Parsed). placed (resolve active) parsed.document) (document_at active place)
@@ -64,7 +64,7 @@ AreRight active documents =
 abbrev pub SamePlaced : List Finding → List Finding → Type 0
 SamePlaced documents after = (place : ℕ) → held after place ≡ held documents place
 
--- and this beside
+-- the same, and at this place what was found
 abbrev pub HasPlaced : List Finding → ℕ → Option Placed → List Finding → Type 0
 HasPlaced documents place found after =
     (other : ℕ) → held after other ≡ (if other == place then Looked found else held documents other)

@@ -10,9 +10,14 @@ use std::alloc::{AllocError, Global};
 use std::marker::Model;
 use xa_policy::Reference;
 
-/// For at most this many references the documents are looked at one after another, since to put them in
-/// order would take longer.
+/// For at most this many children of policy sets the documents are looked at one after another, since to
+/// put them in order would take longer.
 const FEW: usize = 24;
+
+/// How many documents may be looked at in vain for one tree, once they are in order: they take some 0.2
+/// seconds. A reference whose pattern begins with `*` may look at each version of its id. A tree of 1,000
+/// policies, each of which is found behind 1,023 others, takes a quarter of it.
+const MOST_LOOKS: u32 = 4_096_000;
 
 /// Active documents, which are put in order when so many references are to be resolved that this pays.
 /// Clauses see the documents.
@@ -21,8 +26,10 @@ pub(crate) struct Index<'a> {
     active: &'a [Active],
     /// Their places in order, or none as long as they weren't put in order.
     order: Vec<usize>,
-    /// How many references were expected so far.
-    expected: usize,
+    /// How many children, each of them perhaps a reference, have been met.
+    children: usize,
+    /// How many more documents may be looked at in vain.
+    looks: u32,
 }
 
 impl<'a> Model for Index<'a> {
@@ -45,7 +52,8 @@ impl<'a> Index<'a> {
         Index {
             active,
             order: Vec::new(alloc),
-            expected: 0,
+            children: 0,
+            looks: MOST_LOOKS,
         }
     }
 
@@ -56,27 +64,29 @@ impl<'a> Index<'a> {
         self.active
     }
 
-    /// Makes ready for so many references more: once more than [`FEW`] are expected, the documents are put
+    /// Makes ready for so many children more: once more than [`FEW`] have been met, the documents are put
     /// in order.
-    pub(crate) fn expect(&mut self, alloc: Global, count: usize) -> Result<(), AllocError>
+    pub(crate) fn expect(&mut self, alloc: Global, children: usize) -> Result<(), AllocError>
         ensures kept { self.new ≡ self.old }
     {
-        self.expected = self.expected.saturating_add(count);
-        if self.expected > FEW && self.order.is_empty() {
+        self.children = self.children.saturating_add(children);
+        if self.children > FEW && self.order.is_empty() {
             self.order = places_in_order(alloc, self.active)?;
         }
         Ok(())
     }
 
-    /// The place of the document for which the reference stands.
-    pub(crate) fn resolve(&self, reference: &Reference) -> Option<usize>
-        ensures { result ≡ resolve self.now reference.now }
+    /// The place of the document for which the reference stands; want of memory, once more than
+    /// [`MOST_LOOKS`] documents were looked at in vain.
+    pub(crate) fn resolve(&mut self, reference: &Reference) -> Result<Option<usize>, AllocError>
+        ensures value { IfOk result (λ place. place ≡ resolve self.old reference.now) }
+        ensures kept { self.new ≡ self.old }
     {
         if self.order.is_empty() {
-            resolve(self.active, reference)
-        } else {
-            resolve_in_order(self.active, self.order.as_slice(), reference)
+            return Ok(resolve(self.active, reference));
         }
+        let places = places_from(self.active, self.order.as_slice(), reference);
+        first_that_fits(self.active, places, reference, &mut self.looks)
     }
 }
 
@@ -90,28 +100,39 @@ fn fits_at(active: &[Active], place: usize, reference: &Reference) -> bool
     }
 }
 
-/// The first of the places whose document fits. None behind those that may fit is looked at.
-fn first_that_fits(active: &[Active], places: &[usize], reference: &Reference) -> Option<usize>
+/// The first of the places whose document fits. None behind those that may fit is looked at. Each look in
+/// vain takes one of those that are left, and without one it is answered as if memory were wanting.
+fn first_that_fits(
+    active: &[Active],
+    places: &[usize],
+    reference: &Reference,
+    looks: &mut u32,
+) -> Result<Option<usize>, AllocError>
     requires { IsFalling active.now reference.now places.now }
-    ensures { result ≡ find (fits_at active.now reference.now) places.now }
+    ensures { IfOk result (λ found. found ≡ find (fits_at active.now reference.now) places.now) }
 {
     for place in places {
         if fits_at(active, *place, reference) {
-            return Some(*place);
+            return Ok(Some(*place));
         }
         if standing_at(active, *place, reference).is_gt() {
-            return None;
+            return Ok(None);
         }
+        let Some(fewer) = looks.checked_sub(1) else {
+            return Err(AllocError);
+        };
+        *looks = fewer;
     }
-    None
+    Ok(None)
 }
 
-/// The place of the document for which the reference stands. Of n documents some log n are compared, and
-/// each that has the kind, the id and the first numbers that are wanted may be looked at.
-fn resolve_in_order(active: &[Active], order: &[usize], reference: &Reference) -> Option<usize>
+/// The places from the first document on that may fit the reference. Of n documents some log n are
+/// compared.
+fn places_from<'o>(active: &[Active], order: &'o [usize], reference: &Reference) -> &'o [usize]
     requires { IsOrder active.now order.now }
-    ensures { result ≡ resolve active.now reference.now }
+    ensures falling { IsFalling active.now reference.now result.now }
+    ensures first { find (fits_at active.now reference.now) result.now ≡ resolve active.now reference.now }
 {
     let start = order.partition_point(|place| standing_at(active, *place, reference).is_lt());
-    first_that_fits(active, order.split_at(start).1, reference)
+    order.split_at(start).1
 }

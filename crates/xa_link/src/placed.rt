@@ -23,9 +23,9 @@ pub(crate) enum Placed {
 
 /// The document with places for its references: each of them is resolved once.
 #[cycle(places)]
-pub(crate) fn with_places<'a>(
+pub(crate) fn with_places(
     alloc: Global,
-    index: &mut Index<'a>,
+    index: &mut Index<'_>,
     document: &Document,
 ) -> Result<Placed, AllocError>
     ensures value { IfOk result (λ p. p ≡ placed (resolve index.old) document.now) }
@@ -37,15 +37,15 @@ pub(crate) fn with_places<'a>(
             let children = children_with_places(alloc, index, children.as_slice())?;
             Ok(Placed::PolicySet(set.clone()?, children))
         }
-        Document::Reference(reference) => Ok(Placed::Reference(index.resolve(reference))),
+        Document::Reference(reference) => Ok(Placed::Reference(index.resolve(reference)?)),
     }
 }
 
 /// The children with places for their references.
 #[cycle(places)]
-fn children_with_places<'a>(
+fn children_with_places(
     alloc: Global,
-    index: &mut Index<'a>,
+    index: &mut Index<'_>,
     children: &[Document],
 ) -> Result<Items<Placed>, AllocError>
     ensures value { IfOk result (λ ps. ps ≡ map (placed (resolve index.old)) children.now) }

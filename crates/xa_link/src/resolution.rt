@@ -7,7 +7,7 @@ ghost use Rattle.xa_link.specs.Resolution.{not_before, not_after, fits, resolve}
 use crate::active::Active;
 use xa_policy::{Pattern, PatternPart, Reference, Version};
 
-/// Whether the version matches the pattern (XACML 3.0, section 5.13).
+/// Whether the version matches the pattern (XACML 3.0, core, section 5.13).
 pub fn matches(pattern: &Pattern, version: &Version) -> bool
     ensures { result ≡ matches pattern.now version.now }
 {
@@ -85,7 +85,7 @@ fn is_later(active: &[Active], document: &Active, found: Option<usize>) -> bool
 }
 
 /// The place of the document for which the reference stands: of those that fit the one of the latest
-/// version, and the first of several of that version (XACML 3.0, sections 5.10 and 5.11).
+/// version, and the first of several of that version (XACML 3.0, core, sections 5.10 and 5.11).
 pub fn resolve(active: &[Active], reference: &Reference) -> Option<usize>
     ensures { result ≡ resolve active.now reference.now }
 {

@@ -159,9 +159,9 @@ fn read_at(
 
 /// The document at the place, which is read, with places for its references.
 #[tactic(auto, using(crate::proofs::PlacedLemmas::placed_is, crate::proofs::PlacedLemmas::none_is))]
-fn placed_at<'a>(
+fn placed_at(
     alloc: Global,
-    index: &mut Index<'a>,
+    index: &mut Index<'_>,
     reader: &mut TextReader<'_>,
     place: usize,
 ) -> Result<Option<Shared<Placed>>, AllocError>
