@@ -11,34 +11,34 @@ use Rattle.xa_cache.specs.declared.seeded.Seeded.{Seeded}
 abbrev pub folded : ℕ → ℕ
 folded n = n % 2 ^ 61 + n / 2 ^ 61
 
--- the value once a part was written
-abbrev pub term : ℕ → ℕ → ℕ → ℕ
-term point value number = folded (folded (value * point + number))
+-- the value once a part of that number was written
+abbrev pub with_part : ℕ → ℕ → ℕ → ℕ
+with_part point value number = folded (folded (value * point + number))
 
 -- a byte after the bytes before it
 abbrev pub next_byte : ℕ → ℕ → ℕ
 next_byte number byte = (number * 256 % 2 ^ 64 + byte) % 2 ^ 64
 
--- a part as a number that begins with a one
-abbrev pub part : List ℕ → ℕ
-part bytes = fold next_byte 1 bytes
+-- the number of a part, which begins with a one
+abbrev pub number_of_part : List ℕ → ℕ
+number_of_part bytes = fold next_byte 1 bytes
 
 -- the value once parts were written
-abbrev pub valued : ℕ → ℕ → List (List ℕ) → ℕ
-valued point value parts = fold (λ v bytes. term point v (part bytes)) value parts
+abbrev pub with_parts : ℕ → ℕ → List (List ℕ) → ℕ
+with_parts point value parts = fold (λ v bytes. with_part point v (number_of_part bytes)) value parts
 
 -- the powers of the point by which a value and four parts behind it are multiplied
 abbrev pub powers : Polynomial → List ℕ
 powers hasher = hasher.fourth ∷ hasher.cube ∷ hasher.square ∷ hasher.point ∷ 1 ∷ []
 
 -- the value once four parts were written at once
-abbrev pub terms : Polynomial → ℕ → List (List ℕ) → ℕ
-terms hasher value parts =
-    folded (folded (sum (map (λ p. folded (p.1 * p.0)) (zip (powers hasher) (value ∷ map part parts)))))
+abbrev pub with_four : Polynomial → ℕ → List (List ℕ) → ℕ
+with_four hasher value parts =
+    folded (folded (sum (map (λ p. folded (p.1 * p.0)) (zip (powers hasher) (value ∷ map number_of_part parts)))))
 
 -- the value once so many times four parts were written
-abbrev pub valued_by_four : Polynomial → List (List (List ℕ)) → ℕ
-valued_by_four hasher fours = fold (terms hasher) hasher.value fours
+abbrev pub with_fours : Polynomial → List (List (List ℕ)) → ℕ
+with_fours hasher fours = fold (with_four hasher) hasher.value fours
 
 -- the hasher once bytes were written: in parts of seven, four at once as long as there are four, and then the rest
 abbrev pub hashed : Polynomial → List ℕ → Polynomial
@@ -46,21 +46,21 @@ hashed hasher bytes =
     let whole = length bytes / 7 in
     let parts = first_chunks 7 whole bytes in
     let fours = length parts / 4 in
-    let value = valued hasher.point (valued_by_four hasher (first_chunks 4 fours parts)) (drop (fours * 4) parts) in
+    let value = with_parts hasher.point (with_fours hasher (first_chunks 4 fours parts)) (drop (fours * 4) parts) in
     record {
       point = hasher.point;
       square = hasher.square;
       cube = hasher.cube;
       fourth = hasher.fourth;
-      value = term hasher.point value (part (drop (whole * 7) bytes));
+      value = with_part hasher.point value (number_of_part (drop (whole * 7) bytes));
     }
 
 -- the hasher at a point, with its powers, that begins with a value
 abbrev pub hasher_at : ℕ → ℕ → Polynomial
 hasher_at point value =
-    let square = term point point 0 in
-    let cube = term point square 0 in
-    record { point = point; square = square; cube = cube; fourth = term point cube 0; value = value }
+    let square = with_part point point 0 in
+    let cube = with_part point square 0 in
+    record { point = point; square = square; cube = cube; fourth = with_part point cube 0; value = value }
 
 -- hashers that begin with a secret: their point follows from its SipHash, and their value from that of the secret
 -- written twice, without the last three bits of each

@@ -88,7 +88,7 @@ pub fn fits(key: &Key, body: &Items<u8>) -> bool
     key.body().len() <= MAX_BODY_BYTES && body.len() <= MAX_BODY_BYTES
 }
 
-/// Puts the body first, where there is memory.
+/// Puts the body first, where there is memory, and answers whether there was.
 fn put(bodies: &mut LruCache<Key, Items<u8>, Seeded>, key: Key, body: Items<u8>) -> bool
     requires { bodies.old.cap ≡ 512 }
     ensures cap { bodies.new.cap ≡ 512 }

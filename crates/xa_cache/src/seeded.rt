@@ -2,12 +2,12 @@
 //! value at a secret point, modulo the prime 2^61 - 1, is the hash.
 ghost use Rattle.std.specs.Prelude.{◌≡◌, ◌+◌, ◌*◌, ◌<◌, ◌^◌, fold, drop};
 ghost use Rattle.xa_cache.specs.Hashing.{folded, hashed, hasher_at, seeded_by};
-ghost use Rattle.xa_cache.specs.Hashing.{term, terms, valued, valued_by_four, part};
+ghost use Rattle.xa_cache.specs.Hashing.{number_of_part, with_four, with_fours, with_part, with_parts};
 
 use std::hash::{BuildHasher, DefaultHasher, Hasher};
 
 /// One more than the prime. Each part is less.
-const TWO_TO_61: u128 = 0x2000_0000_0000_0000;
+const TWO_TO_61: u128 = 1 << 61;
 
 /// Hashers that begin with a secret: who doesn't know it can't choose bodies of one hash.
 #[derive(Clone, Copy)]
@@ -56,38 +56,39 @@ impl Polynomial {
     fn at(point: u64, value: u64) -> Polynomial
         ensures { result ≡ hasher_at point value }
     {
-        let square = term(point, point, 0);
-        let cube = term(point, square, 0);
+        let square = with_part(point, point, 0);
+        let cube = with_part(point, square, 0);
         Polynomial {
             point,
             square,
             cube,
-            fourth: term(point, cube, 0),
+            fourth: with_part(point, cube, 0),
             value,
         }
     }
 
     /// The value once four parts and a value before them were written: each is multiplied by its
     /// power of the point, none of which waits for another.
-    fn terms(&self, value: u64, parts: &[[u8; 7]; 4]) -> u64
-        ensures { result ≡ terms self.now value parts.now }
+    fn with_four(&self, value: u64, parts: &[[u8; 7]; 4]) -> u64
+        ensures { result ≡ with_four self.now value parts.now }
     {
         let [a, b, c, d] = parts;
         let sum = product(value, self.fourth)
-            + product(whole_part(a), self.cube)
-            + product(whole_part(b), self.square)
-            + product(whole_part(c), self.point)
-            + product(whole_part(d), 1);
+            + product(number_of_seven(a), self.cube)
+            + product(number_of_seven(b), self.square)
+            + product(number_of_seven(c), self.point)
+            + product(number_of_seven(d), 1);
+        // Nothing is cut: folded twice, a number below 2^128 is below 2^61 + 64.
         folded(folded(sum)) as u64
     }
 
     /// The value once so many times four parts were written.
-    fn valued_by_four(&self, fours: &[[[u8; 7]; 4]]) -> u64
-        ensures { result ≡ valued_by_four self.now fours.now }
+    fn with_fours(&self, fours: &[[[u8; 7]; 4]]) -> u64
+        ensures { result ≡ with_fours self.now fours.now }
     {
         let mut value = self.value;
         for parts in fours {
-            value = self.terms(value, parts);
+            value = self.with_four(value, parts);
         }
         value
     }
@@ -105,35 +106,30 @@ impl Hasher for Polynomial {
     fn write(&mut self, bytes: &[u8]) {
         let (parts, rest) = bytes.as_chunks::<7>();
         let (fours, parts) = parts.as_chunks::<4>();
-        let value = self.valued_by_four(fours);
-        let value = valued(self.point, value, parts);
-        self.value = term(self.point, value, part(rest));
+        let value = self.with_fours(fours);
+        let value = with_parts(self.point, value, parts);
+        self.value = with_part(self.point, value, number_of_part(rest));
     }
 }
 
-/// The value once the parts were written.
-fn valued(point: u64, value: u64, parts: &[[u8; 7]]) -> u64
-    ensures { result ≡ valued point value parts.now }
+/// The number of a part of at most seven bytes, below 2^57. That it begins with a one tells parts of
+/// different lengths apart.
+fn number_of_part(bytes: &[u8]) -> u64
+    ensures { result ≡ number_of_part bytes.now }
 {
-    let mut value = value;
-    for bytes in parts {
-        value = term(point, value, whole_part(bytes));
+    let mut number = 1u64;
+    for byte in bytes {
+        number = number.wrapping_mul(256).wrapping_add(u64::from(*byte));
     }
-    value
+    number
 }
 
-/// The value once a part was written: multiplied by the point, and the part added.
-fn term(point: u64, value: u64, part: u64) -> u64
-    ensures { result ≡ term point value part }
+/// The number of a part of seven bytes: what [`number_of_part`] gives, at once.
+fn number_of_seven(bytes: &[u8; 7]) -> u64
+    ensures { result ≡ number_of_part bytes.now }
 {
-    folded(folded(value as u128 * point as u128 + part as u128)) as u64
-}
-
-/// The product of the two, folded once.
-fn product(number: u64, power: u64) -> u128
-    ensures { result ≡ folded (number * power) }
-{
-    folded(number as u128 * power as u128)
+    let [a, b, c, d, e, f, g] = *bytes;
+    u64::from_be_bytes([1, a, b, c, d, e, f, g])
 }
 
 /// The same number modulo the prime, and a shorter one. It may still be the prime or more: a value is never
@@ -144,22 +140,27 @@ fn folded(number: u128) -> u128
     number % TWO_TO_61 + number / TWO_TO_61
 }
 
-/// A part of seven bytes as a number: what [`part`] gives, at once.
-fn whole_part(bytes: &[u8; 7]) -> u64
-    ensures { result ≡ part bytes.now }
+/// The product of the two, folded once.
+fn product(number: u64, power: u64) -> u128
+    ensures { result ≡ folded (number * power) }
 {
-    let [a, b, c, d, e, f, g] = *bytes;
-    u64::from_be_bytes([1, a, b, c, d, e, f, g])
+    folded(number as u128 * power as u128)
 }
 
-/// A part of at most seven bytes as a number below 2^57. That it begins with a one tells parts of
-/// different lengths apart.
-fn part(bytes: &[u8]) -> u64
-    ensures { result ≡ part bytes.now }
+/// The value once a part of that number was written: multiplied by the point, and the number added.
+fn with_part(point: u64, value: u64, number: u64) -> u64
+    ensures { result ≡ with_part point value number }
 {
-    let mut number = 1u64;
-    for byte in bytes {
-        number = number.wrapping_mul(256).wrapping_add(u64::from(*byte));
+    // Nothing is cut: folded twice, a number below 2^128 is below 2^61 + 64.
+    folded(folded(value as u128 * point as u128 + number as u128)) as u64
+}
+
+/// The value once the parts were written.
+fn with_parts(point: u64, mut value: u64, parts: &[[u8; 7]]) -> u64
+    ensures { result ≡ with_parts point value parts.now }
+{
+    for bytes in parts {
+        value = with_part(point, value, number_of_seven(bytes));
     }
-    number
+    value
 }

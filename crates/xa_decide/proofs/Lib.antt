@@ -5,7 +5,7 @@ mod KeyLemmas
 mod LookLemmas
 mod NamedLemmas
 mod NamingLemmas
-pub mod PlacesLemmas
+pub mod NodesLemmas
 mod RowLemmas
 pub mod TimelessLemmas
 mod TypeLemmas

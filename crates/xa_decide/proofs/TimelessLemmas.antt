@@ -27,7 +27,7 @@ use Rattle.xa_profile.specs.Individuals.{individuals}
 use Rattle.xa_profile.specs.Request.{request_of}
 use Rattle.xa_decide.specs.declared.source_row.SourceRow.{SourceRow}
 use Rattle.xa_decide.specs.Context.{clock_value, clock_value_in, entity, if_any, or_else, outside_values, request_values, source_values, values_of}
-use Rattle.xa_decide.specs.Decision.{Viewed, answer, answer_to, by_tree, decided, decision, objects_at, result_of, result_without_objects, results_of}
+use Rattle.xa_decide.specs.Decision.{Viewed, answer, answer_to, decided, decision, evaluated_by_tree, objects_at, result_of, result_without_objects, results_of}
 use Rattle.xa_decide.specs.Timeless.{ContextsDifferInTheClock, TimelessAnswersStay, TimelessRequestsStay, are_timeless, is_timeless_answer, is_timeless_read, is_timeless_request, is_timeless_tree}
 
 -- ---- the clock
@@ -81,7 +81,7 @@ without_clock objects source moment d e =
 pub same_but_for_the_clock : ContextsDifferInTheClock
 same_but_for_the_clock objects source first second d e = without_clock objects source first d e ∙ sym (without_clock objects source second d e)
 
-by_tree_same : (tree : Option (Result Linked LinkError)) → is_timeless_tree tree ≡ true → (a b : Attributes) → SameButForTheClock a b → by_tree a tree ≡ by_tree b tree
+by_tree_same : (tree : Option (Result Linked LinkError)) → is_timeless_tree tree ≡ true → (a b : Attributes) → SameButForTheClock a b → evaluated_by_tree a tree ≡ evaluated_by_tree b tree
 by_tree_same None timeless a b same = refl
 by_tree_same (Some (Err e)) timeless a b same = refl
 by_tree_same (Some (Ok tree)) timeless a b same = steady tree timeless a b same

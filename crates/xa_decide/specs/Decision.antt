@@ -44,16 +44,16 @@ view_by active root source = record { tree = tree_of active root; source = sourc
 -- ---- one individual request
 
 -- what is decided by the tree: NotApplicable without one, and Indeterminate where it is too large
-abbrev pub by_tree : Attributes → Option (Result Linked LinkError) → Evaluated
-by_tree values_of None = without_ids not_applicable
-by_tree values_of (Some (Ok tree)) = evaluation values_of tree
-by_tree values_of (Some (Err e)) = without_ids (undecided ProcessingError)
+abbrev pub evaluated_by_tree : Attributes → Option (Result Linked LinkError) → Evaluated
+evaluated_by_tree values_of None = without_ids not_applicable
+evaluated_by_tree values_of (Some (Ok tree)) = evaluation values_of tree
+evaluated_by_tree values_of (Some (Err e)) = without_ids (undecided ProcessingError)
 
 -- what is decided of an individual request that has these Category objects, and the policies and policy sets that are
 -- named with it
 unfoldable pub decision : Viewed → List CategoryObject → ℤ → Evaluated
 decision view objects moment =
-    by_tree (values_of (record { objects = objects; source = view.source; moment = moment })) view.tree
+    evaluated_by_tree (values_of (record { objects = objects; source = view.source; moment = moment })) view.tree
 
 -- ---- a request
 

@@ -1,22 +1,22 @@
--- How many places a tree has: its policies and policy sets, and the references that lead nowhere. Nothing that is
--- decided rests on it.
+-- How many nodes a tree has, which `View::places` gives: its policies and policy sets, and the references that lead
+-- nowhere. Nothing that is decided rests on it.
 use Rattle.std.specs.Prelude.{ℕ, ◌+◌, ◌-◌, ◌^◌, min, List, map, sum, Option, Some, None, Result, Ok, Err}
 use Rattle.xa_policy.specs.declared.linked.Linked.{Linked, fold-Linked}
 use Rattle.xa_policy.specs.declared.linked.Linked.TheOpen.{Linked-F}
 use Rattle.xa_link.specs.declared.link_error.LinkError.{LinkError}
 
 -- each policy, each policy set and each reference that leads nowhere is one, by those of its children
-abbrev pub places_step : Linked-F ℕ → ℕ
-places_step Linked-F.Unresolved = 1
-places_step (Linked-F.Policy policy) = 1
-places_step (Linked-F.PolicySet set children) = 1 + sum children
+abbrev pub nodes_step : Linked-F ℕ → ℕ
+nodes_step Linked-F.Unresolved = 1
+nodes_step (Linked-F.Policy policy) = 1
+nodes_step (Linked-F.PolicySet set children) = 1 + sum children
 
-abbrev pub places : Linked → ℕ
-places = fold-Linked ℕ places_step
+abbrev pub nodes : Linked → ℕ
+nodes = fold-Linked ℕ nodes_step
 
 -- those of trees together
-abbrev pub places_of_all : List Linked → ℕ
-places_of_all trees = sum (map places trees)
+abbrev pub nodes_of_all : List Linked → ℕ
+nodes_of_all trees = sum (map nodes trees)
 
 -- a number as far as it can be counted
 abbrev pub counted : ℕ → ℕ
@@ -26,4 +26,4 @@ counted n = min n (2 ^ 64 - 1)
 abbrev pub places_of_tree : Option (Result Linked LinkError) → ℕ
 places_of_tree None = 0
 places_of_tree (Some (Err e)) = 0
-places_of_tree (Some (Ok tree)) = counted (places tree)
+places_of_tree (Some (Ok tree)) = counted (nodes tree)

@@ -1,23 +1,10 @@
 //! Whether a body asks the policies.
 ghost use Rattle.std.specs.Prelude.{◌≡◌, IfOk};
-ghost use Rattle.xa_profile.specs.Individuals.{individuals};
 ghost use Rattle.xa_decide.specs.Asked.{OthersAreAnsweredAlike, asks_policies, request_asks};
 
-use crate::request_body::RequestBody;
+use crate::request_body::{RequestBody, individuals_of};
 use std::alloc::{AllocError, Global};
-use xa_profile::{Individual, Request, TooMany};
-use xa_value::{Items, memory_apart};
-
-/// The individual requests of a request, or that there are too many of them. Want of memory is the only
-/// error.
-pub(crate) fn individuals_of(
-    alloc: Global,
-    request: &Request,
-) -> Result<Result<Items<Individual>, TooMany>, AllocError>
-    ensures { IfOk result (λ them. them ≡ individuals request.now) }
-{
-    memory_apart(request.individuals(alloc))
-}
+use xa_profile::Request;
 
 /// Whether a request asks the policies: not where one decision for all individual requests is wanted,
 /// nor where there are more than 64 of them.

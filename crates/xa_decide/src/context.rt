@@ -47,10 +47,10 @@ fn bytes_if_any(text: &Option<Text>) -> u64 {
     }
 }
 
-/// The units of looking up an attribute by two texts, and by its issuer where one is named: a step, and
-/// their bytes.
-fn units_of_look_up(first: &str, designator: &Designator) -> u64 {
-    STEP.saturating_add(first.len() as u64)
+/// The units of looking up an attribute by its category or its entity, by its id, and by its issuer where
+/// one is named: a step, and the bytes of these.
+fn units_of_look_up(owner: &str, designator: &Designator) -> u64 {
+    STEP.saturating_add(owner.len() as u64)
         .saturating_add(designator.attribute_id.as_str().len() as u64)
         .saturating_add(bytes_if_any(&designator.issuer))
 }
@@ -165,7 +165,7 @@ impl<'a> Context for IndividualContext<'a> {
 
     #[tactic(auto, using(crate::proofs::TypeLemmas::keeps_types))]
     fn keeps_types(&self) {
-        self.objects.are_of_types();
+        self.objects.keeps_types();
     }
 
     #[tactic(auto, unfolding(crate::specs::Context::values_of), using(crate::proofs::LookLemmas::looked_or_outside))]

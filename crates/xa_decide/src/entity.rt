@@ -5,14 +5,6 @@ ghost use Rattle.xa_decide.specs.Context.{category_of, naming_id, naming_id_of};
 
 use xa_value::Category;
 
-/// The category of a URI.
-#[tactic(auto, unfolding(crate::specs::Context::category_of))]
-fn category_of(uri: &str) -> Option<Category>
-    ensures { result ≡ category_of uri.now }
-{
-    first_with_uri(&Category::ALL, uri)
-}
-
 /// The first of the categories whose URI it is.
 fn first_with_uri(categories: &[Category], uri: &str) -> Option<Category>
     ensures { result ≡ find (λ category. bytes_eq uri.now (uri_of category)) categories.now }
@@ -23,6 +15,14 @@ fn first_with_uri(categories: &[Category], uri: &str) -> Option<Category>
         }
     }
     None
+}
+
+/// The category of a URI.
+#[tactic(auto, unfolding(crate::specs::Context::category_of))]
+fn category_of(uri: &str) -> Option<Category>
+    ensures { result ≡ category_of uri.now }
+{
+    first_with_uri(&Category::ALL, uri)
 }
 
 /// The id of the attribute that names an entity of the category, where one does.

@@ -1,6 +1,6 @@
 //! Category objects, with their attributes to be found.
-ghost use Rattle.std.specs.Prelude.{◌≡◌, [], ◌++◌, bytes_eq, filter, slice_get};
-ghost use Rattle.std.specs.Prelude.{Some, IfOk, IfSome, if◌then◌else◌};
+ghost use Rattle.std.specs.Prelude.{◌≡◌, [], ◌++◌, bytes_eq, filter, option_map, slice_get};
+ghost use Rattle.std.specs.Prelude.{IfOk, IfSome, if◌then◌else◌};
 ghost use Rattle.std.specs.List.{All, filter_map, flat_map};
 ghost use Rattle.xa_bag.specs.Bag.{bag_of};
 ghost use Rattle.xa_decide.specs.Context.{is_named_by, object_values};
@@ -11,9 +11,9 @@ use crate::attribute::push_attribute;
 use crate::keys::{ByIssuer, ByName, issuer_key};
 use crate::naming::{Naming, naming_of};
 use crate::order::{are_few, item_at, order_of, places_among, units_of_search};
-use crate::response_work::writing_of_object;
+use crate::response_work::cost_of_object;
 use crate::work::Work;
-use crate::writing::Writing;
+use crate::writing_cost::WritingCost;
 use std::alloc::{AllocError, Global};
 use std::marker::Model;
 use xa_bag::{Bag, Members};
@@ -34,8 +34,8 @@ pub(crate) struct IndexedObject<'a> {
     members: Option<Vec<Members<'a>>>,
     /// What names its entity.
     naming: Naming<'a>,
-    /// What it is to write what stands of it in a result.
-    writing: Writing,
+    /// What it costs to write what stands of it in a result.
+    writing_cost: WritingCost,
 }
 
 impl<'a> Model for IndexedObject<'a> {
@@ -57,18 +57,18 @@ impl<'a> Model for IndexedObject<'a> {
 }
 
 /// The values of the attribute are of its type: a law.
-fn is_of_type(attribute: &Attribute)
+fn keeps_type(attribute: &Attribute)
     ensures { IsOfType attribute.now }
 {
     attribute.values.values();
 }
 
 /// The values of each attribute are of its type: a law, whose loop does nothing.
-fn are_of_types(attributes: &[Attribute])
+fn keep_types(attributes: &[Attribute])
     ensures { All IsOfType attributes.now }
 {
     for attribute in attributes {
-        is_of_type(attribute);
+        keeps_type(attribute);
     }
 }
 
@@ -82,7 +82,7 @@ impl<'a> IndexedObject<'a> {
         ensures { IfOk result (λ indexed. indexed ≡ object.now) }
     {
         let attributes = object.attributes.as_slice();
-        are_of_types(attributes);
+        keep_types(attributes);
         let by_name = order_of::<ByName>(alloc, attributes)?;
         let by_issuer = order_of::<ByIssuer>(alloc, attributes)?;
         Ok(IndexedObject {
@@ -91,21 +91,21 @@ impl<'a> IndexedObject<'a> {
             by_issuer,
             members: work.members(alloc, attributes)?,
             naming: naming_of(object),
-            writing: writing_of_object(object),
+            writing_cost: cost_of_object(object),
         })
     }
 
     /// The values of each of the object's attributes are of its type: a law.
-    pub(crate) fn is_of_types(&self)
+    pub(crate) fn keeps_types(&self)
         ensures { IsOfTypes self.now }
     {
         // Nothing is done: the clause is for the prover, a part of the type's invariant.
         let _ = &self.object;
     }
 
-    /// What it is to write what stands of the object in a result.
-    pub(crate) fn writing(&self) -> Writing {
-        self.writing
+    /// What it costs to write what stands of the object in a result.
+    pub(crate) fn writing_cost(&self) -> WritingCost {
+        self.writing_cost
     }
 
     /// The units of a search among the object's attributes.
@@ -138,15 +138,17 @@ impl<'a> IndexedObject<'a> {
         }
     }
 
-    /// The values of the attribute, which has the place, to be searched; none, where they are looked at
-    /// one by one. The contract alone speaks of `attribute`: they are found by the place.
-    pub(crate) fn members(&self, place: usize, attribute: &Attribute) -> Option<&Members<'a>>
-        requires { Some attribute.now ≡ slice_get self.now.attributes place }
-        ensures { IfSome result (λ members. members.now ≡ attribute.now.values) }
+    /// The attribute that has the place, beside its values, to be searched; none of these, where they are
+    /// looked at one by one.
+    pub(crate) fn attribute_at(&self, place: usize) -> Option<(&'a Attribute, Option<&Members<'a>>)>
+        ensures found { option_map (λ found. found.0.now) result ≡ slice_get self.now.attributes place }
+        ensures values { IfSome result (λ found.
+            IfSome found.1 (λ members. members.now ≡ found.0.now.values)) }
     {
+        let attribute = item_at(self.attributes(), place)?;
         match &self.members {
-            Some(members) => item_at(members.as_slice(), place),
-            None => None,
+            Some(members) => Some((attribute, item_at(members.as_slice(), place))),
+            None => Some((attribute, None)),
         }
     }
 

@@ -81,11 +81,11 @@ fn objects_at<'a>(
 }
 
 /// The values of each attribute of the objects are of its type: a law, whose loop does nothing.
-fn are_of_types(objects: &[&IndexedObject<'_>])
+fn keep_types(objects: &[&IndexedObject<'_>])
     ensures { All (λ o. IsOfTypes o.now) objects.now }
 {
     for object in objects {
-        object.is_of_types();
+        object.keeps_types();
     }
 }
 
@@ -108,7 +108,7 @@ impl<'a> IndividualObjects<'a> {
         ensures { IfOk result (λ chosen. chosen ≡ objects_at objects.now places.now) }
     {
         let objects = objects_at(alloc, objects, places)?;
-        are_of_types(objects.as_slice());
+        keep_types(objects.as_slice());
         let order = order_of::<ByCategory<'a>>(alloc, objects.as_slice())?;
         let search = units_of_longest_search(objects.as_slice());
         Ok(IndividualObjects {
@@ -124,7 +124,7 @@ impl<'a> IndividualObjects<'a> {
     }
 
     /// The values of each attribute of the objects are of its type: a law.
-    pub(crate) fn are_of_types(&self)
+    pub(crate) fn keeps_types(&self)
         ensures { All IsOfTypes self.now }
     {
         // Nothing is done: the clause is for the prover, a part of the type's invariant.

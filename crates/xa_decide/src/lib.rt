@@ -3,8 +3,8 @@
 //!
 //! Files of calls: `view` is what a domain's decisions depend on, with its `source` of rows, each a
 //! `source_row`, which `rows` reads and writes. `request_body` holds a request, and `asked` says whether
-//! that asks the policies. `decision` decides and responds, and `timeless` says which answers are the same
-//! at every moment.
+//! that asks the policies. `deciding` decides its individual requests, by which `decision` decides and
+//! responds, and `timeless` says which answers are the same at every moment.
 //!
 //! Files of values: the `context` of an individual request looks for those of an `attribute` among its
 //! `individual_objects`, each an `indexed_object`; then it asks the `clock`, and then the source, for the
@@ -12,8 +12,8 @@
 //! copied into a `bag`, or a `look` goes over them where they are.
 //!
 //! Files of indexes and of cost: what is sought is a `key`, which `keys` makes, and it is found by the
-//! `order` of the items' keys. A message is paid for from its `work`; `response_work` says how much it is to
-//! write a result, as a sum of `writing`s.
+//! `order` of the items' keys. A message is paid for from its `work`; `response_work` says what it costs to
+//! write a result, as a sum of `writing_cost`s.
 #![tactic(auto)]
 
 mod asked;
@@ -21,6 +21,7 @@ mod attribute;
 mod bag;
 mod clock;
 mod context;
+mod deciding;
 mod decision;
 mod entity;
 mod indexed_object;
@@ -38,7 +39,7 @@ mod source_row;
 mod timeless;
 mod view;
 mod work;
-mod writing;
+mod writing_cost;
 
 pub use asked::{asks_policies, others_are_answered_alike};
 pub use decision::{Decided, Responded, answer, decide, respond};

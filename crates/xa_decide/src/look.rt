@@ -124,11 +124,9 @@ impl<'a> Look<'a> {
             found ≡ looked self.now.sought.now (object_values self.now.designator.now object.now)) }
     {
         let places = object.places(self.designator);
-        let attributes = object.attributes();
         let mut so_far = Looked::Nothing;
         for place in places {
-            if let Some(attribute) = item_at(attributes, *place) {
-                let members = object.members(*place, attribute);
+            if let Some((attribute, members)) = object.attribute_at(*place) {
                 so_far = so_far.and(self.at_attribute(attribute, members)?);
             }
         }

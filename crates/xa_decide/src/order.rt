@@ -27,7 +27,7 @@ pub(crate) fn are_few(count: usize) -> bool
 
 /// How often a number of items is halved until there is none.
 fn halvings(count: usize) -> u64 {
-    u64::from(64u32.saturating_sub(count.leading_zeros()))
+    u64::from(usize::BITS - count.leading_zeros())
 }
 
 /// The units of a search among so many items in order: the same each time that they are halved. A look at
@@ -81,20 +81,6 @@ fn order_at<K: Keying>(items: &[K::Item], place: usize, key: &Key<'_>) -> Orderi
     }
 }
 
-/// The places of the items, in the order of their keys, where there are more than a few items.
-pub(crate) fn order_of<K: Keying>(
-    alloc: Global,
-    items: &[K::Item],
-) -> Result<Vec<usize>, AllocError>
-    ensures { IfOk result (λ order. IsOrder K.key_of items.now order.items) }
-{
-    if items.len() <= FEW {
-        Ok(Vec::new(alloc))
-    } else {
-        places_in_order::<K>(alloc, items)
-    }
-}
-
 /// The places of the items, in the order of their keys; of items of one key, in their own.
 fn places_in_order<K: Keying>(alloc: Global, items: &[K::Item]) -> Result<Vec<usize>, AllocError>
     ensures { IfOk result (λ order. IsInOrder K.key_of items.now order.items) }
@@ -102,6 +88,20 @@ fn places_in_order<K: Keying>(alloc: Global, items: &[K::Item]) -> Result<Vec<us
     let mut order: Vec<usize> = (0..items.len()).collect(alloc)?;
     order.sort_by_key(|place| key_at::<K>(items, *place))?;
     Ok(order)
+}
+
+/// The places of the items, in the order of their keys, where there are more than a few items.
+pub(crate) fn order_of<K: Keying>(
+    alloc: Global,
+    items: &[K::Item],
+) -> Result<Vec<usize>, AllocError>
+    ensures { IfOk result (λ order. IsOrder K.key_of items.now order.items) }
+{
+    if are_few(items.len()) {
+        Ok(Vec::new(alloc))
+    } else {
+        places_in_order::<K>(alloc, items)
+    }
 }
 
 /// The places of the items of that key.
@@ -135,7 +135,7 @@ pub(crate) fn places_among<'o, K: Keying>(
     ensures { with_key K.key_of key.now (filter_map (slice_get items.now) result.now)
         ≡ with_key K.key_of key.now items.now }
 {
-    if items.len() <= FEW {
+    if are_few(items.len()) {
         few_places(items.len())
     } else {
         places_with::<K>(items, order, key)

@@ -1,11 +1,12 @@
-//! The body of a request, read.
+//! The body of a request, read, and the individual requests of a request.
 ghost use Rattle.std.specs.Prelude.{◌≡◌, IfOk};
+ghost use Rattle.xa_profile.specs.Individuals.{individuals};
 ghost use Rattle.xa_profile.specs.Request.{request_of};
 
 use std::alloc::{AllocError, Global};
 use std::marker::Model;
-use xa_profile::{Request, RequestError};
-use xa_value::memory_apart;
+use xa_profile::{Individual, Request, RequestError, TooMany};
+use xa_value::{Items, memory_apart};
 
 /// The body of a request, with what was read of it, so that it is read once whatever is asked of
 /// it. Contracts see its bytes.
@@ -44,4 +45,15 @@ impl<'a> RequestBody<'a> {
     {
         &self.request
     }
+}
+
+/// The individual requests of a request, or that there are too many of them. Want of memory is the only
+/// error.
+pub(crate) fn individuals_of(
+    alloc: Global,
+    request: &Request,
+) -> Result<Result<Items<Individual>, TooMany>, AllocError>
+    ensures { IfOk result (λ them. them ≡ individuals request.now) }
+{
+    memory_apart(request.individuals(alloc))
 }

@@ -21,28 +21,8 @@ use xa_notation::{Member, NotationError};
 use xa_profile::{ToJson, write_items};
 use xa_value::{DataType, Items, OrMemory, Text};
 
-/// A row, of an object with these members.
-#[tactic(auto, unfolding(crate::specs::Rows::row))]
-fn row(alloc: Global, value: &Json) -> Result<SourceRow, OrMemory<NotationError>>
-    ensures { Gives result (row (view value.now)) }
-{
-    check_members(value, Object::SourceRow)?;
-    let category = category(alloc, needed_member(value, Member::Category)?)?;
-    let entity = text_copy(alloc, needed_member(value, Member::Entity)?)?;
-    let attribute_id = text_copy(alloc, needed_member(value, Member::AttributeId)?)?;
-    let data_type = data_type(needed_member(value, Member::DataType)?)?;
-    let literal = literal(alloc, data_type, needed_member(value, Member::Value)?)?;
-    let issuer = optional_text(alloc, member_at(value, Member::Issuer))?;
-    Ok(SourceRow {
-        category,
-        entity,
-        attribute_id,
-        value: literal,
-        issuer,
-    })
-}
-
-/// Reads rows.
+/// Reads a row.
+#[derive(Drop)]
 struct RowReader;
 
 impl Reader for RowReader {
@@ -50,8 +30,22 @@ impl Reader for RowReader {
 
     ghost reads = { λ _ d. row d };
 
+    #[tactic(auto, unfolding(crate::specs::Rows::row))]
     fn read(&self, alloc: Global, value: &Json) -> Result<SourceRow, OrMemory<NotationError>> {
-        row(alloc, value)
+        check_members(value, Object::SourceRow)?;
+        let category = category(alloc, needed_member(value, Member::Category)?)?;
+        let entity = text_copy(alloc, needed_member(value, Member::Entity)?)?;
+        let attribute_id = text_copy(alloc, needed_member(value, Member::AttributeId)?)?;
+        let data_type = data_type(needed_member(value, Member::DataType)?)?;
+        let literal = literal(alloc, data_type, needed_member(value, Member::Value)?)?;
+        let issuer = optional_text(alloc, member_at(value, Member::Issuer))?;
+        Ok(SourceRow {
+            category,
+            entity,
+            attribute_id,
+            value: literal,
+            issuer,
+        })
     }
 }
 

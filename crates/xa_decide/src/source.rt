@@ -116,6 +116,18 @@ impl Source {
     }
 }
 
+/// Whether it is a row of the entity's attribute that the designator names, by an issuer that will do.
+pub(crate) fn is_row(entity: &str, designator: &Designator, row: &SourceRow) -> bool
+    ensures value { result ≡ is_row entity.now designator.now row.now }
+    ensures of_type { result ≡ true → type_of row.now.value ≡ designator.now.data_type }
+{
+    row.category.as_str() == designator.category.as_str()
+        && row.entity.as_str() == entity
+        && row.attribute_id.as_str() == designator.attribute_id.as_str()
+        && row.value.data_type().is_same(designator.data_type)
+        && is_issuer(&designator.issuer, &row.issuer)
+}
+
 /// Puts the row's value at the end of the bag, if it is a row of the entity's attribute that the
 /// designator names. It is paid for before it is copied.
 fn push_row(
@@ -134,16 +146,4 @@ fn push_row(
         push_value(bag, &row.value)?;
     }
     Ok(())
-}
-
-/// Whether it is a row of the entity's attribute that the designator names, by an issuer that will do.
-pub(crate) fn is_row(entity: &str, designator: &Designator, row: &SourceRow) -> bool
-    ensures value { result ≡ is_row entity.now designator.now row.now }
-    ensures of_type { result ≡ true → type_of row.now.value ≡ designator.now.data_type }
-{
-    row.category.as_str() == designator.category.as_str()
-        && row.entity.as_str() == entity
-        && row.attribute_id.as_str() == designator.attribute_id.as_str()
-        && row.value.data_type().is_same(designator.data_type)
-        && is_issuer(&designator.issuer, &row.issuer)
 }

@@ -3,7 +3,7 @@ ghost use Rattle.std.specs.Prelude.{◌≡◌, ◌+◌, ◌<◌, [], false, true
 ghost use Rattle.xa_link.specs.Linking.{link};
 ghost use Rattle.xa_link.specs.Reading.{reading};
 ghost use Rattle.xa_decide.specs.Decision.{tree_of, view_by};
-ghost use Rattle.xa_decide.specs.Places.{counted, places, places_of_all, places_of_tree};
+ghost use Rattle.xa_decide.specs.Places.{counted, nodes, nodes_of_all, places_of_tree};
 ghost use Rattle.xa_decide.specs.Reading.{IsNotTooLarge, reading_for};
 ghost use Rattle.xa_decide.specs.Timeless.{is_timeless_tree};
 
@@ -36,7 +36,7 @@ pub struct View {
     /// Whether no designator of the tree names the clock.
     timeless: bool,
     /// How many units of work a message may ask for.
-    limit: u64,
+    work_limit: u64,
     /// How many bytes the body of a response may have.
     reply_limit: u64,
 }
@@ -92,32 +92,32 @@ fn tree_of(
     }
 }
 
-/// How many places the tree has: its policies and policy sets, and the references that lead nowhere.
+/// How many nodes the tree has: its policies and policy sets, and the references that lead nowhere.
 /// What this costs grows with them, as linking did.
-#[cycle(places)]
-#[tactic(auto, using(crate::proofs::PlacesLemmas::one_counted))]
-fn places_of(tree: &Linked) -> usize
-    ensures { result ≡ counted (places tree.now) }
+#[cycle(nodes)]
+#[tactic(auto, using(crate::proofs::NodesLemmas::one_counted))]
+fn nodes_of(tree: &Linked) -> usize
+    ensures { result ≡ counted (nodes tree.now) }
 {
     match tree {
         Linked::PolicySet(_, children) => {
-            places_of_all(children.get().as_slice()).saturating_add(1)
+            nodes_of_all(children.get().as_slice()).saturating_add(1)
         }
         Linked::Policy(_) | Linked::Unresolved => 1,
     }
 }
 
-/// How many places the trees have.
-#[cycle(places)]
-#[tactic(auto, using(crate::proofs::PlacesLemmas::more_counted, crate::proofs::PlacesLemmas::counted_once, crate::proofs::PlacesLemmas::all_counted))]
-fn places_of_all(trees: &[Linked]) -> usize
-    ensures { result ≡ counted (places_of_all trees.now) }
+/// How many nodes the trees have.
+#[cycle(nodes)]
+#[tactic(auto, using(crate::proofs::NodesLemmas::more_counted, crate::proofs::NodesLemmas::counted_once, crate::proofs::NodesLemmas::all_counted))]
+fn nodes_of_all(trees: &[Linked]) -> usize
+    ensures { result ≡ counted (nodes_of_all trees.now) }
 {
-    let mut places = 0usize;
+    let mut nodes = 0usize;
     for tree in trees {
-        places = places.saturating_add(places_of(tree));
+        nodes = nodes.saturating_add(nodes_of(tree));
     }
-    places
+    nodes
 }
 
 impl View {
@@ -145,7 +145,7 @@ impl View {
             tree,
             source,
             timeless,
-            limit: NO_LIMIT,
+            work_limit: NO_LIMIT,
             reply_limit: NO_LIMIT,
         })
     }
@@ -158,7 +158,7 @@ impl View {
             tree: None,
             source: Source::new(alloc, Items::new(alloc))?,
             timeless: true,
-            limit: NO_LIMIT,
+            work_limit: NO_LIMIT,
             reply_limit: NO_LIMIT,
         })
     }
@@ -167,7 +167,7 @@ impl View {
     pub fn with_limit(mut self, units: u64) -> View
         ensures { result ≡ self }
     {
-        self.limit = units;
+        self.work_limit = units;
         self
     }
 
@@ -181,7 +181,7 @@ impl View {
 
     /// The work that one message may ask for.
     pub(crate) fn budget(&self) -> Budget {
-        Budget::new(self.limit)
+        Budget::new(self.work_limit)
     }
 
     /// How many bytes the body of a response may have.
@@ -189,7 +189,7 @@ impl View {
         self.reply_limit
     }
 
-    /// The body of a response, if it may have so many bytes.
+    /// The body of a response; want of memory, if it has more bytes than the limit.
     pub(crate) fn within_reply_limit(&self, body: Vec<u8>) -> Result<Vec<u8>, AllocError>
         ensures { IfOk result (λ kept. kept.items ≡ body.items) }
     {
@@ -213,14 +213,14 @@ impl View {
         self.timeless
     }
 
-    /// How many places the linked tree has: its policies and policy sets, and the references that lead
+    /// How many nodes the linked tree has: its policies and policy sets, and the references that lead
     /// nowhere, of which a set may have many; 0 where there is no tree. The memory of a view grows with
     /// them beside its documents and rows.
     pub fn places(&self) -> usize
         ensures { result ≡ places_of_tree self.now.tree }
     {
         match &self.tree {
-            Some(Ok(linked)) => places_of(linked),
+            Some(Ok(linked)) => nodes_of(linked),
             Some(Err(_)) | None => 0,
         }
     }

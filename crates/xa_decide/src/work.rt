@@ -3,7 +3,7 @@
 ghost use Rattle.std.specs.Prelude.{◌≡◌, map, IfOk, IfSome};
 
 use crate::view::View;
-use crate::writing::Writing;
+use crate::writing_cost::WritingCost;
 use std::alloc::{AllocError, Global};
 use std::cell::Cell;
 use xa_bag::{Bag, Members};
@@ -19,8 +19,9 @@ const LARGE: usize = 256;
 /// put in order, which takes about as long.
 const SCANS: u64 = 16;
 
-/// With how many values another is compared at most that is searched for among values in order, and each
-/// where they are put in order: the logarithm of their number, since a request has fewer than 2^18.
+/// How many comparisons a search among values in order takes at most, and each value when they are put in
+/// order: the logarithm of their number. A body of at most 524,288 bytes (`xa_http`) has fewer than 2^18
+/// values.
 const COMPARISONS_IN_ORDER: u64 = 18;
 
 /// How many more values of large bags may be looked at one after another, and whether more were asked
@@ -113,11 +114,11 @@ impl Work {
         self.budget.spend(units)
     }
 
-    /// Takes what it is to write a result: the units from what the message may ask for, and the bytes
+    /// Takes what it costs to write a result: the units from what the message may ask for, and the bytes
     /// from what its response may have.
-    pub(crate) fn spend_on_result(&self, writing: Writing) -> Result<(), AllocError> {
-        self.budget.spend(writing.units)?;
-        self.reply.spend(writing.bytes)
+    pub(crate) fn spend_on_result(&self, cost: WritingCost) -> Result<(), AllocError> {
+        self.budget.spend(cost.units)?;
+        self.reply.spend(cost.bytes)
     }
 
     /// Takes a look at each value of the bag from what may be looked at one after another.

@@ -92,16 +92,6 @@ fn type_of_values(named: Option<DataType>, kinds: &[DataType]) -> DataType
     }
 }
 
-/// The type that is named, if one is.
-fn named_type(value: Option<&Json<'_>>) -> Result<Option<DataType>, RequestError>
-    ensures { result ≡ named_type (option_map (λ v. view v.now) value.entry) }
-{
-    match value {
-        Some(value) => Ok(Some(data_type(value)?)),
-        None => Ok(None),
-    }
-}
-
 /// The type that a text names; the fault is NotProfile.
 fn data_type(value: &Json<'_>) -> Result<DataType, RequestError>
     ensures { result ≡ ok_or (option_and_then type_named (as_str (view value.now))) RequestError.NotProfile }
@@ -110,6 +100,16 @@ fn data_type(value: &Json<'_>) -> Result<DataType, RequestError>
         .as_str()
         .and_then(DataType::from_uri)
         .ok_or(RequestError::NotProfile)
+}
+
+/// The type that is named, if one is; the fault is NotProfile.
+fn named_type(value: Option<&Json<'_>>) -> Result<Option<DataType>, RequestError>
+    ensures { result ≡ named_type (option_map (λ v. view v.now) value.entry) }
+{
+    match value {
+        Some(value) => Ok(Some(data_type(value)?)),
+        None => Ok(None),
+    }
 }
 
 /// A value of the type; the fault is NotProfile.
@@ -127,7 +127,7 @@ fn value_of(
     map_error(value, |_| RequestError::NotProfile)
 }
 
-/// The bag of the values. Where they are many they are lent to whoever copies the bag.
+/// The bag of the values. From eight on they are shared with copies.
 fn bag_of(
     alloc: Global,
     data_type: DataType,

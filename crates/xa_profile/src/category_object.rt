@@ -28,7 +28,7 @@ pub struct CategoryObject {
     pub attributes: Items<Attribute>,
 }
 
-/// The category that an object names.
+/// The category that an object names; the fault is NotProfile.
 fn category_named(alloc: Global, value: Option<&Json<'_>>) -> Result<Text, OrMemory<RequestError>>
     ensures { Gives result (named_category (option_map (λ v. view v.now) value.entry)) }
 {

@@ -8,25 +8,6 @@ use crate::individuals::{MAX_INDIVIDUALS, TooMany};
 use std::alloc::{AllocError, Global};
 use xa_value::{Items, OrMemory};
 
-/// All combinations of one place of each list, if they are no more than a request may have.
-pub(crate) fn combinations(
-    alloc: Global,
-    lists: &[Items<usize>],
-) -> Result<Items<Items<usize>>, OrMemory<TooMany>>
-    requires { list_all (λ places. nat_lt 0 (length places)) lists.now ≡ true }
-    ensures { Gives result (at_most_64 (combinations lists.now)) }
-{
-    let mut all = Vec::new(alloc);
-    all.push(Items::new(alloc))?;
-    for places in lists {
-        if are_too_many(all.len(), places.len()) {
-            return Err(OrMemory::Error(TooMany));
-        }
-        all = with_each(alloc, all, places.as_slice())?;
-    }
-    Ok(Items::from_vec(all))
-}
-
 /// Whether that many combinations with each of that many places are more than a request may have.
 fn are_too_many(combinations: usize, places: usize) -> bool
     ensures { result ≡ nat_lt 64 (combinations * places) }
@@ -37,19 +18,29 @@ fn are_too_many(combinations: usize, places: usize) -> bool
     }
 }
 
-/// Each combination with each of the places behind it.
-fn with_each(
-    alloc: Global,
-    combinations: Vec<Items<usize>>,
-    places: &[usize],
-) -> Result<Vec<Items<usize>>, AllocError>
-    ensures { IfOk result (λ all. all.items ≡ with_each combinations.items places.now) }
+/// A copy of the combination with the place behind it.
+fn copy_with(alloc: Global, combination: &[usize], place: usize) -> Result<Items<usize>, AllocError>
+    ensures { IfOk result (λ copy. copy ≡ combination.now ++ place ∷ []) }
 {
-    let mut all = Vec::new(alloc);
-    for combination in combinations {
-        push_with_each(alloc, &mut all, combination, places)?;
+    let mut copy = Vec::from_slice(alloc, combination)?;
+    copy.push(place)?;
+    Ok(Items::from_vec(copy))
+}
+
+/// Puts a copy of the combination with each of the places behind it at the end.
+fn push_copies(
+    alloc: Global,
+    all: &mut Vec<Items<usize>>,
+    combination: &[usize],
+    places: &[usize],
+) -> Result<(), AllocError>
+    ensures { OnOk result
+        (all.new.items ≡ all.old.items ++ map (λ place. combination.now ++ place ∷ []) places.now) }
+{
+    for place in places {
+        all.push(copy_with(alloc, combination, *place)?)?;
     }
-    Ok(all)
+    Ok(())
 }
 
 /// Puts the combination with each of the places behind it at the end. It is copied for all places but the
@@ -72,27 +63,36 @@ fn push_with_each(
     Ok(())
 }
 
-/// Puts a copy of the combination with each of the places behind it at the end.
-fn push_copies(
+/// Each combination with each of the places behind it.
+fn with_each(
     alloc: Global,
-    all: &mut Vec<Items<usize>>,
-    combination: &[usize],
+    combinations: Vec<Items<usize>>,
     places: &[usize],
-) -> Result<(), AllocError>
-    ensures { OnOk result
-        (all.new.items ≡ all.old.items ++ map (λ place. combination.now ++ place ∷ []) places.now) }
+) -> Result<Vec<Items<usize>>, AllocError>
+    ensures { IfOk result (λ all. all.items ≡ with_each combinations.items places.now) }
 {
-    for place in places {
-        all.push(copy_with(alloc, combination, *place)?)?;
+    let mut all = Vec::new(alloc);
+    for combination in combinations {
+        push_with_each(alloc, &mut all, combination, places)?;
     }
-    Ok(())
+    Ok(all)
 }
 
-/// A copy of the combination with the place behind it.
-fn copy_with(alloc: Global, combination: &[usize], place: usize) -> Result<Items<usize>, AllocError>
-    ensures { IfOk result (λ copy. copy ≡ combination.now ++ place ∷ []) }
+/// All combinations of one place of each list, if they are no more than a request may have.
+pub(crate) fn combinations(
+    alloc: Global,
+    lists: &[Items<usize>],
+) -> Result<Items<Items<usize>>, OrMemory<TooMany>>
+    requires { list_all (λ places. nat_lt 0 (length places)) lists.now ≡ true }
+    ensures { Gives result (at_most_64 (combinations lists.now)) }
 {
-    let mut copy = Vec::from_slice(alloc, combination)?;
-    copy.push(place)?;
-    Ok(Items::from_vec(copy))
+    let mut all = Vec::new(alloc);
+    all.push(Items::new(alloc))?;
+    for places in lists {
+        if are_too_many(all.len(), places.len()) {
+            return Err(OrMemory::Error(TooMany));
+        }
+        all = with_each(alloc, all, places.as_slice())?;
+    }
+    Ok(Items::from_vec(all))
 }

@@ -12,26 +12,24 @@ use std::alloc::{AllocError, Global};
 use std::collections::BTreeMap;
 use xa_value::Items;
 
-/// The places of each category's objects, the categories in order of first appearance.
-pub(crate) fn places_by_category(
+/// Puts a group of one place at the end, and its number under its category.
+fn put_new<'a>(
     alloc: Global,
-    objects: &[CategoryObject],
-) -> Result<Items<Items<usize>>, AllocError>
-    ensures value { IfOk result (λ groups. groups ≡ map (places_of objects.now) (categories objects.now)) }
-    ensures some { IfOk result (λ groups. list_all (λ places. nat_lt 0 (length places)) groups ≡ true) }
+    numbers: &mut BTreeMap<&'a str, usize>,
+    groups: &mut Vec<Items<usize>>,
+    category: &'a str,
+    place: usize,
+) -> Result<(), AllocError>
+    ensures numbers { OnOk result
+        ((q : List ℕ) → get_by (λ k. slice_cmp nat_cmp q k.now) numbers.new ≡ (if bytes_eq category.now q
+        then Some (length groups.old.items) else get_by (λ k. slice_cmp nat_cmp q k.now) numbers.old)) }
+    ensures groups { OnOk result (groups.new.items ≡ groups.old.items ++ (place ∷ []) ∷ []) }
 {
-    let mut numbers: BTreeMap<&str, usize> = BTreeMap::new(alloc);
-    let mut groups: Vec<Items<usize>> = Vec::new(alloc);
-    for (place, object) in objects.iter().enumerate() {
-        put(
-            alloc,
-            &mut numbers,
-            &mut groups,
-            object.category.as_str(),
-            place,
-        )?;
-    }
-    Ok(Items::from_vec(groups))
+    numbers.insert(category, groups.len())?;
+    let mut group = Items::new(alloc);
+    group.push(place)?;
+    groups.push(group)?;
+    Ok(())
 }
 
 /// Puts a place to those of its category, whose number is looked up.
@@ -62,22 +60,24 @@ fn put<'a>(
     }
 }
 
-/// Puts a group of one place at the end, and its number under its category.
-fn put_new<'a>(
+/// The places of each category's objects, the categories in order of first appearance.
+pub(crate) fn places_by_category(
     alloc: Global,
-    numbers: &mut BTreeMap<&'a str, usize>,
-    groups: &mut Vec<Items<usize>>,
-    category: &'a str,
-    place: usize,
-) -> Result<(), AllocError>
-    ensures numbers { OnOk result
-        ((q : List ℕ) → get_by (λ k. slice_cmp nat_cmp q k.now) numbers.new ≡ (if bytes_eq category.now q
-        then Some (length groups.old.items) else get_by (λ k. slice_cmp nat_cmp q k.now) numbers.old)) }
-    ensures groups { OnOk result (groups.new.items ≡ groups.old.items ++ (place ∷ []) ∷ []) }
+    objects: &[CategoryObject],
+) -> Result<Items<Items<usize>>, AllocError>
+    ensures value { IfOk result (λ groups. groups ≡ map (places_of objects.now) (categories objects.now)) }
+    ensures some { IfOk result (λ groups. list_all (λ places. nat_lt 0 (length places)) groups ≡ true) }
 {
-    numbers.insert(category, groups.len())?;
-    let mut group = Items::new(alloc);
-    group.push(place)?;
-    groups.push(group)?;
-    Ok(())
+    let mut numbers: BTreeMap<&str, usize> = BTreeMap::new(alloc);
+    let mut groups: Vec<Items<usize>> = Vec::new(alloc);
+    for (place, object) in objects.iter().enumerate() {
+        put(
+            alloc,
+            &mut numbers,
+            &mut groups,
+            object.category.as_str(),
+            place,
+        )?;
+    }
+    Ok(Items::from_vec(groups))
 }

@@ -45,6 +45,15 @@ pub enum Individual {
     BadReference,
 }
 
+/// Makes the choice of that place true, if there is one.
+fn choose(choices: &mut Vec<bool>, place: usize)
+    ensures { choices.new.items ≡ slice_set choices.old.items place true }
+{
+    if place < choices.len() {
+        choices[place] = true;
+    }
+}
+
 /// Which of that many places are among the chosen ones.
 #[tactic(auto, using(crate::proofs::PlaceLemmas::all_chosen))]
 fn choices(alloc: Global, count: usize, chosen: &[usize]) -> Result<Vec<bool>, AllocError>
@@ -55,15 +64,6 @@ fn choices(alloc: Global, count: usize, chosen: &[usize]) -> Result<Vec<bool>, A
         choose(&mut choices, *place);
     }
     Ok(choices)
-}
-
-/// Makes the choice of that place true, if there is one.
-fn choose(choices: &mut Vec<bool>, place: usize)
-    ensures { choices.new.items ≡ slice_set choices.old.items place true }
-{
-    if place < choices.len() {
-        choices[place] = true;
-    }
 }
 
 /// The chosen places in the request's order, each once.

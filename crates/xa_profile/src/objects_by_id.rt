@@ -66,19 +66,20 @@ impl<'a> ObjectsById<'a> {
     }
 }
 
-/// The first place of the objects of each id.
-fn first_places<'a>(
-    alloc: Global,
-    objects: &'a [CategoryObject],
-) -> Result<BTreeMap<&'a str, usize>, AllocError>
-    ensures { IfOk result (λ places.
-        (id : List ℕ) → get_by (λ k. slice_cmp nat_cmp id k.now) places ≡ place_named objects.now id) }
+/// Puts the place under the text, unless there is one.
+fn put_first<'a>(
+    places: &mut BTreeMap<&'a str, usize>,
+    text: &'a str,
+    place: usize,
+) -> Result<(), AllocError>
+    ensures { OnOk result ((q : List ℕ) → get_by (λ k. slice_cmp nat_cmp q k.now) places.new
+        ≡ option_or (get_by (λ k. slice_cmp nat_cmp q k.now) places.old)
+        (if bytes_eq text.now q then Some place else None)) }
 {
-    let mut places = BTreeMap::new(alloc);
-    for (place, object) in objects.iter().enumerate() {
-        put_object(&mut places, object, place)?;
+    if !places.contains_key(text) {
+        places.insert(text, place)?;
     }
-    Ok(places)
+    Ok(())
 }
 
 /// Puts the place of the object under its id, if it has one under which there is none.
@@ -97,18 +98,17 @@ fn put_object<'a>(
     }
 }
 
-/// Puts the place under the text, unless there is one.
-fn put_first<'a>(
-    places: &mut BTreeMap<&'a str, usize>,
-    text: &'a str,
-    place: usize,
-) -> Result<(), AllocError>
-    ensures { OnOk result ((q : List ℕ) → get_by (λ k. slice_cmp nat_cmp q k.now) places.new
-        ≡ option_or (get_by (λ k. slice_cmp nat_cmp q k.now) places.old)
-        (if bytes_eq text.now q then Some place else None)) }
+/// The first place of the objects of each id.
+fn first_places<'a>(
+    alloc: Global,
+    objects: &'a [CategoryObject],
+) -> Result<BTreeMap<&'a str, usize>, AllocError>
+    ensures { IfOk result (λ places.
+        (id : List ℕ) → get_by (λ k. slice_cmp nat_cmp id k.now) places ≡ place_named objects.now id) }
 {
-    if !places.contains_key(text) {
-        places.insert(text, place)?;
+    let mut places = BTreeMap::new(alloc);
+    for (place, object) in objects.iter().enumerate() {
+        put_object(&mut places, object, place)?;
     }
-    Ok(())
+    Ok(places)
 }

@@ -32,7 +32,7 @@ pub(crate) fn shorthand_at<'v, 'a>(value: &'v Json<'a>, category: Category) -> O
     value.get(category.shorthand())
 }
 
-/// Checks that it holds; the fault is NotProfile.
+/// Nothing, if the condition holds; else the fault NotProfile.
 pub(crate) fn check(holds: bool) -> Result<(), RequestError>
     ensures { result ≡ holds_or_not_profile holds }
 {

@@ -46,11 +46,11 @@ impl Request {
     }
 }
 
-/// Reads a text.
+/// Reads an id.
 #[derive(Drop)]
-struct TextReader;
+struct IdReader;
 
-impl Reader for TextReader {
+impl Reader for IdReader {
     type Output = Text;
 
     ghost reads = { λ _ d. text d };
@@ -72,7 +72,7 @@ impl Reader for ReferenceReader {
     #[tactic(auto, unfolding(crate::specs::Request::reference))]
     fn read(&self, alloc: Global, value: &Json<'_>) -> Result<Items<Text>, OrMemory<RequestError>> {
         let ids = member_at(value, Member::ReferenceId).ok_or(RequestError::NotProfile)?;
-        each(alloc, &TextReader, items_or_itself(ids))
+        each(alloc, &IdReader, items_or_itself(ids))
     }
 }
 

@@ -92,8 +92,7 @@ impl ToJson for Value {
         match self {
             Value::Boolean(value) => out.boolean(*value),
             Value::Integer(value) => out.i64(*value),
-            Value::String(text) => out.string(text.as_str()),
-            Value::AnyUri(text) => out.string(text.as_str()),
+            Value::String(text) | Value::AnyUri(text) => out.string(text.as_str()),
             _ => out.string(self.to_text(alloc)?.as_str()),
         }
     }

@@ -10,13 +10,13 @@ pub loop-place-preserved : goal.loop-place-preserved
 loop-place-preserved c =
     let d = c.args.self.now.designator.now in
     let named = is_named_by d in
-    let each = passed named (λ a. a.values.values) in elim c.match-item_at.branch [
+    let each = passed named (λ a. a.values.values) in elim c.match-attribute_at.branch [
       | in-Some+in_ok-at_attribute w ↦
-          item_looked_at (λ a. if named a then a.values.values else []) (λ xs. flat_map (λ a. a.values.values) (filter named xs)) each c.args.self.now.sought.now c.attributes-attributes.result.now
+          item_looked_at (λ a. if named a then a.values.values else []) (λ xs. flat_map (λ a. a.values.values) (filter named xs)) each c.args.self.now.sought.now c.args.object.now.attributes
           c.loop-place.so_far _ _ c.places-places.result.now c.loop-place.place-index _ _ c.loop-place-test.true
-          w.in-Some.ensures w.in_ok-at_attribute.ensures (w.so_far-is ∙ w.and-so_far.ensures) c.loop-place.invariant
+          w.in-Some.ensures.found w.in_ok-at_attribute.ensures (w.so_far-is ∙ w.and-so_far.ensures) c.loop-place.invariant
       | in_default w ↦
-          nothing_looked_at (λ a. if named a then a.values.values else []) (λ xs. flat_map (λ a. a.values.values) (filter named xs)) each c.args.self.now.sought.now c.attributes-attributes.result.now
+          nothing_looked_at (λ a. if named a then a.values.values else []) (λ xs. flat_map (λ a. a.values.values) (filter named xs)) each c.args.self.now.sought.now c.args.object.now.attributes
           c.loop-place.so_far _ c.places-places.result.now c.loop-place.place-index _ c.loop-place-test.true
-          w.in_default.ensures w.so_far-is c.loop-place.invariant
+          w.in_default.ensures.found w.so_far-is c.loop-place.invariant
     ]

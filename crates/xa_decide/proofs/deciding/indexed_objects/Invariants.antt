@@ -1,5 +1,5 @@
 use Rattle.std.proofs.Common.{◌≡◌, ◌++◌, drop}
-use Rattle.xa_decide.proofs.decision.indexed_objects.Given as goal
+use Rattle.xa_decide.proofs.deciding.indexed_objects.Given as goal
 
 -- the objects so far, before those that are left
 abbrev pub invariant-loop-object : goal.invariant-loop-object

@@ -1,4 +1,4 @@
-//! What it is to write a part of a response: how much work, and how many bytes. It is asked before
+//! What it costs to write a part of a response: how much work, and how many bytes. It is asked before
 //! anything is written, so that neither is done nor given room where there is too little left. A text
 //! counts by the bytes that JSON has for it: a quotation mark, a backslash and a control character take
 //! two or six (RFC 8259, section 7).
@@ -9,9 +9,9 @@ use xa_value::{Text, Value};
 /// The units of each byte that escapes add to a text: what is escaped is written by itself.
 const ESCAPED: u64 = 7;
 
-/// What it is to write a part of a response.
+/// What it costs to write a part of a response.
 #[derive(Clone, Copy)]
-pub(crate) struct Writing {
+pub(crate) struct WritingCost {
     /// The work, in units.
     pub(crate) units: u64,
     /// The bytes, or some fewer: those of texts and binary values as they are written, and the least
@@ -19,49 +19,49 @@ pub(crate) struct Writing {
     pub(crate) bytes: u64,
 }
 
-impl Writing {
+impl WritingCost {
     /// Nothing is written.
-    pub(crate) const NOTHING: Writing = Writing { units: 0, bytes: 0 };
+    pub(crate) const NOTHING: WritingCost = WritingCost { units: 0, bytes: 0 };
 
-    /// What it is to write both of these.
-    pub(crate) fn and(self, other: Writing) -> Writing {
-        Writing {
+    /// What it costs to write both of these.
+    pub(crate) fn and(self, other: WritingCost) -> WritingCost {
+        WritingCost {
             units: self.units.saturating_add(other.units),
             bytes: self.bytes.saturating_add(other.bytes),
         }
     }
 
-    /// What it is to write so many of these.
-    pub(crate) fn times(self, count: usize) -> Writing {
-        Writing {
+    /// What it costs to write so many of these.
+    pub(crate) fn times(self, count: usize) -> WritingCost {
+        WritingCost {
             units: self.units.saturating_mul(count as u64),
             bytes: self.bytes.saturating_mul(count as u64),
         }
     }
 
-    /// What it is to write a text.
-    pub(crate) fn of_text(text: &Text) -> Writing {
+    /// What it costs to write a text.
+    pub(crate) fn of_text(text: &Text) -> WritingCost {
         let bytes = text.as_bytes();
         let count = bytes.len() as u64;
         let escapes = escapes_in(bytes);
-        Writing {
+        WritingCost {
             units: count.saturating_add(ESCAPED.saturating_mul(escapes)),
             bytes: count.saturating_add(escapes),
         }
     }
 
-    /// What it is to write a text that may be left out.
-    pub(crate) fn of_text_if_any(text: &Option<Text>) -> Writing {
+    /// What it costs to write a text that may be left out.
+    pub(crate) fn of_text_if_any(text: &Option<Text>) -> WritingCost {
         match text {
-            Some(text) => Writing::of_text(text),
-            None => Writing::NOTHING,
+            Some(text) => WritingCost::of_text(text),
+            None => WritingCost::NOTHING,
         }
     }
 
-    /// What it is to write a value. What has no text of its own is printed first.
-    pub(crate) fn of_value(value: &Value) -> Writing {
+    /// What it costs to write a value. What has no text of its own is printed first.
+    pub(crate) fn of_value(value: &Value) -> WritingCost {
         let widening = widening(value);
-        Writing {
+        WritingCost {
             units: units_of(value)
                 .saturating_add(units_of_printing(value.data_type()))
                 .saturating_add(units_of_widening(value, widening)),
@@ -69,21 +69,21 @@ impl Writing {
         }
     }
 
-    /// What it is to write the values of a bag. Where these are of one size, nobody looks at them.
-    pub(crate) fn of_bag(bag: &Bag) -> Writing {
+    /// What it costs to write the values of a bag. Where these are of one size, nobody looks at them.
+    pub(crate) fn of_bag(bag: &Bag) -> WritingCost {
         match bag.values() {
             [first, ..] if is_of_one_size(bag.data_type()) => {
-                Writing::of_value(first).times(bag.len())
+                WritingCost::of_value(first).times(bag.len())
             },
-            values => Writing::of_values(values),
+            values => WritingCost::of_values(values),
         }
     }
 
-    /// What it is to write the values, one after another.
-    fn of_values(values: &[Value]) -> Writing {
+    /// What it costs to write the values, one after another.
+    fn of_values(values: &[Value]) -> WritingCost {
         values.iter().fold(
-            Writing::NOTHING,
-            |all, value| all.and(Writing::of_value(value)),
+            WritingCost::NOTHING,
+            |all, value| all.and(WritingCost::of_value(value)),
         )
     }
 }

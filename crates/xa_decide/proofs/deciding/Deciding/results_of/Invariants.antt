@@ -1,7 +1,7 @@
 use Rattle.std.proofs.Common.{◌≡◌, ◌++◌, map}
 use Rattle.std.specs.Vec.Iter.{into_iter_items}
 use Rattle.xa_decide.specs.Decision.{result_of}
-use Rattle.xa_decide.proofs.decision.Deciding.results_of.Given as goal
+use Rattle.xa_decide.proofs.deciding.Deciding.results_of.Given as goal
 
 -- the results so far, before those of the individual requests that are left
 abbrev pub invariant-loop-individual : goal.invariant-loop-individual

@@ -1,7 +1,7 @@
 use Rattle.std.proofs.Common.{take}
 use Rattle.std.specs.List.{All}
 use Rattle.xa_decide.specs.indexing.Types.{IsOfTypes}
-use Rattle.xa_decide.proofs.individual_objects.are_of_types.Given as goal
+use Rattle.xa_decide.proofs.individual_objects.keep_types.Given as goal
 
 -- those of the objects so far
 abbrev pub invariant-loop-object : goal.invariant-loop-object

@@ -1,0 +1,245 @@
+//! How the individual requests of a request are decided, one after another, and how that is paid for.
+ghost use Rattle.std.specs.Prelude.{◌≡◌, true, [], ◌∷◌, map, IfOk};
+ghost use Rattle.xa_policy.specs.Evaluation.{as_asked};
+ghost use Rattle.xa_profile.specs.declared.individuals.Individual.TheVariants.{Places};
+ghost use Rattle.xa_decide.specs.Decision.{decided, evaluated_by_tree, objects_at};
+ghost use Rattle.xa_decide.specs.Decision.{result_of, result_without_objects};
+ghost use Rattle.xa_decide.specs.Timeless.{is_timeless_request, is_timeless_tree};
+
+use crate::context::IndividualContext;
+use crate::indexed_object::IndexedObject;
+use crate::order::units_of_order;
+use crate::request_body::individuals_of;
+use crate::response_work::cost_of_result;
+use crate::view::View;
+use crate::work::Work;
+use std::alloc::{AllocError, Global};
+use xa_expr::{Context, Fault, STEP};
+use xa_link::LinkError;
+use xa_policy::{Evaluated, Linked, evaluate};
+use xa_profile::{CategoryObject, Individual, Request, ResultObject};
+use xa_value::{Items, Moment};
+
+/// The results of a request, and whether they are the same at every moment.
+#[derive(Drop)]
+pub(crate) struct Outcome {
+    /// A result for each individual request, or one where these aren't decided.
+    pub(crate) results: Items<ResultObject>,
+    /// Whether no attribute of the clock is asked for.
+    pub(crate) timeless: bool,
+}
+
+/// What is decided by the tree: NotApplicable without one, and Indeterminate where it is too large.
+/// Policies and policy sets are named where they are asked for.
+#[tactic(auto, using(crate::proofs::NamedLemmas::nothing_asked))]
+fn evaluated_by_tree<C: Context>(
+    alloc: Global,
+    tree: &Option<Result<Linked, LinkError>>,
+    context: &C,
+    names_policies: bool,
+) -> Result<Evaluated, AllocError>
+    ensures { IfOk result (λ e.
+        e ≡ as_asked names_policies (evaluated_by_tree (C.values_of context.now) tree.now)) }
+{
+    match tree {
+        Some(Ok(linked)) => evaluate(alloc, linked, context, names_policies),
+        Some(Err(_)) => Ok(Evaluated::undecided(alloc, Fault::ProcessingError)),
+        None => Ok(Evaluated::not_applicable(alloc)),
+    }
+}
+
+/// The one result of a request whose individual requests aren't decided, and that of a bad reference.
+fn result_without_objects(alloc: Global, fault: Fault) -> ResultObject
+    ensures { result ≡ result_without_objects fault }
+{
+    ResultObject {
+        evaluated: Evaluated::undecided(alloc, fault),
+        places: Items::new(alloc),
+    }
+}
+
+/// The results of a request whose individual requests aren't decided.
+pub(crate) fn one_result(alloc: Global, fault: Fault) -> Result<Items<ResultObject>, AllocError>
+    ensures { IfOk result (λ results. results ≡ result_without_objects fault ∷ []) }
+{
+    let mut results = Items::new(alloc);
+    results.push(result_without_objects(alloc, fault))?;
+    Ok(results)
+}
+
+/// What comes of a request whose individual requests aren't decided.
+fn one_outcome(alloc: Global, fault: Fault) -> Result<Outcome, AllocError>
+    ensures results { IfOk result (λ outcome. outcome.results ≡ result_without_objects fault ∷ []) }
+    ensures timeless { IfOk result (λ outcome. outcome.timeless ≡ true) }
+{
+    Ok(Outcome {
+        results: one_result(alloc, fault)?,
+        timeless: true,
+    })
+}
+
+/// What the individual requests of a request are decided by.
+#[derive(Drop)]
+struct Deciding<'a> {
+    /// The tree, and the source of attributes.
+    view: &'a View,
+    /// Whether policies and policy sets are to be named.
+    names_policies: bool,
+    /// The Category objects of the request.
+    objects: &'a [IndexedObject<'a>],
+    /// What the clock shows.
+    moment: Moment,
+    /// What all individual requests together may ask for.
+    work: &'a Work,
+}
+
+impl<'a> Deciding<'a> {
+    /// The context of the individual request that has the objects at these places.
+    fn context_at(
+        &self,
+        alloc: Global,
+        places: &[usize],
+    ) -> Result<IndividualContext<'a>, AllocError>
+        ensures { IfOk result (λ context. context ≡ record {
+          objects = objects_at self.now.objects.now places.now;
+          source = self.now.view.now.source;
+          moment = self.now.moment;
+        }) }
+    {
+        let count = places.len();
+        self.work.spend(
+            STEP.saturating_mul(count as u64)
+                .saturating_add(units_of_order(count)),
+        )?;
+        let source = self.view.source();
+        IndividualContext::new(alloc, self.objects, places, source, self.moment, self.work)
+    }
+
+    /// The result of the individual request that has the objects at these places, which is paid for
+    /// before it is written.
+    #[tactic(auto, unfolding(crate::specs::Decision::decision))]
+    fn result_at(&self, alloc: Global, places: Items<usize>) -> Result<ResultObject, AllocError>
+        ensures { IfOk result (λ r. r ≡ result_of self.now.view.now self.now.names_policies
+            self.now.objects.now self.now.moment (Places places)) }
+    {
+        let chosen = places.as_slice();
+        let context = self.context_at(alloc, chosen)?;
+        let evaluated = evaluated_by_tree(alloc, self.view.tree(), &context, self.names_policies)?;
+        self.work
+            .spend_on_result(cost_of_result(self.objects, chosen, &evaluated))?;
+        Ok(ResultObject { evaluated, places })
+    }
+
+    /// The result of an individual request.
+    fn result_of(&self, alloc: Global, individual: Individual) -> Result<ResultObject, AllocError>
+        ensures { IfOk result (λ r. r ≡ result_of self.now.view.now self.now.names_policies
+            self.now.objects.now self.now.moment individual) }
+    {
+        self.work.spend(STEP)?;
+        match individual {
+            Individual::Places(places) => self.result_at(alloc, places),
+            Individual::BadReference => Ok(result_without_objects(alloc, Fault::SyntaxError)),
+        }
+    }
+
+    /// The results of individual requests.
+    fn results_of(
+        &self,
+        alloc: Global,
+        individuals: Items<Individual>,
+    ) -> Result<Items<ResultObject>, AllocError>
+        ensures { IfOk result (λ results. results ≡ map (result_of self.now.view.now
+            self.now.names_policies self.now.objects.now self.now.moment) individuals) }
+    {
+        let mut results = Items::new(alloc);
+        for individual in individuals.into_vec() {
+            results.push(self.result_of(alloc, individual)?)?;
+        }
+        Ok(results)
+    }
+}
+
+/// The objects, each with its attributes put in order.
+fn indexed_objects<'a>(
+    alloc: Global,
+    work: &Work,
+    objects: &'a [CategoryObject],
+) -> Result<Vec<IndexedObject<'a>>, AllocError>
+    ensures { IfOk result (λ indexed. indexed.items ≡ objects.now) }
+{
+    let mut indexed = Vec::new(alloc);
+    for object in objects {
+        indexed.push(IndexedObject::new(alloc, work, object)?)?;
+    }
+    Ok(indexed)
+}
+
+/// What comes of the individual requests of the request. Each object is put in order once for all of them.
+fn outcome_of_individuals<'x>(
+    alloc: Global,
+    view: &'x View,
+    request: &Request,
+    moment: Moment,
+    work: &'x Work,
+    individuals: Items<Individual>,
+) -> Result<Outcome, AllocError>
+    ensures results { IfOk result (λ outcome. outcome.results
+        ≡ map (result_of view.now request.now.return_policy_id_list request.now.objects moment) individuals) }
+    ensures timeless { IfOk result (λ outcome. outcome.timeless ≡ is_timeless_tree view.now.tree) }
+{
+    let indexed = indexed_objects(alloc, work, request.objects.as_slice())?;
+    let deciding = Deciding {
+        view,
+        names_policies: request.return_policy_id_list,
+        objects: indexed.as_slice(),
+        moment,
+        work,
+    };
+    let results = deciding.results_of(alloc, individuals)?;
+    Ok(Outcome {
+        results,
+        timeless: view.is_timeless(),
+    })
+}
+
+/// What comes of the request, with this work.
+#[tactic(auto, unfolding(crate::specs::Decision::decided, crate::specs::Timeless::is_timeless_request))]
+fn outcome_by(
+    alloc: Global,
+    view: &View,
+    request: &Request,
+    moment: Moment,
+    work: &Work,
+) -> Result<Outcome, AllocError>
+    ensures results { IfOk result (λ outcome. outcome.results ≡ decided view.now request.now moment) }
+    ensures timeless { IfOk result (λ outcome. outcome.timeless ≡ is_timeless_request view.now request.now) }
+{
+    if request.combined_decision {
+        return one_outcome(alloc, Fault::ProcessingError);
+    }
+    match individuals_of(alloc, request)? {
+        Ok(individuals) => outcome_of_individuals(alloc, view, request, moment, work, individuals),
+        Err(_) => one_outcome(alloc, Fault::ProcessingError),
+    }
+}
+
+/// What comes of the request. Where its large bags are searched so often that it takes no longer to put
+/// their values in order, that is done, and the request is decided again from the start, with what is
+/// left of the work.
+pub(crate) fn outcome_of_request(
+    alloc: Global,
+    view: &View,
+    request: &Request,
+    moment: Moment,
+) -> Result<Outcome, AllocError>
+    ensures results { IfOk result (λ outcome. outcome.results ≡ decided view.now request.now moment) }
+    ensures timeless { IfOk result (λ outcome. outcome.timeless ≡ is_timeless_request view.now request.now) }
+{
+    let work = Work::new(view, request.objects.as_slice());
+    match outcome_by(alloc, view, request, moment, &work) {
+        Err(_) if work.wants_order() => {
+            outcome_by(alloc, view, request, moment, &work.ordered())
+        },
+        outcome => outcome,
+    }
+}
